@@ -1,0 +1,47 @@
+//! Moments: microseconds since the node began.
+
+ghost use Rattle.std.specs.Prelude.{◌≡◌, ℕ, ◌≤◌, ◌↔◌, IsSome, IfSome};
+ghost use Rattle.trdp_base.specs.declared.moment.TheConstants.{LAST};
+
+use std::marker::Model;
+
+/// The last moment, 2^62 microseconds (profile).
+pub const LAST: u64 = 4_611_686_018_427_387_904;
+
+/// A moment in microseconds, 0 to [`LAST`].
+#[derive(Clone, Copy, Debug, PartialEq, Eq, Hash, PartialOrd, Ord)]
+pub struct Moment {
+    microseconds: u64,
+}
+
+impl Model for Moment {
+    ghost Value = { ℕ };
+
+    ghost view = { λ m. m.microseconds };
+
+    ghost invariant = { λ m. m.microseconds ≤ LAST };
+
+    ghost inverse = { λ n. record { microseconds = n } };
+}
+
+impl Moment {
+    /// The moment of that many microseconds; None above [`LAST`].
+    pub fn new(microseconds: u64) -> Option<Self>
+        ensures valid { IsSome result ↔ (microseconds ≤ LAST) }
+        ensures value { IfSome result (λ m. m ≡ microseconds) }
+    {
+        if microseconds <= LAST {
+            Some(Moment { microseconds })
+        } else {
+            None
+        }
+    }
+
+    /// Its microseconds.
+    pub fn get(self) -> u64
+        ensures value { result ≡ self }
+        ensures within { result ≤ LAST }
+    {
+        self.microseconds
+    }
+}

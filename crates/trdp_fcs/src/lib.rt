@@ -1,0 +1,2 @@
+//! The frame check sequence of TRDP headers.
+#![tactic(auto)]

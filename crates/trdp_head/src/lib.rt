@@ -1,0 +1,2 @@
+//! Headers of TRDP telegrams.
+#![tactic(auto)]
