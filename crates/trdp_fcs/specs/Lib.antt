@@ -1,0 +1,4 @@
+pub mod Bits
+pub mod Division
+pub mod FrameCheck
+pub mod Register
