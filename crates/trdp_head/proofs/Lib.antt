@@ -1,0 +1,2 @@
+pub mod FieldNumbers
+pub mod PartWrites

@@ -1,0 +1,68 @@
+//! Process data telegrams: a header of 40 bytes, the payload, and zeros up to a multiple of four.
+//!
+//! | Offset | Field | Type |
+//! |---|---|---|
+//! | 0 | sequenceCounter | u32 |
+//! | 4 | protocolVersion | u16, 0x0100 |
+//! | 6 | msgType | u16 |
+//! | 8 | comId | u32 |
+//! | 12 | etbTopoCnt | u32 |
+//! | 16 | opTrnTopoCnt | u32 |
+//! | 20 | datasetLength | u32 |
+//! | 24 | reserved | u32, 0 |
+//! | 28 | replyComId | u32 |
+//! | 32 | replyIpAddress | u32 |
+//! | 36 | headerFcs | u32, least significant byte first |
+
+pub mod reading;
+pub mod writing;
+
+use trdp_base::{Ip, Topo};
+
+/// The bytes of a process data header.
+pub const PD_HEAD: usize = 40;
+
+/// The most bytes of payload that a process data telegram carries.
+pub const PD_PAYLOAD_MAX: usize = 1432;
+
+/// The bytes of the longest process data telegram: a header and the longest payload.
+pub const PD_TELEGRAM_MAX: usize = 1472;
+
+/// The message types of process data; the telegram carries the two letters in ASCII.
+#[derive(Clone, Copy, Debug, PartialEq, Eq, Hash)]
+pub enum PdKind {
+    /// `Pd`, data that a publisher sends in its cycle.
+    Data,
+    /// `Pp`, data as the answer to a pull request.
+    PullReply,
+    /// `Pr`, a pull request.
+    PullRequest,
+    /// `Pe`, an error.
+    Error,
+}
+
+/// The fields of a process data header that a node chooses; the others follow from the standard and the payload.
+#[derive(Clone, Copy, Debug, PartialEq, Eq, Hash)]
+pub struct PdHead {
+    /// sequenceCounter: one more with each telegram of its sender, modulo 2^32.
+    pub counter: u32,
+    /// msgType.
+    pub kind: PdKind,
+    /// comId: what data this is.
+    pub com_id: u32,
+    /// etbTopoCnt and opTrnTopoCnt: the topology counts for which the telegram is valid.
+    pub topo: Topo,
+    /// replyComId: of a pull request, the comId that it asks for.
+    pub reply_com_id: u32,
+    /// replyIpAddress: of a pull request, where the reply is to be sent; 0 is its sender.
+    pub reply_ip: Ip,
+}
+
+/// A process data telegram as it lies in the bytes that were received.
+#[derive(Clone, Copy, Debug)]
+pub struct PdView<'a> {
+    /// The header's fields.
+    pub head: PdHead,
+    /// The dataset, without the zeros that follow it; at most 1432 bytes.
+    pub payload: &'a [u8],
+}

@@ -1,0 +1,86 @@
+//! Reading a process data telegram.
+
+ghost use Rattle.std.specs.Prelude.{◌≡◌, ◌≤◌, List, ℕ, length, IfOk, IfErr, IsOkAnd, MatchResult, Some, None};
+ghost use Rattle.trdp_head.specs.Fields.{field};
+ghost use Rattle.trdp_head.specs.Checks.{is_checked};
+ghost use Rattle.trdp_head.specs.PdKinds.{kind_of};
+ghost use Rattle.trdp_head.specs.PdHeads.{head_in};
+ghost use Rattle.trdp_head.specs.IsPdTelegram.{IsPdTelegram};
+ghost use Rattle.trdp_head.specs.PdFaults.{pd_fault_of};
+ghost use Rattle.trdp_head.specs.PdTelegrams.{pd_telegram_of};
+ghost use Rattle.trdp_head.specs.declared.pd.PdHead.{PdHead};
+
+use crate::check::passes_check;
+use crate::fault::HeadFault;
+use crate::fields::{u16_at, u32_at};
+use crate::pd::{PdHead, PdKind, PdView};
+use trdp_base::{Ip, Topo};
+
+/// The type of a code, if it is one of process data.
+fn kind_of_code(code: u16) -> Option<PdKind>
+    ensures { result ≡ kind_of code }
+{
+    match code {
+        0x5064 => Some(PdKind::Data),
+        0x5070 => Some(PdKind::PullReply),
+        0x5072 => Some(PdKind::PullRequest),
+        0x5065 => Some(PdKind::Error),
+        _ => None,
+    }
+}
+
+/// The fields that stand in a header, with this type.
+fn head_of(bytes: &[u8], kind: PdKind) -> PdHead
+    requires { 40 ≤ length bytes.now }
+    ensures { result ≡ head_in bytes.now kind }
+{
+    PdHead {
+        counter: u32_at(bytes, 0),
+        kind,
+        com_id: u32_at(bytes, 8),
+        topo: Topo {
+            etb: u32_at(bytes, 12),
+            op_trn: u32_at(bytes, 16),
+        },
+        reply_com_id: u32_at(bytes, 28),
+        reply_ip: Ip(u32_at(bytes, 32)),
+    }
+}
+
+/// The process data telegram in the bytes, whose payload it lends (IEC 61375-2-3).
+///
+/// Errors, the first that holds: `Short` below 40 bytes, `TooLong` above 1472, `Fcs` where bytes 36 to 39 are not the
+/// frame check of the 36 before them, `Version` where byte 4 is not 1, `Kind` where the type is not one of [`PdKind`],
+/// `Length` where the dataset is longer than what follows the header. Ignored are byte 5, the reserved field and
+/// what follows the dataset. Which tests are made, and their order, is this profile's choice.
+pub fn read_pd(bytes: &[u8]) -> Result<PdView<'_>, HeadFault>
+    ensures telegram { IfOk result (λ view. IsPdTelegram bytes.now view.head view.payload.now) }
+    ensures fault { IfErr result (λ fault. pd_fault_of bytes.now ≡ Some fault) }
+    ensures accepted { IfOk result (λ _. pd_fault_of bytes.now ≡ None) }
+{
+    if bytes.len() < 40 {
+        return Err(HeadFault::Short);
+    }
+    if bytes.len() > 1472 {
+        return Err(HeadFault::TooLong);
+    }
+    if !passes_check(bytes, 36) {
+        return Err(HeadFault::Fcs);
+    }
+    if bytes[4] != 1 {
+        return Err(HeadFault::Version);
+    }
+    let Some(kind) = kind_of_code(u16_at(bytes, 6)) else {
+        return Err(HeadFault::Kind);
+    };
+    let (_, rest) = bytes.split_at(40);
+    let length = u32_at(bytes, 20) as usize;
+    if length > rest.len() {
+        return Err(HeadFault::Length);
+    }
+    let (payload, _) = rest.split_at(length);
+    Ok(PdView {
+        head: head_of(bytes, kind),
+        payload,
+    })
+}

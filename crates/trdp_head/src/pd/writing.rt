@@ -1,0 +1,66 @@
+//! Writing a process data telegram.
+
+ghost use Rattle.std.specs.Prelude.{ℕ, ◌≡◌, ◌≤◌, ◌++◌, length, take, drop};
+ghost use Rattle.trdp_head.specs.PdKinds.{code_of};
+ghost use Rattle.trdp_head.specs.PdBytes.{pd_length_of, pd_head_bytes, pd_bytes};
+
+use crate::check::put_check;
+use crate::fields::{put_bytes, put_u16, put_u32, put_zeros};
+use crate::pd::{PdHead, PdKind};
+
+/// The bytes of a telegram with so many bytes of payload: 40 and the payload rounded up to a multiple of four.
+/// At most 1432 bytes of payload.
+pub fn pd_length(payload: usize) -> usize
+    requires { payload ≤ 1432 }
+    ensures { result ≡ pd_length_of payload }
+{
+    40 + payload.div_ceil(4) * 4
+}
+
+/// The code of a type.
+fn code_of_kind(kind: PdKind) -> u16
+    ensures { result ≡ code_of kind }
+{
+    match kind {
+        PdKind::Data => 0x5064,
+        PdKind::PullReply => 0x5070,
+        PdKind::PullRequest => 0x5072,
+        PdKind::Error => 0x5065,
+    }
+}
+
+/// Writes the header up to its frame check, with the length of the payload.
+fn put_head(room: &mut [u8], head: &PdHead, payload: u32)
+    requires { 36 ≤ length room.old }
+    ensures front { take 36 room.new ≡ pd_head_bytes head.now payload }
+    ensures rest { (n : ℕ) → 36 ≤ n → drop n room.new ≡ drop n room.old }
+{
+    put_u32(room, 0, head.counter);
+    put_u16(room, 4, 0x0100);
+    put_u16(room, 6, code_of_kind(head.kind));
+    put_u32(room, 8, head.com_id);
+    put_u32(room, 12, head.topo.etb);
+    put_u32(room, 16, head.topo.op_trn);
+    put_u32(room, 20, payload);
+    put_u32(room, 24, 0);
+    put_u32(room, 28, head.reply_com_id);
+    put_u32(room, 32, head.reply_ip.0);
+}
+
+/// Writes the telegram at the front of the room, and answers its length (IEC 61375-2-3).
+///
+/// The payload has at most 1432 bytes, and the room at least the length that [`pd_length`] says; what lies behind the
+/// telegram in the room stays. The version is 0x0100, the reserved field and the padding are 0.
+pub fn write_pd(head: &PdHead, payload: &[u8], room: &mut [u8]) -> usize
+    requires payload { length payload.now ≤ 1432 }
+    requires room { pd_length_of (length payload.now) ≤ length room.old }
+    ensures length { result ≡ pd_length_of (length payload.now) }
+    ensures written { room.new ≡ pd_bytes head.now payload.now ++ drop (pd_length_of (length payload.now)) room.old }
+{
+    let end = pd_length(payload.len());
+    put_head(room, head, payload.len() as u32);
+    put_check(room, 36);
+    put_bytes(room, 40, payload);
+    put_zeros(room, 40 + payload.len(), end);
+    end
+}
