@@ -1,0 +1,9 @@
+pub mod Rising
+pub mod Kept
+pub mod Puts
+pub mod Orders
+pub mod Firing
+pub mod Rows
+pub mod Views
+pub mod Steps
+pub mod Runs

@@ -1,0 +1,36 @@
+-- One event of the node, as a slot run by itself sees it.
+use Rattle.std.proofs.Common.{◌≡◌, ℕ, ◌<◌, List, ◌∷◌, ◌++◌, Some, None, Bool, true, false, refl, ap, sym, arith, append_assoc}
+use Rattle.std.proofs.lemmas.Bool.Decides.{nat_tests}
+use Rattle.trdp_engine.specs.declared.config.NodeSetup.{NodeSetup}
+use Rattle.trdp_engine.specs.declared.globals.Globals.{Globals}
+use Rattle.trdp_engine.specs.declared.fault.NodeFault.{NodeFault}
+use Rattle.trdp_engine.specs.Records.{Content}
+use Rattle.trdp_engine.specs.Events.{EventModel, MomentIs, CallIs}
+use Rattle.trdp_engine.specs.Slots.{SlotState}
+use Rattle.trdp_engine.specs.Alone.{refused_as, globals_after, is_in_view, Run, prepend, alone_in_view, slot_after, records_after}
+
+-- an admitted event that a slot doesn't see leaves the globals
+globals_after-unseen : (s n : ℕ) (slot : SlotState) (g : Globals) (event : EventModel) → refused_as n g event ≡ None → is_in_view s slot g event ≡ false → globals_after g event ≡ g
+globals_after-unseen s n slot g (MomentIs t) admitted unseen = absurd (grind (arith, nat_tests))
+globals_after-unseen s n slot g (CallIs r call) admitted unseen = refl
+
+-- no slot sees an event that isn't admitted
+refused_is_unseen : (s n : ℕ) (slot : SlotState) (g : Globals) (event : EventModel) (fault : NodeFault) → s < n → refused_as n g event ≡ Some fault → is_in_view s slot g event ≡ false
+refused_is_unseen s n slot g (MomentIs t) fault within bad = grind (arith, nat_tests)
+refused_is_unseen s n slot g (CallIs r call) fault within bad = grind (arith, nat_tests)
+
+-- an admitted event comes first in the run
+pub admitted_first : (setup : NodeSetup) (s n : ℕ) (slot : SlotState) (g : Globals) (event : EventModel) (later : List EventModel) → refused_as n g event ≡ None → alone_in_view setup s slot g (event ∷ later) ≡ prepend (records_after setup s slot g event) (alone_in_view setup s (slot_after setup s slot g event) (globals_after g event) later)
+admitted_first setup s n slot g event later admitted =
+    seen_or_not (is_in_view s slot g event) refl
+  where
+  seen_or_not : (seen : Bool) → is_in_view s slot g event ≡ seen → alone_in_view setup s slot g (event ∷ later) ≡ prepend (records_after setup s slot g event) (alone_in_view setup s (slot_after setup s slot g event) (globals_after g event) later)
+  seen_or_not true is = rw is refl
+  seen_or_not false is = rw (is, globals_after-unseen s n slot g event admitted is) refl
+
+-- an event that isn't admitted leaves the run
+pub refused_first : (setup : NodeSetup) (s n : ℕ) (slot : SlotState) (g : Globals) (event : EventModel) (later : List EventModel) (fault : NodeFault) → s < n → refused_as n g event ≡ Some fault → alone_in_view setup s slot g (event ∷ later) ≡ alone_in_view setup s slot g later
+refused_first setup s n slot g event later fault within bad = rw (refused_is_unseen s n slot g event fault within bad) refl
+
+pub prepend-prepend : (xs ys : List Content) (run : Run) → prepend xs (prepend ys run) ≡ prepend (xs ++ ys) run
+prepend-prepend xs ys run = ap (λ (records : List Content). let r : Run = record { slot = run.slot; globals = run.globals; records = records } in r) (sym (append_assoc xs ys run.records))

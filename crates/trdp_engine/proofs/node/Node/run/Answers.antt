@@ -1,0 +1,35 @@
+use Rattle.std.proofs.Common.{arith, rules, refl, ◌∙◌}
+use Rattle.trdp_engine.specs.declared.event.Event.TheVariants.{Moment}
+use Rattle.trdp_engine.proofs.Runs.{one_event, so_far, one_more, at_start}
+use Rattle.trdp_engine.proofs.Steps.{appends_none, appends_more}
+use Rattle.trdp_engine.proofs.node.Node.run.Goals as goal
+
+pub loop-event-init : goal.loop-event-init
+loop-event-init c = record {
+  taken = refl;
+  setup = refl;
+  count = refl;
+  runs = λ s slot is. at_start c.args.self.now c.args.out.now.records s slot is;
+  appends = appends_none c.args.self.now.slots c.args.out.now.records c.args.out.now.records refl;
+}
+
+pub loop-event-preserved : goal.loop-event-preserved
+loop-event-preserved c = record {
+  taken = omega arith;
+  setup = c.step-result.ensures.setup ∙ c.loop-event.invariant.setup;
+  count = c.step-result.ensures.count ∙ c.loop-event.invariant.count;
+  runs = λ s slot is.
+      rw (one_more c.args.events.now c.loop-event.event-index (Moment 0) c.loop-event-test.true)
+      (one_event c.args.self.now c.loop-event.self c.step-result.new.self c.args.out.now.records c.loop-event.out.records c.step-result.new.out.records _ _ s slot _ c.step-result.result c.loop-event.invariant.setup refl c.step-result.ensures.fault (c.is_out_of_memory.ensures.no c.if-is_out_of_memory.false) c.step-result.ensures.kept c.step-result.ensures.unrecorded c.step-result.ensures.globals c.step-result.ensures.steps (c.loop-event.invariant.runs s slot is));
+  appends = appends_more c.args.self.now.slots c.loop-event.self.slots _ _ _ c.loop-event.invariant.count c.loop-event.invariant.appends c.step-result.ensures.appends;
+}
+
+pub returns-then-is_out_of_memory-clause-alone : goal.returns-then-is_out_of_memory-clause-alone
+returns-then-is_out_of_memory-clause-alone c = λ s slot is.
+    let memory = c.is_out_of_memory.ensures.yes c.if-is_out_of_memory.true in
+    let kept = rw memory at c.step-result.ensures.kept in
+    let unrecorded = rw memory at c.step-result.ensures.unrecorded in
+    rw (c.loop-event.invariant.taken, kept, unrecorded) (so_far _ _ _ _ _ s slot (c.loop-event.invariant.runs s slot is))
+
+pub returns-clause-alone : goal.returns-clause-alone
+returns-clause-alone c = λ s slot is. rw c.loop-event.invariant.taken (so_far _ _ _ _ _ s slot (c.loop-event.invariant.runs s slot is))

@@ -1,0 +1,17 @@
+use Rattle.std.proofs.Common.{◌≡◌, ℕ, length, map, take, Some}
+use Rattle.std.specs.Prelude.{slice_get}
+use Rattle.trdp_engine.specs.Events.{event_model}
+use Rattle.trdp_engine.specs.Slots.{SlotState}
+use Rattle.trdp_engine.specs.NodeStates.{Appends}
+use Rattle.trdp_engine.proofs.Runs.{RunsAsAloneSoFar}
+use Rattle.trdp_engine.proofs.node.Node.run.Given as goal
+
+-- each slot has run as it does by itself over the events so far
+abbrev pub invariant-loop-event : goal.invariant-loop-event
+invariant-loop-event l = record {
+  taken : l.taken ≡ l.event-index;
+  setup : l.self.setup ≡ l.fn.self.setup;
+  count : length l.self.slots ≡ length l.fn.self.slots;
+  runs : (s : ℕ) (slot : SlotState) → slice_get l.fn.self.slots s ≡ Some slot → RunsAsAloneSoFar l.fn.self l.self l.fn.out.records l.out.records (map event_model (take l.event-index l.events)) s slot;
+  appends : Appends l.fn.self.slots l.fn.out.records l.out.records;
+}

@@ -1,0 +1,14 @@
+pub mod Globals
+pub mod Configs
+pub mod Publishers
+pub mod Objects
+pub mod Records
+pub mod Slots
+pub mod Events
+pub mod Calls
+pub mod Moments
+pub mod Alone
+pub mod NodeStates
+pub mod Handles
+pub mod Firing
+pub mod Outboxes

@@ -1,0 +1,55 @@
+-- A node, and what its events do to each slot.
+use Rattle.std.specs.Prelude.{◌≡◌, ℕ, ◌<◌, ◌++◌, ◌∷◌, [], List, length, filter, slice_get, Some, None}
+use Rattle.std.specs.List.{sum_by}
+use Rattle.trdp_engine.specs.declared.globals.Globals.{Globals}
+use Rattle.trdp_engine.specs.declared.config.NodeSetup.{NodeSetup}
+use Rattle.trdp_engine.specs.Configs.{ConfigModel}
+use Rattle.trdp_engine.specs.Globals.{first_globals}
+use Rattle.trdp_engine.specs.Records.{Content, RecordModel, records_of}
+use Rattle.trdp_engine.specs.Events.{EventModel, MomentIs, CallIs}
+use Rattle.trdp_engine.specs.Slots.{SlotState, opened_slot}
+use Rattle.trdp_engine.specs.Moments.{is_due}
+use Rattle.trdp_engine.specs.Alone.{slot_after, records_after, alone_in_view}
+
+-- a node: what is fixed, its globals, and its slots
+pub record NodeState : Type 0 where
+  pub setup : NodeSetup
+  pub globals : Globals
+  pub slots : List SlotState
+
+-- one event, as slot s sees it
+pub record StepsAsAlone (old new : NodeState) (records records_then : List RecordModel) (event : EventModel) (s : ℕ) (slot : SlotState) : Type 0 where
+  pub slot_is : slice_get new.slots s ≡ Some (slot_after old.setup s slot old.globals event)
+  pub records_are : records_of s records_then ≡ records_of s records ++ records_after old.setup s slot old.globals event
+
+-- a list of events, as slot s sees it: the slot, the globals and the records are those of the slot run by itself
+pub record RunsAsAlone (old new : NodeState) (records records_then : List RecordModel) (events : List EventModel) (s : ℕ) (slot : SlotState) : Type 0 where
+  pub slot_is : slice_get new.slots s ≡ Some (alone_in_view old.setup s slot old.globals events).slot
+  pub globals_are : new.globals ≡ (alone_in_view old.setup s slot old.globals events).globals
+  pub records_are : records_of s records_then ≡ records_of s records ++ (alone_in_view old.setup s slot old.globals events).records
+
+-- the records of before stand first, and none is added for a number that no slot has
+pub record Appends (slots : List SlotState) (records records_then : List RecordModel) : Type 0 where
+  pub more : List RecordModel
+  pub front : records_then ≡ records ++ more
+  pub none_else : (s : ℕ) → slice_get slots s ≡ None → records_of s records_then ≡ records_of s records
+
+-- how many objects of the slots are due by t
+abbrev pub due_in : ℕ → List SlotState → ℕ
+due_in t slots = sum_by (λ slot. length (filter (is_due t) slot.objects)) slots
+
+-- the events at which memory may be wanting: each call, and a moment by which something is due
+abbrev pub MayTakeMemory : NodeState → EventModel → Type 0
+MayTakeMemory node (MomentIs t) = 0 < due_in t node.slots
+MayTakeMemory node (CallIs s call) = Unit {0}
+
+-- a node that was just made: its slots are empty
+abbrev pub opened_node : ConfigModel → NodeState
+opened_node config = record { setup = config.setup; globals = first_globals; slots = opened_slot config.quotas ∷ [] }
+
+-- slot s is the same in two nodes, and has got the same records since
+pub record GetsTheSame (first second : NodeState) (records records_then others others_then : List RecordModel) (s : ℕ) : Type 0 where
+  pub slot_is : slice_get first.slots s ≡ slice_get second.slots s
+  pub got : List Content
+  pub first_got : records_of s records_then ≡ records_of s records ++ got
+  pub second_got : records_of s others_then ≡ records_of s others ++ got

@@ -1,0 +1,26 @@
+-- An outbox: its records, whose bytes lie one after the other in one list.
+use Rattle.std.specs.Prelude.{ℕ, ◌+◌, ◌≤◌, List, [], ◌∷◌, take, drop}
+use Rattle.trdp_engine.specs.declared.outbox.Row.{Row}
+use Rattle.trdp_engine.specs.declared.outbox.Form.{Form}
+use Rattle.trdp_engine.specs.declared.outbox.Form.TheVariants.{Answer, Send}
+use Rattle.trdp_engine.specs.Records.{Content, Answers, Sends, RecordModel}
+
+-- the records, and how many more records and bytes of theirs find room
+pub record OutboxState : Type 0 where
+  pub records : List RecordModel
+  pub row_room : ℕ
+  pub byte_room : ℕ
+
+-- what a row says with these bytes
+abbrev pub row_content : Form → List ℕ → Content
+row_content (Answer answer) bytes = Answers answer
+row_content (Send protocol to) bytes = Sends protocol to bytes
+
+-- the record of a row
+abbrev pub row_model : List ℕ → Row → RecordModel
+row_model bytes row = record { slot = row.slot; content = row_content row.form (take row.len (drop row.at bytes)) }
+
+-- each row's bytes lie within the list
+abbrev pub AllWithin : ℕ → List Row → Type 0
+AllWithin n [] = Unit {0}
+AllWithin n (row ∷ rows) = (row.at + row.len ≤ n) × AllWithin n rows

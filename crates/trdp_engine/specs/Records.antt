@@ -1,0 +1,35 @@
+-- What a node gives its slots: answers and telegrams.
+use Rattle.std.specs.Prelude.{ℕ, List, map, filter, ◌==◌}
+use Rattle.trdp_base.specs.declared.place.Place.{Place}
+use Rattle.trdp_engine.specs.declared.record.Answer.{Answer as AnswerKind}
+use Rattle.trdp_engine.specs.declared.record.Protocol.{Protocol}
+use Rattle.trdp_engine.specs.declared.record.What.{What}
+use Rattle.trdp_engine.specs.declared.record.What.TheVariants.{Answer, Send}
+use Rattle.trdp_engine.specs.declared.record.Record.{Record}
+
+-- what a record says: an answer, or a telegram with its protocol, its destination and every byte
+pub data Content : Type 0 where
+  Answers : (answer : AnswerKind) → Content
+  Sends : (protocol : Protocol) (to : Place) (telegram : List ℕ) → Content
+
+-- one thing that a node gives the slot of that number
+pub record RecordModel : Type 0 where
+  pub slot : ℕ
+  pub content : Content
+
+-- what a record says, apart from where its bytes lie
+abbrev pub content_model : What → Content
+content_model (Answer answer) = Answers answer
+content_model (Send protocol to telegram) = Sends protocol to telegram.now
+
+-- a record, apart from where its bytes lie
+abbrev pub record_model : Record → RecordModel
+record_model r = record { slot = r.slot; content = content_model r.what }
+
+-- the records of slot s, in order
+abbrev pub records_of : ℕ → List RecordModel → List Content
+records_of s records = map (λ r. r.content) (filter (λ r. r.slot == s) records)
+
+-- these as records of slot s
+abbrev pub labelled : ℕ → List Content → List RecordModel
+labelled s contents = map (λ c. let r : RecordModel = record { slot = s; content = c } in r) contents

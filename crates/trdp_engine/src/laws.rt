@@ -1,0 +1,38 @@
+//! What a slot gets depends on what it sees alone.
+
+ghost use Rattle.std.specs.Prelude.{◌≡◌, ℕ, List, Some, slice_get, map, take};
+ghost use Rattle.trdp_engine.specs.declared.config.NodeSetup.{NodeSetup};
+ghost use Rattle.trdp_engine.specs.declared.globals.Globals.{Globals};
+ghost use Rattle.trdp_engine.specs.Events.{EventModel, event_model};
+ghost use Rattle.trdp_engine.specs.Slots.{SlotState};
+ghost use Rattle.trdp_engine.specs.Alone.{view, alone_in_view};
+ghost use Rattle.trdp_engine.specs.NodeStates.{GetsTheSame};
+
+use crate::event::Event;
+use crate::node::Node;
+use crate::outbox::Outbox;
+
+/// The law of equal views: two lists of events of which a slot sees the same come to the same for that slot, whatever
+/// else they hold.
+pub fn same_view()
+    ensures { (setup : NodeSetup) (s : ℕ) (slot : SlotState) (g : Globals) (events others : List EventModel) → view setup s slot g events ≡ view setup s slot g others → alone_in_view setup s slot g events ≡ alone_in_view setup s slot g others }
+{}
+
+/// Runs two nodes of the same setup and globals over two lists of events, and answers how many each took. A slot that is
+/// the same in both, and sees the same of the events that were taken, is the same afterwards and has got the same records.
+pub fn run_both(
+    first: &mut Node,
+    second: &mut Node,
+    events: &[Event<'_>],
+    others: &[Event<'_>],
+    out: &mut Outbox,
+    other_out: &mut Outbox,
+) -> (usize, usize)
+    requires setup { first.old.setup ≡ second.old.setup }
+    requires globals { first.old.globals ≡ second.old.globals }
+    ensures { (s : ℕ) (slot : SlotState) → slice_get first.old.slots s ≡ Some slot → slice_get second.old.slots s ≡ Some slot → view first.old.setup s slot first.old.globals (map event_model (take result.0 events.now)) ≡ view first.old.setup s slot first.old.globals (map event_model (take result.1 others.now)) → GetsTheSame first.new second.new out.old.records out.new.records other_out.old.records other_out.new.records s }
+{
+    let taken = first.run(events, out);
+    let others_taken = second.run(others, other_out);
+    (taken, others_taken)
+}

@@ -1,0 +1,204 @@
+//! The node: one event after another.
+
+ghost use Rattle.std.specs.Prelude.{◌≡◌, ◌≢◌, ℕ, ◌<◌, ◌≤◌, ◌++◌, ◌∷◌, [], length, OnOk, OnErr, IfOk, IfErr, Err, Some, true, false, slice_get, map, filter, take};
+ghost use Rattle.trdp_base.specs.declared.moment.TheConstants.{LAST};
+ghost use Rattle.trdp_engine.specs.Records.{Answers, RecordModel, labelled};
+ghost use Rattle.trdp_engine.specs.Events.{MomentIs, CallIs, call_model, event_model};
+ghost use Rattle.trdp_engine.specs.Slots.{SlotState};
+ghost use Rattle.trdp_engine.specs.Calls.{called};
+ghost use Rattle.trdp_engine.specs.Moments.{is_due, moved_to};
+
+use crate::config::{NodeConfig, NodeSetup};
+use crate::event::{Call, Event};
+use crate::fault::NodeFault;
+use crate::globals::{Globals, Groups};
+use crate::outbox::Outbox;
+use crate::slot::Slot;
+use std::alloc::{AllocError, Global};
+use std::marker::Model;
+use std::slice;
+use trdp_base::{LAST, Topo};
+use trdp_head::PD_TELEGRAM_MAX;
+
+/// The communication node of one end device. It serves slot 0.
+#[derive(Drop)]
+pub struct Node {
+    alloc: Global,
+    setup: NodeSetup,
+    globals: Globals,
+    slot: Slot,
+}
+
+impl Model for Node {
+    ghost use Rattle.std.specs.Prelude.{◌≤◌, ◌∷◌, []};
+    ghost use Rattle.trdp_base.specs.declared.moment.TheConstants.{LAST};
+    ghost use Rattle.trdp_engine.specs.NodeStates.{NodeState};
+
+    ghost Value = { NodeState };
+
+    ghost view = { λ n. record { setup = n.setup; globals = n.globals; slots = n.slot ∷ [] } };
+
+    ghost invariant = { λ n. n.globals.now ≤ LAST };
+}
+
+impl Node {
+    ghost use Rattle.trdp_engine.specs.NodeStates.{NodeState, StepsAsAlone, RunsAsAlone, Appends, MayTakeMemory, opened_node};
+    ghost use Rattle.trdp_engine.specs.Alone.{FaultIs, refused_as, globals_after};
+
+    /// A node at moment 0 that leads no group, with empty slots. For want of memory the configuration comes back.
+    pub fn new(alloc: Global, config: NodeConfig) -> Result<Node, NodeConfig>
+        ensures opened { IfOk result (λ node. node ≡ opened_node config) }
+        ensures returned { IfErr result (λ back. back ≡ config) }
+    {
+        match Slot::new(alloc, config.quotas()) {
+            Err(_) => Err(config),
+            Ok(slot) => {
+                let globals = Globals {
+                    now: 0,
+                    topo: Topo { etb: 0, op_trn: 0 },
+                    groups: Groups::none(),
+                };
+                Ok(Node {
+                    alloc,
+                    setup: config.setup(),
+                    globals,
+                    slot,
+                })
+            }
+        }
+    }
+
+    /// How many slots the node serves: slot 0 alone.
+    fn slots(&self) -> usize
+        ensures { result ≡ length self.now.slots }
+    {
+        slice::from_ref(&self.slot).len()
+    }
+
+    /// Takes the moment `t`: room for the records of all that is due comes first, and then each due object fires.
+    fn step_moment(&mut self, t: u64, out: &mut Outbox) -> Result<(), NodeFault>
+        ensures fault { FaultIs (refused_as (length self.old.slots) self.old.globals (MomentIs t)) result }
+        ensures kept { OnErr result (self.new ≡ self.old) }
+        ensures unrecorded { OnErr result (out.new.records ≡ out.old.records) }
+        ensures memory { result ≡ Err NodeFault.OutOfMemory → MayTakeMemory self.old (MomentIs t) }
+        ensures setup { self.new.setup ≡ self.old.setup }
+        ensures globals { OnOk result (self.new.globals ≡ globals_after self.old.globals (MomentIs t)) }
+        ensures count { length self.new.slots ≡ length self.old.slots }
+        ensures steps { OnOk result ((s : ℕ) (slot : SlotState) → slice_get self.old.slots s ≡ Some slot → StepsAsAlone self.old self.new out.old.records out.new.records (MomentIs t) s slot) }
+        ensures appends { Appends self.old.slots out.old.records out.new.records }
+    {
+        if t < self.globals.now {
+            return Err(NodeFault::Past);
+        }
+        if t > LAST {
+            return Err(NodeFault::TooLate);
+        }
+        let due = self.slot.due(t);
+        match out.reserve(due, PD_TELEGRAM_MAX * due) {
+            Err(_) => Err(NodeFault::OutOfMemory),
+            Ok(()) => {
+                self.globals.now = t;
+                self.slot.move_to(&self.globals, 0, out);
+                Ok(())
+            }
+        }
+    }
+
+    /// Takes a call: room for its answer comes first.
+    fn step_call(&mut self, s: u16, call: &Call<'_>, out: &mut Outbox) -> Result<(), NodeFault>
+        ensures fault { FaultIs (refused_as (length self.old.slots) self.old.globals (CallIs s (call_model call.now))) result }
+        ensures kept { OnErr result (self.new ≡ self.old) }
+        ensures unrecorded { OnErr result (out.new.records ≡ out.old.records) }
+        ensures setup { self.new.setup ≡ self.old.setup }
+        ensures globals { OnOk result (self.new.globals ≡ globals_after self.old.globals (CallIs s (call_model call.now))) }
+        ensures count { length self.new.slots ≡ length self.old.slots }
+        ensures steps { OnOk result ((r : ℕ) (slot : SlotState) → slice_get self.old.slots r ≡ Some slot → StepsAsAlone self.old self.new out.old.records out.new.records (CallIs s (call_model call.now)) r slot) }
+        ensures appends { Appends self.old.slots out.old.records out.new.records }
+    {
+        if usize::from(s) >= self.slots() {
+            return Err(NodeFault::NoSlot);
+        }
+        match serve(
+            &mut self.slot,
+            self.alloc,
+            &self.setup,
+            call,
+            &self.globals,
+            out,
+        ) {
+            Err(_) => Err(NodeFault::OutOfMemory),
+            Ok(()) => Ok(()),
+        }
+    }
+
+    /// Takes one event, and appends its records to the outbox. After a fault node and outbox are as before; want of memory
+    /// comes last, and only at a call or at a moment by which something is due.
+    pub fn step(&mut self, event: &Event<'_>, out: &mut Outbox) -> Result<(), NodeFault>
+        ensures fault { FaultIs (refused_as (length self.old.slots) self.old.globals (event_model event.now)) result }
+        ensures kept { OnErr result (self.new ≡ self.old) }
+        ensures unrecorded { OnErr result (out.new.records ≡ out.old.records) }
+        ensures memory { result ≡ Err NodeFault.OutOfMemory → MayTakeMemory self.old (event_model event.now) }
+
+        ensures setup { self.new.setup ≡ self.old.setup }
+        ensures globals { OnOk result (self.new.globals ≡ globals_after self.old.globals (event_model event.now)) }
+        ensures count { length self.new.slots ≡ length self.old.slots }
+        ensures steps { OnOk result ((s : ℕ) (slot : SlotState) → slice_get self.old.slots s ≡ Some slot → StepsAsAlone self.old self.new out.old.records out.new.records (event_model event.now) s slot) }
+        ensures appends { Appends self.old.slots out.old.records out.new.records }
+    {
+        match *event {
+            Event::Moment(t) => self.step_moment(t, out),
+            Event::Call { slot, call } => self.step_call(slot, &call, out),
+        }
+    }
+
+    /// Takes events in turn. It goes on after an event that is refused for a cause of its own, stops before the first that
+    /// lacks memory, and answers how many were taken.
+    pub fn run(&mut self, events: &[Event<'_>], out: &mut Outbox) -> usize
+        ensures within { result ≤ length events.now }
+        ensures setup { self.new.setup ≡ self.old.setup }
+        ensures count { length self.new.slots ≡ length self.old.slots }
+        ensures alone { (s : ℕ) (slot : SlotState) → slice_get self.old.slots s ≡ Some slot → RunsAsAlone self.old self.new out.old.records out.new.records (map event_model (take result events.now)) s slot }
+        ensures appends { Appends self.old.slots out.old.records out.new.records }
+    {
+        let mut taken = 0;
+        for event in events {
+            let result = self.step(event, out);
+            if is_out_of_memory(&result) {
+                return taken;
+            }
+            taken += 1;
+        }
+        taken
+    }
+}
+
+/// Serves a call of slot 0, and records its answer.
+fn serve(
+    slot: &mut Slot,
+    alloc: Global,
+    setup: &NodeSetup,
+    call: &Call<'_>,
+    g: &Globals,
+    out: &mut Outbox,
+) -> Result<(), AllocError>
+    requires { g.now.now ≤ LAST }
+    ensures slot { OnOk result (slot.new ≡ (called setup.now slot.old g.entry.now (call_model call.now)).slot) }
+    ensures records { OnOk result (out.new.records ≡ out.old.records ++ labelled 0 (called setup.now slot.old g.entry.now (call_model call.now)).records) }
+    ensures kept { OnErr result (slot.new ≡ slot.old) }
+    ensures unrecorded { OnErr result (out.new.records ≡ out.old.records) }
+{
+    out.reserve(1, 0)?;
+    let answer = slot.call(alloc, setup, call, g)?;
+    out.push_answer(0, answer);
+    Ok(())
+}
+
+fn is_out_of_memory(answer: &Result<(), NodeFault>) -> bool
+    ensures yes { result ≡ true → answer.now ≡ Err NodeFault.OutOfMemory }
+    ensures no { result ≡ false → answer.now ≢ Err NodeFault.OutOfMemory }
+{
+    match answer {
+        Ok(()) => false,
+        Err(fault) => *fault == NodeFault::OutOfMemory,
+    }
+}

@@ -1,0 +1,203 @@
+//! What a node gives its slots, in order.
+
+ghost use Rattle.std.specs.Prelude.{◌≡◌, ℕ, ◌+◌, ◌<◌, ◌≤◌, ◌↔◌, ◌++◌, ◌∷◌, length, List, [], Option, OnOk, OnErr, IsTrue, ◌⊎◌, slice_get, option_map, take, drop, vec_len, vec_capacity};
+ghost use Rattle.trdp_head.specs.PdBytes.{pd_bytes, pd_length_of};
+ghost use Rattle.trdp_engine.specs.declared.record.Protocol.TheVariants.{Pd};
+ghost use Rattle.trdp_engine.specs.Records.{Answers, Sends, RecordModel, record_model};
+ghost use Rattle.trdp_engine.specs.Outboxes.{row_content};
+
+use crate::record::{Answer as CallAnswer, Protocol, Record, What};
+use std::alloc::{AllocError, Global};
+use std::marker::Model;
+use trdp_base::Place;
+use trdp_head::{PdHead, pd_length, write_pd};
+
+/// What a row says, but for its bytes.
+#[derive(Clone, Copy)]
+pub enum Form {
+    Answer(CallAnswer),
+    Send(Protocol, Place),
+}
+
+/// A record whose bytes lie at a place of the outbox's list.
+#[derive(Clone, Copy)]
+pub struct Row {
+    slot: u16,
+    form: Form,
+    at: usize,
+    len: usize,
+}
+
+/// The records of a node's events, in order, with the bytes of their telegrams. It keeps its memory when it is cleared.
+#[derive(Drop)]
+pub struct Outbox {
+    rows: Vec<Row>,
+    bytes: Vec<u8>,
+}
+
+impl Model for Outbox {
+    ghost use Rattle.std.specs.Prelude.{map, vec_capacity, vec_len, length, ◌-◌};
+    ghost use Rattle.trdp_engine.specs.Outboxes.{OutboxState, row_model, AllWithin};
+
+    ghost Value = { OutboxState };
+
+    ghost view = { λ o. record { records = map (row_model o.bytes.items) o.rows.items; row_room = vec_capacity o.rows - vec_len o.rows; byte_room = vec_capacity o.bytes - vec_len o.bytes } };
+
+    ghost invariant = { λ o. AllWithin (length o.bytes.items) o.rows.items };
+}
+
+impl Outbox {
+    ghost use Rattle.trdp_engine.specs.Outboxes.{OutboxState};
+
+    /// An outbox without records. It takes no memory yet.
+    pub fn new(alloc: Global) -> Outbox
+        ensures { result.records ≡ [] }
+    {
+        Outbox {
+            rows: Vec::new(alloc),
+            bytes: Vec::new(alloc),
+        }
+    }
+
+    /// How many records it holds.
+    pub fn len(&self) -> usize
+        ensures { result ≡ length self.now.records }
+    {
+        self.rows.len()
+    }
+
+    /// Whether it holds none.
+    pub fn is_empty(&self) -> bool
+        ensures { IsTrue result ↔ (self.now.records ≡ []) }
+    {
+        self.rows.is_empty()
+    }
+
+    /// The i-th record, from 0; None past the last.
+    pub fn get(&self, i: usize) -> Option<Record<'_>>
+        ensures { option_map record_model result ≡ slice_get self.now.records i }
+    {
+        match row_at(&self.rows, i) {
+            None => None,
+            Some(row) => Some(record(row, part(&self.bytes, row))),
+        }
+    }
+
+    /// Drops all records, and keeps the memory.
+    pub fn clear(&mut self)
+        ensures records { self.new.records ≡ [] }
+        ensures row_room { self.old.row_room ≤ self.new.row_room }
+        ensures byte_room { self.old.byte_room ≤ self.new.byte_room }
+    {
+        self.rows.clear();
+        self.bytes.clear();
+    }
+
+    /// Makes room for so many more records and so many bytes of theirs.
+    pub fn reserve(&mut self, rows: usize, bytes: usize) -> Result<(), AllocError>
+        ensures records { self.new.records ≡ self.old.records }
+        ensures rows { OnOk result (rows ≤ self.new.row_room) }
+        ensures bytes { OnOk result (bytes ≤ self.new.byte_room) }
+        ensures full { OnErr result ((self.old.row_room < rows) ⊎ (self.old.byte_room < bytes)) }
+    {
+        self.rows.reserve(rows)?;
+        self.bytes.reserve(bytes)?;
+        Ok(())
+    }
+
+    /// Adds an answer.
+    pub fn push_answer(&mut self, slot: u16, answer: CallAnswer)
+        requires { 0 < self.old.row_room }
+        ensures records { self.new.records ≡ self.old.records ++ record { slot = slot; content = Answers answer } ∷ [] }
+        ensures row_room { self.old.row_room ≤ self.new.row_room + 1 }
+        ensures byte_room { self.old.byte_room ≤ self.new.byte_room }
+    {
+        let at = self.bytes.len();
+        append_row(
+            &mut self.rows,
+            Row {
+                slot,
+                form: Form::Answer(answer),
+                at,
+                len: 0,
+            },
+        );
+    }
+
+    /// Adds a process data telegram, which it writes in its place.
+    pub fn push_pd(&mut self, slot: u16, to: Place, head: &PdHead, payload: &[u8])
+        requires row { 0 < self.old.row_room }
+        requires payload { length payload.now ≤ 1432 }
+        requires bytes { pd_length_of (length payload.now) ≤ self.old.byte_room }
+        ensures records { self.new.records ≡ self.old.records ++ record { slot = slot; content = Sends Pd to (pd_bytes head.now payload.now) } ∷ [] }
+        ensures row_room { self.old.row_room ≤ self.new.row_room + 1 }
+        ensures byte_room { self.old.byte_room ≤ self.new.byte_room + pd_length_of (length payload.now) }
+    {
+        let at = self.bytes.len();
+        let len = append_pd(&mut self.bytes, head, payload);
+        append_row(
+            &mut self.rows,
+            Row {
+                slot,
+                form: Form::Send(Protocol::Pd, to),
+                at,
+                len,
+            },
+        );
+    }
+}
+
+/// The record of a row with its bytes.
+fn record(row: Row, bytes: &[u8]) -> Record<'_>
+    ensures { record_model result ≡ record { slot = row.slot; content = row_content row.form bytes.now } }
+{
+    let what = match row.form {
+        Form::Answer(answer) => What::Answer(answer),
+        Form::Send(protocol, to) => What::Send {
+            protocol,
+            to,
+            telegram: bytes,
+        },
+    };
+    Record {
+        slot: row.slot,
+        what,
+    }
+}
+
+fn row_at(rows: &[Row], i: usize) -> Option<Row>
+    ensures { result ≡ slice_get rows.now i }
+{
+    rows.get(i).copied()
+}
+
+fn part(bytes: &[u8], row: Row) -> &[u8]
+    requires { row.at + row.len ≤ length bytes.now }
+    ensures { result.now ≡ take row.len (drop row.at bytes.now) }
+{
+    &bytes[row.at..row.at + row.len]
+}
+
+/// Writes a telegram at the end of the bytes, within their room, and answers its length.
+fn append_pd(bytes: &mut Vec<u8>, head: &PdHead, payload: &[u8]) -> usize
+    requires payload { length payload.now ≤ 1432 }
+    requires room { vec_len bytes.old + pd_length_of (length payload.now) ≤ vec_capacity bytes.old }
+    ensures items { bytes.new.items ≡ bytes.old.items ++ pd_bytes head.now payload.now }
+    ensures length { result ≡ pd_length_of (length payload.now) }
+    ensures len { vec_len bytes.new ≡ vec_len bytes.old + pd_length_of (length payload.now) }
+    ensures capacity { vec_capacity bytes.old ≤ vec_capacity bytes.new }
+{
+    let at = bytes.len();
+    let len = pd_length(payload.len());
+    let _ = bytes.resize(at + len, 0);
+    write_pd(head, payload, &mut bytes[at..])
+}
+
+fn append_row(rows: &mut Vec<Row>, row: Row)
+    requires { vec_len rows.old < vec_capacity rows.old }
+    ensures items { rows.new.items ≡ rows.old.items ++ row ∷ [] }
+    ensures len { vec_len rows.new ≡ vec_len rows.old + 1 }
+    ensures capacity { vec_capacity rows.old ≤ vec_capacity rows.new }
+{
+    rows.push_reserved(row);
+}

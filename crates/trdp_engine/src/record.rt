@@ -1,0 +1,44 @@
+//! What a node gives a slot: answers and telegrams.
+
+use crate::fault::Refusal;
+use trdp_base::Place;
+
+/// The two protocols of TRDP, each with a UDP port of its own (IEC 61375-2-3).
+#[derive(Clone, Copy, Debug, PartialEq, Eq)]
+pub enum Protocol {
+    /// Process data.
+    Pd,
+    /// Message data.
+    Md,
+}
+
+/// What a call comes to.
+#[derive(Clone, Copy, Debug, PartialEq, Eq)]
+pub enum Answer {
+    /// A new object has this handle.
+    Handle(u32),
+    /// The call took effect.
+    Done,
+    /// The call was refused, and changed nothing.
+    Refused(Refusal),
+}
+
+/// What a record says.
+#[derive(Clone, Copy, Debug)]
+pub enum What<'a> {
+    /// The answer of a call.
+    Answer(Answer),
+    /// A telegram to send to that place.
+    Send {
+        protocol: Protocol,
+        to: Place,
+        telegram: &'a [u8],
+    },
+}
+
+/// One thing that a node gives the slot of that number.
+#[derive(Clone, Copy, Debug)]
+pub struct Record<'a> {
+    pub slot: u16,
+    pub what: What<'a>,
+}
