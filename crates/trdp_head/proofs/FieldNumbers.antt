@@ -1,12 +1,12 @@
 -- The numbers of a header's fields are those that `byteorder` reads and writes.
-use Rattle.std.proofs.Common.{◌≡◌, ℕ, zero, suc, ◌+◌, ◌-◌, ◌*◌, ◌/◌, ◌%◌, ◌^◌, ◌<◌, ◌≤◌, List, [], ◌∷◌, ◌++◌, length, take, drop, reverse, slice_index, refl, sym, ap, ◌∙◌, arith, append_assoc, length-append}
-use Rattle.std.proofs.Math.Nat.{div-one, pow-succ', one-le-pow}
+use Rattle.std.proofs.Common.{◌≡◌, ℕ, zero, suc, ◌+◌, ◌*◌, ◌/◌, ◌%◌, ◌^◌, ◌≤◌, List, [], ◌∷◌, ◌++◌, length, take, reverse, refl, sym, ap, ◌∙◌, arith, length-append}
+use Rattle.std.proofs.Math.Nat.{div-one, pow-succ'}
 use Rattle.std.proofs.lemmas.List.{length-take-le, reverse-append}
 use Rattle.std.specs.Int.{byte_at, bytes_high_first, bytes_low_first}
 use Rattle.byteorder.specs.Endian.{big_from, little_from}
 use Rattle.byteorder.specs.Numbers.{big_from-cons, little_from-cons}
 use Rattle.trdp_base.specs.Numbers.{be, le}
-use Rattle.trdp_head.specs.Fields.{field, little_field, be_bytes, le_bytes}
+use Rattle.trdp_head.specs.Fields.{be_bytes, le_bytes}
 
 pub big_number-be : (n : ℕ) (xs : List ℕ) → n ≤ length xs → big_from 0 n xs ≡ be (take n xs)
 big_number-be zero xs h = refl

@@ -1,2 +1,5 @@
+pub mod FieldBytes
 pub mod FieldNumbers
 pub mod PartWrites
+pub mod PdBytesFacts
+pub mod PdTelegramFacts

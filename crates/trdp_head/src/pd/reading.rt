@@ -1,8 +1,7 @@
 //! Reading a process data telegram.
 
-ghost use Rattle.std.specs.Prelude.{◌≡◌, ◌≤◌, List, ℕ, length, IfOk, IfErr, IsOkAnd, MatchResult, Some, None};
+ghost use Rattle.std.specs.Prelude.{◌≡◌, ◌≤◌, ◌+◌, List, ℕ, length, IfOk, IfErr, IsOkAnd};
 ghost use Rattle.trdp_head.specs.Fields.{field};
-ghost use Rattle.trdp_head.specs.Checks.{is_checked};
 ghost use Rattle.trdp_head.specs.PdKinds.{kind_of};
 ghost use Rattle.trdp_head.specs.PdHeads.{head_in};
 ghost use Rattle.trdp_head.specs.IsPdTelegram.{IsPdTelegram};
@@ -13,7 +12,7 @@ ghost use Rattle.trdp_head.specs.declared.pd.PdHead.{PdHead};
 use crate::check::passes_check;
 use crate::fault::HeadFault;
 use crate::fields::{u16_at, u32_at};
-use crate::pd::{PdHead, PdKind, PdView};
+use crate::pd::{PD_HEAD, PD_TELEGRAM_MAX, PdHead, PdKind, PdView};
 use trdp_base::{Ip, Topo};
 
 /// The type of a code, if it is one of process data.
@@ -47,21 +46,17 @@ fn head_of(bytes: &[u8], kind: PdKind) -> PdHead
     }
 }
 
-/// The process data telegram in the bytes, whose payload it lends (IEC 61375-2-3).
-///
-/// Errors, the first that holds: `Short` below 40 bytes, `TooLong` above 1472, `Fcs` where bytes 36 to 39 are not the
-/// frame check of the 36 before them, `Version` where byte 4 is not 1, `Kind` where the type is not one of [`PdKind`],
-/// `Length` where the dataset is longer than what follows the header. Ignored are byte 5, the reserved field and
-/// what follows the dataset. Which tests are made, and their order, is this profile's choice.
-pub fn read_pd(bytes: &[u8]) -> Result<PdView<'_>, HeadFault>
-    ensures telegram { IfOk result (λ view. IsPdTelegram bytes.now view.head view.payload.now) }
+/// The type of the telegram in the bytes, or the first fault.
+fn faultless_kind(bytes: &[u8]) -> Result<PdKind, HeadFault>
     ensures fault { IfErr result (λ fault. pd_fault_of bytes.now ≡ Some fault) }
-    ensures accepted { IfOk result (λ _. pd_fault_of bytes.now ≡ None) }
+    ensures none { IfOk result (λ _. pd_fault_of bytes.now ≡ None) }
+    ensures kind { IfOk result (λ kind. kind_of (field 6 2 bytes.now) ≡ Some kind) }
+    ensures room { IfOk result (λ _. 40 + field 20 4 bytes.now ≤ length bytes.now) }
 {
-    if bytes.len() < 40 {
+    if bytes.len() < PD_HEAD {
         return Err(HeadFault::Short);
     }
-    if bytes.len() > 1472 {
+    if bytes.len() > PD_TELEGRAM_MAX {
         return Err(HeadFault::TooLong);
     }
     if !passes_check(bytes, 36) {
@@ -73,12 +68,34 @@ pub fn read_pd(bytes: &[u8]) -> Result<PdView<'_>, HeadFault>
     let Some(kind) = kind_of_code(u16_at(bytes, 6)) else {
         return Err(HeadFault::Kind);
     };
-    let (_, rest) = bytes.split_at(40);
-    let length = u32_at(bytes, 20) as usize;
-    if length > rest.len() {
+    if u32_at(bytes, 20) as usize > bytes.len() - PD_HEAD {
         return Err(HeadFault::Length);
     }
-    let (payload, _) = rest.split_at(length);
+    Ok(kind)
+}
+
+/// The process data telegram in the bytes, whose payload it lends (IEC 61375-2-3).
+///
+/// Errors, the first that holds: `Short` below 40 bytes, `TooLong` above 1472, `Fcs` where bytes 36 to 39 are not the
+/// frame check of the 36 before them, `Version` where byte 4 is not 1, `Kind` where the type is not one of [`PdKind`],
+/// `Length` where the dataset is longer than what follows the header. Byte 5, the reserved field and what follows the
+/// dataset are ignored. Which tests are made, and in which order, is the profile's choice.
+pub fn read_pd(bytes: &[u8]) -> Result<PdView<'_>, HeadFault>
+    ensures telegram { IfOk result (λ view. IsPdTelegram bytes.now view.head view.payload.now) }
+    ensures exact { (head : PdHead) (payload : List ℕ) → IsPdTelegram bytes.now head payload
+        → IsOkAnd result (λ view. (view.head ≡ head) × (view.payload.now ≡ payload)) }
+
+    ensures fault { IfErr result (λ fault. pd_fault_of bytes.now ≡ Some fault) }
+    ensures no_fault { IfOk result (λ _. pd_fault_of bytes.now ≡ None) }
+
+    // The same as a function of the bytes.
+    ensures found { IfOk result (λ view. pd_telegram_of bytes.now
+        ≡ Some (record { head = view.head; payload = view.payload.now })) }
+    ensures none_found { IfErr result (λ _. pd_telegram_of bytes.now ≡ None) }
+{
+    let kind = faultless_kind(bytes)?;
+    let (_, rest) = bytes.split_at(PD_HEAD);
+    let (payload, _) = rest.split_at(u32_at(bytes, 20) as usize);
     Ok(PdView {
         head: head_of(bytes, kind),
         payload,

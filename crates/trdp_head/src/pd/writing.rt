@@ -2,6 +2,8 @@
 
 ghost use Rattle.std.specs.Prelude.{ℕ, ◌≡◌, ◌≤◌, ◌++◌, length, take, drop};
 ghost use Rattle.trdp_head.specs.PdKinds.{code_of};
+ghost use Rattle.trdp_head.specs.PdHeads.{IsPdHead};
+ghost use Rattle.trdp_head.specs.IsPdTelegram.{IsPdTelegram};
 ghost use Rattle.trdp_head.specs.PdBytes.{pd_length_of, pd_head_bytes, pd_bytes};
 
 use crate::check::put_check;
@@ -30,10 +32,11 @@ fn code_of_kind(kind: PdKind) -> u16
 }
 
 /// Writes the header up to its frame check, with the length of the payload.
-fn put_head(room: &mut [u8], head: &PdHead, payload: u32)
+fn put_head(room: &mut [u8], head: PdHead, payload: u32)
     requires { 36 ≤ length room.old }
-    ensures front { take 36 room.new ≡ pd_head_bytes head.now payload }
+    ensures front { take 36 room.new ≡ pd_head_bytes head payload }
     ensures rest { (n : ℕ) → 36 ≤ n → drop n room.new ≡ drop n room.old }
+    ensures ranges { IsPdHead head }
 {
     put_u32(room, 0, head.counter);
     put_u16(room, 4, 0x0100);
@@ -56,9 +59,10 @@ pub fn write_pd(head: &PdHead, payload: &[u8], room: &mut [u8]) -> usize
     requires room { pd_length_of (length payload.now) ≤ length room.old }
     ensures length { result ≡ pd_length_of (length payload.now) }
     ensures written { room.new ≡ pd_bytes head.now payload.now ++ drop (pd_length_of (length payload.now)) room.old }
+    ensures read_back { IsPdTelegram (pd_bytes head.now payload.now) head.now payload.now }
 {
     let end = pd_length(payload.len());
-    put_head(room, head, payload.len() as u32);
+    put_head(room, *head, payload.len() as u32);
     put_check(room, 36);
     put_bytes(room, 40, payload);
     put_zeros(room, 40 + payload.len(), end);

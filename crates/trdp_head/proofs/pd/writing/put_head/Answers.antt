@@ -11,7 +11,7 @@ more x e f = e ∙ ap (λ (r : List ℕ). r ++ x) f
 pub returns-clause-front : goal.returns-clause-front
 unfolding pd_head_bytes
 returns-clause-front c =
-    let kind = be_bytes 2 (code_of c.args.head.now.kind) in
+    let kind = be_bytes 2 (code_of c.args.head.kind) in
     let front = more _ c.put_u16.ensures.front c.put_u32.ensures.front in
     let typed = more kind (c.put_u16-2.ensures.front ∙ ap (λ (k : ℕ). take 6 c.put_u16.new.room ++ be_bytes 2 k) c.code_of_kind.ensures) front in
     more _ c.put_u32-8.ensures.front (more _ c.put_u32-7.ensures.front (more _ c.put_u32-6.ensures.front (more _ c.put_u32-5.ensures.front (

@@ -2,6 +2,7 @@ use Rattle.std.proofs.Common.{◌≤◌, arith, ℕ, List, length, take, drop, r
 use Rattle.std.proofs.lemmas.List.{take-append-drop}
 use Rattle.trdp_head.specs.Checks.{with_check}
 use Rattle.trdp_head.specs.PdBytes.{pd_bytes, pd_head_bytes, pd_length_of}
+use Rattle.trdp_head.proofs.PdBytesFacts.{IsPdTelegram-pd_bytes}
 use Rattle.trdp_head.proofs.pd.writing.write_pd.Goals as goal
 
 pub returns-clause-written : goal.returns-clause-written
@@ -21,3 +22,6 @@ returns-clause-written c =
     c.put_zeros.ensures.rest end (omega (arith, reached)) ∙ c.put_bytes.ensures.rest end after ∙ c.put_check.ensures.rest end (omega arith) ∙ c.put_head.ensures.rest end (omega arith) in
     sym (take-append-drop end c.put_zeros.new.room) ∙ ap (λ (r : List ℕ). r ++ drop end c.put_zeros.new.room) whole
     ∙ ap (λ (r : List ℕ). pd_bytes c.args.head.now c.args.payload.now ++ r) rest
+
+pub returns-clause-read_back : goal.returns-clause-read_back
+returns-clause-read_back c = IsPdTelegram-pd_bytes c.args.head.now c.args.payload.now c.put_head.ensures.ranges c.requires.payload
