@@ -1,0 +1,2 @@
+pub mod AddressLemmas
+pub mod NumberLemmas
