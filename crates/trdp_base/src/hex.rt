@@ -1,6 +1,6 @@
 //! Bytes as text: two lower-case hexadecimal digits for each, and `-` for none.
 
-ghost use Rattle.std.specs.Prelude.{◌≡◌, ℕ, List, ◌+◌, ◌*◌, ◌/◌, ◌%◌, ◌<◌, ◌≤◌, ◌↔◌, ◌++◌, length, IfOk, IfErr, OnOk, OnErr, IsOk, IsTrue, All, vec_len, vec_capacity};
+ghost use Rattle.std.specs.Prelude.{◌≡◌, ℕ, List, [], ◌+◌, ◌*◌, ◌/◌, ◌%◌, ◌<◌, ◌≤◌, ◌↔◌, ◌++◌, length, IfOk, IfErr, OnOk, OnErr, IsOk, IsTrue, All, vec_len, vec_capacity};
 ghost use Rattle.trdp_base.specs.HexText.{hex_digit, hex_pairs, text_of_hex, IsHexText, IsHexDigit, IsInPairs};
 ghost use Rattle.trdp_base.specs.declared.text.TextFault.TheVariants.{BadText};
 
@@ -16,13 +16,23 @@ pub fn read_hex(alloc: Global, text: &[u8]) -> Result<Vec<u8>, TextFault>
     ensures found { (bytes : List ℕ) → All (λ byte. byte < 256) bytes → text.now ≡ text_of_hex bytes → IfOk result (λ read. read.items ≡ bytes) }
     ensures bad { (result ≡ Err BadText) ↔ ¬ IsHexText text.now }
 {
-    if matches!(text, [b'-']) {
+    if is_dash(text) {
         return Ok(Vec::new(alloc));
     }
     if !is_in_pairs(text) {
         return Err(TextFault::BadText);
     }
-    bytes_of_pairs(alloc, text).map_err(|_| TextFault::OutOfMemory)
+    match bytes_of_pairs(alloc, text) {
+        Ok(bytes) => Ok(bytes),
+        Err(AllocError) => Err(TextFault::OutOfMemory),
+    }
+}
+
+// Whether a text is the written form of no bytes.
+fn is_dash(text: &[u8]) -> bool
+    ensures { IsTrue result ↔ (text.now ≡ text_of_hex []) }
+{
+    matches!(text, [b'-'])
 }
 
 // Whether a text is lower-case hexadecimal digits in pairs, one pair or more.
@@ -42,7 +52,8 @@ fn is_digit(digit: u8) -> bool
 // The bytes with these pairs of digits.
 fn bytes_of_pairs(alloc: Global, text: &[u8]) -> Result<Vec<u8>, AllocError>
     requires { IsInPairs text.now }
-    ensures { IfOk result (λ bytes. hex_pairs bytes.items ≡ text.now) }
+    ensures pairs { IfOk result (λ bytes. hex_pairs bytes.items ≡ text.now) }
+    ensures bytes { IfOk result (λ bytes. All (λ byte. byte < 256) bytes.items) }
 {
     let mut bytes = Vec::with_capacity(alloc, text.len() / 2)?;
     for index in 0..text.len() / 2 {
