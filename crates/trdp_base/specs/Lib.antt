@@ -1,1 +1,4 @@
+pub mod AddressText
+pub mod HexText
+pub mod NumberText
 pub mod Numbers

@@ -1,10 +1,18 @@
 //! The small types of a TRDP node and their texts: addresses, places, topology counts, moments.
 #![tactic(auto)]
 
+mod address;
+mod hex;
 mod moment;
+mod number;
 mod place;
+mod text;
 mod topo;
 
+pub use address::{IP_LENGTH, PLACE_LENGTH, push_ip, push_place, read_ip, read_place};
+pub use hex::{push_hex, read_hex};
 pub use moment::{LAST, Moment};
+pub use number::{NUMBER_LENGTH, push_number, read_number};
 pub use place::{Ip, Place};
+pub use text::TextFault;
 pub use topo::Topo;

@@ -1,0 +1,3 @@
+pub mod AddressLemmas
+pub mod HexLemmas
+pub mod NumberLemmas

@@ -1,0 +1,6 @@
+use Rattle.std.proofs.Common.{arith}
+use Rattle.trdp_base.proofs.NumberLemmas.{length-text_of_port}
+use Rattle.trdp_base.proofs.address.put_port.Goals as goal
+
+pub put_number-requires : goal.put_number-requires
+put_number-requires c = record { room = omega (arith, length-text_of_port c.from.result (omega (arith, c.from.ensures, c.ranges.port.fits))) }

@@ -1,0 +1,20 @@
+use Rattle.std.proofs.Common.{refl, arith, rules}
+use Rattle.std.proofs.lemmas.Bool.{false≢true}
+use Rattle.trdp_base.proofs.HexLemmas.{no_text, read_alone, pairs_are_text}
+use Rattle.trdp_base.proofs.hex.read_hex.Goals as goal
+
+pub returns-then-not-is_in_pairs-clause-bad : goal.returns-then-not-is_in_pairs-clause-bad
+returns-then-not-is_in_pairs-clause-bad c =
+    let dash = c.if-is_dash.ensures.1 in
+    let pairs = c.if-not-is_in_pairs.ensures.1 in
+    (λ _ hex. no_text c.args.text.now (λ e. false≢true (dash e)) (λ e. false≢true (pairs e)) hex, λ _. refl)
+
+pub returns-in-Ok-clause-found : goal.returns-in-Ok-clause-found
+returns-in-Ok-clause-found c = λ bytes fits e.
+    let pairs = c.if-not-is_in_pairs.ensures.0 refl in
+    read_alone c.args.text.now c.in-Ok.bytes.items bytes pairs c.in-Ok.ensures.pairs c.in-Ok.ensures.bytes fits e
+
+pub returns-in-Err-clause-bad : goal.returns-in-Err-clause-bad
+returns-in-Err-clause-bad c =
+    let pairs = c.if-not-is_in_pairs.ensures.0 refl in
+    (λ same _. search rules, λ none. absurd (none (pairs_are_text c.args.text.now pairs)))

@@ -1,0 +1,10 @@
+-- The written form of numbers.
+use Rattle.std.specs.Prelude.{◌≡◌, ℕ, ◌<◌, ◌⊎◌, List, length, slice_index, decimal}
+
+-- the decimal digits of a number, the highest first, without leading zeros
+abbrev pub text_of_number : ℕ → List ℕ
+text_of_number number = decimal number
+
+-- a plus sign, or a zero with more behind it
+abbrev pub HasNeedlessStart : List ℕ → Type 0
+HasNeedlessStart text = (slice_index text 0 ≡ 43) ⊎ ((slice_index text 0 ≡ 48) × (1 < length text))

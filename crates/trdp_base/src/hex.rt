@@ -1,0 +1,109 @@
+//! Bytes as text: two lower-case hexadecimal digits for each, and `-` for none.
+
+ghost use Rattle.std.specs.Prelude.{◌≡◌, ℕ, List, [], ◌+◌, ◌*◌, ◌/◌, ◌%◌, ◌<◌, ◌≤◌, ◌↔◌, ◌++◌, length, IfOk, IfErr, OnOk, OnErr, IsOk, IsTrue, All, vec_len, vec_capacity};
+ghost use Rattle.trdp_base.specs.HexText.{hex_digit, hex_pairs, text_of_hex, IsHexText, IsHexDigit, IsInPairs};
+ghost use Rattle.trdp_base.specs.declared.text.TextFault.TheVariants.{BadText};
+
+use crate::text::TextFault;
+use std::alloc::{AllocError, Global};
+
+/// Reads bytes: lower-case hexadecimal digits in pairs, or `-` for no bytes (profile).
+///
+/// Any other text, the empty one too, is [`TextFault::BadText`], which is found before memory is taken.
+/// A good text for whose bytes there is no memory is [`TextFault::OutOfMemory`].
+pub fn read_hex(alloc: Global, text: &[u8]) -> Result<Vec<u8>, TextFault>
+    ensures value { IfOk result (λ bytes. text.now ≡ text_of_hex bytes.items) }
+    ensures found { (bytes : List ℕ) → All (λ byte. byte < 256) bytes → text.now ≡ text_of_hex bytes → IfOk result (λ read. read.items ≡ bytes) }
+    ensures bad { (result ≡ Err BadText) ↔ ¬ IsHexText text.now }
+{
+    if is_dash(text) {
+        return Ok(Vec::new(alloc));
+    }
+    if !is_in_pairs(text) {
+        return Err(TextFault::BadText);
+    }
+    match bytes_of_pairs(alloc, text) {
+        Ok(bytes) => Ok(bytes),
+        Err(AllocError) => Err(TextFault::OutOfMemory),
+    }
+}
+
+// Whether a text is the written form of no bytes.
+fn is_dash(text: &[u8]) -> bool
+    ensures { IsTrue result ↔ (text.now ≡ text_of_hex []) }
+{
+    matches!(text, [b'-'])
+}
+
+// Whether a text is lower-case hexadecimal digits in pairs, one pair or more.
+fn is_in_pairs(text: &[u8]) -> bool
+    ensures { IsTrue result ↔ IsInPairs text.now }
+{
+    !text.is_empty() && text.len() % 2 == 0 && text.iter().all(|digit| is_digit(*digit))
+}
+
+// Whether a character is a lower-case hexadecimal digit.
+fn is_digit(digit: u8) -> bool
+    ensures { IsTrue result ↔ IsHexDigit digit }
+{
+    matches!(digit, b'0'..=b'9' | b'a'..=b'f')
+}
+
+// The bytes with these pairs of digits.
+fn bytes_of_pairs(alloc: Global, text: &[u8]) -> Result<Vec<u8>, AllocError>
+    requires { IsInPairs text.now }
+    ensures pairs { IfOk result (λ bytes. hex_pairs bytes.items ≡ text.now) }
+    ensures bytes { IfOk result (λ bytes. All (λ byte. byte < 256) bytes.items) }
+{
+    let mut bytes = Vec::with_capacity(alloc, text.len() / 2)?;
+    for index in 0..text.len() / 2 {
+        let (high, low) = (text[2 * index], text[2 * index + 1]);
+        bytes.push_reserved(16 * value_of_digit(high) + value_of_digit(low));
+    }
+    Ok(bytes)
+}
+
+// The value of a lower-case hexadecimal digit.
+fn value_of_digit(digit: u8) -> u8
+    requires { IsHexDigit digit }
+    ensures small { result < 16 }
+    ensures digit { hex_digit result ≡ digit }
+{
+    if digit <= b'9' {
+        digit - b'0'
+    } else {
+        digit - b'a' + 10
+    }
+}
+
+/// Appends the written form of bytes, which is `-` for none.
+///
+/// Without memory for it the list's items stay as they were.
+pub fn push_hex(out: &mut Vec<u8>, bytes: &[u8]) -> Result<(), AllocError>
+    ensures ok { OnOk result (out.new.items ≡ out.old.items ++ text_of_hex bytes.now) }
+    ensures err { OnErr result (out.new.items ≡ out.old.items) }
+    ensures succeeds { vec_len out.old + length (text_of_hex bytes.now) ≤ vec_capacity out.old → IsOk result }
+    ensures capacity { vec_capacity out.old ≤ vec_capacity out.new }
+{
+    if bytes.is_empty() {
+        return out.extend_from_slice(b"-");
+    }
+    out.reserve(2 * bytes.len())?;
+    for byte in bytes {
+        out.push_reserved(digit_of(byte / 16));
+        out.push_reserved(digit_of(byte % 16));
+    }
+    Ok(())
+}
+
+// The lower-case hexadecimal digit of a value below 16.
+fn digit_of(value: u8) -> u8
+    requires { value < 16 }
+    ensures { result ≡ hex_digit value }
+{
+    if value < 10 {
+        b'0' + value
+    } else {
+        b'a' + value - 10
+    }
+}

@@ -1,0 +1,98 @@
+//! Numbers as text: decimal digits without leading zeros.
+
+ghost use Rattle.std.specs.Prelude.{◌≡◌, ℕ, ◌+◌, ◌%◌, ◌^◌, ◌<◌, ◌≤◌, ◌↔◌, ◌++◌, length, drop, IfOk, IfErr, OnOk, OnErr, IsOk, IfSome, IsTrue, vec_len, vec_capacity};
+ghost use Rattle.trdp_base.specs.NumberText.{text_of_number, HasNeedlessStart};
+ghost use Rattle.trdp_base.specs.declared.text.TextFault.TheVariants.{BadText};
+
+use crate::text::TextFault;
+use std::alloc::AllocError;
+use std::str;
+
+/// The length of the longest written number, that of 2^64 - 1.
+pub const NUMBER_LENGTH: usize = 20;
+
+/// Reads a decimal number of at most `max`, without sign and without leading zeros (profile).
+///
+/// Any other text is [`TextFault::BadText`].
+pub fn read_number(text: &[u8], max: u64) -> Result<u64, TextFault>
+    ensures value { IfOk result (λ number. (text.now ≡ text_of_number number) × (number ≤ max)) }
+    ensures found { (number : ℕ) → number ≤ max → text.now ≡ text_of_number number → result ≡ Ok number }
+    ensures fault { IfErr result (λ fault. fault ≡ BadText) }
+{
+    match number_of(text) {
+        Some(number) if number <= max => Ok(number),
+        _ => Err(TextFault::BadText),
+    }
+}
+
+// The number of 64 bits with this written form.
+fn number_of(text: &[u8]) -> Option<u64>
+    ensures value { IfSome result (λ number. text.now ≡ text_of_number number) }
+    ensures found { (number : ℕ) → number < 2 ^ 64 → text.now ≡ text_of_number number → result ≡ Some number }
+{
+    // `parse` takes a plus sign and leading zeros too.
+    if has_needless_start(text) {
+        return None;
+    }
+    match str::from_utf8(text) {
+        Ok(digits) => digits.parse().ok(),
+        Err(_) => None,
+    }
+}
+
+// Whether a text begins with a plus sign, or with a zero and more.
+fn has_needless_start(text: &[u8]) -> bool
+    ensures { IsTrue result ↔ HasNeedlessStart text.now }
+{
+    matches!(text, [b'+', ..] | [b'0', _, ..])
+}
+
+/// Appends the written form of a number.
+///
+/// Without memory for it the list's items stay as they were.
+pub fn push_number(out: &mut Vec<u8>, number: u64) -> Result<(), AllocError>
+    ensures ok { OnOk result (out.new.items ≡ out.old.items ++ text_of_number number) }
+    ensures err { OnErr result (out.new.items ≡ out.old.items) }
+    ensures succeeds { vec_len out.old + NUMBER_LENGTH ≤ vec_capacity out.old → IsOk result }
+    ensures capacity { vec_capacity out.old ≤ vec_capacity out.new }
+{
+    out.reserve(NUMBER_LENGTH)?;
+    put_number(out, number);
+    Ok(())
+}
+
+// Appends the written form of a number to a list that has room for it.
+pub(crate) fn put_number(out: &mut Vec<u8>, number: u64)
+    requires room { vec_len out.old + length (text_of_number number) ≤ vec_capacity out.old }
+    ensures items { out.new.items ≡ out.old.items ++ text_of_number number }
+    ensures len { vec_len out.new ≡ vec_len out.old + length (text_of_number number) }
+    ensures capacity { vec_capacity out.old ≤ vec_capacity out.new }
+{
+    let mut digits = [0; NUMBER_LENGTH];
+    let start = write_digits(number, &mut digits);
+    let (_, written) = digits.split_at(start);
+    out.extend_from_slice(written).unwrap();
+}
+
+// Writes a number's digits at the end of the list, and says where they begin.
+fn write_digits(number: u64, digits: &mut [u8; NUMBER_LENGTH]) -> usize
+    ensures within { result ≤ NUMBER_LENGTH }
+    ensures digits { drop result digits.new ≡ text_of_number number }
+{
+    let mut start = NUMBER_LENGTH - 1;
+    let mut rest = number;
+    digits[start] = digit_of(rest);
+    while rest >= 10 {
+        rest /= 10;
+        start -= 1;
+        digits[start] = digit_of(rest);
+    }
+    start
+}
+
+// The character of a number's last digit.
+fn digit_of(number: u64) -> u8
+    ensures { result ≡ 48 + number % 10 }
+{
+    b'0' + (number % 10) as u8
+}
