@@ -30,24 +30,24 @@ nat_le-past a b lt = grind (arith, nat_tests)
 due-firing : (p : PublisherState) (g : Globals) → (publisher_firing p g).object.due ≡ next_due p g.now
 due-firing p g = either p g (may_send p g) refl
   where
-  either : (p : PublisherState) (g : Globals) (b : Bool) → may_send p g ≡ b → (publisher_firing p g).object.due ≡ next_due p g.now
-  either p g true is = rw is refl
-  either p g false is = rw is refl
+    either : (p : PublisherState) (g : Globals) (b : Bool) → may_send p g ≡ b → (publisher_firing p g).object.due ≡ next_due p g.now
+    either p g true is = rw is refl
+    either p g false is = rw is refl
 
 publication-firing : (p : PublisherState) (g : Globals) → (publisher_firing p g).object.publication ≡ p.publication
 publication-firing p g = either p g (may_send p g) refl
   where
-  either : (p : PublisherState) (g : Globals) (b : Bool) → may_send p g ≡ b → (publisher_firing p g).object.publication ≡ p.publication
-  either p g true is = rw is refl
-  either p g false is = rw is refl
+    either : (p : PublisherState) (g : Globals) (b : Bool) → may_send p g ≡ b → (publisher_firing p g).object.publication ≡ p.publication
+    either p g true is = rw is refl
+    either p g false is = rw is refl
 
 -- a publisher that fired isn't due by now
 publisher_is_quiet : (p : PublisherState) (g : Globals) → is_due_by g.now (publisher_due (publisher_firing p g).object) ≡ false
 publisher_is_quiet p g = rw (publication-firing p g, due-firing p g) (either p g (p.publication.cycle == 0) refl)
   where
-  either : (p : PublisherState) (g : Globals) (b : Bool) → (p.publication.cycle == 0) ≡ b → is_due_by g.now (publisher_due (record p { due = next_due p g.now })) ≡ false
-  either p g true is = rw is refl
-  either p g false is = rw is (nat_le-past (next_due p g.now) g.now (next_due-later g.now p.due p.publication.cycle (grind (arith, nat_tests))))
+    either : (p : PublisherState) (g : Globals) (b : Bool) → (p.publication.cycle == 0) ≡ b → is_due_by g.now (publisher_due (record p { due = next_due p g.now })) ≡ false
+    either p g true is = rw is refl
+    either p g false is = rw is (nat_le-past (next_due p g.now) g.now (next_due-later g.now p.due p.publication.cycle (grind (arith, nat_tests))))
 
 object_is_quiet : (object : AnyObject) (g : Globals) → is_due_by g.now (due_of (after_firing object g)) ≡ false
 object_is_quiet (Publisher p) g = publisher_is_quiet p g
@@ -59,15 +59,15 @@ is_quiet g entry is = rw is (object_is_quiet entry.object g)
 fires_once : (g : Globals) (entry : Entry) → is_due g.now entry ≡ true → entry_after_moment g (entry_after_moment g entry) ≡ entry_after_moment g entry
 fires_once g entry is = settled g (entry_after_moment g entry) (is_quiet g entry is)
   where
-  settled : (g : Globals) (e : Entry) → is_due g.now e ≡ false → entry_after_moment g e ≡ e
-  settled g e not = rw not refl
+    settled : (g : Globals) (e : Entry) → is_due g.now e ≡ false → entry_after_moment g e ≡ e
+    settled g e not = rw not refl
 
 pub handle_kept : (g : Globals) (entry : Entry) → (entry_after_moment g entry).handle ≡ entry.handle
 handle_kept g entry = either g entry (is_due g.now entry) refl
   where
-  either : (g : Globals) (entry : Entry) (b : Bool) → is_due g.now entry ≡ b → (entry_after_moment g entry).handle ≡ entry.handle
-  either g entry true is = rw is refl
-  either g entry false is = rw is refl
+    either : (g : Globals) (entry : Entry) (b : Bool) → is_due g.now entry ≡ b → (entry_after_moment g entry).handle ≡ entry.handle
+    either g entry true is = rw is refl
+    either g entry false is = rw is refl
 
 got_at : (before : List Entry) (entry : Entry) (after : List Entry) → slice_get (before ++ entry ∷ after) (length before) ≡ Some entry
 got_at [] entry after = refl
@@ -126,6 +126,6 @@ pub none_fires : (g : Globals) (objects : List Entry) → filter (is_due g.now) 
 none_fires g [] none = refl
 none_fires g (x ∷ objects) none = either g x objects (is_due g.now x) refl none (none_fires g objects)
   where
-  either : (g : Globals) (x : Entry) (objects : List Entry) (b : Bool) → is_due g.now x ≡ b → filter (is_due g.now) (x ∷ objects) ≡ [] → (filter (is_due g.now) objects ≡ [] → map (entry_after_moment g) objects ≡ objects) → map (entry_after_moment g) (x ∷ objects) ≡ x ∷ objects
-  either g x objects true is none rest = let h = rw is at none in absurd (cc)
-  either g x objects false is none rest = let h = rw is at none in rw is (ap (λ (es : List Entry). x ∷ es) (rest h))
+    either : (g : Globals) (x : Entry) (objects : List Entry) (b : Bool) → is_due g.now x ≡ b → filter (is_due g.now) (x ∷ objects) ≡ [] → (filter (is_due g.now) objects ≡ [] → map (entry_after_moment g) objects ≡ objects) → map (entry_after_moment g) (x ∷ objects) ≡ x ∷ objects
+    either g x objects true is none rest = let h = rw is at none in absurd (cc)
+    either g x objects false is none rest = let h = rw is at none in rw is (ap (λ (es : List Entry). x ∷ es) (rest h))

@@ -39,9 +39,9 @@ handles-changed : (h : ℕ) (change : AnyObject → AnyObject) (objects : List E
 handles-changed h change [] = refl
 handles-changed h change (e ∷ objects) = either h change e objects (e.handle == h) refl (handles-changed h change objects)
   where
-  either : (h : ℕ) (change : AnyObject → AnyObject) (e : Entry) (objects : List Entry) (b : Bool) → (e.handle == h) ≡ b → map (λ e. e.handle) objects ≡ map (λ e. e.handle) (changed h change objects) → map (λ e. e.handle) (e ∷ objects) ≡ map (λ e. e.handle) (changed h change (e ∷ objects))
-  either h change e objects true is same = rw is refl
-  either h change e objects false is same = rw is (ap (λ (hs : List ℕ). e.handle ∷ hs) same)
+    either : (h : ℕ) (change : AnyObject → AnyObject) (e : Entry) (objects : List Entry) (b : Bool) → (e.handle == h) ≡ b → map (λ e. e.handle) objects ≡ map (λ e. e.handle) (changed h change objects) → map (λ e. e.handle) (e ∷ objects) ≡ map (λ e. e.handle) (changed h change (e ∷ objects))
+    either h change e objects true is same = rw is refl
+    either h change e objects false is same = rw is (ap (λ (hs : List ℕ). e.handle ∷ hs) same)
 
 pub IsSlot-changed : (quotas : List ℕ) (next capacity : ℕ) (objects : List Entry) (b : Bool) (h : ℕ) (change : AnyObject → AnyObject) → IsSlot quotas next capacity objects → IsSlot quotas next capacity (if b then changed h change objects else objects)
 IsSlot-changed quotas next capacity objects true h change is =

@@ -155,9 +155,9 @@ AllAfter-inserted : (x y : Entry) (ys : List Entry) → is_before x y ≡ true �
 AllAfter-inserted x y [] is all = (is, tt)
 AllAfter-inserted x y (z ∷ zs) is all = either x y z zs (is_before z y) refl is all (AllAfter-inserted x y zs is all.1)
   where
-  either : (x y z : Entry) (zs : List Entry) (b : Bool) → is_before z y ≡ b → is_before x y ≡ true → AllAfter x (z ∷ zs) → AllAfter x (inserted y zs) → AllAfter x (inserted y (z ∷ zs))
-  either x y z zs true way is all rest = rw way (all.0, rest)
-  either x y z zs false way is all rest = rw way (is, all)
+    either : (x y z : Entry) (zs : List Entry) (b : Bool) → is_before z y ≡ b → is_before x y ≡ true → AllAfter x (z ∷ zs) → AllAfter x (inserted y zs) → AllAfter x (inserted y (z ∷ zs))
+    either x y z zs true way is all rest = rw way (all.0, rest)
+    either x y z zs false way is all rest = rw way (is, all)
 
 AllAfter-in_order : (x : Entry) (ys : List Entry) → AllAfter x ys → AllAfter x (in_order ys)
 AllAfter-in_order x [] all = tt

@@ -24,9 +24,9 @@ pub admitted_first : (setup : NodeSetup) (s n : ℕ) (slot : SlotState) (g : Glo
 admitted_first setup s n slot g event later admitted =
     seen_or_not (is_in_view s slot g event) refl
   where
-  seen_or_not : (seen : Bool) → is_in_view s slot g event ≡ seen → alone_in_view setup s slot g (event ∷ later) ≡ prepend (records_after setup s slot g event) (alone_in_view setup s (slot_after setup s slot g event) (globals_after g event) later)
-  seen_or_not true is = rw is refl
-  seen_or_not false is = rw (is, globals_after-unseen s n slot g event admitted is) refl
+    seen_or_not : (seen : Bool) → is_in_view s slot g event ≡ seen → alone_in_view setup s slot g (event ∷ later) ≡ prepend (records_after setup s slot g event) (alone_in_view setup s (slot_after setup s slot g event) (globals_after g event) later)
+    seen_or_not true is = rw is refl
+    seen_or_not false is = rw (is, globals_after-unseen s n slot g event admitted is) refl
 
 -- an event that isn't admitted leaves the run
 pub refused_first : (setup : NodeSetup) (s n : ℕ) (slot : SlotState) (g : Globals) (event : EventModel) (later : List EventModel) (fault : NodeFault) → s < n → refused_as n g event ≡ Some fault → alone_in_view setup s slot g (event ∷ later) ≡ alone_in_view setup s slot g later

@@ -2,7 +2,7 @@
 
 use thiserror::Error;
 
-/// Why a node takes no notice of an event, first the first that applies (profile). Node and outbox stay as they were.
+/// Why an event is not admitted: the first of these that applies (profile). Node and outbox stay as they were.
 #[derive(Clone, Copy, Debug, PartialEq, Eq, Error)]
 pub enum NodeFault {
     /// The node has no slot of that number.
@@ -22,7 +22,7 @@ pub enum NodeFault {
     OutOfMemory = 5,
 }
 
-/// Why a call is refused, first the first that applies (profile). It is the call's one record, and nothing else changes.
+/// Why a call is refused: the first of these that applies (profile). It is the one record of the call, and nothing else changes.
 #[derive(Clone, Copy, Debug, PartialEq, Eq, Error)]
 pub enum Refusal {
     /// The slot has no object of that handle.

@@ -13,6 +13,8 @@ mod outbox;
 mod publisher;
 mod record;
 mod slot;
+#[cfg(test)]
+mod tests;
 
 pub use config::NodeConfig;
 pub use event::{Call, Event, Publication};

@@ -94,7 +94,7 @@ impl Outbox {
     }
 
     /// Makes room for so many more records and so many bytes of theirs.
-    pub fn reserve(&mut self, rows: usize, bytes: usize) -> Result<(), AllocError>
+    pub(crate) fn reserve(&mut self, rows: usize, bytes: usize) -> Result<(), AllocError>
         ensures records { self.new.records ≡ self.old.records }
         ensures rows { OnOk result (rows ≤ self.new.row_room) }
         ensures bytes { OnOk result (bytes ≤ self.new.byte_room) }
@@ -106,7 +106,7 @@ impl Outbox {
     }
 
     /// Adds an answer.
-    pub fn push_answer(&mut self, slot: u16, answer: CallAnswer)
+    pub(crate) fn push_answer(&mut self, slot: u16, answer: CallAnswer)
         requires { 0 < self.old.row_room }
         ensures records { self.new.records ≡ self.old.records ++ record { slot = slot; content = Answers answer } ∷ [] }
         ensures row_room { self.old.row_room ≤ self.new.row_room + 1 }
@@ -125,7 +125,7 @@ impl Outbox {
     }
 
     /// Adds a process data telegram, which it writes in its place.
-    pub fn push_pd(&mut self, slot: u16, to: Place, head: &PdHead, payload: &[u8])
+    pub(crate) fn push_pd(&mut self, slot: u16, to: Place, head: &PdHead, payload: &[u8])
         requires row { 0 < self.old.row_room }
         requires payload { length payload.now ≤ 1432 }
         requires bytes { pd_length_of (length payload.now) ≤ self.old.byte_room }
