@@ -1,6 +1,6 @@
 -- Lines that were read.
-use Rattle.std.specs.Prelude.{◌≡◌, zero, suc, ◌++◌, ◌+◌, ◌<◌, ◌≤◌, ℕ, Bool, true, false, List, [], ◌∷◌, Option, Some, None, IfSome, ⊤, take, nat_lt, option_map, Result, Ok, length}
-use Rattle.std.proofs.Common.{sym, ◌∙◌, ap, refl, subst, arith}
+use Rattle.std.specs.Prelude.{◌≡◌, zero, suc, ◌++◌, ◌<◌, ◌≤◌, ℕ, Bool, true, false, List, [], ◌∷◌, Option, Some, None, IfSome, take, nat_lt, option_map, Result, Ok, length}
+use Rattle.std.proofs.Common.{◌∙◌, ap, refl, subst, arith}
 use Rattle.std.proofs.lemmas.Bool.{ltb-false}
 use Rattle.std.specs.Io.BufRead.{take_through}
 use Rattle.std.specs.Io.KnownBytes.{IsAtEnd}

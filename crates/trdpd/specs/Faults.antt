@@ -1,6 +1,5 @@
 -- Why a line is no good, and why a script ends before its end.
 use Rattle.std.specs.Prelude.{◌≡◌, ◌≢◌, ℕ, ⊤}
-use Rattle.trdpd.specs.declared.line.LineFault.{LineFault}
 use Rattle.trdpd.specs.declared.line.LineFault.TheVariants.{OutOfMemory as NoMemory}
 use Rattle.trdpd.specs.declared.program.ScriptFault.{ScriptFault}
 use Rattle.trdpd.specs.declared.program.ScriptFault.TheVariants.{Line, Read, Write, OutOfMemory}

@@ -1,5 +1,5 @@
 -- What a line says.
-use Rattle.std.specs.Prelude.{◌≡◌, ℕ, List, [], ◌⊎◌, Option, Some, None, slice_index, length, ◌<◌}
+use Rattle.std.specs.Prelude.{◌≡◌, ℕ, List, [], ◌⊎◌, Option, Some, None, slice_index}
 use Rattle.trdp_engine.specs.Events.{EventModel, MomentIs, CallIs, PublishCall, PutCall}
 use Rattle.trdpd.specs.declared.line.Line.{Line}
 use Rattle.trdpd.specs.declared.line.Line.TheVariants.{Skipped, Moment, Publish, Put}

@@ -43,18 +43,18 @@ impl Write for FailingWriter {
 
 /// What a run came to: the exit status, the output and the text of the error.
 #[derive(Drop)]
-struct Ran {
+struct Outcome {
     status: u8,
     output: Vec<u8>,
     error: Vec<u8>,
 }
 
-fn ran(rt: &impl AllocGlobal, script: &[u8]) -> Ran {
+fn run(rt: &impl AllocGlobal, script: &[u8]) -> Outcome {
     let mut reader = script;
     let mut output = Vec::new(rt.alloc());
     let mut error = Vec::new(rt.alloc());
     let status = run_program(rt, &[], &mut reader, &mut output, &mut error);
-    Ran {
+    Outcome {
         status,
         output,
         error,
@@ -63,18 +63,18 @@ fn ran(rt: &impl AllocGlobal, script: &[u8]) -> Ran {
 
 /// A script is good and gives these lines.
 fn gives(rt: &(impl Abort + AllocGlobal), script: &[u8], output: &[u8]) {
-    let ran = ran(rt, script);
-    assert_eq!(rt; ran.error.as_slice(), b"".as_slice());
-    assert_eq!(rt; ran.output.as_slice(), output);
-    assert_eq!(rt; ran.status, 0);
+    let outcome = run(rt, script);
+    assert_eq!(rt; outcome.error.as_slice(), b"".as_slice());
+    assert_eq!(rt; outcome.output.as_slice(), output);
+    assert_eq!(rt; outcome.status, 0);
 }
 
 /// A script gives these lines, and then a fault with this text.
 fn ends(rt: &(impl Abort + AllocGlobal), script: &[u8], output: &[u8], error: &[u8], status: u8) {
-    let ran = ran(rt, script);
-    assert_eq!(rt; ran.output.as_slice(), output);
-    assert_eq!(rt; ran.error.as_slice(), error);
-    assert_eq!(rt; ran.status, status);
+    let outcome = run(rt, script);
+    assert_eq!(rt; outcome.output.as_slice(), output);
+    assert_eq!(rt; outcome.error.as_slice(), error);
+    assert_eq!(rt; outcome.status, status);
 }
 
 #[test]
