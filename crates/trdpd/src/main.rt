@@ -34,7 +34,11 @@ fn status(rt: &HostRuntime) -> u8 {
             Ok(()) => run_program(rt, &[], &mut rt.stdin(), &mut rt.stdout(), &mut rt.stderr()),
             Err(error) => refuse(rt, &error, error.kind() == ErrorKind::OutOfMemory),
         },
-        Err(error) => refuse(rt, &error, error.kind() == io::ErrorKind::OutOfMemory),
+        Err(error) => refuse(
+            rt,
+            format_args!("{error}\n"),
+            error.kind() == io::ErrorKind::OutOfMemory,
+        ),
     }
 }
 
@@ -43,14 +47,14 @@ fn given_words(rt: &HostRuntime) -> io::Result<Vec<String>> {
     Ok(env::args(rt)?.collect(rt.alloc())?)
 }
 
-/// Tells why the words can't be followed, and answers the exit status.
+/// Prints why the words can't be followed, and answers the exit status.
 fn refuse<D: Display + Drop>(rt: &impl Eprint, error: D, is_out_of_memory: bool) -> u8 {
     // What standard error does with the text changes nothing.
     if is_out_of_memory {
         let _ = rt.eprintln(ScriptFault::OutOfMemory);
         ScriptFault::OutOfMemory.status()
     } else {
-        let _ = rt.eprintln(error);
+        let _ = rt.eprint(error);
         USAGE
     }
 }
