@@ -165,21 +165,6 @@ fn calls_are_refused_in_order(rt: HostRuntime) -> Result<(), Fail> {
         refusal(&mut node, &mut out, &publish(999))?,
         Some(Refusal::Cycle)
     );
-    let other = Call::Publish(Publication {
-        dataset: 5,
-        ..publication(1_000)
-    });
-    assert_eq!(rt;
-        refusal(
-            &mut node,
-            &mut out,
-            &Event::Call {
-                slot: 0,
-                call: other
-            }
-        )?,
-        Some(Refusal::NoDataset)
-    );
     for _ in 0..4u8 {
         assert_eq!(rt; refusal(&mut node, &mut out, &publish(0))?, None);
     }
@@ -194,6 +179,28 @@ fn calls_are_refused_in_order(rt: HostRuntime) -> Result<(), Fail> {
     assert_eq!(rt;
         refusal(&mut node, &mut out, &put(4, bytes.get(1..).ok_or("short")?))?,
         None
+    );
+    Ok(())
+}
+
+#[test]
+fn an_unknown_dataset_is_refused(rt: HostRuntime) -> Result<(), Fail> {
+    let mut node = node(&rt)?;
+    let mut out = Outbox::new(rt.alloc());
+    let other = Call::Publish(Publication {
+        dataset: 5,
+        ..publication(1_000)
+    });
+    assert_eq!(rt;
+        refusal(
+            &mut node,
+            &mut out,
+            &Event::Call {
+                slot: 0,
+                call: other
+            }
+        )?,
+        Some(Refusal::NoDataset)
     );
     Ok(())
 }
