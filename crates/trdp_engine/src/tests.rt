@@ -1,5 +1,9 @@
 //! Worked examples, with telegrams from the standard's layout.
 
+ghost use Rattle.std.specs.Prelude.{◌≡◌, IfOk};
+ghost use Rattle.trdp_engine.specs.Configs.{first_config};
+ghost use Rattle.trdp_engine.specs.NodeStates.{opened_node};
+
 use crate::{
     Answer, Call, Event, Node, NodeConfig, NodeFault, Outbox, Protocol, Publication, Refusal, What,
 };
@@ -40,12 +44,13 @@ fn put<'a>(handle: u32, bytes: &'a [u8]) -> Event<'a> {
     }
 }
 
-fn node(rt: &HostRuntime) -> Result<Node, Fail> {
-    Ok(
-        Node::new(rt.alloc(), NodeConfig::first())
-            .ok()
-            .ok_or("no memory")?,
-    )
+fn node(rt: &HostRuntime) -> Result<Node, Fail>
+    ensures { IfOk result (λ node. node ≡ opened_node first_config) }
+{
+    match Node::new(rt.alloc(), NodeConfig::first()) {
+        Ok(node) => Ok(node),
+        Err(_) => Err("no memory".into()),
+    }
 }
 
 #[test]
