@@ -1,6 +1,6 @@
 //! Addresses and places as text: four numbers joined by dots, and a port behind a colon.
 
-ghost use Rattle.std.specs.Prelude.{◌≡◌, ◌≢◌, ℕ, ◌+◌, ◌^◌, ◌<◌, ◌≤◌, ◌++◌, ◌∷◌, length, IfOk, IfErr, OnOk, OnErr, IsOk, IfSome, IfNone, All, Contains, vec_len, vec_capacity};
+ghost use Rattle.std.specs.Prelude.{◌≡◌, ◌≢◌, ℕ, ◌+◌, ◌^◌, ◌<◌, ◌≤◌, ◌++◌, ◌∷◌, IfOk, IfErr, OnOk, OnErr, IsOk, IfSome, IfNone, All, vec_len, vec_capacity};
 ghost use Rattle.trdp_base.specs.AddressText.{text_of_ip, text_of_place};
 ghost use Rattle.trdp_base.specs.NumberText.{text_of_number};
 ghost use Rattle.trdp_base.specs.declared.place.Ip.{Ip};
@@ -38,7 +38,8 @@ pub fn read_ip(text: &[u8]) -> Result<Ip, TextFault>
 /// Any other text is [`TextFault::BadText`].
 pub fn read_place(text: &[u8]) -> Result<Place, TextFault>
     ensures value { IfOk result (λ place. text.now ≡ text_of_place place) }
-    ensures found { (place : Place) → place.ip.0 < 2 ^ 32 → place.port < 2 ^ 16 → text.now ≡ text_of_place place → result ≡ Ok place }
+    ensures found { (place : Place) → place.ip.0 < 2 ^ 32 → place.port < 2 ^ 16
+        → text.now ≡ text_of_place place → result ≡ Ok place }
     ensures fault { IfErr result (λ fault. fault ≡ BadText) }
 {
     let (address, port) = split_at_colon(text).ok_or(TextFault::BadText)?;
@@ -50,7 +51,8 @@ pub fn read_place(text: &[u8]) -> Result<Place, TextFault>
 // Reads a port of 0 to 65535.
 fn read_port(text: &[u8]) -> Result<u16, TextFault>
     ensures value { IfOk result (λ port. text.now ≡ text_of_number port) }
-    ensures found { (port : ℕ) → port < 2 ^ 16 → text.now ≡ text_of_number port → result ≡ Ok port }
+    ensures found { (port : ℕ) → port < 2 ^ 16
+        → text.now ≡ text_of_number port → result ≡ Ok port }
     ensures fault { IfErr result (λ fault. fault ≡ BadText) }
 {
     let port = read_number(text, u64::from(u16::MAX))?;
@@ -70,10 +72,12 @@ fn split_at_colon(text: &[u8]) -> Option<(&[u8], &[u8])>
 
 /// Appends the written form of an address.
 ///
-/// Without memory for it the list's items stay as they were.
+/// It needs no memory where there is room for [`IP_LENGTH`] more bytes. Without memory the list's items stay
+/// as they were.
 pub fn push_ip(out: &mut Vec<u8>, ip: Ip) -> Result<(), AllocError>
     ensures ok { OnOk result (out.new.items ≡ out.old.items ++ text_of_ip ip) }
     ensures err { OnErr result (out.new.items ≡ out.old.items) }
+    ensures length { vec_len out.new ≤ vec_len out.old + IP_LENGTH }
     ensures succeeds { vec_len out.old + IP_LENGTH ≤ vec_capacity out.old → IsOk result }
     ensures capacity { vec_capacity out.old ≤ vec_capacity out.new }
 {
@@ -84,10 +88,12 @@ pub fn push_ip(out: &mut Vec<u8>, ip: Ip) -> Result<(), AllocError>
 
 /// Appends the written form of a place.
 ///
-/// Without memory for it the list's items stay as they were.
+/// It needs no memory where there is room for [`PLACE_LENGTH`] more bytes. Without memory the list's items stay
+/// as they were.
 pub fn push_place(out: &mut Vec<u8>, place: Place) -> Result<(), AllocError>
     ensures ok { OnOk result (out.new.items ≡ out.old.items ++ text_of_place place) }
     ensures err { OnErr result (out.new.items ≡ out.old.items) }
+    ensures length { vec_len out.new ≤ vec_len out.old + PLACE_LENGTH }
     ensures succeeds { vec_len out.old + PLACE_LENGTH ≤ vec_capacity out.old → IsOk result }
     ensures capacity { vec_capacity out.old ≤ vec_capacity out.new }
 {
@@ -129,6 +135,7 @@ fn put_octet(out: &mut Vec<u8>, octet: u8)
 fn put_port(out: &mut Vec<u8>, port: u16)
     requires room { vec_len out.old + 5 ≤ vec_capacity out.old }
     ensures items { out.new.items ≡ out.old.items ++ text_of_number port }
+    ensures length { vec_len out.new ≤ vec_len out.old + 5 }
     ensures capacity { vec_capacity out.old ≤ vec_capacity out.new }
 {
     put_number(out, u64::from(port));

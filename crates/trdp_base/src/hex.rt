@@ -13,7 +13,8 @@ use std::alloc::{AllocError, Global};
 /// A good text for whose bytes there is no memory is [`TextFault::OutOfMemory`].
 pub fn read_hex(alloc: Global, text: &[u8]) -> Result<Vec<u8>, TextFault>
     ensures value { IfOk result (λ bytes. text.now ≡ text_of_hex bytes.items) }
-    ensures found { (bytes : List ℕ) → All (λ byte. byte < 256) bytes → text.now ≡ text_of_hex bytes → IfOk result (λ read. read.items ≡ bytes) }
+    ensures found { (bytes : List ℕ) → All (λ byte. byte < 256) bytes
+        → text.now ≡ text_of_hex bytes → IfOk result (λ read. read.items ≡ bytes) }
     ensures bad { (result ≡ Err BadText) ↔ ¬ IsHexText text.now }
 {
     if is_dash(text) {
@@ -78,11 +79,12 @@ fn value_of_digit(digit: u8) -> u8
 
 /// Appends the written form of bytes, which is `-` for none.
 ///
-/// Without memory for it the list's items stay as they were.
+/// It needs no memory where there is room for that. Without memory the list's items stay as they were.
 pub fn push_hex(out: &mut Vec<u8>, bytes: &[u8]) -> Result<(), AllocError>
     ensures ok { OnOk result (out.new.items ≡ out.old.items ++ text_of_hex bytes.now) }
     ensures err { OnErr result (out.new.items ≡ out.old.items) }
-    ensures succeeds { vec_len out.old + length (text_of_hex bytes.now) ≤ vec_capacity out.old → IsOk result }
+    ensures succeeds { vec_len out.old + length (text_of_hex bytes.now) ≤ vec_capacity out.old
+        → IsOk result }
     ensures capacity { vec_capacity out.old ≤ vec_capacity out.new }
 {
     if bytes.is_empty() {

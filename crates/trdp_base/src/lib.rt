@@ -6,6 +6,8 @@ mod hex;
 mod moment;
 mod number;
 mod place;
+#[cfg(test)]
+mod tests;
 mod text;
 mod topo;
 

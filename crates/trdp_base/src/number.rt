@@ -16,7 +16,8 @@ pub const NUMBER_LENGTH: usize = 20;
 /// Any other text is [`TextFault::BadText`].
 pub fn read_number(text: &[u8], max: u64) -> Result<u64, TextFault>
     ensures value { IfOk result (λ number. (text.now ≡ text_of_number number) × (number ≤ max)) }
-    ensures found { (number : ℕ) → number ≤ max → text.now ≡ text_of_number number → result ≡ Ok number }
+    ensures found { (number : ℕ) → number ≤ max
+        → text.now ≡ text_of_number number → result ≡ Ok number }
     ensures fault { IfErr result (λ fault. fault ≡ BadText) }
 {
     match number_of(text) {
@@ -28,7 +29,8 @@ pub fn read_number(text: &[u8], max: u64) -> Result<u64, TextFault>
 // The number of 64 bits with this written form.
 fn number_of(text: &[u8]) -> Option<u64>
     ensures value { IfSome result (λ number. text.now ≡ text_of_number number) }
-    ensures found { (number : ℕ) → number < 2 ^ 64 → text.now ≡ text_of_number number → result ≡ Some number }
+    ensures found { (number : ℕ) → number < 2 ^ 64
+        → text.now ≡ text_of_number number → result ≡ Some number }
 {
     // `parse` takes a plus sign and leading zeros too.
     if has_needless_start(text) {
@@ -49,10 +51,12 @@ fn has_needless_start(text: &[u8]) -> bool
 
 /// Appends the written form of a number.
 ///
-/// Without memory for it the list's items stay as they were.
+/// It needs no memory where there is room for [`NUMBER_LENGTH`] more bytes. Without memory the list's items stay
+/// as they were.
 pub fn push_number(out: &mut Vec<u8>, number: u64) -> Result<(), AllocError>
     ensures ok { OnOk result (out.new.items ≡ out.old.items ++ text_of_number number) }
     ensures err { OnErr result (out.new.items ≡ out.old.items) }
+    ensures length { vec_len out.new ≤ vec_len out.old + NUMBER_LENGTH }
     ensures succeeds { vec_len out.old + NUMBER_LENGTH ≤ vec_capacity out.old → IsOk result }
     ensures capacity { vec_capacity out.old ≤ vec_capacity out.new }
 {

@@ -1,5 +1,4 @@
 use Rattle.std.proofs.Common.{Ok, ◌∙◌}
-use Rattle.trdp_base.specs.declared.place.Ip.{Ip}
 use Rattle.trdp_base.proofs.AddressLemmas.{address_of, text_is_read, bits_of_text, text_of_read}
 use Rattle.trdp_base.proofs.address.read_ip.Goals as goal
 

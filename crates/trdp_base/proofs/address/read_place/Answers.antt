@@ -1,4 +1,4 @@
-use Rattle.std.proofs.Common.{Ok, sym, ◌∙◌}
+use Rattle.std.proofs.Common.{Ok}
 use Rattle.trdp_base.proofs.AddressLemmas.{parts_of_place, err_not_ok, ok_same}
 use Rattle.trdp_base.proofs.address.read_place.Goals as goal
 

@@ -1,4 +1,4 @@
-use Rattle.std.proofs.Common.{refl, arith, rules}
+use Rattle.std.proofs.Common.{refl, rules}
 use Rattle.std.proofs.lemmas.Bool.{false≢true}
 use Rattle.trdp_base.proofs.HexLemmas.{no_text, read_alone, pairs_are_text}
 use Rattle.trdp_base.proofs.hex.read_hex.Goals as goal

@@ -1,7 +1,7 @@
 use Rattle.std.proofs.Common.{refl, subst, ◌∙◌}
 use Rattle.std.proofs.lemmas.Bool.{false≢true}
 use Rattle.std.specs.Str.Parse.{ParsesUnsigned}
-use Rattle.trdp_base.specs.NumberText.{text_of_number, HasNeedlessStart}
+use Rattle.trdp_base.specs.NumberText.{HasNeedlessStart}
 use Rattle.trdp_base.proofs.NumberLemmas.{plain_start, utf8_of_number, parsed_text, parsed_number}
 use Rattle.trdp_base.proofs.number.number_of.Goals as goal
 
