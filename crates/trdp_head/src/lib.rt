@@ -13,3 +13,6 @@ pub use fault::HeadFault;
 pub use pd::reading::read_pd;
 pub use pd::writing::{pd_length, write_pd};
 pub use pd::{PD_HEAD, PD_PAYLOAD_MAX, PD_TELEGRAM_MAX, PdHead, PdKind, PdView};
+
+#[cfg(test)]
+mod tests;

@@ -14,6 +14,7 @@
 //! | 32 | replyIpAddress | u32 |
 //! | 36 | headerFcs | u32, least significant byte first |
 
+mod layout;
 pub mod reading;
 pub mod writing;
 

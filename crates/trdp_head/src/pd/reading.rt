@@ -12,7 +12,7 @@ ghost use Rattle.trdp_head.specs.declared.pd.PdHead.{PdHead};
 use crate::check::passes_check;
 use crate::fault::HeadFault;
 use crate::fields::{u16_at, u32_at};
-use crate::pd::{PD_HEAD, PD_TELEGRAM_MAX, PdHead, PdKind, PdView};
+use crate::pd::{PD_HEAD, PD_TELEGRAM_MAX, PdHead, PdKind, PdView, layout};
 use trdp_base::{Ip, Topo};
 
 /// The type of a code, if it is one of process data.
@@ -34,15 +34,15 @@ fn head_of(bytes: &[u8], kind: PdKind) -> PdHead
     ensures { result ≡ head_in bytes.now kind }
 {
     PdHead {
-        counter: u32_at(bytes, 0),
+        counter: u32_at(bytes, layout::COUNTER),
         kind,
-        com_id: u32_at(bytes, 8),
+        com_id: u32_at(bytes, layout::COM_ID),
         topo: Topo {
-            etb: u32_at(bytes, 12),
-            op_trn: u32_at(bytes, 16),
+            etb: u32_at(bytes, layout::ETB_TOPO),
+            op_trn: u32_at(bytes, layout::OP_TRN_TOPO),
         },
-        reply_com_id: u32_at(bytes, 28),
-        reply_ip: Ip(u32_at(bytes, 32)),
+        reply_com_id: u32_at(bytes, layout::REPLY_COM_ID),
+        reply_ip: Ip(u32_at(bytes, layout::REPLY_IP)),
     }
 }
 
@@ -59,16 +59,16 @@ fn faultless_kind(bytes: &[u8]) -> Result<PdKind, HeadFault>
     if bytes.len() > PD_TELEGRAM_MAX {
         return Err(HeadFault::TooLong);
     }
-    if !passes_check(bytes, 36) {
+    if !passes_check(bytes, layout::FCS) {
         return Err(HeadFault::Fcs);
     }
-    if bytes[4] != 1 {
+    if bytes[layout::VERSION] != 1 {
         return Err(HeadFault::Version);
     }
-    let Some(kind) = kind_of_code(u16_at(bytes, 6)) else {
+    let Some(kind) = kind_of_code(u16_at(bytes, layout::KIND)) else {
         return Err(HeadFault::Kind);
     };
-    if u32_at(bytes, 20) as usize > bytes.len() - PD_HEAD {
+    if u32_at(bytes, layout::DATASET_LENGTH) as usize > bytes.len() - PD_HEAD {
         return Err(HeadFault::Length);
     }
     Ok(kind)
@@ -95,7 +95,7 @@ pub fn read_pd(bytes: &[u8]) -> Result<PdView<'_>, HeadFault>
 {
     let kind = faultless_kind(bytes)?;
     let (_, rest) = bytes.split_at(PD_HEAD);
-    let (payload, _) = rest.split_at(u32_at(bytes, 20) as usize);
+    let (payload, _) = rest.split_at(u32_at(bytes, layout::DATASET_LENGTH) as usize);
     Ok(PdView {
         head: head_of(bytes, kind),
         payload,

@@ -8,7 +8,10 @@ ghost use Rattle.trdp_head.specs.PdBytes.{pd_length_of, pd_head_bytes, pd_bytes}
 
 use crate::check::put_check;
 use crate::fields::{put_bytes, put_u16, put_u32, put_zeros};
-use crate::pd::{PdHead, PdKind};
+use crate::pd::{PD_HEAD, PdHead, PdKind, layout};
+
+/// The protocol version 1.0.
+const PROTOCOL_VERSION: u16 = 0x0100;
 
 /// The bytes of a telegram with so many bytes of payload: 40 and the payload rounded up to a multiple of four.
 /// At most 1432 bytes of payload.
@@ -16,7 +19,7 @@ pub fn pd_length(payload: usize) -> usize
     requires { payload ≤ 1432 }
     ensures { result ≡ pd_length_of payload }
 {
-    40 + payload.div_ceil(4) * 4
+    PD_HEAD + payload.div_ceil(4) * 4
 }
 
 /// The code of a type.
@@ -38,16 +41,16 @@ fn put_head(room: &mut [u8], head: PdHead, payload: u32)
     ensures rest { (n : ℕ) → 36 ≤ n → drop n room.new ≡ drop n room.old }
     ensures ranges { IsPdHead head }
 {
-    put_u32(room, 0, head.counter);
-    put_u16(room, 4, 0x0100);
-    put_u16(room, 6, code_of_kind(head.kind));
-    put_u32(room, 8, head.com_id);
-    put_u32(room, 12, head.topo.etb);
-    put_u32(room, 16, head.topo.op_trn);
-    put_u32(room, 20, payload);
-    put_u32(room, 24, 0);
-    put_u32(room, 28, head.reply_com_id);
-    put_u32(room, 32, head.reply_ip.0);
+    put_u32(room, layout::COUNTER, head.counter);
+    put_u16(room, layout::VERSION, PROTOCOL_VERSION);
+    put_u16(room, layout::KIND, code_of_kind(head.kind));
+    put_u32(room, layout::COM_ID, head.com_id);
+    put_u32(room, layout::ETB_TOPO, head.topo.etb);
+    put_u32(room, layout::OP_TRN_TOPO, head.topo.op_trn);
+    put_u32(room, layout::DATASET_LENGTH, payload);
+    put_u32(room, layout::RESERVED, 0);
+    put_u32(room, layout::REPLY_COM_ID, head.reply_com_id);
+    put_u32(room, layout::REPLY_IP, head.reply_ip.0);
 }
 
 /// Writes the telegram at the front of the room, and answers its length (IEC 61375-2-3).
@@ -63,8 +66,8 @@ pub fn write_pd(head: &PdHead, payload: &[u8], room: &mut [u8]) -> usize
 {
     let end = pd_length(payload.len());
     put_head(room, *head, payload.len() as u32);
-    put_check(room, 36);
-    put_bytes(room, 40, payload);
-    put_zeros(room, 40 + payload.len(), end);
+    put_check(room, layout::FCS);
+    put_bytes(room, PD_HEAD, payload);
+    put_zeros(room, PD_HEAD + payload.len(), end);
     end
 }

@@ -1,0 +1,112 @@
+//! Telegrams whose bytes come from the standard's layout, and their frame checks from zlib.
+
+ghost use Rattle.std.specs.Prelude.{◌≤◌};
+
+use crate::{HeadFault, PD_TELEGRAM_MAX, PdHead, PdKind, pd_length, read_pd, write_pd};
+use std::test::Fail;
+use trdp_base::{Ip, Topo};
+
+/// `Pd` of comId 100 with the dataset `0a0b`.
+const DATA: [u8; 44] = [
+    0, 0, 0, 0, 1, 0, 0x50, 0x64, 0, 0, 0, 0x64, 0, 0, 0, 0, 0, 0, 0, 0, 0, 0, 0, 2, 0, 0, 0, 0, 0,
+    0, 0, 0, 0, 0, 0, 0, 0xec, 0x17, 0x9c, 0x94, 0x0a, 0x0b, 0, 0,
+];
+
+/// Its header.
+const DATA_HEAD: PdHead = PdHead {
+    counter: 0,
+    kind: PdKind::Data,
+    com_id: 100,
+    topo: Topo { etb: 0, op_trn: 0 },
+    reply_com_id: 0,
+    reply_ip: Ip(0),
+};
+
+/// `Pr` with a number of its own in each field, and the dataset `0a0b0c`.
+const REQUEST: [u8; 44] = [
+    1, 2, 3, 4, 1, 0, 0x50, 0x72, 0x11, 0x12, 0x13, 0x14, 0x21, 0x22, 0x23, 0x24, 0x31, 0x32, 0x33,
+    0x34, 0, 0, 0, 3, 0, 0, 0, 0, 0x41, 0x42, 0x43, 0x44, 10, 0, 0, 7, 0x10, 0x1a, 0x60, 0xe1,
+    0x0a, 0x0b, 0x0c, 0,
+];
+
+const REQUEST_HEAD: PdHead = PdHead {
+    counter: 0x0102_0304,
+    kind: PdKind::PullRequest,
+    com_id: 0x1112_1314,
+    topo: Topo {
+        etb: 0x2122_2324,
+        op_trn: 0x3132_3334,
+    },
+    reply_com_id: 0x4142_4344,
+    reply_ip: Ip(0x0a00_0007),
+};
+
+#[test]
+fn telegrams_are_read(rt: HostRuntime) -> Result<(), Fail> {
+    let data = read_pd(&DATA)?;
+    assert_eq!(rt; data.head, DATA_HEAD);
+    assert_eq!(rt; data.payload, [0x0a, 0x0b].as_slice());
+    let request = read_pd(&REQUEST)?;
+    assert_eq!(rt; request.head, REQUEST_HEAD);
+    assert_eq!(rt; request.payload, [0x0a, 0x0b, 0x0c].as_slice());
+    Ok(())
+}
+
+#[test]
+fn telegrams_are_written(rt: HostRuntime) {
+    let mut room = [0xff; 48];
+    assert_eq!(rt; write_pd(&DATA_HEAD, &[0x0a, 0x0b], &mut room), 44);
+    assert_eq!(rt; &room[..44], DATA.as_slice());
+    assert_eq!(rt; &room[44..], [0xff; 4].as_slice());
+    assert_eq!(rt; write_pd(&REQUEST_HEAD, &[0x0a, 0x0b, 0x0c], &mut room), 44);
+    assert_eq!(rt; &room[..44], REQUEST.as_slice());
+}
+
+/// The telegram of comId 100 with other bytes at an offset, and with another frame check.
+fn changed(offset: usize, bytes: [u8; 2], check: [u8; 4]) -> [u8; 44]
+    requires { offset ≤ 38 }
+{
+    let mut telegram = DATA;
+    telegram[offset] = bytes[0];
+    telegram[offset + 1] = bytes[1];
+    telegram[36..40].copy_from_slice(&check);
+    telegram
+}
+
+#[test]
+fn faults_are_named(rt: HostRuntime) {
+    for (offset, bytes, check, fault) in [
+        (6, [0x50, 0x64], [0x94, 0x9c, 0x17, 0xec], HeadFault::Fcs),
+        (4, [2, 0], [0x53, 0x1f, 0x83, 0x5d], HeadFault::Version),
+        (6, [0x4d, 0x6e], [0x2d, 0x2d, 0x36, 0x79], HeadFault::Kind),
+        (22, [0, 5], [0xb4, 0x11, 0xef, 0xe9], HeadFault::Length),
+    ] {
+        assert!(rt; offset <= 38);
+        assert_eq!(rt;
+            read_pd(&changed(offset, bytes, check)).err(),
+            Some(fault),
+            "at {offset}"
+        );
+    }
+    assert_eq!(rt; read_pd(&DATA[..39]).err(), Some(HeadFault::Short));
+    assert_eq!(rt;
+        read_pd(&[0; PD_TELEGRAM_MAX + 1]).err(),
+        Some(HeadFault::TooLong)
+    );
+}
+
+#[test]
+fn other_minor_versions_and_padding_are_accepted(rt: HostRuntime) -> Result<(), Fail> {
+    let minor = changed(4, [1, 0xff], [0x64, 0x13, 0xce, 0x33]);
+    assert_eq!(rt; read_pd(&minor)?.payload, [0x0a, 0x0b].as_slice());
+    let whole = changed(22, [0, 4], [0x31, 0xc8, 0x79, 0x34]);
+    assert_eq!(rt; read_pd(&whole)?.payload, [0x0a, 0x0b, 0, 0].as_slice());
+    Ok(())
+}
+
+#[test]
+fn lengths_are_multiples_of_four(rt: HostRuntime) {
+    assert_eq!(rt; pd_length(0), 40);
+    assert_eq!(rt; pd_length(2), 44);
+    assert_eq!(rt; pd_length(1432), 1472);
+}
