@@ -1,19 +1,22 @@
 -- A slot run by itself, and what a slot sees of a node's events.
-use Rattle.std.specs.Prelude.{◌≡◌, ℕ, List, [], ◌∷◌, ◌++◌, Option, Some, None, Bool, ◌==◌, ◌&&◌, nat_le, nat_lt, if◌then◌else◌, Result, Ok, Err}
+use Rattle.std.specs.Prelude.{◌≡◌, ℕ, List, [], ◌∷◌, ◌++◌, Option, Some, None, Bool, true, ◌==◌, ◌&&◌, nat_le, nat_lt, if◌then◌else◌, Result, Ok, Err}
 use Rattle.trdp_base.specs.declared.moment.TheConstants.{LAST}
-use Rattle.trdp_engine.specs.declared.globals.Globals.{Globals}
+use Rattle.trdp_filter.specs.declared.globals.Globals.{Globals}
 use Rattle.trdp_engine.specs.declared.fault.NodeFault.{NodeFault}
 use Rattle.trdp_engine.specs.declared.fault.NodeFault.TheVariants.{NoSlot, Past, TooLate, OutOfMemory}
 use Rattle.trdp_engine.specs.declared.config.NodeSetup.{NodeSetup}
 use Rattle.trdp_engine.specs.Records.{Content}
-use Rattle.trdp_engine.specs.Events.{EventModel, MomentIs, CallIs}
-use Rattle.trdp_engine.specs.Slots.{SlotState, Outcome}
+use Rattle.trdp_engine.specs.Events.{EventModel, MomentIs, TopologyIs, DatagramIs, CallIs}
+use Rattle.trdp_engine.specs.Slots.{SlotState, Outcome, unchanged}
 use Rattle.trdp_engine.specs.Calls.{called}
+use Rattle.trdp_engine.specs.Datagrams.{telegram_of, received_if, concerns}
 use Rattle.trdp_engine.specs.Moments.{moved_to}
 
 -- the fault of an event in a node of so many slots, but for want of memory; an event without one is admitted
 abbrev pub refused_as : ℕ → Globals → EventModel → Option NodeFault
 refused_as slots g (MomentIs t) = if nat_lt t g.now then Some Past else if nat_lt LAST t then Some TooLate else None
+refused_as slots g (TopologyIs topo) = None
+refused_as slots g (DatagramIs protocol src dst bytes) = None
 refused_as slots g (CallIs slot call) = if nat_le slots slot then Some NoSlot else None
 
 -- the answer to an event: its fault, and without one at most want of memory
@@ -26,16 +29,22 @@ FaultIs (Some fault) (Err other) = other ≡ fault
 -- node globals after an admitted event
 abbrev pub globals_after : Globals → EventModel → Globals
 globals_after g (MomentIs t) = record g { now = t }
+globals_after g (TopologyIs topo) = record g { topo = topo }
+globals_after g (DatagramIs protocol src dst bytes) = g
 globals_after g (CallIs slot call) = g
 
--- an event that slot s sees: each admitted moment, and its own calls
+-- an event that slot s sees: each admitted moment, topology counts, the datagrams that concern it, and its own calls
 abbrev pub is_in_view : ℕ → SlotState → Globals → EventModel → Bool
 is_in_view s slot g (MomentIs t) = nat_le g.now t && nat_le t LAST
+is_in_view s slot g (TopologyIs topo) = true
+is_in_view s slot g (DatagramIs protocol src dst bytes) = concerns g (telegram_of protocol src dst bytes) slot
 is_in_view s slot g (CallIs r call) = r == s
 
 -- effect of an event on a slot that sees it
 abbrev pub event_effect : NodeSetup → SlotState → Globals → EventModel → Outcome
 event_effect setup slot g (MomentIs t) = moved_to slot (record g { now = t })
+event_effect setup slot g (TopologyIs topo) = unchanged slot
+event_effect setup slot g (DatagramIs protocol src dst bytes) = received_if setup slot g (telegram_of protocol src dst bytes)
 event_effect setup slot g (CallIs s call) = called setup slot g call
 
 -- a slot after a list of events, the globals then, and all its records in order

@@ -1,11 +1,9 @@
-pub mod Globals
 pub mod Configs
-pub mod Publishers
-pub mod Objects
 pub mod Records
 pub mod Slots
 pub mod Events
 pub mod Calls
+pub mod Datagrams
 pub mod Moments
 pub mod Alone
 pub mod NodeStates

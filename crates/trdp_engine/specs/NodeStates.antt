@@ -1,13 +1,14 @@
 -- A node, and what its events do to each slot.
-use Rattle.std.specs.Prelude.{◌≡◌, ℕ, ◌<◌, ◌++◌, ◌∷◌, [], List, length, filter, slice_get, Some, None}
-use Rattle.std.specs.List.{sum_by}
-use Rattle.trdp_engine.specs.declared.globals.Globals.{Globals}
+use Rattle.std.specs.Prelude.{◌≡◌, ℕ, ◌<◌, ◌++◌, ◌∷◌, [], List, length, filter, slice_get, Some, None, true}
+use Rattle.std.specs.List.{sum_by, list_any}
+use Rattle.trdp_filter.specs.declared.globals.Globals.{Globals}
 use Rattle.trdp_engine.specs.declared.config.NodeSetup.{NodeSetup}
 use Rattle.trdp_engine.specs.Configs.{ConfigModel}
-use Rattle.trdp_engine.specs.Globals.{first_globals}
+use Rattle.trdp_filter.specs.Globals.{first_globals}
 use Rattle.trdp_engine.specs.Records.{Content, RecordModel, records_of}
-use Rattle.trdp_engine.specs.Events.{EventModel, MomentIs, CallIs}
+use Rattle.trdp_engine.specs.Events.{EventModel, MomentIs, TopologyIs, DatagramIs, CallIs}
 use Rattle.trdp_engine.specs.Slots.{SlotState, opened_slot}
+use Rattle.trdp_engine.specs.Datagrams.{telegram_of, concerns}
 use Rattle.trdp_engine.specs.Moments.{is_due}
 use Rattle.trdp_engine.specs.Alone.{slot_after, records_after, alone_in_view}
 
@@ -38,9 +39,11 @@ pub record Appends (slots : List SlotState) (records records_then : List RecordM
 abbrev pub due_in : ℕ → List SlotState → ℕ
 due_in t slots = sum_by (λ slot. length (filter (is_due t) slot.objects)) slots
 
--- the events at which memory may be wanting: each call, and a moment by which something is due
+-- the events at which memory may be wanting: a call, a moment by which something is due, a datagram that concerns a slot
 abbrev pub MayTakeMemory : NodeState → EventModel → Type 0
 MayTakeMemory node (MomentIs t) = 0 < due_in t node.slots
+MayTakeMemory node (TopologyIs topo) = ⊥
+MayTakeMemory node (DatagramIs protocol src dst bytes) = list_any (concerns node.globals (telegram_of protocol src dst bytes)) node.slots ≡ true
 MayTakeMemory node (CallIs s call) = Unit {0}
 
 -- a node that was just made: its slots are empty

@@ -28,7 +28,7 @@ impl Model for NodeConfig {
 
     ghost view = { λ c. record { setup = c.setup; quotas = c.quotas } };
 
-    ghost invariant = { λ c. slice_index c.quotas 0 ≤ 256 };
+    ghost invariant = { λ c. (slice_index c.quotas 0 ≤ 256) × (slice_index c.quotas 1 ≤ 256) };
 }
 
 impl NodeConfig {
@@ -46,7 +46,7 @@ impl NodeConfig {
         };
         NodeConfig {
             setup,
-            quotas: [4, 0, 0, 0, 0, 0],
+            quotas: [4, 4, 0, 0, 0, 0],
         }
     }
 
@@ -61,6 +61,7 @@ impl NodeConfig {
     pub fn quotas(&self) -> [u16; 6]
         ensures quotas { result ≡ self.now.quotas }
         ensures publishers { slice_index result 0 ≤ 256 }
+        ensures subscriptions { slice_index result 1 ≤ 256 }
     {
         self.quotas
     }

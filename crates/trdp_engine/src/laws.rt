@@ -2,7 +2,7 @@
 
 ghost use Rattle.std.specs.Prelude.{◌≡◌, ℕ, List, Some, slice_get, map, take};
 ghost use Rattle.trdp_engine.specs.declared.config.NodeSetup.{NodeSetup};
-ghost use Rattle.trdp_engine.specs.declared.globals.Globals.{Globals};
+ghost use Rattle.trdp_filter.specs.declared.globals.Globals.{Globals};
 ghost use Rattle.trdp_engine.specs.Events.{EventModel, event_model};
 ghost use Rattle.trdp_engine.specs.Slots.{SlotState};
 ghost use Rattle.trdp_engine.specs.Alone.{view, alone_in_view};

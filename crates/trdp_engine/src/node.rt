@@ -11,14 +11,15 @@ ghost use Rattle.trdp_engine.specs.Moments.{is_due, moved_to};
 use crate::config::{NodeConfig, NodeSetup};
 use crate::event::{Call, Event};
 use crate::fault::NodeFault;
-use crate::globals::{Globals, Groups};
 use crate::outbox::Outbox;
 use crate::slot::Slot;
 use std::alloc::{AllocError, Global};
 use std::marker::Model;
 use std::slice;
-use trdp_base::{LAST, Topo};
-use trdp_head::PD_TELEGRAM_MAX;
+use trdp_base::{LAST, Place, Topo};
+use trdp_filter::{Globals, Groups, Telegram, topo_valid};
+use trdp_head::{PD_TELEGRAM_MAX, read_pd};
+use trdp_pd::Peek;
 
 /// The communication node of one end device. It serves slot 0.
 #[derive(Drop)]
@@ -56,7 +57,7 @@ impl Node {
                 let globals = Globals {
                     now: 0,
                     topo: Topo { etb: 0, op_trn: 0 },
-                    groups: Groups::none(),
+                    led: Groups::none(),
                 };
                 Ok(Node {
                     alloc,
@@ -104,6 +105,32 @@ impl Node {
         }
     }
 
+    /// Takes new topology counts.
+    fn step_topology(&mut self, topo: Topo)
+        ensures globals { self.new.globals ≡ globals_after self.old.globals (TopologyIs topo) }
+        ensures slots { self.new.slots ≡ self.old.slots }
+        ensures setup { self.new.setup ≡ self.old.setup }
+    {
+        self.globals.topo = topo;
+    }
+
+    /// Takes a process data telegram whose counts match the node's: room for the records of all that it is for comes first.
+    fn receive(&mut self, telegram: &Telegram<'_>, out: &mut Outbox) -> Result<(), AllocError>
+        requires { IsWithinLimit (telegram_model telegram.now) }
+        ensures globals { self.new.globals ≡ self.old.globals }
+        ensures setup { self.new.setup ≡ self.old.setup }
+        ensures kept { OnErr result (self.new ≡ self.old) }
+        ensures unrecorded { OnErr result (out.new.records ≡ out.old.records) }
+        ensures memory { OnErr result (0 < addressed_in (telegram_model telegram.now) self.old.globals self.old.slots) }
+        ensures slots { OnOk result ((slot : SlotState) → self.old.slots ≡ slot ∷ [] → self.new.slots ≡ (received self.old.setup slot self.old.globals (telegram_model telegram.now)).slot ∷ []) }
+        ensures records { OnOk result ((slot : SlotState) → self.old.slots ≡ slot ∷ [] → out.new.records ≡ out.old.records ++ labelled 0 (received self.old.setup slot self.old.globals (telegram_model telegram.now)).records) }
+    {
+        let addressed = self.slot.addressed(telegram, &self.globals);
+        out.reserve(addressed, 0)?;
+        self.slot.receive(&self.setup, telegram, &self.globals, 0, out);
+        Ok(())
+    }
+
     /// Takes a call: room for its answer comes first.
     fn step_call(&mut self, s: u16, call: &Call<'_>, out: &mut Outbox) -> Result<(), NodeFault>
         ensures fault { FaultIs (refused_as (length self.old.slots) self.old.globals (CallIs s (call_model call.now))) result }
@@ -118,14 +145,7 @@ impl Node {
         if usize::from(s) >= self.slots() {
             return Err(NodeFault::NoSlot);
         }
-        match serve(
-            &mut self.slot,
-            self.alloc,
-            &self.setup,
-            call,
-            &self.globals,
-            out,
-        ) {
+        match self.slot.serve(self.alloc, &self.setup, call, &self.globals, 0, out) {
             Err(_) => Err(NodeFault::OutOfMemory),
             Ok(()) => Ok(()),
         }
@@ -147,6 +167,11 @@ impl Node {
     {
         match *event {
             Event::Moment(t) => self.step_moment(t, out),
+            Event::Topology(topo) => {
+                self.step_topology(topo);
+                Ok(())
+            }
+            Event::Datagram { protocol, src, dst, bytes } => self.step_datagram(protocol, src, dst, bytes, out),
             Event::Call { slot, call } => self.step_call(slot, &call, out),
         }
     }
@@ -170,27 +195,6 @@ impl Node {
         }
         taken
     }
-}
-
-/// Serves a call of slot 0, and records its answer.
-fn serve(
-    slot: &mut Slot,
-    alloc: Global,
-    setup: &NodeSetup,
-    call: &Call<'_>,
-    g: &Globals,
-    out: &mut Outbox,
-) -> Result<(), AllocError>
-    requires { g.now.now ≤ LAST }
-    ensures slot { OnOk result (slot.new ≡ (called setup.now slot.old g.entry.now (call_model call.now)).slot) }
-    ensures records { OnOk result (out.new.records ≡ out.old.records ++ labelled 0 (called setup.now slot.old g.entry.now (call_model call.now)).records) }
-    ensures kept { OnErr result (slot.new ≡ slot.old) }
-    ensures unrecorded { OnErr result (out.new.records ≡ out.old.records) }
-{
-    out.reserve(1, 0)?;
-    let answer = slot.call(alloc, setup, call, g)?;
-    out.push_answer(0, answer);
-    Ok(())
 }
 
 fn is_out_of_memory(answer: &Result<(), NodeFault>) -> bool

@@ -1,34 +1,45 @@
 //! The objects of one application, under handles of its own.
 
-ghost use Rattle.std.specs.Prelude.{◌≡◌, ℕ, ◌+◌, ◌*◌, ◌<◌, ◌≤◌, ◌++◌, ◌∷◌, length, [], Option, OnErr, IfOk, None, Some, position, is_none, if◌then◌else◌, ◌==◌, slice_index, count_by, filter, vec_len, vec_capacity};
-ghost use Rattle.trdp_head.specs.declared.pd.TheConstants.{PD_TELEGRAM_MAX};
-ghost use Rattle.trdp_engine.specs.Objects.{kind_of};
+ghost use Rattle.std.specs.Prelude.{◌≡◌, ℕ, ◌+◌, ◌*◌, ◌<◌, ◌≤◌, ◌++◌, ◌∷◌, length, [], Option, OnOk, OnErr, IfOk, IfErr, is_some, if◌then◌else◌, None, Some, slice_index, filter, vec_len, vec_capacity};
 ghost use Rattle.trdp_base.specs.declared.moment.TheConstants.{LAST};
-ghost use Rattle.trdp_engine.specs.Records.{labelled};
-ghost use Rattle.trdp_engine.specs.Events.{PublishCall, PutCall, call_model};
-ghost use Rattle.trdp_engine.specs.Slots.{opened_slot, entry_of, with_object, changed};
-ghost use Rattle.trdp_engine.specs.Calls.{is_cycle, opening_refusal, opened_unless, publish_refusal, put_refusal, put_unless, with_value, answered, called};
+ghost use Rattle.trdp_head.specs.declared.pd.TheConstants.{PD_TELEGRAM_MAX};
+ghost use Rattle.trdp_filter.specs.Telegrams.{telegram_model, IsWithinLimit};
+ghost use Rattle.trdp_pd.specs.Peeks.{peek_model};
+ghost use Rattle.trdp_pd.specs.Objects.{kind_of};
+ghost use Rattle.trdp_engine.specs.declared.fault.Refusal.{Refusal};
+ghost use Rattle.trdp_engine.specs.Configs.{zero_size_of};
+ghost use Rattle.trdp_engine.specs.Records.{labelled, ValueIs, RefusedIs};
+ghost use Rattle.trdp_engine.specs.Events.{PublishCall, SubscribeCall, call_model};
+ghost use Rattle.trdp_engine.specs.Slots.{opened_slot, entry_of, with_object};
+ghost use Rattle.trdp_engine.specs.Calls.{is_span, opening_refusal, dataset_refusal, publish_refusal, subscribe_refusal, put_refusal, put_unless, close_refusal, closed_unless, get_answer, answered, called};
+ghost use Rattle.trdp_engine.specs.Datagrams.{is_for_entry, received};
 ghost use Rattle.trdp_engine.specs.Moments.{is_due, moved_to};
+ghost use Rattle.trdp_engine.specs.Outboxes.{reply_model};
 
 use crate::config::NodeSetup;
-use crate::event::{Call, Publication};
+use crate::datagram::{count_addressed, take_all};
+use crate::entries::{append, close_in, count_of_kind, entry_at, put_in};
+use crate::event::Call;
 use crate::fault::Refusal;
-use crate::globals::Globals;
 use crate::moment::{count_due, fire_all};
-use crate::object::{AnyObject, Entry};
-use crate::outbox::Outbox;
-use crate::publisher::Publisher;
-use crate::record::Answer;
+use crate::object::Entry;
+use crate::outbox::{Outbox, Reply};
 use std::alloc::{AllocError, Global};
 use std::marker::Model;
 use trdp_base::LAST;
+use trdp_filter::{Globals, Telegram};
 use trdp_head::{PD_PAYLOAD_MAX, PD_TELEGRAM_MAX};
+use trdp_pd::{AnyObject, Peek, Publication, Publisher, Subscription, SubscriptionTerms};
 
-/// The shortest cycle that a publisher may have, in microseconds (profile).
-const CYCLE_MIN: u32 = 1_000;
+/// The shortest cycle or supervision time but 0, in microseconds (profile).
+const SPAN_MIN: u32 = 1_000;
 
 /// The last handle of a slot (profile).
 const HANDLE_MAX: u64 = 4_294_967_295;
+
+/// The places of the kinds in the order of the quotas.
+const PUBLISHERS: usize = 0;
+const SUBSCRIPTIONS: usize = 1;
 
 /// A slot: its quotas, its next handle, and its objects by rising handle, in a list that never grows.
 #[derive(Drop)]
@@ -55,20 +66,18 @@ impl Slot {
 
     /// An empty slot. It may lack memory for its list.
     pub fn new(alloc: Global, quotas: [u16; 6]) -> Result<Slot, AllocError>
-        requires { slice_index quotas 0 ≤ 256 }
+        requires publishers { slice_index quotas 0 ≤ 256 }
+        requires subscriptions { slice_index quotas 1 ≤ 256 }
         ensures { IfOk result (λ slot. slot ≡ opened_slot quotas) }
     {
-        let objects = Vec::with_capacity(alloc, usize::from(quotas[0]))?;
-        Ok(Slot {
-            quotas,
-            next: 1,
-            objects,
-        })
+        let room = usize::from(quotas[PUBLISHERS]) + usize::from(quotas[SUBSCRIPTIONS]);
+        let objects = Vec::with_capacity(alloc, room)?;
+        Ok(Slot { quotas, next: 1, objects })
     }
 
     /// Why the slot takes no new object of the kind at that place of the quotas.
     fn opening_refusal(&self, kind: usize) -> Option<Refusal>
-        requires { kind ≤ 5 }
+        requires { kind ≤ 1 }
         ensures { result ≡ opening_refusal self.now kind }
     {
         if usize::from(self.quotas[kind]) <= count_of_kind(&self.objects, kind) {
@@ -80,21 +89,15 @@ impl Slot {
         }
     }
 
-    /// Adds a publisher under the next handle, and answers that handle.
-    fn add(&mut self, publisher: Publisher) -> u32
-        requires { opening_refusal self.old 0 ≡ None }
-        ensures slot { self.new ≡ with_object self.old (AnyObject.Publisher publisher) }
+    /// Adds an object under the next handle, and answers that handle.
+    fn add(&mut self, object: AnyObject) -> u32
+        requires { opening_refusal self.old (kind_of object) ≡ None }
+        ensures slot { self.new ≡ with_object self.old object }
         ensures handle { result ≡ self.old.next }
     {
         let handle = self.next as u32;
         self.next += 1;
-        append(
-            &mut self.objects,
-            Entry {
-                handle,
-                object: AnyObject::Publisher(publisher),
-            },
-        );
+        append(&mut self.objects, Entry { handle, object });
         handle
     }
 
@@ -102,12 +105,23 @@ impl Slot {
     fn publish_refusal(&self, setup: &NodeSetup, publication: &Publication) -> Option<Refusal>
         ensures { result ≡ publish_refusal setup.now self.now publication.now }
     {
-        if publication.cycle != 0 && publication.cycle < CYCLE_MIN {
-            Some(Refusal::Cycle)
-        } else if publication.dataset != 0 {
-            Some(Refusal::NoDataset)
+        if is_span(publication.cycle) {
+            dataset_refusal(setup, publication.dataset).or(self.opening_refusal(PUBLISHERS))
         } else {
-            self.opening_refusal(0)
+            Some(Refusal::Cycle)
+        }
+    }
+
+    /// Why the slot refuses the subscription.
+    fn subscribe_refusal(&self, setup: &NodeSetup, terms: &SubscriptionTerms) -> Option<Refusal>
+        ensures { result ≡ subscribe_refusal setup.now self.now terms.now }
+    {
+        if !is_span(terms.supervision) {
+            Some(Refusal::Timeout)
+        } else if terms.filter.low > terms.filter.high {
+            Some(Refusal::Range)
+        } else {
+            dataset_refusal(setup, terms.dataset).or(self.opening_refusal(SUBSCRIPTIONS))
         }
     }
 
@@ -118,50 +132,120 @@ impl Slot {
         setup: &NodeSetup,
         publication: &Publication,
         g: &Globals,
-    ) -> Result<Answer, AllocError>
+    ) -> Result<Reply, AllocError>
         requires { g.now.now ≤ LAST }
-        ensures outcome { IfOk result (λ answer. called setup.now self.old g.entry.now (PublishCall publication.now) ≡ answered self.new answer) }
+        ensures outcome { IfOk result (λ reply. called setup.now self.old g.entry.now (PublishCall publication.now) ≡ answered self.new (reply_model reply)) }
         ensures kept { OnErr result (self.new ≡ self.old) }
     {
         if let Some(refusal) = self.publish_refusal(setup, publication) {
-            return Ok(Answer::Refused(refusal));
+            return Ok(Reply::Refused(refusal));
         }
         let publisher = Publisher::new(alloc, publication, g.now)?;
-        Ok(Answer::Handle(self.add(publisher)))
+        Ok(Reply::Handle(self.add(AnyObject::Publisher(publisher))))
+    }
+
+    /// Makes a subscription, in the same order.
+    fn subscribe(
+        &mut self,
+        alloc: Global,
+        setup: &NodeSetup,
+        terms: &SubscriptionTerms,
+        g: &Globals,
+    ) -> Result<Reply, AllocError>
+        requires { g.now.now ≤ LAST }
+        ensures outcome { IfOk result (λ reply. called setup.now self.old g.entry.now (SubscribeCall terms.now) ≡ answered self.new (reply_model reply)) }
+        ensures kept { OnErr result (self.new ≡ self.old) }
+    {
+        if let Some(refusal) = self.subscribe_refusal(setup, terms) {
+            return Ok(Reply::Refused(refusal));
+        }
+        let subscription = Subscription::new(alloc, terms, zero_size(setup, terms.dataset), g.now)?;
+        Ok(Reply::Handle(self.add(AnyObject::Subscription(subscription))))
     }
 
     /// Gives the publisher of that handle a new value.
-    fn put(&mut self, handle: u32, bytes: &[u8]) -> Answer
-        ensures { put_unless (put_refusal bytes.now (entry_of handle self.old.objects)) self.old handle bytes.now ≡ answered self.new result }
+    fn put(&mut self, setup: &NodeSetup, handle: u32, bytes: &[u8]) -> Reply
+        ensures { put_unless (put_refusal setup.now bytes.now (entry_of handle self.old.objects)) self.old handle bytes.now ≡ answered self.new (reply_model result) }
     {
-        match put_in(&mut self.objects, handle, bytes) {
-            Some(refusal) => Answer::Refused(refusal),
-            None => Answer::Done,
+        match put_in(&mut self.objects, setup, handle, bytes) {
+            Some(refusal) => Reply::Refused(refusal),
+            None => Reply::Done,
         }
     }
 
-    /// Serves one call. A refused call changes nothing, and neither does one that lacks memory.
-    pub fn call(
+    /// Ends the object of that handle and of the kind at that place of the quotas.
+    fn close(&mut self, kind: usize, handle: u32) -> Reply
+        ensures { closed_unless (close_refusal kind (entry_of handle self.old.objects)) self.old handle ≡ answered self.new (reply_model result) }
+    {
+        match close_in(&mut self.objects, kind, handle) {
+            Some(refusal) => Reply::Refused(refusal),
+            None => Reply::Done,
+        }
+    }
+
+    /// What the subscription of that handle shows, or why it shows nothing.
+    pub fn peek(&self, handle: u32) -> Result<Peek<'_>, Refusal>
+        ensures shown { IfOk result (λ peek. get_answer (entry_of handle self.now.objects) ≡ ValueIs (peek_model peek)) }
+        ensures refused { IfErr result (λ refusal. get_answer (entry_of handle self.now.objects) ≡ RefusedIs refusal) }
+        ensures within { IfOk result (λ peek. length peek.bytes.now ≤ 1432) }
+    {
+        match entry_at(&self.objects, handle) {
+            None => Err(Refusal::NoHandle),
+            Some(entry) => match &entry.object {
+                AnyObject::Publisher(_) => Err(Refusal::WrongKind),
+                AnyObject::Subscription(subscription) => Ok(subscription.peek()),
+            },
+        }
+    }
+
+    /// Records the answer to a look at the object of that handle.
+    fn get(&self, handle: u32, s: u16, out: &mut Outbox)
+        requires row { 0 < out.old.row_room }
+        requires bytes { 1432 ≤ out.old.byte_room }
+        ensures { out.new.records ≡ out.old.records ++ labelled s (answered self.now (get_answer (entry_of handle self.now.objects))).records }
+    {
+        match self.peek(handle) {
+            Err(refusal) => out.push_reply(s, Reply::Refused(refusal)),
+            Ok(peek) => out.push_value(s, peek),
+        }
+    }
+
+    /// Serves a call and records its answer. A refused call changes nothing, and neither does one that lacks memory.
+    pub fn serve(
         &mut self,
         alloc: Global,
         setup: &NodeSetup,
         call: &Call<'_>,
         g: &Globals,
-    ) -> Result<Answer, AllocError>
-        requires { g.now.now ≤ LAST }
-        ensures outcome { IfOk result (λ answer. called setup.now self.old g.entry.now (call_model call.now) ≡ answered self.new answer) }
+        s: u16,
+        out: &mut Outbox,
+    ) -> Result<(), AllocError>
+        requires now { g.now.now ≤ LAST }
+        ensures slot { OnOk result (self.new ≡ (called setup.now self.old g.entry.now (call_model call.now)).slot) }
+        ensures records { OnOk result (out.new.records ≡ out.old.records ++ labelled s (called setup.now self.old g.entry.now (call_model call.now)).records) }
         ensures kept { OnErr result (self.new ≡ self.old) }
+        ensures unrecorded { OnErr result (out.new.records ≡ out.old.records) }
     {
-        match *call {
-            Call::Publish(publication) => self.publish(alloc, setup, &publication, g),
-            Call::Put { handle, bytes } => Ok(self.put(handle, bytes)),
-        }
+        out.reserve(1, PD_PAYLOAD_MAX)?;
+        let reply = match *call {
+            Call::Publish(publication) => self.publish(alloc, setup, &publication, g)?,
+            Call::Subscribe(terms) => self.subscribe(alloc, setup, &terms, g)?,
+            Call::Put { handle, bytes } => self.put(setup, handle, bytes),
+            Call::Unpublish { handle } => self.close(PUBLISHERS, handle),
+            Call::Unsubscribe { handle } => self.close(SUBSCRIPTIONS, handle),
+            Call::Get { handle } => {
+                self.get(handle, s, out);
+                return Ok(());
+            }
+        };
+        out.push_reply(s, reply);
+        Ok(())
     }
 
     /// How many of its objects are due by `t`, in microseconds.
     pub fn due(&self, t: u64) -> usize
         ensures count { result ≡ length (filter (is_due t) self.now.objects) }
-        ensures within { result ≤ 256 }
+        ensures within { result ≤ 512 }
     {
         count_due(&self.objects, t)
     }
@@ -176,58 +260,50 @@ impl Slot {
     {
         fire_all(&mut self.objects, g, s, out);
     }
-}
 
-/// How many of the objects are of the kind at that place of the quotas.
-fn count_of_kind(objects: &[Entry], kind: usize) -> usize
-    ensures { result ≡ count_by (λ entry. kind_of entry.object == kind) objects.now }
-{
-    objects
-        .iter()
-        .filter(|entry| entry.object.kind() == kind)
-        .count()
-}
+    /// How many of its objects the telegram is for.
+    pub fn addressed(&self, telegram: &Telegram<'_>, g: &Globals) -> usize
+        ensures { result ≡ length (filter (is_for_entry (telegram_model telegram.now) g.entry.now) self.now.objects) }
+    {
+        count_addressed(&self.objects, telegram, g)
+    }
 
-/// The place of the object of that handle.
-fn place(objects: &[Entry], handle: u32) -> Option<usize>
-    ensures { result ≡ position (λ entry. entry.handle == handle) objects.now }
-{
-    objects.iter().position(|entry| entry.handle == handle)
-}
-
-/// Gives the object its new value.
-fn put(object: &mut AnyObject, bytes: &[u8])
-    requires { length bytes.now ≤ 1432 }
-    ensures { object.new ≡ with_value bytes.now object.old }
-{
-    match object {
-        AnyObject::Publisher(publisher) => publisher.put(bytes),
+    /// Hands the telegram to each object that it is for, in the order of their handles.
+    pub fn receive(&mut self, setup: &NodeSetup, telegram: &Telegram<'_>, g: &Globals, s: u16, out: &mut Outbox)
+        requires now { g.now.now ≤ LAST }
+        requires limit { IsWithinLimit (telegram_model telegram.now) }
+        requires rows { length (filter (is_for_entry (telegram_model telegram.now) g.entry.now) self.old.objects) ≤ out.old.row_room }
+        ensures slot { self.new ≡ (received setup.now self.old g.entry.now (telegram_model telegram.now)).slot }
+        ensures records { out.new.records ≡ out.old.records ++ labelled s (received setup.now self.old g.entry.now (telegram_model telegram.now)).records }
+    {
+        take_all(&mut self.objects, setup, telegram, g, s, out);
     }
 }
 
-/// Gives the object of that handle a new value, or says why not.
-fn put_in(objects: &mut Vec<Entry>, handle: u32, bytes: &[u8]) -> Option<Refusal>
-    ensures refusal { result ≡ put_refusal bytes.now (entry_of handle objects.old.items) }
-    ensures items { objects.new.items ≡ (if is_none result then changed handle (with_value bytes.now) objects.old.items else objects.old.items) }
-    ensures capacity { vec_capacity objects.new ≡ vec_capacity objects.old }
+/// Whether a cycle or supervision time is 0 or at least 1,000 microseconds.
+fn is_span(span: u32) -> bool
+    ensures { result ≡ is_span span }
 {
-    match place(objects, handle) {
-        None => Some(Refusal::NoHandle),
-        Some(at) => {
-            if bytes.len() > PD_PAYLOAD_MAX {
-                return Some(Refusal::TooLong);
-            }
-            let entry = &mut objects[at];
-            put(&mut entry.object, bytes);
-            None
-        }
-    }
+    span == 0 || span >= SPAN_MIN
 }
 
-fn append(objects: &mut Vec<Entry>, entry: Entry)
-    requires { vec_len objects.old < vec_capacity objects.old }
-    ensures items { objects.new.items ≡ objects.old.items ++ entry ∷ [] }
-    ensures capacity { vec_capacity objects.new ≡ vec_capacity objects.old }
+/// How many bytes the zero value of a dataset takes.
+fn zero_size(setup: &NodeSetup, dataset: u32) -> usize
+    ensures { result ≡ zero_size_of setup.now dataset }
 {
-    objects.push_reserved(entry);
+    let _ = (setup, dataset);
+    0
+}
+
+/// Why no object can be of the dataset.
+fn dataset_refusal(setup: &NodeSetup, dataset: u32) -> Option<Refusal>
+    ensures { (later : Option Refusal) → dataset_refusal setup.now dataset later ≡ (if is_some result then result else later) }
+{
+    if dataset != 0 {
+        Some(Refusal::NoDataset)
+    } else if zero_size(setup, dataset) > PD_PAYLOAD_MAX {
+        Some(Refusal::TooLong)
+    } else {
+        None
+    }
 }

@@ -1,0 +1,71 @@
+//! What a datagram does to the objects of a slot.
+
+ghost use Rattle.std.specs.Prelude.{◌≡◌, ℕ, ◌+◌, ◌≤◌, ◌++◌, ◌∷◌, length, [], vec_capacity, map, filter};
+ghost use Rattle.std.specs.List.{flat_map};
+ghost use Rattle.trdp_base.specs.declared.moment.TheConstants.{LAST};
+ghost use Rattle.trdp_filter.specs.Telegrams.{telegram_model, IsWithinLimit};
+ghost use Rattle.trdp_engine.specs.Records.{labelled};
+ghost use Rattle.trdp_engine.specs.Datagrams.{fits_object, is_for_entry, entry_after_telegram, records_taking};
+
+use crate::config::NodeSetup;
+use crate::entries::is_fitting;
+use crate::object::Entry;
+use crate::outbox::Outbox;
+use crate::record::Indication;
+use trdp_base::LAST;
+use trdp_filter::{Globals, Telegram};
+use trdp_pd::{AnyObject, Object, Taken};
+
+/// Whether the payload is a value of the object's dataset.
+fn fits_object(setup: &NodeSetup, telegram: &Telegram<'_>, object: &AnyObject) -> bool
+    ensures { result ≡ fits_object setup.now (telegram_model telegram.now) object.now }
+{
+    let dataset = match object {
+        AnyObject::Publisher(publisher) => publisher.dataset(),
+        AnyObject::Subscription(subscription) => subscription.dataset(),
+    };
+    match telegram {
+        Telegram::Pd { view, .. } => is_fitting(setup, dataset, view.payload),
+    }
+}
+
+/// Hands the telegram to one object, if it is for it.
+fn take(entry: &mut Entry, setup: &NodeSetup, telegram: &Telegram<'_>, g: &Globals, s: u16, out: &mut Outbox)
+    requires now { g.now.now ≤ LAST }
+    requires limit { IsWithinLimit (telegram_model telegram.now) }
+    requires rows { length (filter (is_for_entry (telegram_model telegram.now) g.entry.now) (entry.old ∷ [])) ≤ out.old.row_room }
+    ensures entry { entry.new ≡ entry_after_telegram setup.now (telegram_model telegram.now) g.entry.now entry.old }
+    ensures records { out.new.records ≡ out.old.records ++ labelled s (records_taking setup.now (telegram_model telegram.now) g.entry.now entry.old) }
+    ensures row_room { out.old.row_room ≤ out.new.row_room + length (filter (is_for_entry (telegram_model telegram.now) g.entry.now) (entry.old ∷ [])) }
+{
+    if !entry.object.addressed(telegram, g) {
+        return;
+    }
+    let fits = fits_object(setup, telegram, &entry.object);
+    match entry.object.take(telegram, g, fits) {
+        Taken::Nothing => {}
+        Taken::Stored => {}
+        Taken::Alive => out.push_indication(s, Indication::Alive(entry.handle)),
+    }
+}
+
+/// Hands the telegram to each object that it is for, in the order of their handles.
+pub fn take_all(objects: &mut Vec<Entry>, setup: &NodeSetup, telegram: &Telegram<'_>, g: &Globals, s: u16, out: &mut Outbox)
+    requires now { g.now.now ≤ LAST }
+    requires limit { IsWithinLimit (telegram_model telegram.now) }
+    requires rows { length (filter (is_for_entry (telegram_model telegram.now) g.entry.now) objects.old.items) ≤ out.old.row_room }
+    ensures items { objects.new.items ≡ map (entry_after_telegram setup.now (telegram_model telegram.now) g.entry.now) objects.old.items }
+    ensures records { out.new.records ≡ out.old.records ++ labelled s (flat_map (records_taking setup.now (telegram_model telegram.now) g.entry.now) objects.old.items) }
+    ensures capacity { vec_capacity objects.new ≡ vec_capacity objects.old }
+{
+    for entry in objects.iter_mut() {
+        take(entry, setup, telegram, g, s, out);
+    }
+}
+
+/// How many of the objects the telegram is for.
+pub fn count_addressed(objects: &[Entry], telegram: &Telegram<'_>, g: &Globals) -> usize
+    ensures { result ≡ length (filter (is_for_entry (telegram_model telegram.now) g.entry.now) objects.now) }
+{
+    objects.iter().filter(|entry| entry.object.addressed(telegram, g)).count()
+}
