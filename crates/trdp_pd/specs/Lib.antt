@@ -1,0 +1,9 @@
+pub mod Effects
+pub mod Due
+pub mod Publishers
+pub mod Subscriptions
+pub mod Peeks
+pub mod Objects
+pub mod PublisherLaws
+pub mod SubscriptionLaws
+pub mod ObjectLaws
