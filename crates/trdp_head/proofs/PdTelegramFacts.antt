@@ -33,6 +33,7 @@ kind_known : {bytes : List ℕ} {head : PdHead} {payload : List ℕ} → IsPdTel
 kind_known {head} t = ap kind_of t.kind ∙ kind_of-code_of head.kind
 
 pub telegram-no_fault : {bytes : List ℕ} {head : PdHead} {payload : List ℕ} → IsPdTelegram bytes head payload → pd_fault_of bytes ≡ None
+unfolding pd_fault_of
 telegram-no_fault {bytes} {head} {payload} t =
     let short : ltb (length bytes) 40 ≡ false = le-ltb (length bytes) 40 t.long_enough in
     let long : ltb 1472 (length bytes) ≡ false = le-ltb 1472 (length bytes) t.short_enough in
@@ -113,7 +114,7 @@ after_head size payload h fits = omega arith
 
 -- what the model function answers is a telegram
 pub telegram-from : (bytes : List ℕ) (t : PdTelegram) → pd_telegram_of bytes ≡ Some t → IsPdTelegram bytes t.head t.payload
-unfolding pd_telegram_of
+unfolding pd_telegram_of pd_fault_of
 telegram-from bytes t h =
     let facts = where-some (pd_fault_of bytes) (kind_of (field 6 2 bytes)) bytes t h in
     let short = cond-no_fault _ _ _ facts.0 in

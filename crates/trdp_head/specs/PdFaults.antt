@@ -7,7 +7,7 @@ use Rattle.trdp_head.specs.Checks.{is_checked}
 use Rattle.trdp_head.specs.PdKinds.{kind_of}
 
 -- the first fault, in this order
-abbrev pub pd_fault_of : List ℕ → Option HeadFault
+unfoldable pub pd_fault_of : List ℕ → Option HeadFault
 pd_fault_of bytes =
     if nat_lt (length bytes) 40 then Some Short else
     if nat_lt 1472 (length bytes) then Some TooLong else

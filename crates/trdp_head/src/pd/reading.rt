@@ -47,6 +47,7 @@ fn head_of(bytes: &[u8], kind: PdKind) -> PdHead
 }
 
 /// The type of the telegram in the bytes, or the first fault.
+#[tactic(auto, unfolding(crate::specs::PdFaults::pd_fault_of))]
 fn faultless_kind(bytes: &[u8]) -> Result<PdKind, HeadFault>
     ensures fault { IfErr result (λ fault. pd_fault_of bytes.now ≡ Some fault) }
     ensures none { IfOk result (λ _. pd_fault_of bytes.now ≡ None) }

@@ -1,0 +1,54 @@
+//! Checks that were published, or that zlib gives.
+
+ghost use Rattle.std.specs.Prelude.{◌≤◌};
+
+use crate::frame_check;
+
+#[test]
+fn texts_have_the_published_checks(rt: HostRuntime) {
+    assert_eq!(rt; frame_check(b""), 0);
+    assert_eq!(rt; frame_check(b"a"), 0xe8b7_be43);
+    assert_eq!(rt; frame_check(b"123456789"), 0xcbf4_3926);
+}
+
+// The 36 bytes of a process data header with comId 100.
+#[test]
+fn a_header_has_its_check(rt: HostRuntime) {
+    let header = [
+        0, 0, 0, 0, 1, 0, 0x50, 0x64, 0, 0, 0, 0x64, 0, 0, 0, 0, 0, 0, 0, 0, 0, 0, 0, 2, 0, 0, 0,
+        0, 0, 0, 0, 0, 0, 0, 0, 0,
+    ];
+    assert_eq!(rt; frame_check(&header), 0x949c_17ec);
+}
+
+/// The check of so many bytes `i * 7 + 3` modulo 256.
+fn check_of_pattern(length: usize) -> u32
+    requires { length ≤ 1472 }
+{
+    let mut bytes = [0u8; 1472];
+    let mut next = 3u8;
+    for byte in bytes.iter_mut() {
+        *byte = next;
+        next = next.wrapping_add(7);
+    }
+    let (front, _) = bytes.split_at(length);
+    frame_check(front)
+}
+
+// The values are those of zlib.
+#[test]
+fn patterns_have_the_checks_of_zlib(rt: HostRuntime) {
+    for (length, check) in [
+        (0, 0),
+        (1, 0x4b0b_be37),
+        (35, 0x4b77_0677),
+        (36, 0xaf4e_063a),
+        (40, 0xe730_b7ea),
+        (255, 0x8af1_eb92),
+        (1432, 0xb917_10b3),
+        (1472, 0xc3ee_5c27),
+    ] {
+        assert!(rt; length <= 1472);
+        assert_eq!(rt; check_of_pattern(length), check, "at {length}");
+    }
+}
