@@ -3,6 +3,8 @@ pub mod Kept
 pub mod Puts
 pub mod Orders
 pub mod Firing
+pub mod Each
+pub mod Receiving
 pub mod Rows
 pub mod Views
 pub mod Steps

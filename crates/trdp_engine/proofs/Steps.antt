@@ -6,9 +6,13 @@ use Rattle.std.proofs.lemmas.List.{map-append, append-nil}
 use Rattle.std.proofs.lemmas.List.Elements.{filter-append}
 use Rattle.trdp_base.specs.declared.moment.TheConstants.{LAST}
 use Rattle.trdp_engine.specs.declared.config.NodeSetup.{NodeSetup}
-use Rattle.trdp_engine.specs.declared.globals.Globals.{Globals}
+use Rattle.trdp_filter.specs.declared.globals.Globals.{Globals}
 use Rattle.trdp_engine.specs.Records.{Content, RecordModel, labelled, records_of}
-use Rattle.trdp_engine.specs.Events.{EventModel, MomentIs, CallIs, CallModel}
+use Rattle.trdp_base.specs.declared.place.Place.{Place}
+use Rattle.trdp_engine.specs.declared.record.Protocol.{Protocol}
+use Rattle.trdp_engine.specs.Events.{EventModel, MomentIs, DatagramIs, CallIs, CallModel}
+use Rattle.trdp_engine.specs.Datagrams.{telegram_of, received_if, concerns}
+use Rattle.trdp_engine.proofs.Receiving.{unconcerned}
 use Rattle.trdp_engine.specs.Slots.{SlotState, Outcome}
 use Rattle.trdp_engine.specs.Calls.{called}
 use Rattle.trdp_engine.specs.Moments.{moved_to}
@@ -77,6 +81,16 @@ appends_more slots others xs ys zs same a b = record {
 -- a call of another slot than 0
 pub other_is_refused : (s : ℕ) (g : Globals) (call : CallModel) → (s == 0) ≡ false → FaultIs (refused_as 1 g (CallIs s call)) (Err NoSlot)
 other_is_refused s g call other = let past : nat_le 1 s ≡ true = grind (arith, nat_tests) in rw past refl
+
+-- what slot 0 does at a datagram: one that doesn't concern it changes nothing
+pub datagram_effect : (setup : NodeSetup) (slot : SlotState) (g : Globals) (protocol : Protocol) (src dst : Place) (bytes : List ℕ) → (slot_after setup 0 slot g (DatagramIs protocol src dst bytes) ≡ (received_if setup slot g (telegram_of protocol src dst bytes)).slot) × (records_after setup 0 slot g (DatagramIs protocol src dst bytes) ≡ (received_if setup slot g (telegram_of protocol src dst bytes)).records)
+datagram_effect setup slot g protocol src dst bytes = either setup slot g protocol src dst bytes (concerns g (telegram_of protocol src dst bytes) slot) refl
+  where
+    either : (setup : NodeSetup) (slot : SlotState) (g : Globals) (protocol : Protocol) (src dst : Place) (bytes : List ℕ) (b : Bool) → concerns g (telegram_of protocol src dst bytes) slot ≡ b → (slot_after setup 0 slot g (DatagramIs protocol src dst bytes) ≡ (received_if setup slot g (telegram_of protocol src dst bytes)).slot) × (records_after setup 0 slot g (DatagramIs protocol src dst bytes) ≡ (received_if setup slot g (telegram_of protocol src dst bytes)).records)
+    either setup slot g protocol src dst bytes true is = (rw is refl, rw is refl)
+    either setup slot g protocol src dst bytes false is =
+        let same = unconcerned setup slot g (telegram_of protocol src dst bytes) is in
+        (rw is (sym (ap (λ (o : Outcome). o.slot) same)), rw is (sym (ap (λ (o : Outcome). o.records) same)))
 
 seen_moment : (now t last : ℕ) → now ≤ t → t ≤ last → (nat_le now t && nat_le t last) ≡ true
 seen_moment now t last le within = grind (arith, nat_tests)

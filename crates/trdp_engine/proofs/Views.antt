@@ -2,21 +2,25 @@
 use Rattle.std.proofs.Common.{◌≡◌, ℕ, ◌<◌, List, ◌∷◌, ◌++◌, Some, None, Bool, true, false, refl, ap, sym, arith, append_assoc}
 use Rattle.std.proofs.lemmas.Bool.Decides.{nat_tests}
 use Rattle.trdp_engine.specs.declared.config.NodeSetup.{NodeSetup}
-use Rattle.trdp_engine.specs.declared.globals.Globals.{Globals}
+use Rattle.trdp_filter.specs.declared.globals.Globals.{Globals}
 use Rattle.trdp_engine.specs.declared.fault.NodeFault.{NodeFault}
 use Rattle.trdp_engine.specs.Records.{Content}
-use Rattle.trdp_engine.specs.Events.{EventModel, MomentIs, CallIs}
+use Rattle.trdp_engine.specs.Events.{EventModel, MomentIs, TopologyIs, DatagramIs, CallIs}
 use Rattle.trdp_engine.specs.Slots.{SlotState}
 use Rattle.trdp_engine.specs.Alone.{refused_as, globals_after, is_in_view, Run, prepend, alone_in_view, slot_after, records_after}
 
 -- an admitted event that a slot doesn't see leaves the globals
 globals_after-unseen : (s n : ℕ) (slot : SlotState) (g : Globals) (event : EventModel) → refused_as n g event ≡ None → is_in_view s slot g event ≡ false → globals_after g event ≡ g
 globals_after-unseen s n slot g (MomentIs t) admitted unseen = absurd (grind (arith, nat_tests))
+globals_after-unseen s n slot g (TopologyIs topo) admitted unseen = absurd (cc)
+globals_after-unseen s n slot g (DatagramIs protocol src dst bytes) admitted unseen = refl
 globals_after-unseen s n slot g (CallIs r call) admitted unseen = refl
 
 -- no slot sees an event that isn't admitted
 refused_is_unseen : (s n : ℕ) (slot : SlotState) (g : Globals) (event : EventModel) (fault : NodeFault) → s < n → refused_as n g event ≡ Some fault → is_in_view s slot g event ≡ false
 refused_is_unseen s n slot g (MomentIs t) fault within bad = grind (arith, nat_tests)
+refused_is_unseen s n slot g (TopologyIs topo) fault within bad = absurd (cc)
+refused_is_unseen s n slot g (DatagramIs protocol src dst bytes) fault within bad = absurd (cc)
 refused_is_unseen s n slot g (CallIs r call) fault within bad = grind (arith, nat_tests)
 
 -- an admitted event comes first in the run

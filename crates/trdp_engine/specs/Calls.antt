@@ -113,6 +113,6 @@ called setup slot g (PutCall handle bytes) = put_unless (put_refusal setup bytes
 called setup slot g (UnpublishCall handle) = closed_unless (close_refusal 0 (entry_of handle slot.objects)) slot handle
 called setup slot g (SubscribeCall terms) =
     opened_unless (subscribe_refusal setup slot terms) slot
-      (Subscription (subscribed terms (zero_size_of setup terms.dataset) g.now))
+    (Subscription (subscribed terms (zero_size_of setup terms.dataset) g.now))
 called setup slot g (GetCall handle) = answered slot (get_answer (entry_of handle slot.objects))
 called setup slot g (UnsubscribeCall handle) = closed_unless (close_refusal 1 (entry_of handle slot.objects)) slot handle

@@ -5,7 +5,7 @@ ghost use Rattle.std.specs.List.{flat_map};
 ghost use Rattle.trdp_base.specs.declared.moment.TheConstants.{LAST};
 ghost use Rattle.trdp_filter.specs.Telegrams.{telegram_model, IsWithinLimit};
 ghost use Rattle.trdp_engine.specs.Records.{labelled};
-ghost use Rattle.trdp_engine.specs.Datagrams.{fits_object, is_for_entry, entry_after_telegram, records_taking};
+ghost use Rattle.trdp_engine.specs.Datagrams.{is_valid_at, fits_object, is_for_entry, entry_after_telegram, records_taking};
 
 use crate::config::NodeSetup;
 use crate::entries::is_fitting;
@@ -13,8 +13,17 @@ use crate::object::Entry;
 use crate::outbox::Outbox;
 use crate::record::Indication;
 use trdp_base::LAST;
-use trdp_filter::{Globals, Telegram};
+use trdp_filter::{Globals, Telegram, topo_valid};
 use trdp_pd::{AnyObject, Object, Taken};
+
+/// Whether the telegram's topology counts match the node's.
+pub fn is_valid_at(telegram: &Telegram<'_>, g: &Globals) -> bool
+    ensures { result ≡ is_valid_at g.entry.now (telegram_model telegram.now) }
+{
+    match telegram {
+        Telegram::Pd { view, .. } => topo_valid(view.head.topo, g.topo),
+    }
+}
 
 /// Whether the payload is a value of the object's dataset.
 fn fits_object(setup: &NodeSetup, telegram: &Telegram<'_>, object: &AnyObject) -> bool
@@ -30,10 +39,17 @@ fn fits_object(setup: &NodeSetup, telegram: &Telegram<'_>, object: &AnyObject) -
 }
 
 /// Hands the telegram to one object, if it is for it.
-fn take(entry: &mut Entry, setup: &NodeSetup, telegram: &Telegram<'_>, g: &Globals, s: u16, out: &mut Outbox)
+fn take(
+    entry: &mut Entry,
+    setup: &NodeSetup,
+    telegram: &Telegram<'_>,
+    g: &Globals,
+    s: u16,
+    out: &mut Outbox,
+)
     requires now { g.now.now ≤ LAST }
     requires limit { IsWithinLimit (telegram_model telegram.now) }
-    requires rows { length (filter (is_for_entry (telegram_model telegram.now) g.entry.now) (entry.old ∷ [])) ≤ out.old.row_room }
+    requires rows { length (filter (is_for_entry (telegram_model telegram.now) g.now) (entry.old ∷ [])) ≤ out.old.row_room }
     ensures entry { entry.new ≡ entry_after_telegram setup.now (telegram_model telegram.now) g.entry.now entry.old }
     ensures records { out.new.records ≡ out.old.records ++ labelled s (records_taking setup.now (telegram_model telegram.now) g.entry.now entry.old) }
     ensures row_room { out.old.row_room ≤ out.new.row_room + length (filter (is_for_entry (telegram_model telegram.now) g.entry.now) (entry.old ∷ [])) }
@@ -50,10 +66,17 @@ fn take(entry: &mut Entry, setup: &NodeSetup, telegram: &Telegram<'_>, g: &Globa
 }
 
 /// Hands the telegram to each object that it is for, in the order of their handles.
-pub fn take_all(objects: &mut Vec<Entry>, setup: &NodeSetup, telegram: &Telegram<'_>, g: &Globals, s: u16, out: &mut Outbox)
+pub fn take_all(
+    objects: &mut Vec<Entry>,
+    setup: &NodeSetup,
+    telegram: &Telegram<'_>,
+    g: &Globals,
+    s: u16,
+    out: &mut Outbox,
+)
     requires now { g.now.now ≤ LAST }
     requires limit { IsWithinLimit (telegram_model telegram.now) }
-    requires rows { length (filter (is_for_entry (telegram_model telegram.now) g.entry.now) objects.old.items) ≤ out.old.row_room }
+    requires rows { length (filter (is_for_entry (telegram_model telegram.now) g.now) objects.old.items) ≤ out.old.row_room }
     ensures items { objects.new.items ≡ map (entry_after_telegram setup.now (telegram_model telegram.now) g.entry.now) objects.old.items }
     ensures records { out.new.records ≡ out.old.records ++ labelled s (flat_map (records_taking setup.now (telegram_model telegram.now) g.entry.now) objects.old.items) }
     ensures capacity { vec_capacity objects.new ≡ vec_capacity objects.old }
@@ -67,5 +90,8 @@ pub fn take_all(objects: &mut Vec<Entry>, setup: &NodeSetup, telegram: &Telegram
 pub fn count_addressed(objects: &[Entry], telegram: &Telegram<'_>, g: &Globals) -> usize
     ensures { result ≡ length (filter (is_for_entry (telegram_model telegram.now) g.entry.now) objects.now) }
 {
-    objects.iter().filter(|entry| entry.object.addressed(telegram, g)).count()
+    objects
+        .iter()
+        .filter(|entry| entry.object.addressed(telegram, g))
+        .count()
 }

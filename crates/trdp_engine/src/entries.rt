@@ -15,7 +15,10 @@ use trdp_pd::AnyObject;
 pub fn count_of_kind(objects: &[Entry], kind: usize) -> usize
     ensures { result ≡ count_of kind objects.now }
 {
-    objects.iter().filter(|entry| entry.object.kind() == kind).count()
+    objects
+        .iter()
+        .filter(|entry| entry.object.kind() == kind)
+        .count()
 }
 
 /// The object of that handle.
@@ -55,7 +58,7 @@ fn object_refusal(object: &AnyObject, setup: &NodeSetup, bytes: &[u8]) -> Option
 pub fn is_fitting(setup: &NodeSetup, dataset: u32, bytes: &[u8]) -> bool
     ensures { result ≡ is_fitting setup.now dataset bytes.now }
 {
-    let _ = (setup, dataset, bytes);
+    let _ = setup;
     true
 }
 
@@ -71,7 +74,12 @@ fn put(object: &mut AnyObject, bytes: &[u8])
 }
 
 /// Gives the object of that handle a new value, or says why not.
-pub fn put_in(objects: &mut Vec<Entry>, setup: &NodeSetup, handle: u32, bytes: &[u8]) -> Option<Refusal>
+pub fn put_in(
+    objects: &mut Vec<Entry>,
+    setup: &NodeSetup,
+    handle: u32,
+    bytes: &[u8],
+) -> Option<Refusal>
     ensures refusal { result ≡ put_refusal setup.now bytes.now (entry_of handle objects.old.items) }
     ensures items { objects.new.items ≡ (if is_none result then changed handle (with_value bytes.now) objects.old.items else objects.old.items) }
     ensures capacity { vec_capacity objects.new ≡ vec_capacity objects.old }
@@ -98,7 +106,8 @@ pub fn close_in(objects: &mut Vec<Entry>, kind: usize, handle: u32) -> Option<Re
     match place(objects, handle) {
         None => Some(Refusal::NoHandle),
         Some(at) => {
-            if objects[at].object.kind() != kind {
+            let held = objects[at].object.kind();
+            if held != kind {
                 return Some(Refusal::WrongKind);
             }
             let _ = objects.remove(at);

@@ -36,5 +36,8 @@ pub enum Event<'a> {
         bytes: &'a [u8],
     },
     /// The application in that slot, numbered from 0, makes a call.
-    Call { slot: u16, call: Call<'a> },
+    Call {
+        slot: u16,
+        call: Call<'a>,
+    },
 }

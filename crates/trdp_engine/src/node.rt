@@ -3,23 +3,24 @@
 ghost use Rattle.std.specs.Prelude.{◌≡◌, ◌≢◌, ℕ, ◌<◌, ◌≤◌, ◌++◌, ◌∷◌, [], length, OnOk, OnErr, IfOk, IfErr, Err, Some, true, false, slice_get, map, filter, take};
 ghost use Rattle.trdp_base.specs.declared.moment.TheConstants.{LAST};
 ghost use Rattle.trdp_engine.specs.Records.{Answers, RecordModel, labelled};
-ghost use Rattle.trdp_engine.specs.Events.{MomentIs, CallIs, call_model, event_model};
+ghost use Rattle.trdp_engine.specs.Events.{MomentIs, TopologyIs, DatagramIs, CallIs, call_model, event_model};
 ghost use Rattle.trdp_engine.specs.Slots.{SlotState};
 ghost use Rattle.trdp_engine.specs.Calls.{called};
+ghost use Rattle.trdp_engine.specs.Datagrams.{telegram_of, received_if, concerns};
 ghost use Rattle.trdp_engine.specs.Moments.{is_due, moved_to};
 
 use crate::config::{NodeConfig, NodeSetup};
 use crate::event::{Call, Event};
 use crate::fault::NodeFault;
 use crate::outbox::Outbox;
+use crate::record::Protocol;
 use crate::slot::Slot;
 use std::alloc::{AllocError, Global};
 use std::marker::Model;
 use std::slice;
 use trdp_base::{LAST, Place, Topo};
-use trdp_filter::{Globals, Groups, Telegram, topo_valid};
+use trdp_filter::{Globals, Groups, Telegram};
 use trdp_head::{PD_TELEGRAM_MAX, read_pd};
-use trdp_pd::Peek;
 
 /// The communication node of one end device. It serves slot 0.
 #[derive(Drop)]
@@ -114,21 +115,38 @@ impl Node {
         self.globals.topo = topo;
     }
 
-    /// Takes a process data telegram whose counts match the node's: room for the records of all that it is for comes first.
-    fn receive(&mut self, telegram: &Telegram<'_>, out: &mut Outbox) -> Result<(), AllocError>
-        requires { IsWithinLimit (telegram_model telegram.now) }
-        ensures globals { self.new.globals ≡ self.old.globals }
-        ensures setup { self.new.setup ≡ self.old.setup }
+    /// Takes a datagram. One that is no telegram, or of a protocol that isn't served yet, changes nothing.
+    fn step_datagram(
+        &mut self,
+        protocol: Protocol,
+        src: Place,
+        dst: Place,
+        bytes: &[u8],
+        out: &mut Outbox,
+    ) -> Result<(), NodeFault>
+        ensures fault { FaultIs (refused_as (length self.old.slots) self.old.globals (DatagramIs protocol src dst bytes.now)) result }
         ensures kept { OnErr result (self.new ≡ self.old) }
         ensures unrecorded { OnErr result (out.new.records ≡ out.old.records) }
-        ensures memory { OnErr result (0 < addressed_in (telegram_model telegram.now) self.old.globals self.old.slots) }
-        ensures slots { OnOk result ((slot : SlotState) → self.old.slots ≡ slot ∷ [] → self.new.slots ≡ (received self.old.setup slot self.old.globals (telegram_model telegram.now)).slot ∷ []) }
-        ensures records { OnOk result ((slot : SlotState) → self.old.slots ≡ slot ∷ [] → out.new.records ≡ out.old.records ++ labelled 0 (received self.old.setup slot self.old.globals (telegram_model telegram.now)).records) }
+        ensures memory { result ≡ Err NodeFault.OutOfMemory → MayTakeMemory self.old (DatagramIs protocol src dst bytes.now) }
+        ensures setup { self.new.setup ≡ self.old.setup }
+        ensures globals { OnOk result (self.new.globals ≡ globals_after self.old.globals (DatagramIs protocol src dst bytes.now)) }
+        ensures count { length self.new.slots ≡ length self.old.slots }
+        ensures steps { OnOk result ((s : ℕ) (slot : SlotState) → slice_get self.old.slots s ≡ Some slot → StepsAsAlone self.old self.new out.old.records out.new.records (DatagramIs protocol src dst bytes.now) s slot) }
+        ensures appends { Appends self.old.slots out.old.records out.new.records }
     {
-        let addressed = self.slot.addressed(telegram, &self.globals);
-        out.reserve(addressed, 0)?;
-        self.slot.receive(&self.setup, telegram, &self.globals, 0, out);
-        Ok(())
+        match hear(
+            &mut self.slot,
+            &self.setup,
+            protocol,
+            src,
+            dst,
+            bytes,
+            &self.globals,
+            out,
+        ) {
+            Err(_) => Err(NodeFault::OutOfMemory),
+            Ok(()) => Ok(()),
+        }
     }
 
     /// Takes a call: room for its answer comes first.
@@ -145,7 +163,10 @@ impl Node {
         if usize::from(s) >= self.slots() {
             return Err(NodeFault::NoSlot);
         }
-        match self.slot.serve(self.alloc, &self.setup, call, &self.globals, 0, out) {
+        match self
+            .slot
+            .serve(self.alloc, &self.setup, call, &self.globals, 0, out)
+        {
             Err(_) => Err(NodeFault::OutOfMemory),
             Ok(()) => Ok(()),
         }
@@ -171,7 +192,12 @@ impl Node {
                 self.step_topology(topo);
                 Ok(())
             }
-            Event::Datagram { protocol, src, dst, bytes } => self.step_datagram(protocol, src, dst, bytes, out),
+            Event::Datagram {
+                protocol,
+                src,
+                dst,
+                bytes,
+            } => self.step_datagram(protocol, src, dst, bytes, out),
             Event::Call { slot, call } => self.step_call(slot, &call, out),
         }
     }
@@ -194,6 +220,33 @@ impl Node {
             taken += 1;
         }
         taken
+    }
+}
+
+/// What a datagram does to slot 0.
+fn hear(
+    slot: &mut Slot,
+    setup: &NodeSetup,
+    protocol: Protocol,
+    src: Place,
+    dst: Place,
+    bytes: &[u8],
+    g: &Globals,
+    out: &mut Outbox,
+) -> Result<(), AllocError>
+    requires { g.now.now ≤ LAST }
+    ensures slot { OnOk result (slot.new ≡ (received_if setup.now slot.old g.entry.now (telegram_of protocol src dst bytes.now)).slot) }
+    ensures records { OnOk result (out.new.records ≡ out.old.records ++ labelled 0 (received_if setup.now slot.old g.entry.now (telegram_of protocol src dst bytes.now)).records) }
+    ensures kept { OnErr result (slot.new ≡ slot.old) }
+    ensures unrecorded { OnErr result (out.new.records ≡ out.old.records) }
+    ensures memory { OnErr result (concerns g.entry.now (telegram_of protocol src dst bytes.now) slot.old ≡ true) }
+{
+    match protocol {
+        Protocol::Md => Ok(()),
+        Protocol::Pd => match read_pd(bytes) {
+            Err(_) => Ok(()),
+            Ok(view) => slot.receive(setup, &Telegram::Pd { src, dst, view }, g, 0, out),
+        },
     }
 }
 

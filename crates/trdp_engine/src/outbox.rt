@@ -126,7 +126,15 @@ impl Outbox {
         ensures byte_room { self.old.byte_room ≤ self.new.byte_room }
     {
         let at = self.bytes.len();
-        append_row(&mut self.rows, Row { slot, form, at, len: 0 });
+        append_row(
+            &mut self.rows,
+            Row {
+                slot,
+                form,
+                at,
+                len: 0,
+            },
+        );
     }
 
     /// Adds an answer without bytes.
@@ -159,7 +167,15 @@ impl Outbox {
     {
         let at = self.bytes.len();
         let len = append(&mut self.bytes, peek.bytes);
-        append_row(&mut self.rows, Row { slot, form: Form::Value(peek.state, peek.counter), at, len });
+        append_row(
+            &mut self.rows,
+            Row {
+                slot,
+                form: Form::Value(peek.state, peek.counter),
+                at,
+                len,
+            },
+        );
     }
 
     /// Adds a process data telegram, which it writes in its place.
@@ -202,9 +218,17 @@ fn content(form: Form, bytes: &[u8]) -> What<'_>
 {
     match form {
         Form::Reply(reply) => What::Answer(answer(reply)),
-        Form::Value(state, counter) => What::Answer(Answer::Value(Peek { state, counter, bytes })),
+        Form::Value(state, counter) => What::Answer(Answer::Value(Peek {
+            state,
+            counter,
+            bytes,
+        })),
         Form::Indication(indication) => What::Indication(indication),
-        Form::Send(protocol, to) => What::Send { protocol, to, telegram: bytes },
+        Form::Send(protocol, to) => What::Send {
+            protocol,
+            to,
+            telegram: bytes,
+        },
     }
 }
 
@@ -212,7 +236,10 @@ fn content(form: Form, bytes: &[u8]) -> What<'_>
 fn record(row: Row, bytes: &[u8]) -> Record<'_>
     ensures { record_model result ≡ record { slot = row.slot; content = row_content row.form bytes.now } }
 {
-    Record { slot: row.slot, what: content(row.form, bytes) }
+    Record {
+        slot: row.slot,
+        what: content(row.form, bytes),
+    }
 }
 
 fn row_at(rows: &[Row], i: usize) -> Option<Row>

@@ -1,6 +1,6 @@
 //! The objects of one application, under handles of its own.
 
-ghost use Rattle.std.specs.Prelude.{◌≡◌, ℕ, ◌+◌, ◌*◌, ◌<◌, ◌≤◌, ◌++◌, ◌∷◌, length, [], Option, OnOk, OnErr, IfOk, IfErr, is_some, if◌then◌else◌, None, Some, slice_index, filter, vec_len, vec_capacity};
+ghost use Rattle.std.specs.Prelude.{true, ◌≡◌, ℕ, ◌+◌, ◌*◌, ◌<◌, ◌≤◌, ◌++◌, ◌∷◌, length, [], Option, OnOk, OnErr, IfOk, IfErr, is_some, if◌then◌else◌, None, Some, slice_index, filter, vec_len, vec_capacity};
 ghost use Rattle.trdp_base.specs.declared.moment.TheConstants.{LAST};
 ghost use Rattle.trdp_head.specs.declared.pd.TheConstants.{PD_TELEGRAM_MAX};
 ghost use Rattle.trdp_filter.specs.Telegrams.{telegram_model, IsWithinLimit};
@@ -12,12 +12,12 @@ ghost use Rattle.trdp_engine.specs.Records.{labelled, ValueIs, RefusedIs};
 ghost use Rattle.trdp_engine.specs.Events.{PublishCall, SubscribeCall, call_model};
 ghost use Rattle.trdp_engine.specs.Slots.{opened_slot, entry_of, with_object};
 ghost use Rattle.trdp_engine.specs.Calls.{is_span, opening_refusal, dataset_refusal, publish_refusal, subscribe_refusal, put_refusal, put_unless, close_refusal, closed_unless, get_answer, answered, called};
-ghost use Rattle.trdp_engine.specs.Datagrams.{is_for_entry, received};
+ghost use Rattle.trdp_engine.specs.Datagrams.{received_if, concerns};
 ghost use Rattle.trdp_engine.specs.Moments.{is_due, moved_to};
 ghost use Rattle.trdp_engine.specs.Outboxes.{reply_model};
 
 use crate::config::NodeSetup;
-use crate::datagram::{count_addressed, take_all};
+use crate::datagram::{count_addressed, is_valid_at, take_all};
 use crate::entries::{append, close_in, count_of_kind, entry_at, put_in};
 use crate::event::Call;
 use crate::fault::Refusal;
@@ -39,6 +39,7 @@ const HANDLE_MAX: u64 = 4_294_967_295;
 
 /// The places of the kinds in the order of the quotas.
 const PUBLISHERS: usize = 0;
+
 const SUBSCRIPTIONS: usize = 1;
 
 /// A slot: its quotas, its next handle, and its objects by rising handle, in a list that never grows.
@@ -72,7 +73,11 @@ impl Slot {
     {
         let room = usize::from(quotas[PUBLISHERS]) + usize::from(quotas[SUBSCRIPTIONS]);
         let objects = Vec::with_capacity(alloc, room)?;
-        Ok(Slot { quotas, next: 1, objects })
+        Ok(Slot {
+            quotas,
+            next: 1,
+            objects,
+        })
     }
 
     /// Why the slot takes no new object of the kind at that place of the quotas.
@@ -261,22 +266,35 @@ impl Slot {
         fire_all(&mut self.objects, g, s, out);
     }
 
-    /// How many of its objects the telegram is for.
-    pub fn addressed(&self, telegram: &Telegram<'_>, g: &Globals) -> usize
-        ensures { result ≡ length (filter (is_for_entry (telegram_model telegram.now) g.entry.now) self.now.objects) }
-    {
-        count_addressed(&self.objects, telegram, g)
-    }
-
-    /// Hands the telegram to each object that it is for, in the order of their handles.
-    pub fn receive(&mut self, setup: &NodeSetup, telegram: &Telegram<'_>, g: &Globals, s: u16, out: &mut Outbox)
+    /// Takes a telegram: each object that it is for is handed it, in the order of their handles. One whose topology counts
+    /// don't match the node's changes nothing. Room for the records comes first.
+    pub fn receive(
+        &mut self,
+        setup: &NodeSetup,
+        telegram: &Telegram<'_>,
+        g: &Globals,
+        s: u16,
+        out: &mut Outbox,
+    ) -> Result<(), AllocError>
         requires now { g.now.now ≤ LAST }
         requires limit { IsWithinLimit (telegram_model telegram.now) }
-        requires rows { length (filter (is_for_entry (telegram_model telegram.now) g.entry.now) self.old.objects) ≤ out.old.row_room }
-        ensures slot { self.new ≡ (received setup.now self.old g.entry.now (telegram_model telegram.now)).slot }
-        ensures records { out.new.records ≡ out.old.records ++ labelled s (received setup.now self.old g.entry.now (telegram_model telegram.now)).records }
+        ensures slot { OnOk result (self.new ≡ (received_if setup.now self.old g.entry.now (Some (telegram_model telegram.now))).slot) }
+        ensures records { OnOk result (out.new.records ≡ out.old.records ++ labelled s (received_if setup.now self.old g.entry.now (Some (telegram_model telegram.now))).records) }
+        ensures kept { OnErr result (self.new ≡ self.old) }
+        ensures unrecorded { OnErr result (out.new.records ≡ out.old.records) }
+        ensures memory { OnErr result (concerns g.entry.now (Some (telegram_model telegram.now)) self.old ≡ true) }
     {
-        take_all(&mut self.objects, setup, telegram, g, s, out);
+        if !is_valid_at(telegram, g) {
+            return Ok(());
+        }
+        let addressed = count_addressed(&self.objects, telegram, g);
+        match out.reserve(addressed, 0) {
+            Err(error) => Err(error),
+            Ok(()) => {
+                take_all(&mut self.objects, setup, telegram, g, s, out);
+                Ok(())
+            }
+        }
     }
 }
 
@@ -291,7 +309,7 @@ fn is_span(span: u32) -> bool
 fn zero_size(setup: &NodeSetup, dataset: u32) -> usize
     ensures { result ≡ zero_size_of setup.now dataset }
 {
-    let _ = (setup, dataset);
+    let _ = setup;
     0
 }
 

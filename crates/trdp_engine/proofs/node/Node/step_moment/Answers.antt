@@ -1,5 +1,5 @@
 use Rattle.std.proofs.Common.{◌≡◌, ◌++◌, ap, ◌∙◌, sym, List, [], ◌∷◌, refl}
-use Rattle.trdp_engine.specs.declared.globals.Globals.{Globals}
+use Rattle.trdp_filter.specs.declared.globals.Globals.{Globals}
 use Rattle.trdp_engine.specs.Records.{RecordModel, labelled}
 use Rattle.trdp_engine.specs.Slots.{SlotState, Outcome}
 use Rattle.trdp_engine.specs.Events.{MomentIs}

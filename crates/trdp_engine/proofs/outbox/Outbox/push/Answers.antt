@@ -1,6 +1,6 @@
 use Rattle.std.proofs.Common.{arith}
 use Rattle.trdp_engine.proofs.Rows.{AllWithin-push}
-use Rattle.trdp_engine.proofs.outbox.Outbox.push_answer.Goals as goal
+use Rattle.trdp_engine.proofs.outbox.Outbox.push.Goals as goal
 
 pub invariant_of-self : goal.invariant_of-self
 invariant_of-self c =
