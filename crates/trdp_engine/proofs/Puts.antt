@@ -38,8 +38,7 @@ place_within h objects i is = grind (arith, nat_tests)
 remove-cons : (e : Entry) (objects : List Entry) (n : ℕ) → remove (e ∷ objects) (1 + n) ≡ e ∷ remove objects n
 remove-cons e objects n = 
     let one : 1 + n ≡ suc n = omega arith in
-    let two : suc n ≡ n + 1 = omega arith in
-    rw one (ap (λ (k : ℕ). e ∷ (take n objects ++ drop k objects)) two)
+    rw one refl
 
 -- the place of an object ends where it stood
 without_first : (h : ℕ) (objects : List Entry) → without h objects ≡ remove objects (position_or_len (λ e. e.handle == h) objects)
