@@ -36,7 +36,7 @@ pub place_within : (h : ℕ) (objects : List Entry) (i : ℕ) → Some i ≡ pos
 place_within h objects i is = grind (arith, nat_tests)
 
 remove-cons : (e : Entry) (objects : List Entry) (n : ℕ) → remove (e ∷ objects) (1 + n) ≡ e ∷ remove objects n
-remove-cons e objects n = 
+remove-cons e objects n =
     let one : 1 + n ≡ suc n = omega arith in
     rw one refl
 

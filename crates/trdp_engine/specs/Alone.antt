@@ -83,3 +83,10 @@ slot_after setup s slot g event = if is_in_view s slot g event then (event_effec
 -- the records that slot s gets at any one event of the node
 abbrev pub records_after : NodeSetup → ℕ → SlotState → Globals → EventModel → List Content
 records_after setup s slot g event = if is_in_view s slot g event then (event_effect setup slot g event).records else []
+
+-- effect of any event on slot s, whether the slot sees it or not: the calls of other slots are none of its own
+abbrev pub plain_effect : NodeSetup → ℕ → SlotState → Globals → EventModel → Outcome
+plain_effect setup s slot g (MomentIs t) = moved_to slot (record g { now = t })
+plain_effect setup s slot g (TopologyIs topo) = unchanged slot
+plain_effect setup s slot g (DatagramIs protocol src dst bytes) = received_if setup slot g (telegram_of protocol src dst bytes)
+plain_effect setup s slot g (CallIs r call) = if r == s then called setup slot g call else unchanged slot

@@ -6,6 +6,7 @@ pub mod Calls
 pub mod Datagrams
 pub mod Moments
 pub mod Alone
+pub mod Peeks
 pub mod NodeStates
 pub mod Handles
 pub mod Firing

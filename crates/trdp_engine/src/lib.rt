@@ -11,6 +11,7 @@ mod moment;
 mod node;
 mod object;
 mod outbox;
+mod peek;
 mod record;
 mod slot;
 #[cfg(test)]
@@ -19,7 +20,8 @@ mod tests;
 pub use config::NodeConfig;
 pub use event::{Call, Event};
 pub use fault::{NodeFault, Refusal};
-pub use laws::{run_both, same_view};
+pub use laws::{run_both, same_view, view_drops_nothing};
 pub use node::Node;
 pub use outbox::Outbox;
+pub use peek::PeekFault;
 pub use record::{Answer, Indication, Protocol, Record, What};

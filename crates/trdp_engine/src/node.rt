@@ -8,11 +8,13 @@ ghost use Rattle.trdp_engine.specs.Slots.{SlotState};
 ghost use Rattle.trdp_engine.specs.Calls.{called};
 ghost use Rattle.trdp_engine.specs.Datagrams.{telegram_of, received_if, concerns};
 ghost use Rattle.trdp_engine.specs.Moments.{is_due, moved_to};
+ghost use Rattle.trdp_engine.specs.Peeks.{peeked, peek_in};
 
 use crate::config::{NodeConfig, NodeSetup};
 use crate::event::{Call, Event};
 use crate::fault::NodeFault;
 use crate::outbox::Outbox;
+use crate::peek::PeekFault;
 use crate::record::Protocol;
 use crate::slot::Slot;
 use std::alloc::{AllocError, Global};
@@ -21,6 +23,7 @@ use std::slice;
 use trdp_base::{LAST, Place, Topo};
 use trdp_filter::{Globals, Groups, Telegram};
 use trdp_head::{PD_TELEGRAM_MAX, read_pd};
+use trdp_pd::Peek;
 
 /// The communication node of one end device. It serves slot 0.
 #[derive(Drop)]
@@ -200,6 +203,16 @@ impl Node {
             } => self.step_datagram(protocol, src, dst, bytes, out),
             Event::Call { slot, call } => self.step_call(slot, &call, out),
         }
+    }
+
+    /// What the subscription of that handle shows, in every state of it. It takes no memory.
+    pub fn peek(&self, slot: u16, handle: u32) -> Result<Peek<'_>, PeekFault>
+        ensures { peeked result ≡ peek_in (slice_get self.now.slots slot) handle }
+    {
+        if usize::from(slot) >= self.slots() {
+            return Err(PeekFault::NoSlot);
+        }
+        self.slot.look(handle)
     }
 
     /// Takes events in turn. It goes on after an event that is refused for a cause of its own, stops before the first that

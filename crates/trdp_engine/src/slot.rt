@@ -15,6 +15,7 @@ ghost use Rattle.trdp_engine.specs.Calls.{is_span, opening_refusal, dataset_refu
 ghost use Rattle.trdp_engine.specs.Datagrams.{received_if, concerns};
 ghost use Rattle.trdp_engine.specs.Moments.{is_due, moved_to};
 ghost use Rattle.trdp_engine.specs.Outboxes.{reply_model};
+ghost use Rattle.trdp_engine.specs.Peeks.{peeked, peek_of};
 
 use crate::config::NodeSetup;
 use crate::datagram::{count_addressed, is_valid_at, take_all};
@@ -24,6 +25,7 @@ use crate::fault::Refusal;
 use crate::moment::{count_due, fire_all};
 use crate::object::Entry;
 use crate::outbox::{Outbox, Reply};
+use crate::peek::PeekFault;
 use std::alloc::{AllocError, Global};
 use std::marker::Model;
 use trdp_base::LAST;
@@ -189,7 +191,7 @@ impl Slot {
     }
 
     /// What the subscription of that handle shows, or why it shows nothing.
-    pub fn peek(&self, handle: u32) -> Result<Peek<'_>, Refusal>
+    fn peek(&self, handle: u32) -> Result<Peek<'_>, Refusal>
         ensures shown { IfOk result (λ peek. get_answer (entry_of handle self.now.objects) ≡ ValueIs (peek_model peek)) }
         ensures refused { IfErr result (λ refusal. get_answer (entry_of handle self.now.objects) ≡ RefusedIs refusal) }
         ensures within { IfOk result (λ peek. length peek.bytes.now ≤ 1432) }
@@ -198,6 +200,19 @@ impl Slot {
             None => Err(Refusal::NoHandle),
             Some(entry) => match &entry.object {
                 AnyObject::Publisher(_) => Err(Refusal::WrongKind),
+                AnyObject::Subscription(subscription) => Ok(subscription.peek()),
+            },
+        }
+    }
+
+    /// What the subscription of that handle shows to a look from outside.
+    pub fn look(&self, handle: u32) -> Result<Peek<'_>, PeekFault>
+        ensures { peeked result ≡ peek_of (entry_of handle self.now.objects) }
+    {
+        match entry_at(&self.objects, handle) {
+            None => Err(PeekFault::NoHandle),
+            Some(entry) => match &entry.object {
+                AnyObject::Publisher(_) => Err(PeekFault::WrongKind),
                 AnyObject::Subscription(subscription) => Ok(subscription.peek()),
             },
         }
