@@ -1,0 +1,6 @@
+pub mod Elements
+pub mod Datasets
+pub mod Depths
+pub mod ZeroSizes
+pub mod Registries
+pub mod Stored

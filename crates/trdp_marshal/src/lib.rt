@@ -1,0 +1,2 @@
+//! Packed marshalling of dataset values.
+#![tactic(auto)]
