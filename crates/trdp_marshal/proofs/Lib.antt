@@ -1,0 +1,9 @@
+pub mod Numbers
+pub mod Codecs
+pub mod Spellings
+pub mod Steps
+pub mod Building
+pub mod Decoding
+pub mod Measuring
+pub mod Writing
+pub mod Zeros
