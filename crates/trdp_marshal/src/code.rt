@@ -13,7 +13,8 @@ use trdp_dataset::Width;
 /// What is stored for an unsigned value.
 #[tactic(auto, unfolding(crate::specs::Spelling::unsigned_spelling, crate::specs::Spelling::number_spelling))]
 pub(crate) fn unsigned_code(width: Width, item: &Item) -> Option<u64>
-    ensures { option_map (λ n. big_bytes (width_len width) n) result ≡ unsigned_spelling (width_len width) (model_of item.now) }
+    ensures { option_map (λ n. big_bytes (width_len width) n) result
+        ≡ unsigned_spelling (width_len width) (model_of item.now) }
 {
     match item {
         Item::U(n) => { if *n / 2 < half(width) { Some(*n) } else { None } }
@@ -24,7 +25,8 @@ pub(crate) fn unsigned_code(width: Width, item: &Item) -> Option<u64>
 /// What is stored for a signed number, as two's complement.
 #[tactic(auto, unfolding(crate::specs::Spelling::signed_spelling))]
 pub(crate) fn twos_complement(width: Width, z: i64) -> Option<u64>
-    ensures { option_map (λ n. big_bytes (width_len width) n) result ≡ signed_spelling (width_len width) (signed z) }
+    ensures { option_map (λ n. big_bytes (width_len width) n) result
+        ≡ signed_spelling (width_len width) (signed z) }
 {
     let half = half(width);
     if z >= 0 {
@@ -40,9 +42,11 @@ pub(crate) fn twos_complement(width: Width, z: i64) -> Option<u64>
     }
 }
 
+/// What is stored for a signed value.
 #[tactic(auto, unfolding(crate::specs::Spelling::signed_spelling))]
 pub(crate) fn signed_code(width: Width, item: &Item) -> Option<u64>
-    ensures { option_map (λ n. big_bytes (width_len width) n) result ≡ signed_spelling (width_len width) (model_of item.now) }
+    ensures { option_map (λ n. big_bytes (width_len width) n) result
+        ≡ signed_spelling (width_len width) (model_of item.now) }
 {
     match item {
         Item::S(z) => twos_complement(width, *z),

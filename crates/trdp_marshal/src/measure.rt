@@ -11,6 +11,7 @@ use crate::item::Item;
 use crate::number::item_count;
 use trdp_dataset::{Element, Form, Registry, Width};
 
+/// The length of an unsigned number of that width.
 fn measure_unsigned(width: Width, item: &Item) -> Option<usize>
     ensures { result ≡ measured (unsigned_spelling (width_len width) (model_of item.now)) }
 {
@@ -20,6 +21,7 @@ fn measure_unsigned(width: Width, item: &Item) -> Option<usize>
     }
 }
 
+/// The length of a signed number of that width.
 fn measure_signed(width: Width, item: &Item) -> Option<usize>
     ensures { result ≡ measured (signed_spelling (width_len width) (model_of item.now)) }
 {
@@ -29,6 +31,7 @@ fn measure_signed(width: Width, item: &Item) -> Option<usize>
     }
 }
 
+/// The length of seconds and ticks.
 #[tactic(auto, unfolding(crate::specs::Spelling::time48_spelling, crate::specs::Spelling::number_spelling))]
 fn measure_time48(item: &Item) -> Option<usize>
     ensures { result ≡ measured (time48_spelling (model_of item.now)) }
@@ -42,6 +45,7 @@ fn measure_time48(item: &Item) -> Option<usize>
     }
 }
 
+/// The length of seconds and microseconds.
 #[tactic(auto, unfolding(crate::specs::Spelling::time64_spelling, crate::specs::Spelling::number_spelling))]
 fn measure_time64(item: &Item) -> Option<usize>
     ensures { result ≡ measured (time64_spelling (model_of item.now)) }
@@ -69,10 +73,12 @@ fn added(total: usize, len: usize) -> usize
     }
 }
 
+/// The length of one value of a type.
 #[cycle(measure)]
 #[tactic(auto, unfolding(crate::specs::Spelling::form_spelling))]
 fn measure_form(registry: &Registry, depth: u8, form: Form, item: &Item) -> Option<usize>
-    ensures { result ≡ measured (form_spelling (dataset_spelling registry.now depth) form (model_of item.now)) }
+    ensures { result
+        ≡ measured (form_spelling (dataset_spelling registry.now depth) form (model_of item.now)) }
 {
     match form {
         Form::Unsigned(width) => measure_unsigned(width, item),
@@ -83,6 +89,7 @@ fn measure_form(registry: &Registry, depth: u8, form: Form, item: &Item) -> Opti
     }
 }
 
+/// The length of exactly `count` values of a type.
 #[cycle(measure)]
 fn measure_repeated(
     registry: &Registry,
@@ -91,7 +98,8 @@ fn measure_repeated(
     count: u64,
     items: &[Item],
 ) -> Option<usize>
-    ensures { result ≡ measured (repeated_spelling (form_spelling (dataset_spelling registry.now depth) form) count (models_in items.now)) }
+    ensures { result
+        ≡ measured (repeated_spelling (form_spelling (dataset_spelling registry.now depth) form) count (models_in items.now)) }
 {
     if items.len() as u64 != count {
         return None;
@@ -104,6 +112,7 @@ fn measure_repeated(
     Some(total)
 }
 
+/// The length of the entry of an element, where the entry before it counts `count` items.
 #[cycle(measure)]
 fn measure_entry(
     registry: &Registry,
@@ -112,7 +121,8 @@ fn measure_entry(
     count: u64,
     item: &Item,
 ) -> Option<usize>
-    ensures { result ≡ measured (entry_spelling (form_spelling (dataset_spelling registry.now depth) (form_of element.kind)) element.size count (model_of item.now)) }
+    ensures { result
+        ≡ measured (entry_spelling (form_spelling (dataset_spelling registry.now depth) (form_of element.kind)) element.size count (model_of item.now)) }
 {
     let form = element.kind.form();
     if element.size == 1 {
@@ -125,6 +135,7 @@ fn measure_entry(
     }
 }
 
+/// The length of the entries of elements, one of each.
 #[cycle(measure)]
 fn measure_entries(
     registry: &Registry,
@@ -132,7 +143,8 @@ fn measure_entries(
     elements: &[Element],
     items: &[Item],
 ) -> Option<usize>
-    ensures { result ≡ measured (entries_spelling (form_spelling (dataset_spelling registry.now depth)) elements.now 0 (models_in items.now)) }
+    ensures { result
+        ≡ measured (entries_spelling (form_spelling (dataset_spelling registry.now depth)) elements.now 0 (models_in items.now)) }
 {
     if elements.len() != items.len() {
         return None;

@@ -8,6 +8,7 @@ ghost use Rattle.trdp_marshal.specs.Reading.{unsigned_at, signed_at, time48_at, 
 use crate::number::{DEPTH, item_count, number};
 use trdp_dataset::{Element, Form, Registry};
 
+/// Past an unsigned number: it counts the items of an array after it.
 #[tactic(auto, unfolding(crate::specs::Reading::unsigned_at))]
 fn skip_unsigned(len: usize, bytes: &[u8]) -> Option<(u64, &[u8])>
     requires low { 1 ≤ len }
@@ -18,6 +19,7 @@ fn skip_unsigned(len: usize, bytes: &[u8]) -> Option<(u64, &[u8])>
     Some((n, rest))
 }
 
+/// Past a signed number.
 #[tactic(auto, unfolding(crate::specs::Reading::signed_at))]
 fn skip_signed(len: usize, bytes: &[u8]) -> Option<(u64, &[u8])>
     requires low { 1 ≤ len }
@@ -28,6 +30,7 @@ fn skip_signed(len: usize, bytes: &[u8]) -> Option<(u64, &[u8])>
     Some((0, rest))
 }
 
+/// Past seconds and ticks.
 #[tactic(auto, unfolding(crate::specs::Reading::time48_at))]
 fn skip_time48(bytes: &[u8]) -> Option<(u64, &[u8])>
     ensures { option_map (λ x. (x.0, x.1.now)) result ≡ counted (time48_at bytes.now) }
@@ -37,6 +40,7 @@ fn skip_time48(bytes: &[u8]) -> Option<(u64, &[u8])>
     Some((0, rest))
 }
 
+/// Past seconds and microseconds.
 #[tactic(auto, unfolding(crate::specs::Reading::time64_at))]
 fn skip_time64(bytes: &[u8]) -> Option<(u64, &[u8])>
     ensures { option_map (λ x. (x.0, x.1.now)) result ≡ counted (time64_at bytes.now) }
@@ -46,6 +50,7 @@ fn skip_time64(bytes: &[u8]) -> Option<(u64, &[u8])>
     Some((0, rest))
 }
 
+/// Past one value of a type.
 #[cycle(skip)]
 #[tactic(auto, unfolding(crate::specs::Reading::form_at))]
 fn skip_form<'a>(
@@ -54,7 +59,8 @@ fn skip_form<'a>(
     form: Form,
     bytes: &'a [u8],
 ) -> Option<(u64, &'a [u8])>
-    ensures { option_map (λ x. (x.0, x.1.now)) result ≡ counted (form_at (dataset_at registry.now depth) form bytes.now) }
+    ensures { option_map (λ x. (x.0, x.1.now)) result
+        ≡ counted (form_at (dataset_at registry.now depth) form bytes.now) }
 {
     match form {
         Form::Unsigned(width) => skip_unsigned(width.len(), bytes),
@@ -65,6 +71,7 @@ fn skip_form<'a>(
     }
 }
 
+/// Past so many values of a type, one after the other. Each has a byte, so a count beyond the bytes stops there.
 #[cycle(skip)]
 fn skip_repeated<'a>(
     registry: &Registry,
@@ -73,7 +80,8 @@ fn skip_repeated<'a>(
     count: u64,
     bytes: &'a [u8],
 ) -> Option<&'a [u8]>
-    ensures { option_map (λ rest. rest.now) result ≡ skipped (repeated_at (form_at (dataset_at registry.now depth) form) count bytes.now) }
+    ensures { option_map (λ rest. rest.now) result
+        ≡ skipped (repeated_at (form_at (dataset_at registry.now depth) form) count bytes.now) }
 {
     let mut rest = bytes;
     for _ in 0..count {
@@ -83,6 +91,7 @@ fn skip_repeated<'a>(
     Some(rest)
 }
 
+/// Past the entry of an element, where the entry before it counts `count` items.
 #[cycle(skip)]
 fn skip_entry<'a>(
     registry: &Registry,
@@ -91,7 +100,8 @@ fn skip_entry<'a>(
     count: u64,
     bytes: &'a [u8],
 ) -> Option<(u64, &'a [u8])>
-    ensures { option_map (λ x. (x.0, x.1.now)) result ≡ counted (entry_at (form_at (dataset_at registry.now depth) (form_of element.kind)) element.size count bytes.now) }
+    ensures { option_map (λ x. (x.0, x.1.now)) result
+        ≡ counted (entry_at (form_at (dataset_at registry.now depth) (form_of element.kind)) element.size count bytes.now) }
 {
     let form = element.kind.form();
     if element.size == 1 {
@@ -102,6 +112,7 @@ fn skip_entry<'a>(
     Some((0, rest))
 }
 
+/// Past the entries of elements.
 #[cycle(skip)]
 fn skip_entries<'a>(
     registry: &Registry,
@@ -109,7 +120,8 @@ fn skip_entries<'a>(
     elements: &[Element],
     bytes: &'a [u8],
 ) -> Option<&'a [u8]>
-    ensures { option_map (λ rest. rest.now) result ≡ skipped (entries_at (form_at (dataset_at registry.now depth)) elements.now 0 bytes.now) }
+    ensures { option_map (λ rest. rest.now) result
+        ≡ skipped (entries_at (form_at (dataset_at registry.now depth)) elements.now 0 bytes.now) }
 {
     let mut count = 0;
     let mut rest = bytes;
@@ -121,6 +133,7 @@ fn skip_entries<'a>(
     Some(rest)
 }
 
+/// Past a value of a dataset that nests at most so deep.
 #[cycle(skip)]
 fn skip_dataset<'a>(
     registry: &Registry,
@@ -128,7 +141,8 @@ fn skip_dataset<'a>(
     id: u32,
     bytes: &'a [u8],
 ) -> Option<(u64, &'a [u8])>
-    ensures { option_map (λ x. (x.0, x.1.now)) result ≡ counted (dataset_at registry.now depth id bytes.now) }
+    ensures { option_map (λ x. (x.0, x.1.now)) result
+        ≡ counted (dataset_at registry.now depth id bytes.now) }
 {
     if depth == 0 {
         return None;

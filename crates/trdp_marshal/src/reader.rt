@@ -29,6 +29,7 @@ fn signed(width: Width, n: u64) -> i64
     }
 }
 
+/// The big-endian number in the first `len` bytes, and the bytes after them.
 fn take_number(len: usize, bytes: &[u8]) -> Result<(u64, &[u8]), MarshalFault>
     requires low { 1 ≤ len }
     requires high { len ≤ 8 }
@@ -41,14 +42,17 @@ fn take_number(len: usize, bytes: &[u8]) -> Result<(u64, &[u8]), MarshalFault>
     }
 }
 
+/// An unsigned number.
 #[tactic(auto, unfolding(crate::specs::Reading::unsigned_at))]
 fn read_unsigned(width: Width, bytes: &[u8]) -> Result<(Item, &[u8]), MarshalFault>
-    ensures { Gives (λ x. (model_of x.0, x.1.now)) result (unsigned_at (width_len width) bytes.now) }
+    ensures { Gives (λ x. (model_of x.0, x.1.now)) result
+        (unsigned_at (width_len width) bytes.now) }
 {
     let (n, rest) = take_number(width.len(), bytes)?;
     Ok((Item::U(n), rest))
 }
 
+/// A signed number.
 #[tactic(auto, unfolding(crate::specs::Reading::signed_at))]
 fn read_signed(width: Width, bytes: &[u8]) -> Result<(Item, &[u8]), MarshalFault>
     ensures { Gives (λ x. (model_of x.0, x.1.now)) result (signed_at (width_len width) bytes.now) }
@@ -57,6 +61,7 @@ fn read_signed(width: Width, bytes: &[u8]) -> Result<(Item, &[u8]), MarshalFault
     Ok((Item::S(signed(width, n)), rest))
 }
 
+/// Seconds and ticks.
 #[tactic(auto, unfolding(crate::specs::Reading::time48_at))]
 fn read_time48(bytes: &[u8]) -> Result<(Item, &[u8]), MarshalFault>
     ensures { Gives (λ x. (model_of x.0, x.1.now)) result (time48_at bytes.now) }
@@ -66,6 +71,7 @@ fn read_time48(bytes: &[u8]) -> Result<(Item, &[u8]), MarshalFault>
     Ok((Item::T48(seconds as u32, ticks as u16), rest))
 }
 
+/// Seconds and microseconds.
 #[tactic(auto, unfolding(crate::specs::Reading::time64_at))]
 fn read_time64(bytes: &[u8]) -> Result<(Item, &[u8]), MarshalFault>
     ensures { Gives (λ x. (model_of x.0, x.1.now)) result (time64_at bytes.now) }
@@ -75,6 +81,7 @@ fn read_time64(bytes: &[u8]) -> Result<(Item, &[u8]), MarshalFault>
     Ok((Item::T64(seconds as u32, micros as u32), rest))
 }
 
+/// One value of a type.
 #[cycle(read)]
 #[tactic(auto, unfolding(crate::specs::Reading::form_at))]
 fn read_form<'a>(
@@ -84,7 +91,8 @@ fn read_form<'a>(
     form: Form,
     bytes: &'a [u8],
 ) -> Result<(Item, &'a [u8]), MarshalFault>
-    ensures { Gives (λ x. (model_of x.0, x.1.now)) result (form_at (dataset_at registry.now depth) form bytes.now) }
+    ensures { Gives (λ x. (model_of x.0, x.1.now)) result
+        (form_at (dataset_at registry.now depth) form bytes.now) }
 {
     match form {
         Form::Unsigned(width) => read_unsigned(width, bytes),
@@ -95,6 +103,7 @@ fn read_form<'a>(
     }
 }
 
+/// So many values of a type, one after the other. The list grows as they are read, not by the count.
 #[cycle(read)]
 fn read_repeated<'a>(
     alloc: Global,
@@ -104,7 +113,8 @@ fn read_repeated<'a>(
     count: u64,
     bytes: &'a [u8],
 ) -> Result<(Vec<Item>, &'a [u8]), MarshalFault>
-    ensures { Gives (λ x. (models_in x.0.items, x.1.now)) result (repeated_at (form_at (dataset_at registry.now depth) form) count bytes.now) }
+    ensures { Gives (λ x. (models_in x.0.items, x.1.now)) result
+        (repeated_at (form_at (dataset_at registry.now depth) form) count bytes.now) }
 {
     let mut items = Vec::new(alloc);
     let mut rest = bytes;
@@ -116,6 +126,7 @@ fn read_repeated<'a>(
     Ok((items, rest))
 }
 
+/// The entry of an element, where the entry before it counts `count` items.
 #[cycle(read)]
 fn read_entry<'a>(
     alloc: Global,
@@ -125,7 +136,8 @@ fn read_entry<'a>(
     count: u64,
     bytes: &'a [u8],
 ) -> Result<(Item, &'a [u8]), MarshalFault>
-    ensures { Gives (λ x. (model_of x.0, x.1.now)) result (entry_at (form_at (dataset_at registry.now depth) (form_of element.kind)) element.size count bytes.now) }
+    ensures { Gives (λ x. (model_of x.0, x.1.now)) result
+        (entry_at (form_at (dataset_at registry.now depth) (form_of element.kind)) element.size count bytes.now) }
 {
     let form = element.kind.form();
     if element.size == 1 {
@@ -136,6 +148,7 @@ fn read_entry<'a>(
     Ok((Item::list(items), rest))
 }
 
+/// The entries of elements.
 #[cycle(read)]
 fn read_entries<'a>(
     alloc: Global,
@@ -144,7 +157,8 @@ fn read_entries<'a>(
     elements: &[Element],
     bytes: &'a [u8],
 ) -> Result<(Vec<Item>, &'a [u8]), MarshalFault>
-    ensures { Gives (λ x. (models_in x.0.items, x.1.now)) result (entries_at (form_at (dataset_at registry.now depth)) elements.now 0 bytes.now) }
+    ensures { Gives (λ x. (models_in x.0.items, x.1.now)) result
+        (entries_at (form_at (dataset_at registry.now depth)) elements.now 0 bytes.now) }
 {
     let mut items = Vec::new(alloc);
     let mut count = 0;
@@ -158,6 +172,7 @@ fn read_entries<'a>(
     Ok((items, rest))
 }
 
+/// A value of a dataset that nests at most so deep.
 #[cycle(read)]
 fn read_dataset<'a>(
     alloc: Global,
@@ -166,7 +181,8 @@ fn read_dataset<'a>(
     id: u32,
     bytes: &'a [u8],
 ) -> Result<(Item, &'a [u8]), MarshalFault>
-    ensures { Gives (λ x. (model_of x.0, x.1.now)) result (dataset_at registry.now depth id bytes.now) }
+    ensures { Gives (λ x. (model_of x.0, x.1.now)) result
+        (dataset_at registry.now depth id bytes.now) }
 {
     if depth == 0 {
         return Err(MarshalFault::Shape);
@@ -194,7 +210,8 @@ pub fn decode(
     bytes: &[u8],
 ) -> Result<Item, MarshalFault>
     ensures value { IfOk result (λ item. Spells registry.now id (model_of item) bytes.now) }
-    ensures reading { IfOk result (λ item. reading registry.now id bytes.now ≡ Some (model_of item)) }
+    ensures reading { IfOk result (λ item. reading registry.now id bytes.now
+        ≡ Some (model_of item)) }
     ensures shape { result ≡ Err MarshalFault.Shape → ¬ IsSpelled registry.now id bytes.now }
     ensures fault { Answers result (decode_fault registry.now id bytes.now) }
 {

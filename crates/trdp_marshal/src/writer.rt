@@ -27,8 +27,11 @@ fn push_number(out: &mut Vec<u8>, n: u64, len: usize) -> Result<(), AllocError>
     out.extend_from_slice(low)
 }
 
+/// An unsigned number.
 fn write_unsigned(width: Width, item: &Item, out: &mut Vec<u8>) -> Result<(), AllocError>
-    ensures { OnOk result (Appends (unsigned_spelling (width_len width) (model_of item.now)) out.old.items out.new.items) }
+    ensures { OnOk result
+        (Appends (unsigned_spelling (width_len width) (model_of item.now))
+        out.old.items out.new.items) }
 {
     match unsigned_code(width, item) {
         Some(n) => push_number(out, n, width.len()),
@@ -36,8 +39,11 @@ fn write_unsigned(width: Width, item: &Item, out: &mut Vec<u8>) -> Result<(), Al
     }
 }
 
+/// A signed number.
 fn write_signed(width: Width, item: &Item, out: &mut Vec<u8>) -> Result<(), AllocError>
-    ensures { OnOk result (Appends (signed_spelling (width_len width) (model_of item.now)) out.old.items out.new.items) }
+    ensures { OnOk result
+        (Appends (signed_spelling (width_len width) (model_of item.now))
+        out.old.items out.new.items) }
 {
     match signed_code(width, item) {
         Some(n) => push_number(out, n, width.len()),
@@ -45,9 +51,12 @@ fn write_signed(width: Width, item: &Item, out: &mut Vec<u8>) -> Result<(), Allo
     }
 }
 
+/// Seconds and ticks.
 #[tactic(auto, unfolding(crate::specs::Spelling::time48_spelling, crate::specs::Spelling::number_spelling))]
 fn write_time48(item: &Item, out: &mut Vec<u8>) -> Result<(), AllocError>
-    ensures { OnOk result (Appends (time48_spelling (model_of item.now)) out.old.items out.new.items) }
+    ensures { OnOk result
+        (Appends (time48_spelling (model_of item.now))
+        out.old.items out.new.items) }
 {
     match item {
         Item::T48(seconds, ticks) => {
@@ -58,9 +67,12 @@ fn write_time48(item: &Item, out: &mut Vec<u8>) -> Result<(), AllocError>
     }
 }
 
+/// Seconds and microseconds.
 #[tactic(auto, unfolding(crate::specs::Spelling::time64_spelling, crate::specs::Spelling::number_spelling))]
 fn write_time64(item: &Item, out: &mut Vec<u8>) -> Result<(), AllocError>
-    ensures { OnOk result (Appends (time64_spelling (model_of item.now)) out.old.items out.new.items) }
+    ensures { OnOk result
+        (Appends (time64_spelling (model_of item.now))
+        out.old.items out.new.items) }
 {
     match item {
         Item::T64(seconds, micros) => {
@@ -71,6 +83,8 @@ fn write_time64(item: &Item, out: &mut Vec<u8>) -> Result<(), AllocError>
     }
 }
 
+/// One value of a type. Like the functions below, it writes nothing of use where the item is no such value: its
+/// caller has measured the whole item first.
 #[cycle(write)]
 #[tactic(auto, unfolding(crate::specs::Spelling::form_spelling))]
 fn write_form(
@@ -80,7 +94,9 @@ fn write_form(
     item: &Item,
     out: &mut Vec<u8>,
 ) -> Result<(), AllocError>
-    ensures { OnOk result (Appends (form_spelling (dataset_spelling registry.now depth) form (model_of item.now)) out.old.items out.new.items) }
+    ensures { OnOk result
+        (Appends (form_spelling (dataset_spelling registry.now depth) form (model_of item.now))
+        out.old.items out.new.items) }
 {
     match form {
         Form::Unsigned(width) => write_unsigned(width, item, out),
@@ -91,6 +107,7 @@ fn write_form(
     }
 }
 
+/// The values of an array, one after the other.
 #[cycle(write)]
 fn write_repeated(
     registry: &Registry,
@@ -100,7 +117,9 @@ fn write_repeated(
     items: &[Item],
     out: &mut Vec<u8>,
 ) -> Result<(), AllocError>
-    ensures { OnOk result (Appends (repeated_spelling (form_spelling (dataset_spelling registry.now depth) form) count (models_in items.now)) out.old.items out.new.items) }
+    ensures { OnOk result
+        (Appends (repeated_spelling (form_spelling (dataset_spelling registry.now depth) form) count (models_in items.now))
+        out.old.items out.new.items) }
 {
     for item in items {
         write_form(registry, depth, form, item, out)?;
@@ -108,6 +127,7 @@ fn write_repeated(
     Ok(())
 }
 
+/// The entry of an element, where the entry before it counts `count` items.
 #[cycle(write)]
 fn write_entry(
     registry: &Registry,
@@ -117,7 +137,9 @@ fn write_entry(
     item: &Item,
     out: &mut Vec<u8>,
 ) -> Result<(), AllocError>
-    ensures { OnOk result (Appends (entry_spelling (form_spelling (dataset_spelling registry.now depth) (form_of element.kind)) element.size count (model_of item.now)) out.old.items out.new.items) }
+    ensures { OnOk result
+        (Appends (entry_spelling (form_spelling (dataset_spelling registry.now depth) (form_of element.kind)) element.size count (model_of item.now))
+        out.old.items out.new.items) }
 {
     let form = element.kind.form();
     if element.size == 1 {
@@ -130,6 +152,7 @@ fn write_entry(
     }
 }
 
+/// The entries of elements, one of each.
 #[cycle(write)]
 fn write_entries(
     registry: &Registry,
@@ -139,7 +162,9 @@ fn write_entries(
     out: &mut Vec<u8>,
 ) -> Result<(), AllocError>
     requires { length elements.now ≡ length items.now }
-    ensures { OnOk result (Appends (entries_spelling (form_spelling (dataset_spelling registry.now depth)) elements.now 0 (models_in items.now)) out.old.items out.new.items) }
+    ensures { OnOk result
+        (Appends (entries_spelling (form_spelling (dataset_spelling registry.now depth)) elements.now 0 (models_in items.now))
+        out.old.items out.new.items) }
 {
     let mut count = 0;
     for (i, element) in elements.iter().enumerate() {
@@ -150,6 +175,7 @@ fn write_entries(
     Ok(())
 }
 
+/// An item of a dataset that nests at most so deep.
 #[cycle(write)]
 fn write_dataset(
     registry: &Registry,
@@ -158,7 +184,9 @@ fn write_dataset(
     item: &Item,
     out: &mut Vec<u8>,
 ) -> Result<(), AllocError>
-    ensures { OnOk result (Appends (dataset_spelling registry.now depth id (model_of item.now)) out.old.items out.new.items) }
+    ensures { OnOk result
+        (Appends (dataset_spelling registry.now depth id (model_of item.now))
+        out.old.items out.new.items) }
 {
     if depth == 0 {
         return Ok(());
@@ -194,7 +222,8 @@ pub fn encode(
     item: &Item,
 ) -> Result<Vec<u8>, MarshalFault>
     ensures value { IfOk result (λ bytes. Spells registry.now id (model_of item.now) bytes.items) }
-    ensures spelling { IfOk result (λ bytes. spelling registry.now id (model_of item.now) ≡ Some bytes.items) }
+    ensures spelling { IfOk result (λ bytes. spelling registry.now id (model_of item.now)
+        ≡ Some bytes.items) }
     ensures fault { Answers result (encode_fault registry.now id (model_of item.now)) }
 {
     if !registry.has(id) {

@@ -13,7 +13,8 @@ pub fn write_zero(registry: &Registry, id: u32, room: &mut [u8]) -> usize
     requires known { IsTrue (is_known registry.now id) }
     requires room { zero_size registry.now id ≤ length room.old }
     ensures size { result ≡ zero_size registry.now id }
-    ensures bytes { room.new ≡ replicate (zero_size registry.now id) 0 ++ drop (zero_size registry.now id) room.old }
+    ensures bytes { room.new
+        ≡ replicate (zero_size registry.now id) 0 ++ drop (zero_size registry.now id) room.old }
 {
     let size = registry.zero_size(id).unwrap();
     room[..size].fill(0);
