@@ -12,7 +12,7 @@ use Rattle.std.proofs.lemmas.List.{drop_all}
 use Rattle.trdp_marshal.specs.Reading.{form_at, repeated_at, list_at, entry_at, entries_at, elements_at, dataset_at, counted, skipped, whole}
 
 -- what is made of a value takes the same bytes
-skipped-made : {A B : Type 0} (found : Option (A × List ℕ)) (f : A → B) → skipped (found >>= λ x. Some (f x.0, x.1)) ≡ skipped found
+pub skipped-made : {A B : Type 0} (found : Option (A × List ℕ)) (f : A → B) → skipped (found >>= λ x. Some (f x.0, x.1)) ≡ skipped found
 skipped-made None f = refl
 skipped-made (Some x) f = refl
 

@@ -17,7 +17,7 @@ pub(crate) fn unsigned_code(width: Width, item: &Item) -> Option<u64>
         ≡ unsigned_spelling (width_len width) (model_of item.now) }
 {
     match item {
-        Item::U(n) => { if *n / 2 < half(width) { Some(*n) } else { None } }
+        Item::U(n) if *n / 2 < half(width) => Some(*n),
         _ => None,
     }
 }

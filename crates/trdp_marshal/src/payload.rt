@@ -1,8 +1,9 @@
 //! Whether bytes are a payload of a dataset. Nothing is built, and no memory is taken.
 
-ghost use Rattle.std.specs.Prelude.{◌≡◌, ◌≤◌, ◌↔◌, option_map, IsTrue, is_some};
+ghost use Rattle.std.specs.Prelude.{◌≡◌, ◌≤◌, ◌<◌, ◌*◌, ◌↔◌, option_map, IsTrue, IfSome, is_some};
 ghost use Rattle.trdp_dataset.specs.Elements.{form_of};
 ghost use Rattle.trdp_marshal.specs.Spells.{Fits};
+ghost use Rattle.trdp_marshal.specs.Lengths.{fixed_size, rest_after};
 ghost use Rattle.trdp_marshal.specs.Reading.{unsigned_at, signed_at, time48_at, time64_at, form_at, repeated_at, entry_at, entries_at, dataset_at, counted, skipped, reading, is_fitting};
 
 use crate::number::{DEPTH, item_count, number};
@@ -71,6 +72,32 @@ fn skip_form<'a>(
     }
 }
 
+/// How many bytes each value of a type takes; None for a nested dataset, whose values may differ.
+fn fixed_size(form: Form) -> Option<usize>
+    ensures value { result ≡ fixed_size form }
+    ensures bound { IfSome result (λ size. 0 < size) }
+{
+    match form {
+        Form::Unsigned(width) | Form::Signed(width) => Some(width.len()),
+        Form::Time48 => Some(6),
+        Form::Time64 => Some(8),
+        Form::Nested(_) => None,
+    }
+}
+
+/// Past so many values of so many bytes each; None where there are fewer bytes.
+#[tactic(auto, unfolding(crate::specs::Lengths::rest_after))]
+fn skip_fixed(size: usize, count: u64, bytes: &[u8]) -> Option<&[u8]>
+    requires { 0 < size }
+    ensures { option_map (λ rest. rest.now) result ≡ rest_after (count * size) bytes.now }
+{
+    if count > (bytes.len() / size) as u64 {
+        return None;
+    }
+    let (_, rest) = bytes.split_at(count as usize * size);
+    Some(rest)
+}
+
 /// Past so many values of a type, one after the other. Each has a byte, so a count beyond the bytes stops there.
 #[cycle(skip)]
 fn skip_repeated<'a>(
@@ -83,6 +110,9 @@ fn skip_repeated<'a>(
     ensures { option_map (λ rest. rest.now) result
         ≡ skipped (repeated_at (form_at (dataset_at registry.now depth) form) count bytes.now) }
 {
+    if let Some(size) = fixed_size(form) {
+        return skip_fixed(size, count, bytes);
+    }
     let mut rest = bytes;
     for _ in 0..count {
         let (_, next) = skip_form(registry, depth, form, rest)?;

@@ -1,6 +1,7 @@
 use Rattle.std.proofs.Common.{Some, None, sym, ◌∙◌}
 use Rattle.trdp_marshal.specs.Reading.{form_at, dataset_at}
 use Rattle.trdp_marshal.proofs.Steps.{dataset_nowhere, dataset_unknown, dataset_stops, dataset_goes, entries_turn, entries_halt, entries_done, repeated_turn, repeated_halt, repeated_done, entry_one, entry_list}
+use Rattle.trdp_marshal.proofs.Fixed.{repeated_fixed}
 use Rattle.trdp_marshal.proofs.payload.+skip.Goals as goal
 
 pub skip_dataset-returns-then-depth-eq0 : goal.skip_dataset-returns-then-depth-eq0
@@ -56,3 +57,7 @@ pub skip_entry-returns-in_err-rest : goal.skip_entry-returns-in_err-rest
 skip_entry-returns-in_err-rest t c =
     rw c.from_residual.ensures
     (entry_list (form_at (dataset_at c.args.registry.now c.args.depth)) c.form-form.result c.args.element c.args.count c.item_count-count.result c.args.bytes.now None c.form-form.ensures.value c.if-element-eq1.false c.item_count-count.ensures c.in_err-rest.ensures)
+
+pub skip_repeated-returns-in-Some : goal.skip_repeated-returns-in-Some
+skip_repeated-returns-in-Some t c =
+    c.skip_fixed.ensures ∙ sym (repeated_fixed (dataset_at c.args.registry.now c.args.depth) c.args.form c.in-Some.size c.in-Some.ensures.value c.args.count c.args.bytes.now)
