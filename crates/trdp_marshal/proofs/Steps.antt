@@ -160,11 +160,11 @@ entry_list read form e count k bytes found same many size is =
     ∙ sym (counted-repeated (read (form_of e.kind)) (items_in e.size count) bytes) ∙ rw test refl
 
 -- all bytes are taken
-pub whole-taken : (found : Option (ItemModel × List ℕ)) (n : ℕ) (rest : List ℕ) → Some (n, rest) ≡ counted found → is_some (whole found) ≡ (length rest == 0)
-whole-taken None n rest e = absurd (none-some _ (sym e))
-whole-taken (Some (t, [])) n rest e = let left : rest ≡ [] = (some_pair_parts _ _ _ _ e).1 in rw left refl
-whole-taken (Some (t, (b ∷ bs))) n rest e = let left : rest ≡ b ∷ bs = (some_pair_parts _ _ _ _ e).1 in rw left (sym (ne_eqb _ _ (omega arith)))
+pub whole_taken : (found : Option (ItemModel × List ℕ)) (n : ℕ) (rest : List ℕ) → Some (n, rest) ≡ counted found → is_some (whole found) ≡ (length rest == 0)
+whole_taken None n rest e = absurd (none-some _ (sym e))
+whole_taken (Some (t, [])) n rest e = let left : rest ≡ [] = (some_pair_parts _ _ _ _ e).1 in rw left refl
+whole_taken (Some (t, (b ∷ bs))) n rest e = let left : rest ≡ b ∷ bs = (some_pair_parts _ _ _ _ e).1 in rw left (sym (ne_eqb _ _ (omega arith)))
 
-pub whole-nowhere : (found : Option (ItemModel × List ℕ)) → None ≡ counted found → false ≡ is_some (whole found)
-whole-nowhere None e = refl
-whole-nowhere (Some x) e = absurd (none-some _ e)
+pub whole_nowhere : (found : Option (ItemModel × List ℕ)) → None ≡ counted found → false ≡ is_some (whole found)
+whole_nowhere None e = refl
+whole_nowhere (Some x) e = absurd (none-some _ e)

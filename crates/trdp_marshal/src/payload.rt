@@ -183,6 +183,7 @@ fn skip_dataset<'a>(
 }
 
 /// Whether the bytes are those of an item of a dataset that the registry has.
+#[tactic(auto, unfolding(crate::specs::Reading::reading), using(crate::proofs::Steps::whole_taken, crate::proofs::Steps::whole_nowhere))]
 pub(crate) fn fits_dataset(registry: &Registry, id: u32, bytes: &[u8]) -> bool
     ensures { result ≡ is_some (reading registry.now id bytes.now) }
 {
