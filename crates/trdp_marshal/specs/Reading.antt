@@ -10,38 +10,42 @@ use Rattle.trdp_marshal.specs.Items.{ItemModel, ItemModels, unsigned, signed, ti
 use Rattle.trdp_marshal.specs.Numbers.{signed_number}
 use Rattle.trdp_marshal.specs.Spelling.{◌>>=◌}
 
+-- what stands first in bytes, and the bytes after it
+abbrev pub Reader : Type 0 → Type 0
+Reader A = List ℕ → Option (A × List ℕ)
+
 -- the number in the first k bytes, the highest first, if there are so many
-unfoldable pub number_at : ℕ → List ℕ → Option (ℕ × List ℕ)
+unfoldable pub number_at : ℕ → Reader ℕ
 number_at k bytes = if nat_lt (length bytes) k then None else Some (big_number k bytes, drop k bytes)
 
 -- an unsigned number
-unfoldable pub unsigned_at : ℕ → List ℕ → Option (ItemModel × List ℕ)
+unfoldable pub unsigned_at : ℕ → Reader ItemModel
 unsigned_at k bytes = do
   n ← number_at k bytes
   Some (unsigned n.0, n.1)
 
 -- a number as two's complement
-unfoldable pub signed_at : ℕ → List ℕ → Option (ItemModel × List ℕ)
+unfoldable pub signed_at : ℕ → Reader ItemModel
 signed_at k bytes = do
   n ← number_at k bytes
   Some (signed (signed_number k n.0), n.1)
 
 -- seconds in 4 bytes and ticks in 2
-unfoldable pub time48_at : List ℕ → Option (ItemModel × List ℕ)
+unfoldable pub time48_at : Reader ItemModel
 time48_at bytes = do
   seconds ← number_at 4 bytes
   ticks ← number_at 2 seconds.1
   Some (time48 seconds.0 ticks.0, ticks.1)
 
 -- seconds in 4 bytes and microseconds in 4
-unfoldable pub time64_at : List ℕ → Option (ItemModel × List ℕ)
+unfoldable pub time64_at : Reader ItemModel
 time64_at bytes = do
   seconds ← number_at 4 bytes
   micros ← number_at 4 seconds.1
   Some (time64 seconds.0 micros.0, micros.1)
 
 -- one value of a type, where those of nested datasets are given
-unfoldable pub form_at : (ℕ → List ℕ → Option (ItemModel × List ℕ)) → Form → List ℕ → Option (ItemModel × List ℕ)
+unfoldable pub form_at : (ℕ → Reader ItemModel) → Form → Reader ItemModel
 form_at nested (Unsigned w) bytes = unsigned_at (width_len w) bytes
 form_at nested (Signed w) bytes = signed_at (width_len w) bytes
 form_at nested Time48 bytes = time48_at bytes
@@ -49,7 +53,7 @@ form_at nested Time64 bytes = time64_at bytes
 form_at nested (Nested id) bytes = nested id bytes
 
 -- k values, one after the other
-unfoldable pub repeated_at : (List ℕ → Option (ItemModel × List ℕ)) → ℕ → List ℕ → Option (ItemModels × List ℕ)
+unfoldable pub repeated_at : Reader ItemModel → ℕ → Reader ItemModels
 repeated_at read zero bytes = Some (none, bytes)
 repeated_at read (suc k) bytes = do
   t ← read bytes
@@ -57,17 +61,17 @@ repeated_at read (suc k) bytes = do
   Some (more t.0 ts.0, ts.1)
 
 -- a list of k values
-unfoldable pub list_at : (List ℕ → Option (ItemModel × List ℕ)) → ℕ → List ℕ → Option (ItemModel × List ℕ)
+unfoldable pub list_at : Reader ItemModel → ℕ → Reader ItemModel
 list_at read k bytes = do
   ts ← repeated_at read k bytes
   Some (list ts.0, ts.1)
 
 -- the entry of an element: one value, or a list
-unfoldable pub entry_at : (List ℕ → Option (ItemModel × List ℕ)) → ℕ → ℕ → List ℕ → Option (ItemModel × List ℕ)
+unfoldable pub entry_at : Reader ItemModel → ℕ → ℕ → Reader ItemModel
 entry_at read size count bytes = if size == 1 then read bytes else list_at read (items_in size count) bytes
 
 -- the entries of elements, one of each
-unfoldable pub entries_at : (Form → List ℕ → Option (ItemModel × List ℕ)) → List Element → ℕ → List ℕ → Option (ItemModels × List ℕ)
+unfoldable pub entries_at : (Form → Reader ItemModel) → List Element → ℕ → Reader ItemModels
 entries_at read [] count bytes = Some (none, bytes)
 entries_at read (e ∷ es) count bytes = do
   t ← entry_at (read (form_of e.kind)) e.size count bytes
@@ -75,14 +79,14 @@ entries_at read (e ∷ es) count bytes = do
   Some (more t.0 ts.0, ts.1)
 
 -- the list of the entries of a dataset's elements
-unfoldable pub elements_at : (Form → List ℕ → Option (ItemModel × List ℕ)) → Option (List Element) → List ℕ → Option (ItemModel × List ℕ)
+unfoldable pub elements_at : (Form → Reader ItemModel) → Option (List Element) → Reader ItemModel
 elements_at read None bytes = None
 elements_at read (Some es) bytes = do
   ts ← entries_at read es 0 bytes
   Some (list ts.0, ts.1)
 
 -- a value of a dataset down to a depth
-unfoldable pub dataset_at : List DatasetModel → ℕ → ℕ → List ℕ → Option (ItemModel × List ℕ)
+unfoldable pub dataset_at : List DatasetModel → ℕ → ℕ → Reader ItemModel
 dataset_at registry zero id bytes = None
 dataset_at registry (suc depth) id bytes = elements_at (form_at (dataset_at registry depth)) (elements_of registry id) bytes
 
