@@ -11,7 +11,7 @@ use Rattle.trdp_dataset.specs.Elements.{form_of}
 use Rattle.trdp_dataset.specs.Datasets.{DatasetModel, elements_of}
 use Rattle.trdp_marshal.specs.Items.{ItemModel, ItemModels, list, none, more, model_of, models_of, models_in, count_of, items_in}
 use Rattle.trdp_marshal.specs.Spelling.{◌>>=◌}
-use Rattle.trdp_marshal.specs.Reading.{form_at, repeated_at, list_at, entry_at, entries_at, elements_at, dataset_at}
+use Rattle.trdp_marshal.specs.Reading.{Reader, Reader, form_at, repeated_at, list_at, entry_at, entries_at, elements_at, dataset_at}
 use Rattle.std.specs.Result.{IsErrAnd}
 use Rattle.trdp_marshal.specs.Faults.{Fails, Gives}
 use Rattle.trdp_marshal.proofs.Steps.{dataset_at-below}
@@ -47,54 +47,54 @@ with_front-append : (items : List Item) (item : Item) (found : Option (ItemModel
 with_front-append items item None = refl
 with_front-append items item (Some x) = ap (λ (y : ItemModels). Some (y, x.1)) (before-append items item x.0)
 
-repeated_begun : (read : List ℕ → Option (ItemModel × List ℕ)) (j k : ℕ) (bytes : List ℕ) (t : ItemModel) (rest : List ℕ) → j ≡ suc k → read bytes ≡ Some (t, rest)
+repeated_begun : (read : Reader ItemModel) (j k : ℕ) (bytes : List ℕ) (t : ItemModel) (rest : List ℕ) → j ≡ suc k → read bytes ≡ Some (t, rest)
     → repeated_at read j bytes ≡ (repeated_at read k rest >>= λ x. Some (more t x.0, x.1))
 unfolding repeated_at
 repeated_begun read j k bytes t rest e found =
     ap (λ (i : ℕ). repeated_at read i bytes) e ∙ ap (λ (o : Option (ItemModel × List ℕ)). o >>= λ t. repeated_at read k t.1 >>= λ ts. Some (more t.0 ts.0, ts.1)) found
 
-repeated_none : (read : List ℕ → Option (ItemModel × List ℕ)) (j k : ℕ) (bytes : List ℕ) → j ≡ suc k → read bytes ≡ None → repeated_at read j bytes ≡ None
+repeated_none : (read : Reader ItemModel) (j k : ℕ) (bytes : List ℕ) → j ≡ suc k → read bytes ≡ None → repeated_at read j bytes ≡ None
 unfolding repeated_at
 repeated_none read j k bytes e found =
     ap (λ (i : ℕ). repeated_at read i bytes) e ∙ ap (λ (o : Option (ItemModel × List ℕ)). o >>= λ t. repeated_at read k t.1 >>= λ ts. Some (more t.0 ts.0, ts.1)) found
 
-repeated_empty : (read : List ℕ → Option (ItemModel × List ℕ)) (bytes : List ℕ) → repeated_at read 0 bytes ≡ Some (none, bytes)
+repeated_empty : (read : Reader ItemModel) (bytes : List ℕ) → repeated_at read 0 bytes ≡ Some (none, bytes)
 unfolding repeated_at
 repeated_empty read bytes = refl
 
-pub repeated_builds : (read : List ℕ → Option (ItemModel × List ℕ)) (count i : ℕ) (bytes : List ℕ) (item : Item) (rest : List ℕ) (items pushed : List Item) → i < count → read bytes ≡ Some (model_of item, rest) → pushed ≡ items ++ item ∷ []
+pub repeated_builds : (read : Reader ItemModel) (count i : ℕ) (bytes : List ℕ) (item : Item) (rest : List ℕ) (items pushed : List Item) → i < count → read bytes ≡ Some (model_of item, rest) → pushed ≡ items ++ item ∷ []
     → with_front pushed (repeated_at read (count - (i + 1)) rest) ≡ with_front items (repeated_at read (count - i) bytes)
 repeated_builds read count i bytes item rest items pushed within found push =
     ap (λ (v : List Item). with_front v (repeated_at read (count - (i + 1)) rest)) push
     ∙ with_front-append items item (repeated_at read (count - (i + 1)) rest)
     ∙ ap (with_front items) (sym (repeated_begun read (count - i) (count - (i + 1)) bytes (model_of item) rest (omega arith) found))
 
-pub repeated_fails : (read : List ℕ → Option (ItemModel × List ℕ)) (count i : ℕ) (bytes : List ℕ) (items : List Item) (all : Option (ItemModels × List ℕ)) (fault : MarshalFault) → i < count
+pub repeated_fails : (read : Reader ItemModel) (count i : ℕ) (bytes : List ℕ) (items : List Item) (all : Option (ItemModels × List ℕ)) (fault : MarshalFault) → i < count
     → with_front items (repeated_at read (count - i) bytes) ≡ all → Fails fault (read bytes) → Fails fault all
 repeated_fails read count i bytes items all fault within same fails =
     fails_on fault (read bytes) all fails (λ e. sym same ∙ ap (with_front items) (repeated_none read (count - i) (count - (i + 1)) bytes (omega arith) e))
 
-pub repeated_built : (read : List ℕ → Option (ItemModel × List ℕ)) (count i : ℕ) (bytes : List ℕ) (items : List Item) → count ≤ i → with_front items (repeated_at read (count - i) bytes) ≡ Some (models_in items, bytes)
+pub repeated_built : (read : Reader ItemModel) (count i : ℕ) (bytes : List ℕ) (items : List Item) → count ≤ i → with_front items (repeated_at read (count - i) bytes) ≡ Some (models_in items, bytes)
 repeated_built read count i bytes items past =
     let e : count - i ≡ 0 = omega arith in
     ap (λ (k : ℕ). with_front items (repeated_at read k bytes)) e ∙ ap (with_front items) (repeated_empty read bytes) ∙ ap (λ (x : ItemModels). Some (x, bytes)) (before-none (map model_of items))
 
-entries_begun : (read : Form → List ℕ → Option (ItemModel × List ℕ)) (all es : List Element) (e : Element) (count : ℕ) (bytes : List ℕ) (t : ItemModel) (rest : List ℕ) → all ≡ e ∷ es → entry_at (read (form_of e.kind)) e.size count bytes ≡ Some (t, rest)
+entries_begun : (read : Form → Reader ItemModel) (all es : List Element) (e : Element) (count : ℕ) (bytes : List ℕ) (t : ItemModel) (rest : List ℕ) → all ≡ e ∷ es → entry_at (read (form_of e.kind)) e.size count bytes ≡ Some (t, rest)
     → entries_at read all count bytes ≡ (entries_at read es (count_of t) rest >>= λ x. Some (more t x.0, x.1))
 unfolding entries_at
 entries_begun read all es e count bytes t rest split found =
     ap (λ (xs : List Element). entries_at read xs count bytes) split ∙ ap (λ (o : Option (ItemModel × List ℕ)). o >>= λ t. entries_at read es (count_of t.0) t.1 >>= λ ts. Some (more t.0 ts.0, ts.1)) found
 
-entries_none : (read : Form → List ℕ → Option (ItemModel × List ℕ)) (all es : List Element) (e : Element) (count : ℕ) (bytes : List ℕ) → all ≡ e ∷ es → entry_at (read (form_of e.kind)) e.size count bytes ≡ None → entries_at read all count bytes ≡ None
+entries_none : (read : Form → Reader ItemModel) (all es : List Element) (e : Element) (count : ℕ) (bytes : List ℕ) → all ≡ e ∷ es → entry_at (read (form_of e.kind)) e.size count bytes ≡ None → entries_at read all count bytes ≡ None
 unfolding entries_at
 entries_none read all es e count bytes split found =
     ap (λ (xs : List Element). entries_at read xs count bytes) split ∙ ap (λ (o : Option (ItemModel × List ℕ)). o >>= λ t. entries_at read es (count_of t.0) t.1 >>= λ ts. Some (more t.0 ts.0, ts.1)) found
 
-entries_empty : (read : Form → List ℕ → Option (ItemModel × List ℕ)) (count : ℕ) (bytes : List ℕ) → entries_at read [] count bytes ≡ Some (none, bytes)
+entries_empty : (read : Form → Reader ItemModel) (count : ℕ) (bytes : List ℕ) → entries_at read [] count bytes ≡ Some (none, bytes)
 unfolding entries_at
 entries_empty read count bytes = refl
 
-pub entries_build : (read : Form → List ℕ → Option (ItemModel × List ℕ)) (es : List Element) (i : ℕ) (d : Element) (count : ℕ) (bytes : List ℕ) (item : Item) (n : ℕ) (rest : List ℕ) (items pushed : List Item) → i < length es
+pub entries_build : (read : Form → Reader ItemModel) (es : List Element) (i : ℕ) (d : Element) (count : ℕ) (bytes : List ℕ) (item : Item) (n : ℕ) (rest : List ℕ) (items pushed : List Item) → i < length es
     → entry_at (read (form_of (get_or es i d).kind)) (get_or es i d).size count bytes ≡ Some (model_of item, rest) → n ≡ count_of (model_of item) → pushed ≡ items ++ item ∷ []
     → with_front pushed (entries_at read (drop (i + 1) es) n rest) ≡ with_front items (entries_at read (drop i es) count bytes)
 entries_build read es i d count bytes item n rest items pushed within found number push =
@@ -104,23 +104,23 @@ entries_build read es i d count bytes item n rest items pushed within found numb
     ∙ with_front-append items item (entries_at read (drop (i + 1) es) (count_of (model_of item)) rest)
     ∙ ap (with_front items) (sym (entries_begun read (drop i es) (drop (i + 1) es) (get_or es i d) count bytes (model_of item) rest split found))
 
-pub entries_fail : (read : Form → List ℕ → Option (ItemModel × List ℕ)) (es : List Element) (i : ℕ) (d : Element) (count : ℕ) (bytes : List ℕ) (items : List Item) (all : Option (ItemModels × List ℕ)) (fault : MarshalFault) → i < length es
+pub entries_fail : (read : Form → Reader ItemModel) (es : List Element) (i : ℕ) (d : Element) (count : ℕ) (bytes : List ℕ) (items : List Item) (all : Option (ItemModels × List ℕ)) (fault : MarshalFault) → i < length es
     → with_front items (entries_at read (drop i es) count bytes) ≡ all → Fails fault (entry_at (read (form_of (get_or es i d).kind)) (get_or es i d).size count bytes) → Fails fault all
 entries_fail read es i d count bytes items all fault within same fails =
     let split : drop i es ≡ get_or es i d ∷ drop (i + 1) es = rw (add-one, drop-cons es i d) refl in
     fails_on fault _ all fails (λ e. sym same ∙ ap (with_front items) (entries_none read (drop i es) (drop (i + 1) es) (get_or es i d) count bytes split e))
 
-pub entries_built : (read : Form → List ℕ → Option (ItemModel × List ℕ)) (es : List Element) (i : ℕ) (count : ℕ) (bytes : List ℕ) (items : List Item) → length es ≤ i → with_front items (entries_at read (drop i es) count bytes) ≡ Some (models_in items, bytes)
+pub entries_built : (read : Form → Reader ItemModel) (es : List Element) (i : ℕ) (count : ℕ) (bytes : List ℕ) (items : List Item) → length es ≤ i → with_front items (entries_at read (drop i es) count bytes) ≡ Some (models_in items, bytes)
 entries_built read es i count bytes items past =
     ap (λ (xs : List Element). with_front items (entries_at read xs count bytes)) (drop_all i es past) ∙ ap (with_front items) (entries_empty read count bytes) ∙ ap (λ (x : ItemModels). Some (x, bytes)) (before-none (map model_of items))
 
-pub entry_single : (read : Form → List ℕ → Option (ItemModel × List ℕ)) (form : Form) (e : Element) (count : ℕ) (bytes : List ℕ) → form ≡ form_of e.kind → e.size ≡ 1 → read form bytes ≡ entry_at (read (form_of e.kind)) e.size count bytes
+pub entry_single : (read : Form → Reader ItemModel) (form : Form) (e : Element) (count : ℕ) (bytes : List ℕ) → form ≡ form_of e.kind → e.size ≡ 1 → read form bytes ≡ entry_at (read (form_of e.kind)) e.size count bytes
 unfolding entry_at
 entry_single read form e count bytes same one =
     let test : (e.size == 1) ≡ true = eq-eqb _ _ one in
     ap (λ (f : Form). read f bytes) same ∙ rw test refl
 
-pub entry_several : (read : Form → List ℕ → Option (ItemModel × List ℕ)) (form : Form) (e : Element) (count k : ℕ) (bytes : List ℕ) → form ≡ form_of e.kind → e.size ≢ 1 → k ≡ items_in e.size count
+pub entry_several : (read : Form → Reader ItemModel) (form : Form) (e : Element) (count k : ℕ) (bytes : List ℕ) → form ≡ form_of e.kind → e.size ≢ 1 → k ≡ items_in e.size count
     → (repeated_at (read form) k bytes >>= λ ts. Some (list ts.0, ts.1)) ≡ entry_at (read (form_of e.kind)) e.size count bytes
 unfolding entry_at list_at
 entry_several read form e count k bytes same many size =

@@ -14,8 +14,8 @@ use Rattle.trdp_dataset.specs.declared.element.Element.{Element}
 use Rattle.trdp_dataset.specs.Elements.{width_len, form_of}
 use Rattle.trdp_dataset.specs.Datasets.{DatasetModel, elements_of}
 use Rattle.trdp_marshal.specs.Items.{ItemModel, ItemModels, unsigned, signed, time48, time64, list, none, more, count_of, items_in}
-use Rattle.trdp_marshal.specs.Spelling.{◌>>=◌, joined, number_spelling, unsigned_spelling, signed_spelling, time48_spelling, time64_spelling, form_spelling, repeated_spelling, list_spelling, entry_spelling, entries_spelling, elements_spelling, dataset_spelling, spelling}
-use Rattle.trdp_marshal.specs.Reading.{number_at, unsigned_at, signed_at, time48_at, time64_at, form_at, repeated_at, list_at, entry_at, entries_at, elements_at, dataset_at, whole, reading}
+use Rattle.trdp_marshal.specs.Spelling.{Speller, Speller, ◌>>=◌, joined, number_spelling, unsigned_spelling, signed_spelling, time48_spelling, time64_spelling, form_spelling, repeated_spelling, list_spelling, entry_spelling, entries_spelling, elements_spelling, dataset_spelling, spelling}
+use Rattle.trdp_marshal.specs.Reading.{Reader, Reader, number_at, unsigned_at, signed_at, time48_at, time64_at, form_at, repeated_at, list_at, entry_at, entries_at, elements_at, dataset_at, whole, reading}
 use Rattle.trdp_marshal.specs.Numbers.{IsBytes, signed_number}
 use Rattle.trdp_marshal.proofs.Numbers.{bytes_of_number, number_fits}
 
@@ -227,7 +227,7 @@ signed_of_width Two = signed_codec 2 32768 refl
 signed_of_width Four = signed_codec 4 2147483648 refl
 signed_of_width Eight = signed_codec 8 9223372036854775808 refl
 
-pub form_codec : (spell : ℕ → ItemModel → Option (List ℕ)) (read : ℕ → List ℕ → Option (ItemModel × List ℕ)) → ((id : ℕ) → IsCodec (spell id) (read id))
+pub form_codec : (spell : ℕ → Speller ItemModel) (read : ℕ → Reader ItemModel) → ((id : ℕ) → IsCodec (spell id) (read id))
     → (form : Form) → IsCodec (form_spelling spell form) (form_at read form)
 unfolding form_spelling form_at
 form_codec spell read nested (Unsigned w) = unsigned_of_width w
@@ -237,28 +237,28 @@ form_codec spell read nested Time64 = time64_codec
 form_codec spell read nested (Nested id) = nested id
 
 -- exactly k values
-repeated_same : (spell : ItemModel → Option (List ℕ)) (k : ℕ) (t : ItemModel) (ts : ItemModels) (text : List ℕ) → joined (spell t) (repeated_spelling spell k ts) ≡ Some text → repeated_spelling spell (suc k) (more t ts) ≡ Some text
+repeated_same : (spell : Speller ItemModel) (k : ℕ) (t : ItemModel) (ts : ItemModels) (text : List ℕ) → joined (spell t) (repeated_spelling spell k ts) ≡ Some text → repeated_spelling spell (suc k) (more t ts) ≡ Some text
 unfolding repeated_spelling
 repeated_same spell k t ts text e = e
 
-repeated_only : (spell : ItemModel → Option (List ℕ)) (k : ℕ) (all : ItemModels) (text : List ℕ) → repeated_spelling spell (suc k) all ≡ Some text
+repeated_only : (spell : Speller ItemModel) (k : ℕ) (all : ItemModels) (text : List ℕ) → repeated_spelling spell (suc k) all ≡ Some text
     → (t : ItemModel) × (ts : ItemModels) × (all ≡ more t ts) × (joined (spell t) (repeated_spelling spell k ts) ≡ Some text)
 unfolding repeated_spelling
 repeated_only spell k none text e = absurd (none-some text e)
 repeated_only spell k (more t ts) text e = (t, ts, refl, e)
 
-nothing_again : (spell : ItemModel → Option (List ℕ)) (read : List ℕ → Option (ItemModel × List ℕ)) (all : ItemModels) (text rest : List ℕ) → repeated_spelling spell zero all ≡ Some text → repeated_at read zero (text ++ rest) ≡ Some (all, rest)
+nothing_again : (spell : Speller ItemModel) (read : Reader ItemModel) (all : ItemModels) (text rest : List ℕ) → repeated_spelling spell zero all ≡ Some text → repeated_at read zero (text ++ rest) ≡ Some (all, rest)
 unfolding repeated_spelling repeated_at
 nothing_again spell read none text rest e = ap (λ (x : List ℕ). Some (none, x ++ rest)) (sym (same_Some _ _ e))
 nothing_again spell read (more t ts) text rest e = absurd (none-some text e)
 
-nothing_takes : (spell : ItemModel → Option (List ℕ)) (read : List ℕ → Option (ItemModel × List ℕ)) (bytes : List ℕ) (all : ItemModels) (rest : List ℕ) → repeated_at read zero bytes ≡ Some (all, rest) → Takes (repeated_spelling spell zero) all bytes rest
+nothing_takes : (spell : Speller ItemModel) (read : Reader ItemModel) (bytes : List ℕ) (all : ItemModels) (rest : List ℕ) → repeated_at read zero bytes ≡ Some (all, rest) → Takes (repeated_spelling spell zero) all bytes rest
 unfolding repeated_spelling repeated_at
 nothing_takes spell read bytes all rest e =
     let parts = some_pair_parts _ _ _ _ e in
     record { text = []; spelled = ap (repeated_spelling spell zero) (sym parts.0); all = parts.1 }
 
-pub repeated_codec : (spell : ItemModel → Option (List ℕ)) (read : List ℕ → Option (ItemModel × List ℕ)) → IsCodec spell read → (k : ℕ) → IsCodec (repeated_spelling spell k) (repeated_at read k)
+pub repeated_codec : (spell : Speller ItemModel) (read : Reader ItemModel) → IsCodec spell read → (k : ℕ) → IsCodec (repeated_spelling spell k) (repeated_at read k)
 unfolding repeated_at
 repeated_codec spell read codec zero = record {
   again = nothing_again spell read;
@@ -267,11 +267,11 @@ repeated_codec spell read codec zero = record {
 repeated_codec spell read codec (suc k) =
     pair_codec spell read (λ _. repeated_spelling spell k) (λ _. repeated_at read k) more (repeated_spelling spell (suc k)) codec (λ _. repeated_codec spell read codec k) (repeated_same spell k) (repeated_only spell k)
 
-list_same : (spell : ItemModel → Option (List ℕ)) (k : ℕ) (ts : ItemModels) (text : List ℕ) → repeated_spelling spell k ts ≡ Some text → list_spelling spell k (list ts) ≡ Some text
+list_same : (spell : Speller ItemModel) (k : ℕ) (ts : ItemModels) (text : List ℕ) → repeated_spelling spell k ts ≡ Some text → list_spelling spell k (list ts) ≡ Some text
 unfolding list_spelling
 list_same spell k ts text e = e
 
-list_only : (spell : ItemModel → Option (List ℕ)) (k : ℕ) (t : ItemModel) (text : List ℕ) → list_spelling spell k t ≡ Some text → (ts : ItemModels) × (t ≡ list ts) × (repeated_spelling spell k ts ≡ Some text)
+list_only : (spell : Speller ItemModel) (k : ℕ) (t : ItemModel) (text : List ℕ) → list_spelling spell k t ≡ Some text → (ts : ItemModels) × (t ≡ list ts) × (repeated_spelling spell k ts ≡ Some text)
 unfolding list_spelling
 list_only spell k (unsigned n) text e = absurd (none-some text e)
 list_only spell k (signed z) text e = absurd (none-some text e)
@@ -279,7 +279,7 @@ list_only spell k (time48 s u) text e = absurd (none-some text e)
 list_only spell k (time64 s u) text e = absurd (none-some text e)
 list_only spell k (list ts) text e = (ts, refl, e)
 
-pub list_codec : (spell : ItemModel → Option (List ℕ)) (read : List ℕ → Option (ItemModel × List ℕ)) → IsCodec spell read → (k : ℕ) → IsCodec (list_spelling spell k) (list_at read k)
+pub list_codec : (spell : Speller ItemModel) (read : Reader ItemModel) → IsCodec spell read → (k : ℕ) → IsCodec (list_spelling spell k) (list_at read k)
 unfolding list_at
 list_codec spell read codec k =
     made_codec (repeated_spelling spell k) (repeated_at read k) list (list_spelling spell k) (repeated_codec spell read codec k) (list_same spell k) (list_only spell k)
@@ -290,35 +290,35 @@ either_codec : {A : Type 0} (b : Bool) (spell other : A → Option (List ℕ)) (
 either_codec true spell other read other_read first second = first
 either_codec false spell other read other_read first second = second
 
-pub entry_codec : (spell : ItemModel → Option (List ℕ)) (read : List ℕ → Option (ItemModel × List ℕ)) → IsCodec spell read → (size count : ℕ) → IsCodec (entry_spelling spell size count) (entry_at read size count)
+pub entry_codec : (spell : Speller ItemModel) (read : Reader ItemModel) → IsCodec spell read → (size count : ℕ) → IsCodec (entry_spelling spell size count) (entry_at read size count)
 unfolding entry_spelling entry_at
 entry_codec spell read codec size count =
     either_codec (size == 1) spell (list_spelling spell (items_in size count)) read (list_at read (items_in size count)) codec (list_codec spell read codec (items_in size count))
 
 -- the entries of elements
-entries_same : (spell : Form → ItemModel → Option (List ℕ)) (e : Element) (es : List Element) (count : ℕ) (t : ItemModel) (ts : ItemModels) (text : List ℕ)
+entries_same : (spell : Form → Speller ItemModel) (e : Element) (es : List Element) (count : ℕ) (t : ItemModel) (ts : ItemModels) (text : List ℕ)
     → joined (entry_spelling (spell (form_of e.kind)) e.size count t) (entries_spelling spell es (count_of t) ts) ≡ Some text → entries_spelling spell (e ∷ es) count (more t ts) ≡ Some text
 unfolding entries_spelling
 entries_same spell e es count t ts text h = h
 
-entries_only : (spell : Form → ItemModel → Option (List ℕ)) (e : Element) (es : List Element) (count : ℕ) (all : ItemModels) (text : List ℕ) → entries_spelling spell (e ∷ es) count all ≡ Some text
+entries_only : (spell : Form → Speller ItemModel) (e : Element) (es : List Element) (count : ℕ) (all : ItemModels) (text : List ℕ) → entries_spelling spell (e ∷ es) count all ≡ Some text
     → (t : ItemModel) × (ts : ItemModels) × (all ≡ more t ts) × (joined (entry_spelling (spell (form_of e.kind)) e.size count t) (entries_spelling spell es (count_of t) ts) ≡ Some text)
 unfolding entries_spelling
 entries_only spell e es count none text h = absurd (none-some text h)
 entries_only spell e es count (more t ts) text h = (t, ts, refl, h)
 
-no_entries_again : (spell : Form → ItemModel → Option (List ℕ)) (read : Form → List ℕ → Option (ItemModel × List ℕ)) (count : ℕ) (all : ItemModels) (text rest : List ℕ) → entries_spelling spell [] count all ≡ Some text → entries_at read [] count (text ++ rest) ≡ Some (all, rest)
+no_entries_again : (spell : Form → Speller ItemModel) (read : Form → Reader ItemModel) (count : ℕ) (all : ItemModels) (text rest : List ℕ) → entries_spelling spell [] count all ≡ Some text → entries_at read [] count (text ++ rest) ≡ Some (all, rest)
 unfolding entries_spelling entries_at
 no_entries_again spell read count none text rest e = ap (λ (x : List ℕ). Some (none, x ++ rest)) (sym (same_Some _ _ e))
 no_entries_again spell read count (more t ts) text rest e = absurd (none-some text e)
 
-no_entries_takes : (spell : Form → ItemModel → Option (List ℕ)) (read : Form → List ℕ → Option (ItemModel × List ℕ)) (count : ℕ) (bytes : List ℕ) (all : ItemModels) (rest : List ℕ) → entries_at read [] count bytes ≡ Some (all, rest) → Takes (entries_spelling spell [] count) all bytes rest
+no_entries_takes : (spell : Form → Speller ItemModel) (read : Form → Reader ItemModel) (count : ℕ) (bytes : List ℕ) (all : ItemModels) (rest : List ℕ) → entries_at read [] count bytes ≡ Some (all, rest) → Takes (entries_spelling spell [] count) all bytes rest
 unfolding entries_spelling entries_at
 no_entries_takes spell read count bytes all rest e =
     let parts = some_pair_parts _ _ _ _ e in
     record { text = []; spelled = ap (entries_spelling spell [] count) (sym parts.0); all = parts.1 }
 
-pub entries_codec : (spell : Form → ItemModel → Option (List ℕ)) (read : Form → List ℕ → Option (ItemModel × List ℕ)) → ((form : Form) → IsCodec (spell form) (read form))
+pub entries_codec : (spell : Form → Speller ItemModel) (read : Form → Reader ItemModel) → ((form : Form) → IsCodec (spell form) (read form))
     → (es : List Element) (count : ℕ) → IsCodec (entries_spelling spell es count) (entries_at read es count)
 unfolding entries_at
 entries_codec spell read codec [] count = record {
@@ -329,11 +329,11 @@ entries_codec spell read codec (e ∷ es) count =
     pair_codec (entry_spelling (spell (form_of e.kind)) e.size count) (entry_at (read (form_of e.kind)) e.size count) (λ t. entries_spelling spell es (count_of t)) (λ t. entries_at read es (count_of t)) more (entries_spelling spell (e ∷ es) count)
     (entry_codec (spell (form_of e.kind)) (read (form_of e.kind)) (codec (form_of e.kind)) e.size count) (λ t. entries_codec spell read codec es (count_of t)) (entries_same spell e es count) (entries_only spell e es count)
 
-elements_same : (spell : Form → ItemModel → Option (List ℕ)) (es : List Element) (ts : ItemModels) (text : List ℕ) → entries_spelling spell es 0 ts ≡ Some text → elements_spelling spell (Some es) (list ts) ≡ Some text
+elements_same : (spell : Form → Speller ItemModel) (es : List Element) (ts : ItemModels) (text : List ℕ) → entries_spelling spell es 0 ts ≡ Some text → elements_spelling spell (Some es) (list ts) ≡ Some text
 unfolding elements_spelling
 elements_same spell es ts text e = e
 
-elements_only : (spell : Form → ItemModel → Option (List ℕ)) (es : List Element) (t : ItemModel) (text : List ℕ) → elements_spelling spell (Some es) t ≡ Some text → (ts : ItemModels) × (t ≡ list ts) × (entries_spelling spell es 0 ts ≡ Some text)
+elements_only : (spell : Form → Speller ItemModel) (es : List Element) (t : ItemModel) (text : List ℕ) → elements_spelling spell (Some es) t ≡ Some text → (ts : ItemModels) × (t ≡ list ts) × (entries_spelling spell es 0 ts ≡ Some text)
 unfolding elements_spelling
 elements_only spell es (unsigned n) text e = absurd (none-some text e)
 elements_only spell es (signed z) text e = absurd (none-some text e)
@@ -348,7 +348,7 @@ unknown_codec {A} = record {
   takes = λ bytes a rest fits e. absurd (none-some (a, rest) e);
 }
 
-pub elements_codec : (spell : Form → ItemModel → Option (List ℕ)) (read : Form → List ℕ → Option (ItemModel × List ℕ)) → ((form : Form) → IsCodec (spell form) (read form))
+pub elements_codec : (spell : Form → Speller ItemModel) (read : Form → Reader ItemModel) → ((form : Form) → IsCodec (spell form) (read form))
     → (found : Option (List Element)) → IsCodec (elements_spelling spell found) (elements_at read found)
 unfolding elements_spelling elements_at
 elements_codec spell read codec None = unknown_codec

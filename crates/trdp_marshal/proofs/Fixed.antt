@@ -11,7 +11,7 @@ use Rattle.trdp_dataset.specs.Elements.{width_len}
 use Rattle.trdp_marshal.specs.Items.{ItemModel, ItemModels, unsigned, signed, time48, time64, none, more}
 use Rattle.trdp_marshal.specs.Numbers.{signed_number}
 use Rattle.trdp_marshal.specs.Spelling.{◌>>=◌}
-use Rattle.trdp_marshal.specs.Reading.{number_at, unsigned_at, signed_at, time48_at, time64_at, form_at, repeated_at, skipped}
+use Rattle.trdp_marshal.specs.Reading.{Reader, Reader, number_at, unsigned_at, signed_at, time48_at, time64_at, form_at, repeated_at, skipped}
 use Rattle.trdp_marshal.specs.Lengths.{fixed_size, rest_after}
 use Rattle.trdp_marshal.proofs.Steps.{skipped-made}
 
@@ -62,7 +62,7 @@ numbers m n f bytes =
     ∙ ap (λ (o : Option (List ℕ)). o >>= λ rest. rest_after n rest) (skipped-number m bytes)
     ∙ after-add m n bytes
 
-form_fixed : (nested : ℕ → List ℕ → Option (ItemModel × List ℕ)) (form : Form) (n : ℕ) → fixed_size form ≡ Some n → (bytes : List ℕ) → skipped (form_at nested form bytes) ≡ rest_after n bytes
+form_fixed : (nested : ℕ → Reader ItemModel) (form : Form) (n : ℕ) → fixed_size form ≡ Some n → (bytes : List ℕ) → skipped (form_at nested form bytes) ≡ rest_after n bytes
 unfolding form_at unsigned_at signed_at time48_at time64_at
 form_fixed nested (Unsigned w) n e bytes = skipped-made (number_at (width_len w) bytes) unsigned ∙ skipped-number (width_len w) bytes ∙ ap (λ (k : ℕ). rest_after k bytes) (same_Some _ _ e)
 form_fixed nested (Signed w) n e bytes =
@@ -71,7 +71,7 @@ form_fixed nested Time48 n e bytes = numbers 4 2 time48 bytes ∙ ap (λ (k : �
 form_fixed nested Time64 n e bytes = numbers 4 4 time64 bytes ∙ ap (λ (k : ℕ). rest_after k bytes) (same_Some _ _ e)
 form_fixed nested (Nested id) n e bytes = absurd (none-some n e)
 
-repeated_skips : (read : List ℕ → Option (ItemModel × List ℕ)) (n : ℕ) → ((bytes : List ℕ) → skipped (read bytes) ≡ rest_after n bytes) → (k : ℕ) (bytes : List ℕ) → skipped (repeated_at read k bytes) ≡ rest_after (k * n) bytes
+repeated_skips : (read : Reader ItemModel) (n : ℕ) → ((bytes : List ℕ) → skipped (read bytes) ≡ rest_after n bytes) → (k : ℕ) (bytes : List ℕ) → skipped (repeated_at read k bytes) ≡ rest_after (k * n) bytes
 unfolding repeated_at rest_after
 repeated_skips read n each zero bytes =
     let nothing : 0 * n ≡ 0 = omega arith in
@@ -86,5 +86,5 @@ repeated_skips read n each (suc k) bytes =
     ∙ ap (λ (m : ℕ). rest_after m bytes) sum
 
 -- values of one size are passed by their number
-pub repeated_fixed : (nested : ℕ → List ℕ → Option (ItemModel × List ℕ)) (form : Form) (n : ℕ) → Some n ≡ fixed_size form → (k : ℕ) (bytes : List ℕ) → skipped (repeated_at (form_at nested form) k bytes) ≡ rest_after (k * n) bytes
+pub repeated_fixed : (nested : ℕ → Reader ItemModel) (form : Form) (n : ℕ) → Some n ≡ fixed_size form → (k : ℕ) (bytes : List ℕ) → skipped (repeated_at (form_at nested form) k bytes) ≡ rest_after (k * n) bytes
 repeated_fixed nested form n e k bytes = repeated_skips (form_at nested form) n (form_fixed nested form n (sym e)) k bytes

@@ -9,7 +9,7 @@ use Rattle.trdp_dataset.specs.declared.element.Element.{Element}
 use Rattle.trdp_dataset.specs.Elements.{form_of}
 use Rattle.trdp_dataset.specs.Datasets.{DatasetModel, elements_of}
 use Rattle.trdp_marshal.specs.Items.{ItemModel, ItemModels, unsigned, signed, time48, time64, list, none, model_of, models_in, models_under, count_of, items_in}
-use Rattle.trdp_marshal.specs.Spelling.{◌>>=◌, joined, form_spelling, repeated_spelling, list_spelling, entry_spelling, entries_spelling, elements_spelling, dataset_spelling}
+use Rattle.trdp_marshal.specs.Spelling.{Speller, Speller, ◌>>=◌, joined, form_spelling, repeated_spelling, list_spelling, entry_spelling, entries_spelling, elements_spelling, dataset_spelling}
 use Rattle.trdp_marshal.specs.Lengths.{measured}
 
 -- a length before others
@@ -43,14 +43,14 @@ repeated_tail (Some a) None e = refl
 repeated_tail (Some a) (Some b) e = absurd (none-some _ e)
 
 -- a list of another length
-pub repeated_differ : (spell : ItemModel → Option (List ℕ)) (k : ℕ) (items : List Item) → length items ≢ k → None ≡ measured (repeated_spelling spell k (models_in items))
+pub repeated_differ : (spell : Speller ItemModel) (k : ℕ) (items : List Item) → length items ≢ k → None ≡ measured (repeated_spelling spell k (models_in items))
 unfolding repeated_spelling
 repeated_differ spell zero [] differ = absurd (differ refl)
 repeated_differ spell zero (x ∷ items) differ = refl
 repeated_differ spell (suc k) [] differ = refl
 repeated_differ spell (suc k) (x ∷ items) differ = repeated_tail (spell (model_of x)) (repeated_spelling spell k (models_in items)) (repeated_differ spell k items (λ e. differ (omega arith)))
 
-pub entries_differ : (spell : Form → ItemModel → Option (List ℕ)) (es : List Element) (count : ℕ) (items : List Item) → length es ≢ length items → None ≡ measured (entries_spelling spell es count (models_in items))
+pub entries_differ : (spell : Form → Speller ItemModel) (es : List Element) (count : ℕ) (items : List Item) → length es ≢ length items → None ≡ measured (entries_spelling spell es count (models_in items))
 unfolding entries_spelling
 entries_differ spell [] count [] differ = absurd (differ refl)
 entries_differ spell [] count (x ∷ items) differ = refl
@@ -58,23 +58,23 @@ entries_differ spell (e ∷ es) count [] differ = refl
 entries_differ spell (e ∷ es) count (x ∷ items) differ =
     repeated_tail (entry_spelling (spell (form_of e.kind)) e.size count (model_of x)) (entries_spelling spell es (count_of (model_of x)) (models_in items)) (entries_differ spell es (count_of (model_of x)) items (λ h. differ (omega arith)))
 
-repeated_open : (spell : ItemModel → Option (List ℕ)) (j k : ℕ) (x : Item) (items : List Item) → j ≡ suc k → repeated_spelling spell j (models_in (x ∷ items)) ≡ joined (spell (model_of x)) (repeated_spelling spell k (models_in items))
+repeated_open : (spell : Speller ItemModel) (j k : ℕ) (x : Item) (items : List Item) → j ≡ suc k → repeated_spelling spell j (models_in (x ∷ items)) ≡ joined (spell (model_of x)) (repeated_spelling spell k (models_in items))
 unfolding repeated_spelling
 repeated_open spell j k x items e = ap (λ (i : ℕ). repeated_spelling spell i (models_in (x ∷ items))) e
 
-pub repeated_at_place : (spell : ItemModel → Option (List ℕ)) (items : List Item) (k i : ℕ) (x : Item) → length items ≡ k → i < length items → x ≡ get_or items i x
+pub repeated_at_place : (spell : Speller ItemModel) (items : List Item) (k i : ℕ) (x : Item) → length items ≡ k → i < length items → x ≡ get_or items i x
     → repeated_spelling spell (k - i) (models_in (drop i items)) ≡ joined (spell (model_of x)) (repeated_spelling spell (k - (i + 1)) (models_in (drop (i + 1) items)))
 repeated_at_place spell items k i x same within is =
     let split : drop i items ≡ get_or items i x ∷ drop (i + 1) items = rw (add-one, drop-cons items i x) refl in
     let at : drop i items ≡ x ∷ drop (i + 1) items = split ∙ ap (λ (y : Item). y ∷ drop (i + 1) items) (sym is) in
     ap (λ (xs : List Item). repeated_spelling spell (k - i) (models_in xs)) at ∙ repeated_open spell (k - i) (k - (i + 1)) x (drop (i + 1) items) (omega arith)
 
-entries_open : (spell : Form → ItemModel → Option (List ℕ)) (e : Element) (es : List Element) (count : ℕ) (x : Item) (items : List Item)
+entries_open : (spell : Form → Speller ItemModel) (e : Element) (es : List Element) (count : ℕ) (x : Item) (items : List Item)
     → entries_spelling spell (e ∷ es) count (models_in (x ∷ items)) ≡ joined (entry_spelling (spell (form_of e.kind)) e.size count (model_of x)) (entries_spelling spell es (count_of (model_of x)) (models_in items))
 unfolding entries_spelling
 entries_open spell e es count x items = refl
 
-pub entries_at_place : (spell : Form → ItemModel → Option (List ℕ)) (es : List Element) (items : List Item) (i : ℕ) (d : Element) (count n : ℕ) (x : Item) → i < length es → i < length items → x ≡ get_or items i x → n ≡ count_of (model_of x)
+pub entries_at_place : (spell : Form → Speller ItemModel) (es : List Element) (items : List Item) (i : ℕ) (d : Element) (count n : ℕ) (x : Item) → i < length es → i < length items → x ≡ get_or items i x → n ≡ count_of (model_of x)
     → entries_spelling spell (drop i es) count (models_in (drop i items))
     ≡ joined (entry_spelling (spell (form_of (get_or es i d).kind)) (get_or es i d).size count (model_of x)) (entries_spelling spell (drop (i + 1) es) n (models_in (drop (i + 1) items)))
 entries_at_place spell es items i d count n x within inside is number =
@@ -101,18 +101,18 @@ ended total here e bound =
 pub started : (spelled here : Option (List ℕ)) → here ≡ spelled → plus 0 (measured here) ≡ measured spelled
 started spelled here e = plus-zero here ∙ ap measured e
 
-pub repeated_past : (spell : ItemModel → Option (List ℕ)) (items : List Item) (k i : ℕ) → length items ≡ k → length items ≤ i → repeated_spelling spell (k - i) (models_in (drop i items)) ≡ Some []
+pub repeated_past : (spell : Speller ItemModel) (items : List Item) (k i : ℕ) → length items ≡ k → length items ≤ i → repeated_spelling spell (k - i) (models_in (drop i items)) ≡ Some []
 unfolding repeated_spelling
 repeated_past spell items k i same past =
     let e : k - i ≡ 0 = omega arith in
     ap (λ (xs : List Item). repeated_spelling spell (k - i) (models_in xs)) (drop_all i items past) ∙ ap (λ (j : ℕ). repeated_spelling spell j none) e
 
-pub entries_past : (spell : Form → ItemModel → Option (List ℕ)) (es : List Element) (items : List Item) (count i : ℕ) → length es ≤ i → length items ≤ i → entries_spelling spell (drop i es) count (models_in (drop i items)) ≡ Some []
+pub entries_past : (spell : Form → Speller ItemModel) (es : List Element) (items : List Item) (count i : ℕ) → length es ≤ i → length items ≤ i → entries_spelling spell (drop i es) count (models_in (drop i items)) ≡ Some []
 unfolding entries_spelling
 entries_past spell es items count i past over =
     ap (λ (xs : List Item). entries_spelling spell (drop i es) count (models_in xs)) (drop_all i items over) ∙ ap (λ (fs : List Element). entries_spelling spell fs count none) (drop_all i es past)
 
-list_under : (spell : ItemModel → Option (List ℕ)) (k : ℕ) (t : ItemModel) → list_spelling spell k t ≡ (models_under t >>= λ ts. repeated_spelling spell k ts)
+list_under : (spell : Speller ItemModel) (k : ℕ) (t : ItemModel) → list_spelling spell k t ≡ (models_under t >>= λ ts. repeated_spelling spell k ts)
 unfolding list_spelling
 list_under spell k (unsigned n) = refl
 list_under spell k (signed z) = refl
@@ -120,7 +120,7 @@ list_under spell k (time48 s u) = refl
 list_under spell k (time64 s u) = refl
 list_under spell k (list ts) = refl
 
-elements_under : (spell : Form → ItemModel → Option (List ℕ)) (es : List Element) (t : ItemModel) → elements_spelling spell (Some es) t ≡ (models_under t >>= λ ts. entries_spelling spell es 0 ts)
+elements_under : (spell : Form → Speller ItemModel) (es : List Element) (t : ItemModel) → elements_spelling spell (Some es) t ≡ (models_under t >>= λ ts. entries_spelling spell es 0 ts)
 unfolding elements_spelling
 elements_under spell es (unsigned n) = refl
 elements_under spell es (signed z) = refl
@@ -128,13 +128,13 @@ elements_under spell es (time48 s u) = refl
 elements_under spell es (time64 s u) = refl
 elements_under spell es (list ts) = refl
 
-pub entry_alone : (spell : Form → ItemModel → Option (List ℕ)) (form : Form) (e : Element) (count : ℕ) (t : ItemModel) → form ≡ form_of e.kind → e.size ≡ 1 → spell form t ≡ entry_spelling (spell (form_of e.kind)) e.size count t
+pub entry_alone : (spell : Form → Speller ItemModel) (form : Form) (e : Element) (count : ℕ) (t : ItemModel) → form ≡ form_of e.kind → e.size ≡ 1 → spell form t ≡ entry_spelling (spell (form_of e.kind)) e.size count t
 unfolding entry_spelling
 entry_alone spell form e count t same one =
     let test : (e.size == 1) ≡ true = eq-eqb _ _ one in
     ap (λ (f : Form). spell f t) same ∙ rw test refl
 
-pub entry_listed : (spell : Form → ItemModel → Option (List ℕ)) (form : Form) (e : Element) (count k : ℕ) (t : ItemModel) (under : Option ItemModels) → form ≡ form_of e.kind → e.size ≢ 1 → k ≡ items_in e.size count → under ≡ models_under t
+pub entry_listed : (spell : Form → Speller ItemModel) (form : Form) (e : Element) (count k : ℕ) (t : ItemModel) (under : Option ItemModels) → form ≡ form_of e.kind → e.size ≢ 1 → k ≡ items_in e.size count → under ≡ models_under t
     → (under >>= λ ts. repeated_spelling (spell form) k ts) ≡ entry_spelling (spell (form_of e.kind)) e.size count t
 unfolding entry_spelling
 entry_listed spell form e count k t under same many size is =

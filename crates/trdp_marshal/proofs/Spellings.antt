@@ -15,8 +15,8 @@ use Rattle.trdp_dataset.specs.Elements.{width_len, form_of}
 use Rattle.trdp_dataset.specs.Datasets.{DatasetModel, elements_of}
 use Rattle.trdp_marshal.specs.Items.{ItemModel, ItemModels, unsigned, signed, time48, time64, list, none, more, count_of, items_in}
 use Rattle.trdp_marshal.specs.Numbers.{IsBytes, IsNumber}
-use Rattle.trdp_marshal.specs.Spells.{Joins, SpellsUnsigned, SpellsSigned, SpellsTime48, SpellsTime64, SpellsForm, SpellsRepeated, SpellsList, SpellsEntry, SpellsEntries, SpellsElements, SpellsDataset, Spells, IsSpelled, Fits}
-use Rattle.trdp_marshal.specs.Spelling.{joined, number_spelling, unsigned_spelling, signed_spelling, time48_spelling, time64_spelling, form_spelling, repeated_spelling, list_spelling, entry_spelling, entries_spelling, elements_spelling, dataset_spelling, spelling}
+use Rattle.trdp_marshal.specs.Spells.{Relation, Relation, Joins, SpellsUnsigned, SpellsSigned, SpellsTime48, SpellsTime64, SpellsForm, SpellsRepeated, SpellsList, SpellsEntry, SpellsEntries, SpellsElements, SpellsDataset, Spells, IsSpelled, Fits}
+use Rattle.trdp_marshal.specs.Spelling.{Speller, Speller, joined, number_spelling, unsigned_spelling, signed_spelling, time48_spelling, time64_spelling, form_spelling, repeated_spelling, list_spelling, entry_spelling, entries_spelling, elements_spelling, dataset_spelling, spelling}
 use Rattle.trdp_marshal.specs.Reading.{reading, is_fitting}
 use Rattle.trdp_marshal.proofs.Numbers.{bytes_of_number, number_fits, number_bytes}
 use Rattle.trdp_marshal.proofs.Codecs.{joined_some, signed_again, signed_only, read_is_spelled, spelled_is_read}
@@ -140,7 +140,7 @@ signed_computed Four = record { to = signed_to 4 2147483648 refl; from = signed_
 signed_computed Eight = record { to = signed_to 8 9223372036854775808 refl; from = signed_from 8 9223372036854775808 refl }
 
 -- one value of a type
-form_computed : (Nest : ℕ → ItemModel → List ℕ → Type 0) (nest : ℕ → ItemModel → Option (List ℕ)) → ((id : ℕ) → IsComputed (Nest id) (nest id))
+form_computed : (Nest : ℕ → Relation ItemModel) (nest : ℕ → Speller ItemModel) → ((id : ℕ) → IsComputed (Nest id) (nest id))
     → (form : Form) → IsComputed (SpellsForm Nest form) (form_spelling nest form)
 unfolding SpellsForm form_spelling
 form_computed Nest nest each (Unsigned w) = record { to = unsigned_to (width_len w); from = unsigned_from (width_len w) }
@@ -150,7 +150,7 @@ form_computed Nest nest each Time64 = record { to = time64_to; from = time64_fro
 form_computed Nest nest each (Nested id) = record { to = (each id).to; from = (each id).from }
 
 -- k values
-repeated_to : (Single : ItemModel → List ℕ → Type 0) (spell : ItemModel → Option (List ℕ)) → IsComputed Single spell
+repeated_to : (Single : Relation ItemModel) (spell : Speller ItemModel) → IsComputed Single spell
     → (k : ℕ) (ts : ItemModels) (text : List ℕ) → SpellsRepeated Single k ts text → repeated_spelling spell k ts ≡ Some text
 unfolding SpellsRepeated repeated_spelling
 repeated_to Single spell one zero none text h = ap (λ (x : List ℕ). Some x) (sym h)
@@ -158,7 +158,7 @@ repeated_to Single spell one zero (more t ts) text h = absurd h
 repeated_to Single spell one (suc k) none text h = absurd h
 repeated_to Single spell one (suc k) (more t ts) text (x, y, p, q, e) = rw (one.to t x p, repeated_to Single spell one k ts y q, e) refl
 
-repeated_from : (Single : ItemModel → List ℕ → Type 0) (spell : ItemModel → Option (List ℕ)) → IsComputed Single spell
+repeated_from : (Single : Relation ItemModel) (spell : Speller ItemModel) → IsComputed Single spell
     → (k : ℕ) (ts : ItemModels) (text : List ℕ) → repeated_spelling spell k ts ≡ Some text → SpellsRepeated Single k ts text
 unfolding SpellsRepeated repeated_spelling
 repeated_from Single spell one zero none text e = sym (same_Some _ _ e)
@@ -168,7 +168,7 @@ repeated_from Single spell one (suc k) (more t ts) text e =
     let w = joined_some (spell t) (repeated_spelling spell k ts) text e in
     (w.0, w.1, one.from t w.0 w.2, repeated_from Single spell one k ts w.1 w.3, w.4)
 
-list_to : (Single : ItemModel → List ℕ → Type 0) (spell : ItemModel → Option (List ℕ)) → IsComputed Single spell
+list_to : (Single : Relation ItemModel) (spell : Speller ItemModel) → IsComputed Single spell
     → (k : ℕ) (t : ItemModel) (text : List ℕ) → SpellsList Single k t text → list_spelling spell k t ≡ Some text
 unfolding SpellsList list_spelling
 list_to Single spell one k (unsigned n) text h = absurd h
@@ -177,7 +177,7 @@ list_to Single spell one k (time48 s u) text h = absurd h
 list_to Single spell one k (time64 s u) text h = absurd h
 list_to Single spell one k (list ts) text h = repeated_to Single spell one k ts text h
 
-list_from : (Single : ItemModel → List ℕ → Type 0) (spell : ItemModel → Option (List ℕ)) → IsComputed Single spell
+list_from : (Single : Relation ItemModel) (spell : Speller ItemModel) → IsComputed Single spell
     → (k : ℕ) (t : ItemModel) (text : List ℕ) → list_spelling spell k t ≡ Some text → SpellsList Single k t text
 unfolding SpellsList list_spelling
 list_from Single spell one k (unsigned n) text e = absurd (none-some text e)
@@ -187,25 +187,25 @@ list_from Single spell one k (time64 s u) text e = absurd (none-some text e)
 list_from Single spell one k (list ts) text e = repeated_from Single spell one k ts text e
 
 -- the entry of an element
-entry_to : (Single : ItemModel → List ℕ → Type 0) (spell : ItemModel → Option (List ℕ)) → IsComputed Single spell
+entry_to : (Single : Relation ItemModel) (spell : Speller ItemModel) → IsComputed Single spell
     → (size count : ℕ) (t : ItemModel) (text : List ℕ) → SpellsEntry Single size count t text → entry_spelling spell size count t ≡ Some text
 unfolding SpellsEntry entry_spelling
 entry_to Single spell one size count t text (inl (single, h)) = let test : (size == 1) ≡ true = eq-eqb _ _ single in rw test (one.to t text h)
 entry_to Single spell one size count t text (inr (several, h)) = let test : (size == 1) ≡ false = ne_eqb _ _ several in rw test (list_to Single spell one (items_in size count) t text h)
 
-entry_from_by : (Single : ItemModel → List ℕ → Type 0) (spell : ItemModel → Option (List ℕ)) → IsComputed Single spell
+entry_from_by : (Single : Relation ItemModel) (spell : Speller ItemModel) → IsComputed Single spell
     → (size count : ℕ) (t : ItemModel) (text : List ℕ) (b : Bool) → (size == 1) ≡ b → cond b (spell t) (list_spelling spell (items_in size count) t) ≡ Some text → SpellsEntry Single size count t text
 unfolding SpellsEntry
 entry_from_by Single spell one size count t text true test e = inl (eqb-true _ _ test, one.from t text e)
 entry_from_by Single spell one size count t text false test e = inr (λ same. false≢true (sym test ∙ eq-eqb _ _ same), list_from Single spell one (items_in size count) t text e)
 
-entry_from : (Single : ItemModel → List ℕ → Type 0) (spell : ItemModel → Option (List ℕ)) → IsComputed Single spell
+entry_from : (Single : Relation ItemModel) (spell : Speller ItemModel) → IsComputed Single spell
     → (size count : ℕ) (t : ItemModel) (text : List ℕ) → entry_spelling spell size count t ≡ Some text → SpellsEntry Single size count t text
 unfolding entry_spelling
 entry_from Single spell one size count t text e = entry_from_by Single spell one size count t text (size == 1) refl e
 
 -- the entries of elements
-entries_to : (Single : Form → ItemModel → List ℕ → Type 0) (spell : Form → ItemModel → Option (List ℕ)) → ((form : Form) → IsComputed (Single form) (spell form))
+entries_to : (Single : Form → Relation ItemModel) (spell : Form → Speller ItemModel) → ((form : Form) → IsComputed (Single form) (spell form))
     → (es : List Element) (count : ℕ) (ts : ItemModels) (text : List ℕ) → SpellsEntries Single es count ts text → entries_spelling spell es count ts ≡ Some text
 unfolding SpellsEntries entries_spelling
 entries_to Single spell one [] count none text h = ap (λ (x : List ℕ). Some x) (sym h)
@@ -214,7 +214,7 @@ entries_to Single spell one (e ∷ es) count none text h = absurd h
 entries_to Single spell one (e ∷ es) count (more t ts) text (x, y, p, q, all) =
     rw (entry_to (Single (form_of e.kind)) (spell (form_of e.kind)) (one (form_of e.kind)) e.size count t x p, entries_to Single spell one es (count_of t) ts y q, all) refl
 
-entries_from : (Single : Form → ItemModel → List ℕ → Type 0) (spell : Form → ItemModel → Option (List ℕ)) → ((form : Form) → IsComputed (Single form) (spell form))
+entries_from : (Single : Form → Relation ItemModel) (spell : Form → Speller ItemModel) → ((form : Form) → IsComputed (Single form) (spell form))
     → (es : List Element) (count : ℕ) (ts : ItemModels) (text : List ℕ) → entries_spelling spell es count ts ≡ Some text → SpellsEntries Single es count ts text
 unfolding SpellsEntries entries_spelling
 entries_from Single spell one [] count none text e = sym (same_Some _ _ e)
@@ -224,7 +224,7 @@ entries_from Single spell one (d ∷ es) count (more t ts) text e =
     let w = joined_some (entry_spelling (spell (form_of d.kind)) d.size count t) (entries_spelling spell es (count_of t) ts) text e in
     (w.0, w.1, entry_from (Single (form_of d.kind)) (spell (form_of d.kind)) (one (form_of d.kind)) d.size count t w.0 w.2, entries_from Single spell one es (count_of t) ts w.1 w.3, w.4)
 
-elements_to : (Single : Form → ItemModel → List ℕ → Type 0) (spell : Form → ItemModel → Option (List ℕ)) → ((form : Form) → IsComputed (Single form) (spell form))
+elements_to : (Single : Form → Relation ItemModel) (spell : Form → Speller ItemModel) → ((form : Form) → IsComputed (Single form) (spell form))
     → (found : Option (List Element)) (t : ItemModel) (text : List ℕ) → SpellsElements Single found t text → elements_spelling spell found t ≡ Some text
 unfolding SpellsElements elements_spelling
 elements_to Single spell one None t text h = absurd h
@@ -234,7 +234,7 @@ elements_to Single spell one (Some es) (time48 s u) text h = absurd h
 elements_to Single spell one (Some es) (time64 s u) text h = absurd h
 elements_to Single spell one (Some es) (list ts) text h = entries_to Single spell one es 0 ts text h
 
-elements_from : (Single : Form → ItemModel → List ℕ → Type 0) (spell : Form → ItemModel → Option (List ℕ)) → ((form : Form) → IsComputed (Single form) (spell form))
+elements_from : (Single : Form → Relation ItemModel) (spell : Form → Speller ItemModel) → ((form : Form) → IsComputed (Single form) (spell form))
     → (found : Option (List Element)) (t : ItemModel) (text : List ℕ) → elements_spelling spell found t ≡ Some text → SpellsElements Single found t text
 unfolding SpellsElements elements_spelling
 elements_from Single spell one None t text e = absurd (none-some text e)

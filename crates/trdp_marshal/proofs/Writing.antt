@@ -9,7 +9,7 @@ use Rattle.trdp_marshal.specs.declared.fault.MarshalFault.TheVariants.{NoDataset
 use Rattle.trdp_marshal.specs.declared.item.Item.{Item}
 use Rattle.trdp_dataset.specs.Datasets.{DatasetModel, is_known}
 use Rattle.trdp_marshal.specs.Items.{ItemModel, none, model_of, models_in}
-use Rattle.trdp_marshal.specs.Spelling.{joined, repeated_spelling, dataset_spelling, spelling}
+use Rattle.trdp_marshal.specs.Spelling.{Speller, Speller, joined, repeated_spelling, dataset_spelling, spelling}
 use Rattle.trdp_marshal.specs.Lengths.{measured, Appends, Continues}
 use Rattle.trdp_marshal.specs.Faults.{Answers, length_fault, encode_fault}
 use Rattle.trdp_marshal.proofs.Codecs.{joined_some}
@@ -45,7 +45,7 @@ pub unmeasured : (spelled : Option (List ℕ)) → None ≡ measured spelled →
 unmeasured None e = refl
 unmeasured (Some text) e = absurd (none-some _ e)
 
-repeated_opened : (spell : ItemModel → Option (List ℕ)) (j : ℕ) (x : Item) (items : List Item) → Splits (repeated_spelling spell j (models_in (x ∷ items))) (spell (model_of x)) (repeated_spelling spell (j - 1) (models_in items))
+repeated_opened : (spell : Speller ItemModel) (j : ℕ) (x : Item) (items : List Item) → Splits (repeated_spelling spell j (models_in (x ∷ items))) (spell (model_of x)) (repeated_spelling spell (j - 1) (models_in items))
 unfolding repeated_spelling
 repeated_opened spell zero x items = λ rest e. absurd (none-some rest e)
 repeated_opened spell (suc k) x items =
@@ -53,7 +53,7 @@ repeated_opened spell (suc k) x items =
     subst (λ (n : ℕ). Splits (joined (spell (model_of x)) (repeated_spelling spell k (models_in items))) (spell (model_of x)) (repeated_spelling spell n (models_in items))) same
     (joined_splits _ (spell (model_of x)) (repeated_spelling spell k (models_in items)) refl)
 
-pub repeated_splits : (spell : ItemModel → Option (List ℕ)) (items : List Item) (k i : ℕ) (x : Item) → i < length items → x ≡ get_or items i x
+pub repeated_splits : (spell : Speller ItemModel) (items : List Item) (k i : ℕ) (x : Item) → i < length items → x ≡ get_or items i x
     → Splits (repeated_spelling spell (k - i) (models_in (drop i items))) (spell (model_of x)) (repeated_spelling spell (k - (i + 1)) (models_in (drop (i + 1) items)))
 repeated_splits spell items k i x within is =
     let split : drop i items ≡ get_or items i x ∷ drop (i + 1) items = rw (add-one, drop-cons items i x) refl in
@@ -62,12 +62,12 @@ repeated_splits spell items k i x within is =
     subst (λ (xs : List Item). Splits (repeated_spelling spell (k - i) (models_in xs)) (spell (model_of x)) (repeated_spelling spell (k - (i + 1)) (models_in (drop (i + 1) items)))) at
     (subst (λ (n : ℕ). Splits (repeated_spelling spell (k - i) (models_in (x ∷ drop (i + 1) items))) (spell (model_of x)) (repeated_spelling spell n (models_in (drop (i + 1) items)))) less (repeated_opened spell (k - i) x (drop (i + 1) items)))
 
-repeated_nothing : (spell : ItemModel → Option (List ℕ)) (j : ℕ) (rest : List ℕ) → repeated_spelling spell j none ≡ Some rest → rest ≡ []
+repeated_nothing : (spell : Speller ItemModel) (j : ℕ) (rest : List ℕ) → repeated_spelling spell j none ≡ Some rest → rest ≡ []
 unfolding repeated_spelling
 repeated_nothing spell zero rest e = sym (same_Some _ _ e)
 repeated_nothing spell (suc k) rest e = absurd (none-some rest e)
 
-pub repeated_over : (spell : ItemModel → Option (List ℕ)) (items : List Item) (j i : ℕ) → length items ≤ i → (rest : List ℕ) → repeated_spelling spell j (models_in (drop i items)) ≡ Some rest → rest ≡ []
+pub repeated_over : (spell : Speller ItemModel) (items : List Item) (j i : ℕ) → length items ≤ i → (rest : List ℕ) → repeated_spelling spell j (models_in (drop i items)) ≡ Some rest → rest ≡ []
 repeated_over spell items j i past rest e = repeated_nothing spell j rest (sym (ap (λ (xs : List Item). repeated_spelling spell j (models_in xs)) (drop_all i items past)) ∙ e)
 
 pub nothing_left : (left : Option (List ℕ)) → left ≡ Some [] → (rest : List ℕ) → left ≡ Some rest → rest ≡ []

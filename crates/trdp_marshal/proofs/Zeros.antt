@@ -11,7 +11,7 @@ use Rattle.trdp_dataset.specs.Elements.{width_len, form_of}
 use Rattle.trdp_dataset.specs.Datasets.{DatasetModel, elements_of, is_known, passes, all_pass}
 use Rattle.trdp_dataset.specs.Registries.{IsRegistry}
 use Rattle.trdp_marshal.specs.Items.{ItemModel, unsigned, signed, time48, time64, list, count_of, items_in}
-use Rattle.trdp_marshal.specs.Spelling.{joined, number_spelling, unsigned_spelling, signed_spelling, time48_spelling, time64_spelling, form_spelling, repeated_spelling, list_spelling, entry_spelling, entries_spelling, elements_spelling, dataset_spelling, spelling}
+use Rattle.trdp_marshal.specs.Spelling.{Speller, Speller, joined, number_spelling, unsigned_spelling, signed_spelling, time48_spelling, time64_spelling, form_spelling, repeated_spelling, list_spelling, entry_spelling, entries_spelling, elements_spelling, dataset_spelling, spelling}
 use Rattle.trdp_marshal.specs.Zero.{form_zero, copies, entry_zero, entries_zero, dataset_zero, zero_of}
 use Rattle.trdp_marshal.specs.Spells.{Spells}
 use Rattle.trdp_dataset.specs.ZeroSizes.{form_size, entries_size, dataset_size, zero_size}
@@ -20,7 +20,7 @@ use Rattle.trdp_marshal.proofs.Spellings.{spells}
 use Rattle.std.proofs.lemmas.Bool.{false≢true, and_parts}
 
 -- the value is spelled by n zero bytes
-abbrev IsZeros : (ItemModel → Option (List ℕ)) → ItemModel → ℕ → Type 0
+abbrev IsZeros : (Speller ItemModel) → ItemModel → ℕ → Type 0
 IsZeros spell t n = spell t ≡ Some (replicate n 0)
 
 unsigned_zeros : (w : Width) → IsZeros (unsigned_spelling (width_len w)) (unsigned 0) (width_len w)
@@ -49,7 +49,7 @@ joined_zeros : (first second : Option (List ℕ)) (m n : ℕ) → first ≡ Some
 joined_zeros first second m n e f =
     ap (λ (o : Option (List ℕ)). joined o second) e ∙ ap (λ (o : Option (List ℕ)). joined (Some (replicate m 0)) o) f ∙ ap (λ (x : List ℕ). Some x) (replicate-append-replicate m n 0)
 
-repeated_zeros : (spell : ItemModel → Option (List ℕ)) (t : ItemModel) (n k : ℕ) → IsZeros spell t n → repeated_spelling spell k (copies k t) ≡ Some (replicate (k * n) 0)
+repeated_zeros : (spell : Speller ItemModel) (t : ItemModel) (n k : ℕ) → IsZeros spell t n → repeated_spelling spell k (copies k t) ≡ Some (replicate (k * n) 0)
 unfolding repeated_spelling copies
 repeated_zeros spell t n zero e = let none : 0 * n ≡ 0 = omega arith in ap (λ (m : ℕ). Some (replicate m 0)) (sym none)
 repeated_zeros spell t n (suc k) e =
@@ -60,7 +60,7 @@ items_own : (size : ℕ) (b : Bool) → (size == 0) ≡ b → cond b 0 size ≡ 
 items_own size true e = sym (eqb-true _ _ e)
 items_own size false e = refl
 
-entry_by : (spell : ItemModel → Option (List ℕ)) (t : ItemModel) (n size : ℕ) (b : Bool) → (size == 1) ≡ b → IsZeros spell t n
+entry_by : (spell : Speller ItemModel) (t : ItemModel) (n size : ℕ) (b : Bool) → (size == 1) ≡ b → IsZeros spell t n
     → cond b (spell (cond b t (list (copies size t)))) (list_spelling spell (items_in size 0) (cond b t (list (copies size t)))) ≡ Some (replicate (size * n) 0)
 unfolding list_spelling
 entry_by spell t n size true one e =
@@ -68,7 +68,7 @@ entry_by spell t n size true one e =
     e ∙ ap (λ (m : ℕ). Some (replicate m 0)) same
 entry_by spell t n size false many e = ap (λ (k : ℕ). repeated_spelling spell k (copies size t)) (items_own size (size == 0) refl) ∙ repeated_zeros spell t n size e
 
-entry_zeros : (spell : ItemModel → Option (List ℕ)) (t : ItemModel) (n size : ℕ) → IsZeros spell t n → IsZeros (entry_spelling spell size 0) (entry_zero t size) (size * n)
+entry_zeros : (spell : Speller ItemModel) (t : ItemModel) (n size : ℕ) → IsZeros spell t n → IsZeros (entry_spelling spell size 0) (entry_zero t size) (size * n)
 unfolding entry_spelling entry_zero
 entry_zeros spell t n size e = entry_by spell t n size (size == 1) refl e
 
@@ -88,7 +88,7 @@ form_count nested empty Time48 = refl
 form_count nested empty Time64 = refl
 form_count nested empty (Nested id) = empty id
 
-entries_zeros : (spell : Form → ItemModel → Option (List ℕ)) (value : Form → ItemModel) (size : Form → ℕ) (test : ℕ → Bool) → ((f : Form) → count_of (value f) ≡ 0)
+entries_zeros : (spell : Form → Speller ItemModel) (value : Form → ItemModel) (size : Form → ℕ) (test : ℕ → Bool) → ((f : Form) → count_of (value f) ≡ 0)
     → ((f : Form) → passes test f ≡ true → IsZeros (spell f) (value f) (size f)) → (es : List Element) → all_pass test es ≡ true
     → entries_spelling spell es 0 (entries_zero value es) ≡ Some (replicate (entries_size size es) 0)
 unfolding entries_spelling entries_zero entries_size

@@ -9,7 +9,8 @@ use Rattle.trdp_marshal.specs.Spelling.{spelling}
 
 -- why bytes have no item: the dataset is unknown, or they are those of none
 unfoldable pub decode_fault : List DatasetModel → ℕ → List ℕ → Option MarshalFault
-decode_fault registry id bytes = if is_known registry id then (if is_some (reading registry id bytes) then None else Some Shape) else Some NoDataset
+decode_fault registry id bytes =
+    if is_known registry id then (if is_some (reading registry id bytes) then None else Some Shape) else Some NoDataset
 
 -- why bytes are not sent: there are none, or more than 65388
 abbrev pub length_fault : Option (List ℕ) → Option MarshalFault
@@ -18,7 +19,8 @@ length_fault (Some bytes) = if nat_lt 65388 (length bytes) then Some TooLong els
 
 -- why an item is not sent: the dataset is unknown, or the item has no bytes or too many
 unfoldable pub encode_fault : List DatasetModel → ℕ → ItemModel → Option MarshalFault
-encode_fault registry id item = if is_known registry id then length_fault (spelling registry id item) else Some NoDataset
+encode_fault registry id item =
+    if is_known registry id then length_fault (spelling registry id item) else Some NoDataset
 
 -- this fault where it is expected, and want of memory where none is
 abbrev pub FaultIs : MarshalFault → Option MarshalFault → Type 0

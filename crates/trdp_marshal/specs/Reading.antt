@@ -88,7 +88,8 @@ elements_at read (Some es) bytes = do
 -- a value of a dataset down to a depth
 unfoldable pub dataset_at : List DatasetModel → ℕ → ℕ → Reader ItemModel
 dataset_at registry zero id bytes = None
-dataset_at registry (suc depth) id bytes = elements_at (form_at (dataset_at registry depth)) (elements_of registry id) bytes
+dataset_at registry (suc depth) id bytes =
+    elements_at (form_at (dataset_at registry depth)) (elements_of registry id) bytes
 
 -- the value, if no bytes are left over
 abbrev pub whole : Option (ItemModel × List ℕ) → Option ItemModel

@@ -78,7 +78,8 @@ unfoldable pub entries_spelling : (Form → Speller ItemModel) → List Element 
 entries_spelling spell [] count none = Some []
 entries_spelling spell [] count (more t ts) = None
 entries_spelling spell (e ∷ es) count none = None
-entries_spelling spell (e ∷ es) count (more t ts) = joined (entry_spelling (spell (form_of e.kind)) e.size count t) (entries_spelling spell es (count_of t) ts)
+entries_spelling spell (e ∷ es) count (more t ts) =
+    joined (entry_spelling (spell (form_of e.kind)) e.size count t) (entries_spelling spell es (count_of t) ts)
 
 -- the list of the entries of these elements
 unfoldable pub elements_spelling : (Form → Speller ItemModel) → Option (List Element) → Speller ItemModel
@@ -88,7 +89,8 @@ elements_spelling spell _ _ = None
 -- a value of a dataset down to a depth
 unfoldable pub dataset_spelling : List DatasetModel → ℕ → ℕ → Speller ItemModel
 dataset_spelling registry zero id t = None
-dataset_spelling registry (suc depth) id t = elements_spelling (form_spelling (dataset_spelling registry depth)) (elements_of registry id) t
+dataset_spelling registry (suc depth) id t =
+    elements_spelling (form_spelling (dataset_spelling registry depth)) (elements_of registry id) t
 
 -- the bytes of an item of a dataset, which nests no deeper than 5
 unfoldable pub spelling : List DatasetModel → ℕ → Speller ItemModel

@@ -32,7 +32,8 @@ entries_zero value (e ∷ es) = more (entry_zero (value (form_of e.kind)) e.size
 -- the zero value of a dataset down to a depth
 unfoldable pub dataset_zero : List DatasetModel → ℕ → ℕ → ItemModel
 dataset_zero registry zero id = list none
-dataset_zero registry (suc depth) id = list (entries_zero (form_zero (dataset_zero registry depth)) (unwrap_or (elements_of registry id) []))
+dataset_zero registry (suc depth) id =
+    list (entries_zero (form_zero (dataset_zero registry depth)) (unwrap_or (elements_of registry id) []))
 
 -- the zero value of a dataset, which nests no deeper than 5
 unfoldable pub zero_of : List DatasetModel → ℕ → ItemModel
