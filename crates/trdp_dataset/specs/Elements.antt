@@ -1,5 +1,5 @@
 -- Types of elements.
-use Rattle.std.specs.Prelude.{◌==◌, ◌&&◌, ℕ, Bool, true, false}
+use Rattle.std.specs.Prelude.{◌==◌, ◌&&◌, ℕ, Bool, true, false, Option, Some, None}
 use Rattle.trdp_dataset.specs.declared.element.Width.{Width}
 use Rattle.trdp_dataset.specs.declared.element.Width.TheVariants.{One, Two, Four, Eight}
 use Rattle.trdp_dataset.specs.declared.element.Form.{Form}
@@ -43,3 +43,8 @@ is_count_kind _ = false
 -- an element that counts the items of the array after it: a single number of such a type
 abbrev pub is_count : Element → Bool
 is_count e = (e.size == 1) && is_count_kind e.kind
+
+-- the dataset that a type is
+abbrev pub nested_id : Form → Option ℕ
+nested_id (form.Nested id) = Some id
+nested_id _ = None

@@ -1,7 +1,7 @@
 //! The elements that datasets are made of.
 
 ghost use Rattle.std.specs.Prelude.{◌≡◌, ◌==◌, ◌&&◌};
-ghost use Rattle.trdp_dataset.specs.Elements.{width_len, form_of, is_count_kind, is_count};
+ghost use Rattle.trdp_dataset.specs.Elements.{width_len, form_of, is_count, nested_id};
 
 /// How many bytes a number takes in a telegram.
 #[derive(Clone, Copy, Debug, PartialEq, Eq)]
@@ -108,6 +108,16 @@ pub struct Element {
 }
 
 impl Element {
+    /// The dataset that this element is of; None of a basic type.
+    pub(crate) fn nested(self) -> Option<u32>
+        ensures value { result ≡ nested_id (form_of self.kind) }
+    {
+        match self.kind.form() {
+            Form::Nested(id) => Some(id),
+            _ => None,
+        }
+    }
+
     /// Whether the value of this element is the number of items of an array of size 0 after it: a single
     /// UINT8, UINT16 or UINT32.
     pub fn is_count(self) -> bool

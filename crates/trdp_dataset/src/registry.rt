@@ -1,13 +1,13 @@
 //! The datasets of a configuration.
 
+use crate::datasets::Datasets;
 use crate::element::Element;
-use indexmap::IndexMap;
 use std::marker::Model;
 
 /// The datasets of a configuration, in the order of the file. An identifier is 31 to 4,294,967,295.
 #[derive(Drop)]
 pub struct Registry {
-    elements: IndexMap<u32, Vec<Element>>,
+    datasets: Datasets,
     zero_sizes: Vec<usize>,
 }
 
@@ -16,13 +16,13 @@ impl Model for Registry {
     ghost use Rattle.trdp_dataset.specs.Datasets.{DatasetModel};
     ghost use Rattle.trdp_dataset.specs.ZeroSizes.{zero_size};
     ghost use Rattle.trdp_dataset.specs.Registries.{IsRegistry};
-    ghost use Rattle.trdp_dataset.specs.Stored.{datasets_of, zero_sizes_of};
+    ghost use Rattle.trdp_dataset.specs.Stored.{zero_sizes_of};
 
     ghost Value = { List DatasetModel };
 
-    ghost view = { λ r. datasets_of r.elements.entries };
+    ghost view = { λ r. r.datasets };
 
-    ghost invariant = { λ r. IsRegistry (datasets_of r.elements.entries) × (r.zero_sizes.items ≡ zero_sizes_of (datasets_of r.elements.entries)) };
+    ghost invariant = { λ r. IsRegistry r.datasets × (r.zero_sizes.items ≡ zero_sizes_of r.datasets) };
 }
 
 impl Registry {
@@ -35,7 +35,7 @@ impl Registry {
     pub fn len(&self) -> usize
         ensures value { result ≡ length self.now }
     {
-        self.elements.len()
+        self.datasets.len()
     }
 
     /// Whether there is no dataset.
@@ -49,8 +49,8 @@ impl Registry {
     pub fn id_at(&self, i: usize) -> Option<u32>
         ensures value { result ≡ option_map (λ d. d.id) (slice_get self.now i) }
     {
-        match self.elements.get_index(i) {
-            Some((id, _)) => Some(*id),
+        match self.datasets.at(i) {
+            Some((id, _)) => Some(id),
             None => None,
         }
     }
@@ -59,10 +59,7 @@ impl Registry {
     pub fn elements(&self, id: u32) -> Option<&[Element]>
         ensures value { option_map (λ es. es.now) result ≡ elements_of self.now id }
     {
-        match self.elements.get(&id) {
-            Some(elements) => Some(elements.as_slice()),
-            None => None,
-        }
+        self.datasets.elements(id)
     }
 
     /// Whether a dataset has that identifier. None has identifier 0.
@@ -88,7 +85,7 @@ impl Registry {
         ensures value { result ≡ (if is_known self.now id then Some (zero_size self.now id) else None) }
         ensures bound { IfSome result (λ n. n ≤ 65388) }
     {
-        match self.elements.get_index_of(&id) {
+        match self.datasets.index_of(id) {
             Some(i) => Some(self.zero_sizes[i]),
             None => None,
         }
@@ -98,6 +95,6 @@ impl Registry {
     pub fn sound(&self)
         ensures sound { IsRegistry self.now }
     {
-        let _ = &self.elements;
+        let _ = &self.datasets;
     }
 }
