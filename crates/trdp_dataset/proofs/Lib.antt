@@ -1,0 +1,9 @@
+pub mod Answering
+pub mod Lookups
+pub mod Addresses
+pub mod Arrays
+pub mod Sizes
+pub mod Rows
+pub mod Steps
+pub mod Twice
+pub mod Passes

@@ -1,0 +1,20 @@
+//! The datasets of a train's telegrams and the configuration of a node, read from TOML.
+#![tactic(auto)]
+
+mod check;
+mod datasets;
+mod depth;
+mod element;
+mod fault;
+mod key;
+mod pass;
+mod place;
+mod read;
+mod registry;
+mod size;
+mod value;
+
+pub use element::{Element, ElementKind, Form, Width};
+pub use fault::ConfigFault;
+pub use key::Key;
+pub use registry::Registry;
