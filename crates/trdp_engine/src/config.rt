@@ -4,17 +4,19 @@ ghost use Rattle.std.specs.Prelude.{◌≡◌, ◌≤◌, slice_index};
 
 use std::marker::Model;
 use trdp_base::Ip;
+use trdp_dataset::Registry;
 
 /// What is fixed while a node runs: its address and its two UDP ports.
-#[derive(Clone, Copy, Debug)]
+#[derive(Drop)]
 pub struct NodeSetup {
+    pub registry: Registry,
     pub address: Ip,
     pub pd_port: u16,
     pub md_port: u16,
 }
 
 /// A node's configuration: what is fixed while it runs, and the quotas of its slot.
-#[derive(Debug, Drop)]
+#[derive(Drop)]
 pub struct NodeConfig {
     setup: NodeSetup,
     quotas: [u16; 6],
@@ -32,27 +34,18 @@ impl Model for NodeConfig {
 }
 
 impl NodeConfig {
-    ghost use Rattle.trdp_engine.specs.Configs.{first_config};
-
-    /// One slot with four publishers, at the address 10.0.0.1 and the standard's ports 17224 for process data and
-    /// 17225 for message data.
-    pub fn first() -> NodeConfig
-        ensures { result ≡ first_config }
+    /// interim
+    pub fn new(setup: NodeSetup, quotas: [u16; 6]) -> NodeConfig
+        requires publishers { slice_index quotas 0 ≤ 256 }
+        requires subscriptions { slice_index quotas 1 ≤ 256 }
+        ensures { result ≡ record { setup = setup; quotas = quotas } }
     {
-        let setup = NodeSetup {
-            address: Ip(0x0a00_0001),
-            pd_port: 17224,
-            md_port: 17225,
-        };
-        NodeConfig {
-            setup,
-            quotas: [4, 4, 0, 0, 0, 0],
-        }
+        NodeConfig { setup, quotas }
     }
 
-    /// What is fixed while a node of this configuration runs.
-    pub fn setup(&self) -> NodeSetup
-        ensures { result ≡ self.now.setup }
+    /// interim
+    pub fn into_setup(self) -> NodeSetup
+        ensures { result ≡ self.setup }
     {
         self.setup
     }

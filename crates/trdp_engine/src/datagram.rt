@@ -8,12 +8,12 @@ ghost use Rattle.trdp_engine.specs.Records.{labelled};
 ghost use Rattle.trdp_engine.specs.Datagrams.{is_valid_at, fits_object, is_for_entry, entry_after_telegram, records_taking};
 
 use crate::config::NodeSetup;
-use crate::entries::is_fitting;
 use crate::object::Entry;
 use crate::outbox::Outbox;
 use crate::record::Indication;
 use trdp_base::LAST;
 use trdp_filter::{Globals, Telegram, topo_valid};
+use trdp_marshal::fits;
 use trdp_pd::{AnyObject, Object, Taken};
 
 /// Whether the telegram's topology counts match the node's.
@@ -34,7 +34,7 @@ fn fits_object(setup: &NodeSetup, telegram: &Telegram<'_>, object: &AnyObject) -
         AnyObject::Subscription(subscription) => subscription.dataset(),
     };
     match telegram {
-        Telegram::Pd { view, .. } => is_fitting(setup, dataset, view.payload),
+        Telegram::Pd { view, .. } => fits(&setup.registry, dataset, view.payload),
     }
 }
 

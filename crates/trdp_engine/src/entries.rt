@@ -3,12 +3,12 @@
 ghost use Rattle.std.specs.Prelude.{◌≡◌, ℕ, ◌+◌, ◌<◌, ◌≤◌, ◌++◌, ◌∷◌, length, [], Option, None, Some, position, option_copied, is_none, if◌then◌else◌, ◌==◌, vec_len, vec_capacity};
 ghost use Rattle.trdp_engine.specs.Slots.{count_of, entry_of, changed, without};
 ghost use Rattle.trdp_engine.specs.Calls.{put_refusal, object_refusal, value_refusal, close_refusal, with_value};
-ghost use Rattle.trdp_engine.specs.Configs.{is_fitting};
 
 use crate::config::NodeSetup;
 use crate::fault::Refusal;
 use crate::object::Entry;
 use trdp_head::PD_PAYLOAD_MAX;
+use trdp_marshal::fits;
 use trdp_pd::AnyObject;
 
 /// How many of the objects are of the kind at that place of the quotas.
@@ -45,21 +45,13 @@ fn object_refusal(object: &AnyObject, setup: &NodeSetup, bytes: &[u8]) -> Option
         AnyObject::Publisher(publisher) => {
             if bytes.len() > PD_PAYLOAD_MAX {
                 Some(Refusal::TooLong)
-            } else if !is_fitting(setup, publisher.dataset(), bytes) {
+            } else if !fits(&setup.registry, publisher.dataset(), bytes) {
                 Some(Refusal::Shape)
             } else {
                 None
             }
         }
     }
-}
-
-/// Whether the bytes are a value of the dataset.
-pub fn is_fitting(setup: &NodeSetup, dataset: u32, bytes: &[u8]) -> bool
-    ensures { result ≡ is_fitting setup.now dataset bytes.now }
-{
-    let _ = setup;
-    true
 }
 
 /// Gives the object its new value.

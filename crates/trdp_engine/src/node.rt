@@ -65,7 +65,7 @@ impl Node {
                 };
                 Ok(Node {
                     alloc,
-                    setup: config.setup(),
+                    setup: config.into_setup(),
                     globals,
                     slot,
                 })

@@ -112,23 +112,39 @@ impl Slot {
     fn publish_refusal(&self, setup: &NodeSetup, publication: &Publication) -> Option<Refusal>
         ensures { result ≡ publish_refusal setup.now self.now publication.now }
     {
-        if is_span(publication.cycle) {
-            dataset_refusal(setup, publication.dataset).or(self.opening_refusal(PUBLISHERS))
-        } else {
-            Some(Refusal::Cycle)
+        if !is_span(publication.cycle) {
+            return Some(Refusal::Cycle);
+        }
+        match value_size(setup, publication.dataset) {
+            Err(refusal) => Some(refusal),
+            Ok(_) => self.opening_refusal(PUBLISHERS),
         }
     }
 
-    /// Why the slot refuses the subscription.
-    fn subscribe_refusal(&self, setup: &NodeSetup, terms: &SubscriptionTerms) -> Option<Refusal>
-        ensures { result ≡ subscribe_refusal setup.now self.now terms.now }
+    /// How many bytes the zero value of the subscription takes, or why the slot refuses it.
+    fn subscribed_size(
+        &self,
+        setup: &NodeSetup,
+        terms: &SubscriptionTerms,
+    ) -> Result<usize, Refusal>
+        ensures refused { IfErr result (λ refusal. subscribe_refusal setup.now self.now terms.now ≡ Some refusal) }
+        ensures accepted { IfOk result (λ size. subscribe_refusal setup.now self.now terms.now ≡ None) }
+        ensures opens { IfOk result (λ size. opening_refusal self.now 1 ≡ None) }
+        ensures size { IfOk result (λ size. size ≡ zero_size_of setup.now terms.now.dataset) }
+        ensures within { IfOk result (λ size. size ≤ 1432) }
     {
         if !is_span(terms.supervision) {
-            Some(Refusal::Timeout)
-        } else if terms.filter.low > terms.filter.high {
-            Some(Refusal::Range)
-        } else {
-            dataset_refusal(setup, terms.dataset).or(self.opening_refusal(SUBSCRIPTIONS))
+            return Err(Refusal::Timeout);
+        }
+        if terms.filter.low > terms.filter.high {
+            return Err(Refusal::Range);
+        }
+        match value_size(setup, terms.dataset) {
+            Err(refusal) => Err(refusal),
+            Ok(size) => match self.opening_refusal(SUBSCRIPTIONS) {
+                Some(refusal) => Err(refusal),
+                None => Ok(size),
+            },
         }
     }
 
@@ -163,11 +179,13 @@ impl Slot {
         ensures outcome { IfOk result (λ reply. called setup.now self.old g.entry.now (SubscribeCall terms.now) ≡ answered self.new (reply_model reply)) }
         ensures kept { OnErr result (self.new ≡ self.old) }
     {
-        if let Some(refusal) = self.subscribe_refusal(setup, terms) {
-            return Ok(Reply::Refused(refusal));
+        match self.subscribed_size(setup, terms) {
+            Err(refusal) => Ok(Reply::Refused(refusal)),
+            Ok(size) => {
+                let subscription = Subscription::new(alloc, terms, size, g.now)?;
+                Ok(Reply::Handle(self.add(AnyObject::Subscription(subscription))))
+            }
         }
-        let subscription = Subscription::new(alloc, terms, zero_size(setup, terms.dataset), g.now)?;
-        Ok(Reply::Handle(self.add(AnyObject::Subscription(subscription))))
     }
 
     /// Gives the publisher of that handle a new value.
@@ -320,23 +338,24 @@ fn is_span(span: u32) -> bool
     span == 0 || span >= SPAN_MIN
 }
 
-/// How many bytes the zero value of a dataset takes.
-fn zero_size(setup: &NodeSetup, dataset: u32) -> usize
-    ensures { result ≡ zero_size_of setup.now dataset }
+/// How many bytes the zero value of a dataset takes, or why no object can be of it.
+fn value_size(setup: &NodeSetup, dataset: u32) -> Result<usize, Refusal>
+    ensures refused { IfErr result (λ refusal. (later : Option Refusal) → dataset_refusal setup.now dataset later ≡ Some refusal) }
+    ensures accepted { IfOk result (λ size. (later : Option Refusal) → dataset_refusal setup.now dataset later ≡ later) }
+    ensures size { IfOk result (λ size. size ≡ zero_size_of setup.now dataset) }
+    ensures within { IfOk result (λ size. size ≤ 1432) }
 {
-    let _ = setup;
-    0
-}
-
-/// Why no object can be of the dataset.
-fn dataset_refusal(setup: &NodeSetup, dataset: u32) -> Option<Refusal>
-    ensures { (later : Option Refusal) → dataset_refusal setup.now dataset later ≡ (if is_some result then result else later) }
-{
-    if dataset != 0 {
-        Some(Refusal::NoDataset)
-    } else if zero_size(setup, dataset) > PD_PAYLOAD_MAX {
-        Some(Refusal::TooLong)
-    } else {
-        None
+    if dataset == 0 {
+        return Ok(0);
+    }
+    match setup.registry.zero_size(dataset) {
+        None => Err(Refusal::NoDataset),
+        Some(size) => {
+            if size > PD_PAYLOAD_MAX {
+                Err(Refusal::TooLong)
+            } else {
+                Ok(size)
+            }
+        }
     }
 }
