@@ -3,8 +3,10 @@
 
 mod moment;
 mod place;
+mod quotas;
 mod topo;
 
 pub use moment::{LAST, Moment};
 pub use place::{Ip, Place};
+pub use quotas::{QUOTA_LIMIT, Quotas};
 pub use topo::Topo;
