@@ -1,6 +1,5 @@
 -- Values of types whose every value takes the same number of bytes.
-use Rattle.std.proofs.Common.{◌≡◌, true, false, Bool, cond, inl, inr, ◌<◌, ◌≤◌, ◌+◌, ◌-◌, ◌*◌, ℕ, zero, suc, List, [], ◌∷◌, Option, Some, None, length, drop, nat_lt, refl, sym, ap, ◌∙◌, arith, le-ltb, lt-ltb, ltb-false}
-use Rattle.std.specs.Prelude.{option_map, if◌then◌else◌}
+use Rattle.std.proofs.Common.{◌≡◌, true, false, Bool, cond, inl, inr, ◌+◌, ◌*◌, ℕ, zero, suc, List, Option, Some, None, length, drop, nat_lt, refl, sym, ap, ◌∙◌, arith, le-ltb, lt-ltb}
 use Rattle.std.proofs.lemmas.Bool.{cases_lt}
 use Rattle.std.proofs.lemmas.List.{length-drop, drop-drop}
 use Rattle.std.proofs.lemmas.Option.{none-some, same_Some}
@@ -8,7 +7,7 @@ use Rattle.byteorder.specs.Endian.{big_number}
 use Rattle.trdp_dataset.specs.declared.element.Form.{Form}
 use Rattle.trdp_dataset.specs.declared.element.Form.TheVariants.{Unsigned, Signed, Time48, Time64, Nested}
 use Rattle.trdp_dataset.specs.Elements.{width_len}
-use Rattle.trdp_marshal.specs.Items.{ItemModel, ItemModels, unsigned, signed, time48, time64, none, more}
+use Rattle.trdp_marshal.specs.Items.{ItemModel, unsigned, signed, time48, time64, more}
 use Rattle.trdp_marshal.specs.Numbers.{signed_number}
 use Rattle.trdp_marshal.specs.Spelling.{◌>>=◌}
 use Rattle.trdp_marshal.specs.Reading.{Reader, Reader, number_at, unsigned_at, signed_at, time48_at, time64_at, form_at, repeated_at, skipped}

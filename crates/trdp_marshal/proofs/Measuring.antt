@@ -9,7 +9,7 @@ use Rattle.trdp_dataset.specs.declared.element.Element.{Element}
 use Rattle.trdp_dataset.specs.Elements.{form_of}
 use Rattle.trdp_dataset.specs.Datasets.{DatasetModel, elements_of}
 use Rattle.trdp_marshal.specs.Items.{ItemModel, ItemModels, unsigned, signed, time48, time64, list, none, model_of, models_in, models_under, count_of, items_in}
-use Rattle.trdp_marshal.specs.Spelling.{Speller, Speller, ◌>>=◌, joined, form_spelling, repeated_spelling, list_spelling, entry_spelling, entries_spelling, elements_spelling, dataset_spelling}
+use Rattle.trdp_marshal.specs.Spelling.{Speller, ◌>>=◌, joined, form_spelling, repeated_spelling, list_spelling, entry_spelling, entries_spelling, elements_spelling, dataset_spelling}
 use Rattle.trdp_marshal.specs.Lengths.{measured}
 
 -- a length before others

@@ -9,7 +9,7 @@ use Rattle.trdp_marshal.specs.declared.fault.MarshalFault.TheVariants.{NoDataset
 use Rattle.trdp_marshal.specs.declared.item.Item.{Item}
 use Rattle.trdp_dataset.specs.Datasets.{DatasetModel, is_known}
 use Rattle.trdp_marshal.specs.Items.{ItemModel, none, model_of, models_in}
-use Rattle.trdp_marshal.specs.Spelling.{Speller, Speller, joined, repeated_spelling, dataset_spelling, spelling}
+use Rattle.trdp_marshal.specs.Spelling.{Speller, joined, repeated_spelling, dataset_spelling, spelling}
 use Rattle.trdp_marshal.specs.Lengths.{measured, Appends, Continues}
 use Rattle.trdp_marshal.specs.Faults.{Answers, length_fault, encode_fault}
 use Rattle.trdp_marshal.proofs.Codecs.{joined_some}

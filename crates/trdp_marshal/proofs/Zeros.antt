@@ -1,6 +1,6 @@
 -- The zero value is spelled by zero bytes.
 use Rattle.std.proofs.Common.{◌≡◌, eqb-true, one-mul, Bool, true, false, ◌+◌, ◌*◌, ◌==◌, ℕ, zero, suc, pos, cond, List, [], ◌∷◌, Option, Some, None, refl, sym, ap, ◌∙◌, arith}
-use Rattle.std.specs.Prelude.{replicate, is_some, unwrap_or, IsTrue, ◌&&◌}
+use Rattle.std.specs.Prelude.{replicate, unwrap_or, IsTrue}
 use Rattle.std.proofs.lemmas.List.{replicate-append-replicate}
 use Rattle.trdp_dataset.specs.declared.element.Width.{Width}
 use Rattle.trdp_dataset.specs.declared.element.Width.TheVariants.{One, Two, Four, Eight}
@@ -11,11 +11,11 @@ use Rattle.trdp_dataset.specs.Elements.{width_len, form_of}
 use Rattle.trdp_dataset.specs.Datasets.{DatasetModel, elements_of, is_known, passes, all_pass}
 use Rattle.trdp_dataset.specs.Registries.{IsRegistry}
 use Rattle.trdp_marshal.specs.Items.{ItemModel, unsigned, signed, time48, time64, list, count_of, items_in}
-use Rattle.trdp_marshal.specs.Spelling.{Speller, Speller, joined, number_spelling, unsigned_spelling, signed_spelling, time48_spelling, time64_spelling, form_spelling, repeated_spelling, list_spelling, entry_spelling, entries_spelling, elements_spelling, dataset_spelling, spelling}
+use Rattle.trdp_marshal.specs.Spelling.{Speller, joined, number_spelling, unsigned_spelling, signed_spelling, time48_spelling, time64_spelling, form_spelling, repeated_spelling, list_spelling, entry_spelling, entries_spelling, elements_spelling, dataset_spelling, spelling}
 use Rattle.trdp_marshal.specs.Zero.{form_zero, copies, entry_zero, entries_zero, dataset_zero, zero_of}
 use Rattle.trdp_marshal.specs.Spells.{Spells}
 use Rattle.trdp_dataset.specs.ZeroSizes.{form_size, entries_size, dataset_size, zero_size}
-use Rattle.trdp_dataset.specs.Depths.{is_within}
+use Rattle.trdp_dataset.specs.Depths.{is_within, elements_pass}
 use Rattle.trdp_marshal.proofs.Spellings.{spells}
 use Rattle.std.proofs.lemmas.Bool.{false≢true, and_parts}
 
@@ -106,8 +106,8 @@ dataset_count registry zero id = refl
 dataset_count registry (suc depth) id = refl
 
 form_zeros : (registry : List DatasetModel) (depth : ℕ)
-    → ((id : ℕ) → (is_known registry id && is_within registry depth id) ≡ true → IsZeros (dataset_spelling registry depth id) (dataset_zero registry depth id) (dataset_size registry depth id))
-    → (f : Form) → passes (λ id. is_known registry id && is_within registry depth id) f ≡ true → IsZeros (form_spelling (dataset_spelling registry depth) f) (form_zero (dataset_zero registry depth) f) (form_size (dataset_size registry depth) f)
+    → ((id : ℕ) → is_within registry depth id ≡ true → IsZeros (dataset_spelling registry depth id) (dataset_zero registry depth id) (dataset_size registry depth id))
+    → (f : Form) → passes (is_within registry depth) f ≡ true → IsZeros (form_spelling (dataset_spelling registry depth) f) (form_zero (dataset_zero registry depth) f) (form_size (dataset_size registry depth) f)
 unfolding form_spelling form_zero form_size
 form_zeros registry depth deeper (Unsigned w) pass = unsigned_zeros w
 form_zeros registry depth deeper (Signed w) pass = signed_zeros w
@@ -115,40 +115,22 @@ form_zeros registry depth deeper Time48 pass = time48_zeros
 form_zeros registry depth deeper Time64 pass = time64_zeros
 form_zeros registry depth deeper (Nested id) pass = deeper id pass
 
--- two tests that pass make one
-form_pass : (first second : ℕ → Bool) (f : Form) → passes first f ≡ true → passes second f ≡ true → passes (λ id. first id && second id) f ≡ true
-form_pass first second (Unsigned w) one two = refl
-form_pass first second (Signed w) one two = refl
-form_pass first second Time48 one two = refl
-form_pass first second Time64 one two = refl
-form_pass first second (Nested id) one two = rw (one, two) refl
+-- the zero value of a dataset whose elements are found
+found_zeros : (spell : Form → Speller ItemModel) (value : Form → ItemModel) (size : Form → ℕ) (test : ℕ → Bool) → ((f : Form) → count_of (value f) ≡ 0)
+    → ((f : Form) → passes test f ≡ true → IsZeros (spell f) (value f) (size f)) → (found : Option (List Element)) → elements_pass test found ≡ true
+    → elements_spelling spell found (list (entries_zero value (unwrap_or found []))) ≡ Some (replicate (entries_size size (unwrap_or found [])) 0)
+unfolding elements_spelling
+found_zeros spell value size test empty each None pass = absurd (false≢true pass)
+found_zeros spell value size test empty each (Some es) pass = entries_zeros spell value size test empty each es pass
 
-both_pass : (first second : ℕ → Bool) (es : List Element) → all_pass first es ≡ true → all_pass second es ≡ true → all_pass (λ id. first id && second id) es ≡ true
-both_pass first second [] one two = refl
-both_pass first second (e ∷ es) one two =
-    let a = and_parts _ _ one in
-    let b = and_parts _ _ two in
-    rw (form_pass first second (form_of e.kind) a.0 b.0, both_pass first second es a.1 b.1) refl
-
-some_of : {A : Type 0} (found : Option A) → is_some found ≡ true → (x : A) × (found ≡ Some x)
-some_of None some = absurd (false≢true some)
-some_of (Some x) some = (x, refl)
-
-dataset_zeros : (registry : List DatasetModel) → IsRegistry registry → (depth id : ℕ) → (is_known registry id && is_within registry depth id) ≡ true
+dataset_zeros : (registry : List DatasetModel) (depth id : ℕ) → is_within registry depth id ≡ true
     → IsZeros (dataset_spelling registry depth id) (dataset_zero registry depth id) (dataset_size registry depth id)
-unfolding dataset_spelling dataset_zero dataset_size elements_spelling is_within
-dataset_zeros registry sound zero id pass = absurd (false≢true (and_parts _ _ pass).1)
-dataset_zeros registry sound (suc depth) id pass =
-    let both = and_parts _ _ pass in
-    let es = some_of (elements_of registry id) both.0 in
-    let within : all_pass (is_within registry depth) es.0 ≡ true = ap (λ (found : Option (List Element)). all_pass (is_within registry depth) (unwrap_or found [])) (sym es.1) ∙ both.1 in
-    let each = form_zeros registry depth (dataset_zeros registry sound depth) in
-    let all = entries_zeros (form_spelling (dataset_spelling registry depth)) (form_zero (dataset_zero registry depth)) (form_size (dataset_size registry depth)) (λ nested. is_known registry nested && is_within registry depth nested) (form_count (dataset_zero registry depth) (dataset_count registry depth)) each es.0
-    (both_pass (is_known registry) (is_within registry depth) es.0 (sound.known id es.0 es.1) within) in
-    rw es.1 all
+unfolding dataset_spelling dataset_zero dataset_size is_within
+dataset_zeros registry zero id pass = absurd (false≢true pass)
+dataset_zeros registry (suc depth) id pass =
+    found_zeros (form_spelling (dataset_spelling registry depth)) (form_zero (dataset_zero registry depth)) (form_size (dataset_size registry depth)) (is_within registry depth) (form_count (dataset_zero registry depth) (dataset_count registry depth))
+    (form_zeros registry depth (dataset_zeros registry depth)) (elements_of registry id) pass
 
 pub zero_spelled : (registry : List DatasetModel) (id : ℕ) → IsRegistry registry → IsTrue (is_known registry id) → Spells registry id (zero_of registry id) (replicate (zero_size registry id) 0)
 unfolding spelling zero_of zero_size
-zero_spelled registry id sound known =
-    let deep = sound.deep id known in
-    spells registry id _ _ (dataset_zeros registry sound 5 id (rw (known, deep) refl))
+zero_spelled registry id sound known = spells registry id _ _ (dataset_zeros registry 5 id (sound.deep id known))

@@ -21,7 +21,8 @@ impl Item {
     ghost use Rattle.std.specs.Prelude.{◌≡◌, option_map, IfOk};
     ghost use Rattle.trdp_marshal.specs.Items.{model_of, models_in, count_of, list, models_under};
 
-    /// An equal item in memory of its own. The one error is want of memory.
+    /// An equal item in memory of its own. The one error is want of memory. It calls itself as deep as the item
+    /// nests: that of a dataset nests no deeper than its registry lets it.
     pub fn try_clone(&self, alloc: Global) -> Result<Item, AllocError>
         ensures equal { IfOk result (λ copy. model_of copy ≡ model_of self.now) }
     {
