@@ -12,3 +12,6 @@ pub use counts::{topo_valid, valid};
 pub use globals::{Globals, Groups};
 pub use pd_filter::PdFilter;
 pub use telegram::Telegram;
+
+#[cfg(test)]
+mod tests;

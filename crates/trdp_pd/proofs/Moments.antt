@@ -41,9 +41,9 @@ deadline_from-later supervision now = either supervision now (supervision == 0) 
 subscription_due-taking : (s : SubscriptionState) (telegram : TelegramModel) (g : Globals) (fits : Bool) → is_due_by g.now s.deadline ≡ false → is_due_by g.now (subscription_taking s telegram g fits).object.deadline ≡ false
 subscription_due-taking s (PdIs src dst telegram) g fits not = either s src dst telegram g fits (is_accepted s src dst telegram.head g fits) refl not
   where
-  either : (s : SubscriptionState) (src dst : Place) (telegram : PdTelegram) (g : Globals) (fits : Bool) (b : Bool) → is_accepted s src dst telegram.head g fits ≡ b → is_due_by g.now s.deadline ≡ false → is_due_by g.now (subscription_taking s (PdIs src dst telegram) g fits).object.deadline ≡ false
-  either s src dst telegram g fits true is not = rw is (deadline_from-later s.terms.supervision g.now)
-  either s src dst telegram g fits false is not = rw is not
+    either : (s : SubscriptionState) (src dst : Place) (telegram : PdTelegram) (g : Globals) (fits : Bool) (b : Bool) → is_accepted s src dst telegram.head g fits ≡ b → is_due_by g.now s.deadline ≡ false → is_due_by g.now (subscription_taking s (PdIs src dst telegram) g fits).object.deadline ≡ false
+    either s src dst telegram g fits true is not = rw is (deadline_from-later s.terms.supervision g.now)
+    either s src dst telegram g fits false is not = rw is not
 
 -- a telegram makes no object due
 pub due-taking : (object : AnyObject) (telegram : TelegramModel) (g : Globals) (fits : Bool) → is_due_by g.now (due_of object) ≡ false → is_due_by g.now (due_of (after_taking object telegram g fits)) ≡ false

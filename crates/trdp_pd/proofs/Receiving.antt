@@ -33,18 +33,18 @@ com_id-is_accepted s src dst head g fits is = com_id-is_for s src dst head g (gr
 pub terms-taking : (s : SubscriptionState) (telegram : TelegramModel) (g : Globals) (fits : Bool) → (subscription_taking s telegram g fits).object.terms ≡ s.terms
 terms-taking s (PdIs src dst telegram) g fits = either s src dst telegram g fits (is_accepted s src dst telegram.head g fits) refl
   where
-  either : (s : SubscriptionState) (src dst : Place) (telegram : PdTelegram) (g : Globals) (fits : Bool) (b : Bool) → is_accepted s src dst telegram.head g fits ≡ b → (subscription_taking s (PdIs src dst telegram) g fits).object.terms ≡ s.terms
-  either s src dst telegram g fits true is = rw is refl
-  either s src dst telegram g fits false is = rw is refl
+    either : (s : SubscriptionState) (src dst : Place) (telegram : PdTelegram) (g : Globals) (fits : Bool) (b : Bool) → is_accepted s src dst telegram.head g fits ≡ b → (subscription_taking s (PdIs src dst telegram) g fits).object.terms ≡ s.terms
+    either s src dst telegram g fits true is = rw is refl
+    either s src dst telegram g fits false is = rw is refl
 
 -- a telegram leaves the subscription as it was, or is taken
 pub HasTaken-taking : (s : SubscriptionState) (telegram : TelegramModel) (g : Globals) (fits : Bool) → ((subscription_taking s telegram g fits).object ≡ s) ⊎ HasTaken s telegram (subscription_taking s telegram g fits).object
 HasTaken-taking s (PdIs src dst telegram) g fits = either s src dst telegram g fits (is_accepted s src dst telegram.head g fits) refl
   where
-  either : (s : SubscriptionState) (src dst : Place) (telegram : PdTelegram) (g : Globals) (fits : Bool) (b : Bool) → is_accepted s src dst telegram.head g fits ≡ b → ((subscription_taking s (PdIs src dst telegram) g fits).object ≡ s) ⊎ HasTaken s (PdIs src dst telegram) (subscription_taking s (PdIs src dst telegram) g fits).object
-  either s src dst telegram g fits true is = inr (record {
-    com_id = com_id-is_accepted s src dst telegram.head g fits is;
-    state = rw is refl;
-    value = rw is refl;
-  })
-  either s src dst telegram g fits false is = inl (rw is refl)
+    either : (s : SubscriptionState) (src dst : Place) (telegram : PdTelegram) (g : Globals) (fits : Bool) (b : Bool) → is_accepted s src dst telegram.head g fits ≡ b → ((subscription_taking s (PdIs src dst telegram) g fits).object ≡ s) ⊎ HasTaken s (PdIs src dst telegram) (subscription_taking s (PdIs src dst telegram) g fits).object
+    either s src dst telegram g fits true is = inr (record {
+      com_id = com_id-is_accepted s src dst telegram.head g fits is;
+      state = rw is refl;
+      value = rw is refl;
+    })
+    either s src dst telegram g fits false is = inl (rw is refl)

@@ -1,5 +1,5 @@
 -- What a publisher sends.
-use Rattle.std.proofs.Common.{◌≡◌, ℕ, ◌+◌, ◌<◌, ◌⊎◌, inl, inr, Some, None, Bool, true, false, refl, arith, IsSome, List}
+use Rattle.std.proofs.Common.{◌≡◌, ℕ, ◌+◌, ◌<◌, ◌⊎◌, inl, inr, Some, None, Bool, true, false, refl, arith, IsSome, List, Option}
 use Rattle.std.specs.Prelude.{◌==◌, ◌&&◌, ◌||◌, nat_le, is_some, not}
 use Rattle.std.proofs.lemmas.Bool.Decides.{nat_tests}
 use Rattle.trdp_base.specs.declared.place.Place.{Place}
@@ -46,9 +46,9 @@ sent-may_send p g head is = either p g head (may_send p g) refl is
 is_some-may_send : (p : PublisherState) (g : Globals) → may_send p g ≡ true → IsSome p.value
 is_some-may_send p g may = either p.value (p.publication.group == 0 || leads g.led p.publication.group) (topo_valid p.publication.topo g.topo) may
   where
-  either : (value : Option (List ℕ)) (group topo : Bool) → (is_some value && group && topo) ≡ true → IsSome value
-  either (Some bytes) group topo may = tt
-  either None group topo may = absurd (cc)
+    either : (value : Option (List ℕ)) (group topo : Bool) → (is_some value && group && topo) ≡ true → IsSome value
+    either (Some bytes) group topo may = refl
+    either None group topo may = absurd (cc)
 
 pub sent-value : (p : PublisherState) (g : Globals) (head : PdHead) → (publisher_firing p g).fired ≡ Data head → IsSome p.value
 sent-value p g head is = is_some-may_send p g (sent-may_send p g head is)

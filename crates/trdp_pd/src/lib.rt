@@ -24,3 +24,6 @@ pub use publication::Publication;
 pub use publisher::Publisher;
 pub use subscription::Subscription;
 pub use terms::{Behaviour, Peek, SubscriptionTerms, ValueState};
+
+#[cfg(test)]
+mod tests;
