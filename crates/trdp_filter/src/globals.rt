@@ -47,6 +47,7 @@ impl Groups {
         ensures role { leads self.new group ≡ leader }
         ensures others { (other : ℕ) → other ≢ group → leads self.new other ≡ leads self.old other }
     {
-        self.led[usize::from(group)] = leader;
+        let index = usize::from(group);
+        self.led[index] = leader;
     }
 }
