@@ -6,13 +6,10 @@ mod hex;
 mod moment;
 mod number;
 mod place;
-<<<<<<< HEAD
 #[cfg(test)]
 mod tests;
 mod text;
-=======
 mod quotas;
->>>>>>> dataset
 mod topo;
 
 pub use address::{IP_LENGTH, PLACE_LENGTH, push_ip, push_place, read_ip, read_place};
@@ -20,9 +17,6 @@ pub use hex::{push_hex, read_hex};
 pub use moment::{LAST, Moment};
 pub use number::{NUMBER_LENGTH, push_number, read_number};
 pub use place::{Ip, Place};
-<<<<<<< HEAD
 pub use text::TextFault;
-=======
 pub use quotas::{QUOTA_LIMIT, Quotas};
->>>>>>> dataset
 pub use topo::Topo;
