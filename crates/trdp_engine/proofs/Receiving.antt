@@ -9,7 +9,7 @@ use Rattle.trdp_filter.specs.Telegrams.{TelegramModel}
 use Rattle.trdp_pd.specs.declared.any_object.AnyObject.{AnyObject}
 use Rattle.trdp_pd.specs.declared.any_object.AnyObject.TheVariants.{Publisher, Subscription}
 use Rattle.trdp_pd.specs.Objects.{kind_of, after_taking}
-use Rattle.trdp_engine.specs.declared.config.NodeSetup.{NodeSetup}
+use Rattle.trdp_dataset.specs.Configs.{ConfigModel}
 use Rattle.trdp_engine.specs.declared.object.Entry.{Entry}
 use Rattle.trdp_engine.specs.Records.{RecordModel, labelled}
 use Rattle.trdp_engine.specs.Slots.{SlotState, unchanged}
@@ -21,10 +21,10 @@ kind-taking : (object : AnyObject) (telegram : TelegramModel) (g : Globals) (fit
 kind-taking (Publisher p) telegram g fits = refl
 kind-taking (Subscription s) telegram g fits = refl
 
-pub label_kept : (setup : NodeSetup) (telegram : TelegramModel) (g : Globals) (entry : Entry) → KeepsLabel entry (entry_after_telegram setup telegram g entry)
+pub label_kept : (setup : ConfigModel) (telegram : TelegramModel) (g : Globals) (entry : Entry) → KeepsLabel entry (entry_after_telegram setup telegram g entry)
 label_kept setup telegram g entry = either setup telegram g entry (is_for_entry telegram g entry) refl
   where
-    either : (setup : NodeSetup) (telegram : TelegramModel) (g : Globals) (entry : Entry) (b : Bool) → is_for_entry telegram g entry ≡ b → KeepsLabel entry (entry_after_telegram setup telegram g entry)
+    either : (setup : ConfigModel) (telegram : TelegramModel) (g : Globals) (entry : Entry) (b : Bool) → is_for_entry telegram g entry ≡ b → KeepsLabel entry (entry_after_telegram setup telegram g entry)
     either setup telegram g entry true is = rw is (record { handle = refl; kind = kind-taking entry.object telegram g (fits_object setup telegram entry.object) })
     either setup telegram g entry false is = rw is (record { handle = refl; kind = refl })
 
@@ -32,12 +32,12 @@ count-cons : (telegram : TelegramModel) (g : Globals) (x : Entry) (xs : List Ent
 count-cons telegram g x xs = ap length (filter-append (is_for_entry telegram g) (x ∷ []) xs) ∙ length-append _ _
 
 -- one turn of the loop
-pub record Takes (setup : NodeSetup) (telegram : TelegramModel) (g : Globals) (s : ℕ) (all now : List Entry) (i : ℕ) (x : Entry) (records records_then : List RecordModel) : Type 0 where
+pub record Takes (setup : ConfigModel) (telegram : TelegramModel) (g : Globals) (s : ℕ) (all now : List Entry) (i : ℕ) (x : Entry) (records records_then : List RecordModel) : Type 0 where
   pub items : slice_set now i (entry_after_telegram setup telegram g x) ≡ map (entry_after_telegram setup telegram g) (take (i + 1) all) ++ drop (i + 1) all
   pub told : records_then ++ labelled s (flat_map (records_taking setup telegram g) (drop (i + 1) all)) ≡ records ++ labelled s (flat_map (records_taking setup telegram g) (drop i all))
   pub count : length (filter (is_for_entry telegram g) (drop i all)) ≡ length (filter (is_for_entry telegram g) (x ∷ [])) + length (filter (is_for_entry telegram g) (drop (i + 1) all))
 
-pub turn : (setup : NodeSetup) (telegram : TelegramModel) (g : Globals) (s : ℕ) (all items : List Entry) (i : ℕ) (x : Entry) (records records_then : List RecordModel) → items ≡ map (entry_after_telegram setup telegram g) (take i all) ++ drop i all → i < length items → x ≡ get_or items i x → records_then ≡ records ++ labelled s (records_taking setup telegram g x) → Takes setup telegram g s all items i x records records_then
+pub turn : (setup : ConfigModel) (telegram : TelegramModel) (g : Globals) (s : ℕ) (all items : List Entry) (i : ℕ) (x : Entry) (records records_then : List RecordModel) → items ≡ map (entry_after_telegram setup telegram g) (take i all) ++ drop i all → i < length items → x ≡ get_or items i x → records_then ≡ records ++ labelled s (records_taking setup telegram g x) → Takes setup telegram g s all items i x records records_then
 turn setup telegram g s all items i x records records_then are lt is told =
     let f : Entry → Entry = entry_after_telegram setup telegram g in
     let lt' : i < length (map f (take i all) ++ drop i all) = rw are at lt in
@@ -58,7 +58,7 @@ or_right true b is = absurd (cc)
 or_right false b is = is
 
 -- a telegram that is for no object leaves them all
-pub unconcerned_objects : (setup : NodeSetup) (telegram : TelegramModel) (g : Globals) (objects : List Entry) → list_any (is_for_entry telegram g) objects ≡ false → map (entry_after_telegram setup telegram g) objects ≡ objects
+pub unconcerned_objects : (setup : ConfigModel) (telegram : TelegramModel) (g : Globals) (objects : List Entry) → list_any (is_for_entry telegram g) objects ≡ false → map (entry_after_telegram setup telegram g) objects ≡ objects
 unconcerned_objects setup telegram g [] none = refl
 unconcerned_objects setup telegram g (e ∷ objects) none =
     let head : is_for_entry telegram g e ≡ false = or_left (is_for_entry telegram g e) (list_any (is_for_entry telegram g) objects) none in
@@ -66,7 +66,7 @@ unconcerned_objects setup telegram g (e ∷ objects) none =
     rw (head, unconcerned_objects setup telegram g objects rest) refl
 
 -- and gives no record
-pub unconcerned_records : (setup : NodeSetup) (telegram : TelegramModel) (g : Globals) (objects : List Entry) → list_any (is_for_entry telegram g) objects ≡ false → flat_map (records_taking setup telegram g) objects ≡ []
+pub unconcerned_records : (setup : ConfigModel) (telegram : TelegramModel) (g : Globals) (objects : List Entry) → list_any (is_for_entry telegram g) objects ≡ false → flat_map (records_taking setup telegram g) objects ≡ []
 unconcerned_records setup telegram g [] none = refl
 unconcerned_records setup telegram g (e ∷ objects) none =
     let head : is_for_entry telegram g e ≡ false = or_left (is_for_entry telegram g e) (list_any (is_for_entry telegram g) objects) none in
@@ -83,11 +83,11 @@ counted_concerns telegram g (e ∷ objects) some = either telegram g e objects (
     either telegram g e objects false is some rest = let h = rw is at some in rw is (rest h)
 
 -- a datagram that doesn't concern a slot changes nothing
-pub unconcerned : (setup : NodeSetup) (slot : SlotState) (g : Globals) (telegram : Option TelegramModel) → concerns g telegram slot ≡ false → received_if setup slot g telegram ≡ unchanged slot
+pub unconcerned : (setup : ConfigModel) (slot : SlotState) (g : Globals) (telegram : Option TelegramModel) → concerns g telegram slot ≡ false → received_if setup slot g telegram ≡ unchanged slot
 unconcerned setup slot g None none = refl
 unconcerned setup slot g (Some telegram) none = either setup slot g telegram (is_valid_at g telegram) refl none
   where
-    either : (setup : NodeSetup) (slot : SlotState) (g : Globals) (telegram : TelegramModel) (b : Bool) → is_valid_at g telegram ≡ b → concerns g (Some telegram) slot ≡ false → received_if setup slot g (Some telegram) ≡ unchanged slot
+    either : (setup : ConfigModel) (slot : SlotState) (g : Globals) (telegram : TelegramModel) (b : Bool) → is_valid_at g telegram ≡ b → concerns g (Some telegram) slot ≡ false → received_if setup slot g (Some telegram) ≡ unchanged slot
     either setup slot g telegram true is none =
         let nobody : list_any (is_for_entry telegram g) slot.objects ≡ false = rw is at none in
         rw (is, unconcerned_objects setup telegram g slot.objects nobody, unconcerned_records setup telegram g slot.objects nobody) refl

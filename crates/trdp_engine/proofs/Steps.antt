@@ -5,7 +5,7 @@ use Rattle.std.proofs.lemmas.Bool.Decides.{nat_tests}
 use Rattle.std.proofs.lemmas.List.{map-append, append-nil}
 use Rattle.std.proofs.lemmas.List.Elements.{filter-append}
 use Rattle.trdp_base.specs.declared.moment.TheConstants.{LAST}
-use Rattle.trdp_engine.specs.declared.config.NodeSetup.{NodeSetup}
+use Rattle.trdp_dataset.specs.Configs.{ConfigModel}
 use Rattle.trdp_filter.specs.declared.globals.Globals.{Globals}
 use Rattle.trdp_engine.specs.Records.{Content, RecordModel, labelled, records_of}
 use Rattle.trdp_base.specs.declared.place.Place.{Place}
@@ -83,10 +83,10 @@ pub other_is_refused : (s : ℕ) (g : Globals) (call : CallModel) → (s == 0) �
 other_is_refused s g call other = let past : nat_le 1 s ≡ true = grind (arith, nat_tests) in rw past refl
 
 -- what slot 0 does at a datagram: one that doesn't concern it changes nothing
-pub datagram_effect : (setup : NodeSetup) (slot : SlotState) (g : Globals) (protocol : Protocol) (src dst : Place) (bytes : List ℕ) → (slot_after setup 0 slot g (DatagramIs protocol src dst bytes) ≡ (received_if setup slot g (telegram_of protocol src dst bytes)).slot) × (records_after setup 0 slot g (DatagramIs protocol src dst bytes) ≡ (received_if setup slot g (telegram_of protocol src dst bytes)).records)
+pub datagram_effect : (setup : ConfigModel) (slot : SlotState) (g : Globals) (protocol : Protocol) (src dst : Place) (bytes : List ℕ) → (slot_after setup 0 slot g (DatagramIs protocol src dst bytes) ≡ (received_if setup slot g (telegram_of protocol src dst bytes)).slot) × (records_after setup 0 slot g (DatagramIs protocol src dst bytes) ≡ (received_if setup slot g (telegram_of protocol src dst bytes)).records)
 datagram_effect setup slot g protocol src dst bytes = either setup slot g protocol src dst bytes (concerns g (telegram_of protocol src dst bytes) slot) refl
   where
-    either : (setup : NodeSetup) (slot : SlotState) (g : Globals) (protocol : Protocol) (src dst : Place) (bytes : List ℕ) (b : Bool) → concerns g (telegram_of protocol src dst bytes) slot ≡ b → (slot_after setup 0 slot g (DatagramIs protocol src dst bytes) ≡ (received_if setup slot g (telegram_of protocol src dst bytes)).slot) × (records_after setup 0 slot g (DatagramIs protocol src dst bytes) ≡ (received_if setup slot g (telegram_of protocol src dst bytes)).records)
+    either : (setup : ConfigModel) (slot : SlotState) (g : Globals) (protocol : Protocol) (src dst : Place) (bytes : List ℕ) (b : Bool) → concerns g (telegram_of protocol src dst bytes) slot ≡ b → (slot_after setup 0 slot g (DatagramIs protocol src dst bytes) ≡ (received_if setup slot g (telegram_of protocol src dst bytes)).slot) × (records_after setup 0 slot g (DatagramIs protocol src dst bytes) ≡ (received_if setup slot g (telegram_of protocol src dst bytes)).records)
     either setup slot g protocol src dst bytes true is = (rw is refl, rw is refl)
     either setup slot g protocol src dst bytes false is =
         let same = unconcerned setup slot g (telegram_of protocol src dst bytes) is in
@@ -96,5 +96,5 @@ seen_moment : (now t last : ℕ) → now ≤ t → t ≤ last → (nat_le now t 
 seen_moment now t last le within = grind (arith, nat_tests)
 
 -- what slot 0 does at an admitted moment
-pub moment_effect : (setup : NodeSetup) (slot : SlotState) (g : Globals) (t : ℕ) → g.now ≤ t → t ≤ LAST → (slot_after setup 0 slot g (MomentIs t) ≡ (moved_to slot (record g { now = t })).slot) × (records_after setup 0 slot g (MomentIs t) ≡ (moved_to slot (record g { now = t })).records)
+pub moment_effect : (setup : ConfigModel) (slot : SlotState) (g : Globals) (t : ℕ) → g.now ≤ t → t ≤ LAST → (slot_after setup 0 slot g (MomentIs t) ≡ (moved_to slot (record g { now = t })).slot) × (records_after setup 0 slot g (MomentIs t) ≡ (moved_to slot (record g { now = t })).records)
 moment_effect setup slot g t le within = let seen = seen_moment g.now t LAST le within in (rw seen refl, rw seen refl)

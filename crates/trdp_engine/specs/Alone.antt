@@ -4,7 +4,7 @@ use Rattle.trdp_base.specs.declared.moment.TheConstants.{LAST}
 use Rattle.trdp_filter.specs.declared.globals.Globals.{Globals}
 use Rattle.trdp_engine.specs.declared.fault.NodeFault.{NodeFault}
 use Rattle.trdp_engine.specs.declared.fault.NodeFault.TheVariants.{NoSlot, Past, TooLate, OutOfMemory}
-use Rattle.trdp_engine.specs.declared.config.NodeSetup.{NodeSetup}
+use Rattle.trdp_dataset.specs.Configs.{ConfigModel}
 use Rattle.trdp_engine.specs.Records.{Content}
 use Rattle.trdp_engine.specs.Events.{EventModel, MomentIs, TopologyIs, DatagramIs, CallIs}
 use Rattle.trdp_engine.specs.Slots.{SlotState, Outcome, unchanged}
@@ -41,7 +41,7 @@ is_in_view s slot g (DatagramIs protocol src dst bytes) = concerns g (telegram_o
 is_in_view s slot g (CallIs r call) = r == s
 
 -- effect of an event on a slot that sees it
-abbrev pub event_effect : NodeSetup → SlotState → Globals → EventModel → Outcome
+abbrev pub event_effect : ConfigModel → SlotState → Globals → EventModel → Outcome
 event_effect setup slot g (MomentIs t) = moved_to slot (record g { now = t })
 event_effect setup slot g (TopologyIs topo) = unchanged slot
 event_effect setup slot g (DatagramIs protocol src dst bytes) = received_if setup slot g (telegram_of protocol src dst bytes)
@@ -58,14 +58,14 @@ abbrev pub prepend : List Content → Run → Run
 prepend records run = record run { records = records ++ run.records }
 
 -- a slot run by itself over a list of events
-abbrev pub alone : NodeSetup → SlotState → Globals → List EventModel → Run
+abbrev pub alone : ConfigModel → SlotState → Globals → List EventModel → Run
 alone setup slot g [] = record { slot = slot; globals = g; records = [] }
 alone setup slot g (event ∷ events) =
     prepend (event_effect setup slot g event).records
     (alone setup (event_effect setup slot g event).slot (globals_after g event) events)
 
 -- the events that slot s sees
-abbrev pub view : NodeSetup → ℕ → SlotState → Globals → List EventModel → List EventModel
+abbrev pub view : ConfigModel → ℕ → SlotState → Globals → List EventModel → List EventModel
 view setup s slot g [] = []
 view setup s slot g (event ∷ events) =
     if is_in_view s slot g event
@@ -73,19 +73,19 @@ view setup s slot g (event ∷ events) =
     else view setup s slot g events
 
 -- slot s run by itself over the events that it sees
-abbrev pub alone_in_view : NodeSetup → ℕ → SlotState → Globals → List EventModel → Run
+abbrev pub alone_in_view : ConfigModel → ℕ → SlotState → Globals → List EventModel → Run
 alone_in_view setup s slot g events = alone setup slot g (view setup s slot g events)
 
 -- slot s after any one event of the node
-abbrev pub slot_after : NodeSetup → ℕ → SlotState → Globals → EventModel → SlotState
+abbrev pub slot_after : ConfigModel → ℕ → SlotState → Globals → EventModel → SlotState
 slot_after setup s slot g event = if is_in_view s slot g event then (event_effect setup slot g event).slot else slot
 
 -- the records that slot s gets at any one event of the node
-abbrev pub records_after : NodeSetup → ℕ → SlotState → Globals → EventModel → List Content
+abbrev pub records_after : ConfigModel → ℕ → SlotState → Globals → EventModel → List Content
 records_after setup s slot g event = if is_in_view s slot g event then (event_effect setup slot g event).records else []
 
 -- effect of any event on slot s, whether the slot sees it or not: the calls of other slots are none of its own
-abbrev pub plain_effect : NodeSetup → ℕ → SlotState → Globals → EventModel → Outcome
+abbrev pub plain_effect : ConfigModel → ℕ → SlotState → Globals → EventModel → Outcome
 plain_effect setup s slot g (MomentIs t) = moved_to slot (record g { now = t })
 plain_effect setup s slot g (TopologyIs topo) = unchanged slot
 plain_effect setup s slot g (DatagramIs protocol src dst bytes) = received_if setup slot g (telegram_of protocol src dst bytes)

@@ -9,7 +9,7 @@ use Rattle.trdp_pd.specs.Publishers.{PublisherState, published}
 use Rattle.trdp_pd.specs.Subscriptions.{subscribed}
 use Rattle.trdp_pd.specs.Peeks.{shown}
 use Rattle.trdp_pd.specs.Objects.{kind_of}
-use Rattle.trdp_engine.specs.declared.config.NodeSetup.{NodeSetup}
+use Rattle.trdp_dataset.specs.Configs.{ConfigModel}
 use Rattle.trdp_engine.specs.declared.object.Entry.{Entry}
 use Rattle.trdp_engine.specs.declared.fault.Refusal.{Refusal}
 use Rattle.trdp_engine.specs.declared.fault.Refusal.TheVariants.{NoHandle, WrongKind, Cycle, Timeout, Range, NoDataset, TooLong, Shape, Quota, Exhausted}
@@ -42,36 +42,36 @@ opened_unless (Some refusal) slot object = refused slot refusal
 opened_unless None slot object = answered (with_object slot object) (HandleIs slot.next)
 
 -- no such dataset, or one whose zero value, its shortest, is longer than process data carries
-abbrev pub dataset_refusal : NodeSetup → ℕ → Option Refusal → Option Refusal
+abbrev pub dataset_refusal : ConfigModel → ℕ → Option Refusal → Option Refusal
 dataset_refusal setup dataset later =
     if not (is_dataset setup dataset) then Some NoDataset else
     if nat_lt 1432 (zero_size_of setup dataset) then Some TooLong else later
 
 -- first refusal of a publishing: the cycle, the dataset, the quota, the handles
-abbrev pub publish_refusal : NodeSetup → SlotState → Publication → Option Refusal
+abbrev pub publish_refusal : ConfigModel → SlotState → Publication → Option Refusal
 publish_refusal setup slot publication =
     if not (is_span publication.cycle) then Some Cycle else dataset_refusal setup publication.dataset (opening_refusal slot 0)
 
 -- first refusal of a subscription: the supervision time, the source range, the dataset, the quota, the handles
-abbrev pub subscribe_refusal : NodeSetup → SlotState → SubscriptionTerms → Option Refusal
+abbrev pub subscribe_refusal : ConfigModel → SlotState → SubscriptionTerms → Option Refusal
 subscribe_refusal setup slot terms =
     if not (is_span terms.supervision) then Some Timeout else
     if nat_lt terms.filter.high.0 terms.filter.low.0 then Some Range else
     dataset_refusal setup terms.dataset (opening_refusal slot 1)
 
 -- why a publisher takes no such value: more than 1432 bytes, or no value of its dataset
-abbrev pub value_refusal : NodeSetup → ℕ → List ℕ → Option Refusal
+abbrev pub value_refusal : ConfigModel → ℕ → List ℕ → Option Refusal
 value_refusal setup dataset bytes =
     if nat_lt 1432 (length bytes) then Some TooLong else
     if not (is_fitting setup dataset bytes) then Some Shape else None
 
 -- why an object takes no such value: it is no publisher, or the value's own refusal
-abbrev pub object_refusal : NodeSetup → List ℕ → AnyObject → Option Refusal
+abbrev pub object_refusal : ConfigModel → List ℕ → AnyObject → Option Refusal
 object_refusal setup bytes (Publisher p) = value_refusal setup p.publication.dataset bytes
 object_refusal setup bytes (Subscription s) = Some WrongKind
 
 -- first refusal of a value for the object of a handle
-abbrev pub put_refusal : NodeSetup → List ℕ → Option Entry → Option Refusal
+abbrev pub put_refusal : ConfigModel → List ℕ → Option Entry → Option Refusal
 put_refusal setup bytes None = Some NoHandle
 put_refusal setup bytes (Some entry) = object_refusal setup bytes entry.object
 
@@ -106,7 +106,7 @@ get_answer None = RefusedIs NoHandle
 get_answer (Some entry) = shown_of entry.object
 
 -- effect of a call on the slot that makes it
-abbrev pub called : NodeSetup → SlotState → Globals → CallModel → Outcome
+abbrev pub called : ConfigModel → SlotState → Globals → CallModel → Outcome
 called setup slot g (PublishCall publication) =
     opened_unless (publish_refusal setup slot publication) slot (Publisher (published publication g.now))
 called setup slot g (PutCall handle bytes) = put_unless (put_refusal setup bytes (entry_of handle slot.objects)) slot handle bytes

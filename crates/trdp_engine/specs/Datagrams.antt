@@ -12,7 +12,7 @@ use Rattle.trdp_pd.specs.declared.any_object.AnyObject.TheVariants.{Publisher, S
 use Rattle.trdp_pd.specs.declared.object.Taken.{Taken}
 use Rattle.trdp_pd.specs.declared.object.Taken.TheVariants.{Nothing, Stored, Alive}
 use Rattle.trdp_pd.specs.Objects.{is_addressed, after_taking, taken}
-use Rattle.trdp_engine.specs.declared.config.NodeSetup.{NodeSetup}
+use Rattle.trdp_dataset.specs.Configs.{ConfigModel}
 use Rattle.trdp_engine.specs.declared.object.Entry.{Entry}
 use Rattle.trdp_engine.specs.declared.record.Protocol.{Protocol}
 use Rattle.trdp_engine.specs.declared.record.Protocol.TheVariants.{Pd, Md}
@@ -40,7 +40,7 @@ dataset_of (Publisher p) = p.publication.dataset
 dataset_of (Subscription s) = s.terms.dataset
 
 -- the payload is a value of the object's dataset
-abbrev pub fits_object : NodeSetup → TelegramModel → AnyObject → Bool
+abbrev pub fits_object : ConfigModel → TelegramModel → AnyObject → Bool
 fits_object setup telegram object = is_fitting setup (dataset_of object) (payload_of telegram)
 
 -- the telegram is for the object of the entry
@@ -54,21 +54,21 @@ taken_records handle Stored = []
 taken_records handle Alive = Indicates (AliveAgain handle) ∷ []
 
 -- an object after a telegram: it took it if it was for it
-abbrev pub entry_after_telegram : NodeSetup → TelegramModel → Globals → Entry → Entry
+abbrev pub entry_after_telegram : ConfigModel → TelegramModel → Globals → Entry → Entry
 entry_after_telegram setup telegram g entry =
     if is_for_entry telegram g entry
     then record { handle = entry.handle; object = after_taking entry.object telegram g (fits_object setup telegram entry.object) }
     else entry
 
 -- the records of an object at a telegram
-abbrev pub records_taking : NodeSetup → TelegramModel → Globals → Entry → List Content
+abbrev pub records_taking : ConfigModel → TelegramModel → Globals → Entry → List Content
 records_taking setup telegram g entry =
     if is_for_entry telegram g entry
     then taken_records entry.handle (taken entry.object telegram g (fits_object setup telegram entry.object))
     else []
 
 -- effect of a telegram on a slot: the objects that it is for act in the order of their handles
-abbrev pub received : NodeSetup → SlotState → Globals → TelegramModel → Outcome
+abbrev pub received : ConfigModel → SlotState → Globals → TelegramModel → Outcome
 received setup slot g telegram = record {
   slot = record slot { objects = map (entry_after_telegram setup telegram g) slot.objects };
   records = flat_map (records_taking setup telegram g) slot.objects;
@@ -79,7 +79,7 @@ abbrev pub is_valid_at : Globals → TelegramModel → Bool
 is_valid_at g telegram = topo_valid (counts_of telegram) g.topo
 
 -- effect of a datagram on a slot: none where it is no telegram or its counts don't match the node's
-abbrev pub received_if : NodeSetup → SlotState → Globals → Option TelegramModel → Outcome
+abbrev pub received_if : ConfigModel → SlotState → Globals → Option TelegramModel → Outcome
 received_if setup slot g None = unchanged slot
 received_if setup slot g (Some telegram) = if is_valid_at g telegram then received setup slot g telegram else unchanged slot
 

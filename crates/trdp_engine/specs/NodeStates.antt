@@ -2,19 +2,19 @@
 use Rattle.std.specs.Prelude.{◌≡◌, ℕ, ◌<◌, ◌++◌, ◌∷◌, [], List, length, filter, slice_get, Some, None, true}
 use Rattle.std.specs.List.{sum_by, list_any}
 use Rattle.trdp_filter.specs.declared.globals.Globals.{Globals}
-use Rattle.trdp_engine.specs.declared.config.NodeSetup.{NodeSetup}
-use Rattle.trdp_engine.specs.Configs.{ConfigModel}
+use Rattle.trdp_dataset.specs.Configs.{ConfigModel}
 use Rattle.trdp_filter.specs.Globals.{first_globals}
 use Rattle.trdp_engine.specs.Records.{Content, RecordModel, records_of}
 use Rattle.trdp_engine.specs.Events.{EventModel, MomentIs, TopologyIs, DatagramIs, CallIs}
 use Rattle.trdp_engine.specs.Slots.{SlotState, opened_slot}
+use Rattle.trdp_engine.specs.Configs.{quotas_of}
 use Rattle.trdp_engine.specs.Datagrams.{telegram_of, concerns}
 use Rattle.trdp_engine.specs.Moments.{is_due}
 use Rattle.trdp_engine.specs.Alone.{slot_after, records_after, alone_in_view}
 
--- a node: what is fixed, its globals, and its slots
+-- a node: its configuration, its globals, and its slots
 pub record NodeState : Type 0 where
-  pub setup : NodeSetup
+  pub setup : ConfigModel
   pub globals : Globals
   pub slots : List SlotState
 
@@ -46,9 +46,9 @@ MayTakeMemory node (TopologyIs topo) = ⊥
 MayTakeMemory node (DatagramIs protocol src dst bytes) = list_any (concerns node.globals (telegram_of protocol src dst bytes)) node.slots ≡ true
 MayTakeMemory node (CallIs s call) = Unit {0}
 
--- a node that was just made: its slots are empty
+-- a node that was just made serves the first slot of its configuration, which is empty
 abbrev pub opened_node : ConfigModel → NodeState
-opened_node config = record { setup = config.setup; globals = first_globals; slots = opened_slot config.quotas ∷ [] }
+opened_node config = record { setup = config; globals = first_globals; slots = opened_slot (quotas_of (slice_get config.slots 0)) ∷ [] }
 
 -- slot s is the same in two nodes, and has got the same records since
 pub record GetsTheSame (first second : NodeState) (records records_then others others_then : List RecordModel) (s : ℕ) : Type 0 where

@@ -7,11 +7,11 @@ ghost use Rattle.trdp_filter.specs.Telegrams.{telegram_model, IsWithinLimit};
 ghost use Rattle.trdp_engine.specs.Records.{labelled};
 ghost use Rattle.trdp_engine.specs.Datagrams.{is_valid_at, fits_object, is_for_entry, entry_after_telegram, records_taking};
 
-use crate::config::NodeSetup;
 use crate::object::Entry;
 use crate::outbox::Outbox;
 use crate::record::Indication;
 use trdp_base::LAST;
+use trdp_dataset::NodeConfig;
 use trdp_filter::{Globals, Telegram, topo_valid};
 use trdp_marshal::fits;
 use trdp_pd::{AnyObject, Object, Taken};
@@ -26,7 +26,7 @@ pub fn is_valid_at(telegram: &Telegram<'_>, g: &Globals) -> bool
 }
 
 /// Whether the payload is a value of the object's dataset.
-fn fits_object(setup: &NodeSetup, telegram: &Telegram<'_>, object: &AnyObject) -> bool
+fn fits_object(setup: &NodeConfig, telegram: &Telegram<'_>, object: &AnyObject) -> bool
     ensures { result ≡ fits_object setup.now (telegram_model telegram.now) object.now }
 {
     let dataset = match object {
@@ -34,14 +34,14 @@ fn fits_object(setup: &NodeSetup, telegram: &Telegram<'_>, object: &AnyObject) -
         AnyObject::Subscription(subscription) => subscription.dataset(),
     };
     match telegram {
-        Telegram::Pd { view, .. } => fits(&setup.registry, dataset, view.payload),
+        Telegram::Pd { view, .. } => fits(setup.registry(), dataset, view.payload),
     }
 }
 
 /// Hands the telegram to one object, if it is for it.
 fn take(
     entry: &mut Entry,
-    setup: &NodeSetup,
+    setup: &NodeConfig,
     telegram: &Telegram<'_>,
     g: &Globals,
     s: u16,
@@ -68,7 +68,7 @@ fn take(
 /// Hands the telegram to each object that it is for, in the order of their handles.
 pub fn take_all(
     objects: &mut Vec<Entry>,
-    setup: &NodeSetup,
+    setup: &NodeConfig,
     telegram: &Telegram<'_>,
     g: &Globals,
     s: u16,

@@ -4,9 +4,9 @@ ghost use Rattle.std.specs.Prelude.{◌≡◌, ℕ, ◌+◌, ◌<◌, ◌≤◌,
 ghost use Rattle.trdp_engine.specs.Slots.{count_of, entry_of, changed, without};
 ghost use Rattle.trdp_engine.specs.Calls.{put_refusal, object_refusal, value_refusal, close_refusal, with_value};
 
-use crate::config::NodeSetup;
 use crate::fault::Refusal;
 use crate::object::Entry;
+use trdp_dataset::NodeConfig;
 use trdp_head::PD_PAYLOAD_MAX;
 use trdp_marshal::fits;
 use trdp_pd::AnyObject;
@@ -36,7 +36,7 @@ fn place(objects: &[Entry], handle: u32) -> Option<usize>
 }
 
 /// Why the object takes no such value.
-fn object_refusal(object: &AnyObject, setup: &NodeSetup, bytes: &[u8]) -> Option<Refusal>
+fn object_refusal(object: &AnyObject, setup: &NodeConfig, bytes: &[u8]) -> Option<Refusal>
     ensures refusal { result ≡ object_refusal setup.now bytes.now object.now }
     ensures within { result ≡ None → length bytes.now ≤ 1432 }
 {
@@ -45,7 +45,7 @@ fn object_refusal(object: &AnyObject, setup: &NodeSetup, bytes: &[u8]) -> Option
         AnyObject::Publisher(publisher) => {
             if bytes.len() > PD_PAYLOAD_MAX {
                 Some(Refusal::TooLong)
-            } else if !fits(&setup.registry, publisher.dataset(), bytes) {
+            } else if !fits(setup.registry(), publisher.dataset(), bytes) {
                 Some(Refusal::Shape)
             } else {
                 None
@@ -68,7 +68,7 @@ fn put(object: &mut AnyObject, bytes: &[u8])
 /// Gives the object of that handle a new value, or says why not.
 pub fn put_in(
     objects: &mut Vec<Entry>,
-    setup: &NodeSetup,
+    setup: &NodeConfig,
     handle: u32,
     bytes: &[u8],
 ) -> Option<Refusal>

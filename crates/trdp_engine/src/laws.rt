@@ -1,7 +1,7 @@
 //! What a slot gets depends on what it sees alone.
 
 ghost use Rattle.std.specs.Prelude.{◌≡◌, ℕ, List, None, Some, slice_get, map, take};
-ghost use Rattle.trdp_engine.specs.declared.config.NodeSetup.{NodeSetup};
+ghost use Rattle.trdp_dataset.specs.Configs.{ConfigModel};
 ghost use Rattle.trdp_filter.specs.declared.globals.Globals.{Globals};
 ghost use Rattle.trdp_engine.specs.Events.{EventModel, event_model};
 ghost use Rattle.trdp_engine.specs.Slots.{SlotState};
@@ -15,14 +15,14 @@ use crate::outbox::Outbox;
 /// The law of equal views: two lists of events of which a slot sees the same come to the same for that slot, whatever
 /// else they hold.
 pub fn same_view()
-    ensures { (setup : NodeSetup) (s : ℕ) (slot : SlotState) (g : Globals) (events others : List EventModel) → view setup s slot g events ≡ view setup s slot g others → alone_in_view setup s slot g events ≡ alone_in_view setup s slot g others }
+    ensures { (setup : ConfigModel) (s : ℕ) (slot : SlotState) (g : Globals) (events others : List EventModel) → view setup s slot g events ≡ view setup s slot g others → alone_in_view setup s slot g events ≡ alone_in_view setup s slot g others }
 {}
 
 /// The law of the view: an admitted event that a slot doesn't see does nothing in that slot's own model. What the slot
 /// sees comes to the same as all events, the calls of other slots left out.
 #[tactic(auto, using(crate::proofs::Views::view_is_plain))]
 pub fn view_drops_nothing()
-    ensures { (setup : NodeSetup) (s n : ℕ) (slot : SlotState) (g : Globals) (event : EventModel) → refused_as n g event ≡ None → plain_effect setup s slot g event ≡ record { slot = slot_after setup s slot g event; records = records_after setup s slot g event } }
+    ensures { (setup : ConfigModel) (s n : ℕ) (slot : SlotState) (g : Globals) (event : EventModel) → refused_as n g event ≡ None → plain_effect setup s slot g event ≡ record { slot = slot_after setup s slot g event; records = records_after setup s slot g event } }
 {}
 
 /// Runs two nodes of the same setup and globals over two lists of events, and answers how many each took. A slot that is

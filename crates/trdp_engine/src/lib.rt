@@ -1,7 +1,6 @@
 //! The node: events come in, and each slot gets its answers and telegrams.
 #![tactic(auto)]
 
-mod config;
 mod datagram;
 mod entries;
 mod event;
@@ -17,7 +16,6 @@ mod slot;
 #[cfg(test)]
 mod tests;
 
-pub use config::NodeConfig;
 pub use event::{Call, Event};
 pub use fault::{NodeFault, Refusal};
 pub use laws::{run_both, same_view, view_drops_nothing};

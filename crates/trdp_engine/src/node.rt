@@ -1,6 +1,6 @@
 //! The node: one event after another.
 
-ghost use Rattle.std.specs.Prelude.{◌≡◌, ◌≢◌, ℕ, ◌<◌, ◌≤◌, ◌++◌, ◌∷◌, [], length, OnOk, OnErr, IfOk, IfErr, Err, Some, true, false, slice_get, map, filter, take};
+ghost use Rattle.std.specs.Prelude.{◌≡◌, ◌≢◌, ℕ, ◌<◌, ◌≤◌, ◌++◌, ◌∷◌, [], length, OnOk, OnErr, IfOk, IfErr, Err, Some, true, false, slice_get, map, filter, take, replicate};
 ghost use Rattle.trdp_base.specs.declared.moment.TheConstants.{LAST};
 ghost use Rattle.trdp_engine.specs.Records.{Answers, RecordModel, labelled};
 ghost use Rattle.trdp_engine.specs.Events.{MomentIs, TopologyIs, DatagramIs, CallIs, call_model, event_model};
@@ -10,7 +10,6 @@ ghost use Rattle.trdp_engine.specs.Datagrams.{telegram_of, received_if, concerns
 ghost use Rattle.trdp_engine.specs.Moments.{is_due, moved_to};
 ghost use Rattle.trdp_engine.specs.Peeks.{peeked, peek_in};
 
-use crate::config::{NodeConfig, NodeSetup};
 use crate::event::{Call, Event};
 use crate::fault::NodeFault;
 use crate::outbox::Outbox;
@@ -20,7 +19,8 @@ use crate::slot::Slot;
 use std::alloc::{AllocError, Global};
 use std::marker::Model;
 use std::slice;
-use trdp_base::{LAST, Place, Topo};
+use trdp_base::{LAST, Place, Quotas, Topo};
+use trdp_dataset::NodeConfig;
 use trdp_filter::{Globals, Groups, Telegram};
 use trdp_head::{PD_TELEGRAM_MAX, read_pd};
 use trdp_pd::Peek;
@@ -29,7 +29,7 @@ use trdp_pd::Peek;
 #[derive(Drop)]
 pub struct Node {
     alloc: Global,
-    setup: NodeSetup,
+    config: NodeConfig,
     globals: Globals,
     slot: Slot,
 }
@@ -41,7 +41,7 @@ impl Model for Node {
 
     ghost Value = { NodeState };
 
-    ghost view = { λ n. record { setup = n.setup; globals = n.globals; slots = n.slot ∷ [] } };
+    ghost view = { λ n. record { setup = n.config; globals = n.globals; slots = n.slot ∷ [] } };
 
     ghost invariant = { λ n. n.globals.now ≤ LAST };
 }
@@ -55,7 +55,8 @@ impl Node {
         ensures opened { IfOk result (λ node. node ≡ opened_node config) }
         ensures returned { IfErr result (λ back. back ≡ config) }
     {
-        match Slot::new(alloc, config.quotas()) {
+        let quotas = config.quotas(0).unwrap_or(no_quotas());
+        match Slot::new(alloc, quotas) {
             Err(_) => Err(config),
             Ok(slot) => {
                 let globals = Globals {
@@ -65,7 +66,7 @@ impl Node {
                 };
                 Ok(Node {
                     alloc,
-                    setup: config.into_setup(),
+                    config,
                     globals,
                     slot,
                 })
@@ -139,7 +140,7 @@ impl Node {
     {
         match hear(
             &mut self.slot,
-            &self.setup,
+            &self.config,
             protocol,
             src,
             dst,
@@ -168,7 +169,7 @@ impl Node {
         }
         match self
             .slot
-            .serve(self.alloc, &self.setup, call, &self.globals, 0, out)
+            .serve(self.alloc, &self.config, call, &self.globals, 0, out)
         {
             Err(_) => Err(NodeFault::OutOfMemory),
             Ok(()) => Ok(()),
@@ -239,7 +240,7 @@ impl Node {
 /// What a datagram does to slot 0.
 fn hear(
     slot: &mut Slot,
-    setup: &NodeSetup,
+    setup: &NodeConfig,
     protocol: Protocol,
     src: Place,
     dst: Place,
@@ -261,6 +262,13 @@ fn hear(
             Ok(view) => slot.receive(setup, &Telegram::Pd { src, dst, view }, g, 0, out),
         },
     }
+}
+
+/// The quotas of a slot that may hold nothing.
+fn no_quotas() -> Quotas
+    ensures { result ≡ replicate 6 0 }
+{
+    Quotas::new([0; 6]).unwrap()
 }
 
 fn is_out_of_memory(answer: &Result<(), NodeFault>) -> bool

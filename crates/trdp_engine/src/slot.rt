@@ -17,7 +17,6 @@ ghost use Rattle.trdp_engine.specs.Moments.{is_due, moved_to};
 ghost use Rattle.trdp_engine.specs.Outboxes.{reply_model};
 ghost use Rattle.trdp_engine.specs.Peeks.{peeked, peek_of};
 
-use crate::config::NodeSetup;
 use crate::datagram::{count_addressed, is_valid_at, take_all};
 use crate::entries::{append, close_in, count_of_kind, entry_at, put_in};
 use crate::event::Call;
@@ -28,7 +27,8 @@ use crate::outbox::{Outbox, Reply};
 use crate::peek::PeekFault;
 use std::alloc::{AllocError, Global};
 use std::marker::Model;
-use trdp_base::LAST;
+use trdp_base::{LAST, Quotas};
+use trdp_dataset::NodeConfig;
 use trdp_filter::{Globals, Telegram};
 use trdp_head::{PD_PAYLOAD_MAX, PD_TELEGRAM_MAX};
 use trdp_pd::{AnyObject, Peek, Publication, Publisher, Subscription, SubscriptionTerms};
@@ -47,7 +47,7 @@ const SUBSCRIPTIONS: usize = 1;
 /// A slot: its quotas, its next handle, and its objects by rising handle, in a list that never grows.
 #[derive(Drop)]
 pub struct Slot {
-    quotas: [u16; 6],
+    quotas: Quotas,
     next: u64,
     objects: Vec<Entry>,
 }
@@ -68,12 +68,10 @@ impl Slot {
     ghost use Rattle.trdp_engine.specs.Slots.{SlotState};
 
     /// An empty slot. It may lack memory for its list.
-    pub fn new(alloc: Global, quotas: [u16; 6]) -> Result<Slot, AllocError>
-        requires publishers { slice_index quotas 0 ≤ 256 }
-        requires subscriptions { slice_index quotas 1 ≤ 256 }
+    pub fn new(alloc: Global, quotas: Quotas) -> Result<Slot, AllocError>
         ensures { IfOk result (λ slot. slot ≡ opened_slot quotas) }
     {
-        let room = usize::from(quotas[PUBLISHERS]) + usize::from(quotas[SUBSCRIPTIONS]);
+        let room = usize::from(quotas.get(PUBLISHERS)) + usize::from(quotas.get(SUBSCRIPTIONS));
         let objects = Vec::with_capacity(alloc, room)?;
         Ok(Slot {
             quotas,
@@ -87,7 +85,7 @@ impl Slot {
         requires { kind ≤ 1 }
         ensures { result ≡ opening_refusal self.now kind }
     {
-        if usize::from(self.quotas[kind]) <= count_of_kind(&self.objects, kind) {
+        if usize::from(self.quotas.get(kind)) <= count_of_kind(&self.objects, kind) {
             Some(Refusal::Quota)
         } else if self.next > HANDLE_MAX {
             Some(Refusal::Exhausted)
@@ -109,7 +107,7 @@ impl Slot {
     }
 
     /// Why the slot refuses the publication.
-    fn publish_refusal(&self, setup: &NodeSetup, publication: &Publication) -> Option<Refusal>
+    fn publish_refusal(&self, setup: &NodeConfig, publication: &Publication) -> Option<Refusal>
         ensures { result ≡ publish_refusal setup.now self.now publication.now }
     {
         if !is_span(publication.cycle) {
@@ -124,7 +122,7 @@ impl Slot {
     /// How many bytes the zero value of the subscription takes, or why the slot refuses it.
     fn subscribed_size(
         &self,
-        setup: &NodeSetup,
+        setup: &NodeConfig,
         terms: &SubscriptionTerms,
     ) -> Result<usize, Refusal>
         ensures refused { IfErr result (λ refusal. subscribe_refusal setup.now self.now terms.now ≡ Some refusal) }
@@ -152,7 +150,7 @@ impl Slot {
     fn publish(
         &mut self,
         alloc: Global,
-        setup: &NodeSetup,
+        setup: &NodeConfig,
         publication: &Publication,
         g: &Globals,
     ) -> Result<Reply, AllocError>
@@ -171,7 +169,7 @@ impl Slot {
     fn subscribe(
         &mut self,
         alloc: Global,
-        setup: &NodeSetup,
+        setup: &NodeConfig,
         terms: &SubscriptionTerms,
         g: &Globals,
     ) -> Result<Reply, AllocError>
@@ -189,7 +187,7 @@ impl Slot {
     }
 
     /// Gives the publisher of that handle a new value.
-    fn put(&mut self, setup: &NodeSetup, handle: u32, bytes: &[u8]) -> Reply
+    fn put(&mut self, setup: &NodeConfig, handle: u32, bytes: &[u8]) -> Reply
         ensures { put_unless (put_refusal setup.now bytes.now (entry_of handle self.old.objects)) self.old handle bytes.now ≡ answered self.new (reply_model result) }
     {
         match put_in(&mut self.objects, setup, handle, bytes) {
@@ -252,7 +250,7 @@ impl Slot {
     pub fn serve(
         &mut self,
         alloc: Global,
-        setup: &NodeSetup,
+        setup: &NodeConfig,
         call: &Call<'_>,
         g: &Globals,
         s: u16,
@@ -303,7 +301,7 @@ impl Slot {
     /// don't match the node's changes nothing. Room for the records comes first.
     pub fn receive(
         &mut self,
-        setup: &NodeSetup,
+        setup: &NodeConfig,
         telegram: &Telegram<'_>,
         g: &Globals,
         s: u16,
@@ -339,7 +337,7 @@ fn is_span(span: u32) -> bool
 }
 
 /// How many bytes the zero value of a dataset takes, or why no object can be of it.
-fn value_size(setup: &NodeSetup, dataset: u32) -> Result<usize, Refusal>
+fn value_size(setup: &NodeConfig, dataset: u32) -> Result<usize, Refusal>
     ensures refused { IfErr result (λ refusal. (later : Option Refusal) → dataset_refusal setup.now dataset later ≡ Some refusal) }
     ensures accepted { IfOk result (λ size. (later : Option Refusal) → dataset_refusal setup.now dataset later ≡ later) }
     ensures size { IfOk result (λ size. size ≡ zero_size_of setup.now dataset) }
@@ -348,7 +346,7 @@ fn value_size(setup: &NodeSetup, dataset: u32) -> Result<usize, Refusal>
     if dataset == 0 {
         return Ok(0);
     }
-    match setup.registry.zero_size(dataset) {
+    match setup.registry().zero_size(dataset) {
         None => Err(Refusal::NoDataset),
         Some(size) => {
             if size > PD_PAYLOAD_MAX {

@@ -1,0 +1,5 @@
+pub mod Faults
+pub mod LineEvents
+pub mod LineText
+pub mod RecordText
+pub mod Written

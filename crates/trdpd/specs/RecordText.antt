@@ -1,0 +1,63 @@
+-- The written forms of records and faults, a line each.
+use Rattle.std.specs.Prelude.{ℕ, List, ◌++◌, codes}
+use Rattle.trdp_base.specs.AddressText.{text_of_place}
+use Rattle.trdp_base.specs.HexText.{text_of_hex}
+use Rattle.trdp_base.specs.NumberText.{text_of_number}
+use Rattle.trdp_engine.specs.Records.{Content, Answers, Sends, RecordModel}
+use Rattle.trdp_engine.specs.declared.fault.NodeFault.{NodeFault}
+use Rattle.trdp_engine.specs.declared.fault.NodeFault.TheVariants.{NoSlot, Past, TooLate, NoGroup, OutOfMemory}
+use Rattle.trdp_engine.specs.declared.fault.Refusal.{Refusal}
+use Rattle.trdp_engine.specs.declared.fault.Refusal.TheVariants.{NoHandle, WrongKind, State, Cycle, Timeout, Expected, Status, Range, NoDataset, TooLong, Shape, SessionOpen, Quota, Exhausted}
+use Rattle.trdp_engine.specs.declared.record.Answer.{Answer}
+use Rattle.trdp_engine.specs.declared.record.Answer.TheVariants.{Handle, Done, Refused}
+use Rattle.trdp_engine.specs.declared.record.Protocol.{Protocol}
+use Rattle.trdp_engine.specs.declared.record.Protocol.TheVariants.{Pd, Md}
+
+-- the name of a node's fault
+abbrev pub name_of_fault : NodeFault → List ℕ
+name_of_fault NoSlot = codes "NoSlot"
+name_of_fault Past = codes "Past"
+name_of_fault TooLate = codes "TooLate"
+name_of_fault NoGroup = codes "NoGroup"
+name_of_fault OutOfMemory = codes "OutOfMemory"
+
+-- the name of a refusal
+abbrev pub name_of_refusal : Refusal → List ℕ
+name_of_refusal NoHandle = codes "NoHandle"
+name_of_refusal WrongKind = codes "WrongKind"
+name_of_refusal State = codes "State"
+name_of_refusal Cycle = codes "Cycle"
+name_of_refusal Timeout = codes "Timeout"
+name_of_refusal Expected = codes "Expected"
+name_of_refusal Status = codes "Status"
+name_of_refusal Range = codes "Range"
+name_of_refusal NoDataset = codes "NoDataset"
+name_of_refusal TooLong = codes "TooLong"
+name_of_refusal Shape = codes "Shape"
+name_of_refusal SessionOpen = codes "SessionOpen"
+name_of_refusal Quota = codes "Quota"
+name_of_refusal Exhausted = codes "Exhausted"
+
+-- the words of an answer, with a space before each
+unfoldable pub text_of_answer : Answer → List ℕ
+text_of_answer (Handle handle) = codes " handle " ++ text_of_number handle
+text_of_answer Done = codes " done"
+text_of_answer (Refused refusal) = codes " refused " ++ name_of_refusal refusal
+
+-- the words before a telegram's destination
+abbrev pub words_of_send : Protocol → List ℕ
+words_of_send Pd = codes " send pd "
+words_of_send Md = codes " send md "
+
+-- what a record says: an answer, or a telegram with its protocol, its destination and its bytes
+unfoldable pub text_of_content : Content → List ℕ
+text_of_content (Answers answer) = text_of_answer answer
+text_of_content (Sends protocol to telegram) = words_of_send protocol ++ text_of_place to ++ codes " " ++ text_of_hex telegram
+
+-- the slot's number, what the record says, and a newline
+unfoldable pub text_of_record : RecordModel → List ℕ
+text_of_record r = text_of_number r.slot ++ text_of_content r.content ++ codes "\n"
+
+-- the word `fault`, its name, and a newline
+unfoldable pub text_of_fault : NodeFault → List ℕ
+text_of_fault fault = codes "fault " ++ name_of_fault fault ++ codes "\n"
