@@ -9,8 +9,8 @@ use Rattle.trdp_engine.proofs.node.Node.step_datagram.Goals.{in-Err, in-Ok}
 
 pub returns-clause-steps : goal.returns-clause-steps
 returns-clause-steps c =
-    let outcome : Outcome = received_if c.self.inside.setup c.self.inside.slot c.self.inside.globals (telegram_of c.args.protocol c.args.src c.args.dst c.args.bytes.now) in
-    let effect = datagram_effect c.self.inside.setup c.self.inside.slot c.self.inside.globals c.args.protocol c.args.src c.args.dst c.args.bytes.now in
+    let outcome : Outcome = received_if c.self.inside.config c.self.inside.slot c.self.inside.globals (telegram_of c.args.protocol c.args.src c.args.dst c.args.bytes.now) in
+    let effect = datagram_effect c.self.inside.config c.self.inside.slot c.self.inside.globals c.args.protocol c.args.src c.args.dst c.args.bytes.now in
     elim c.match-hear.branch [
       | in-Err w ↦ rw w.result-is tt
       | in-Ok w ↦ rw (w.result-is, ← c.self.view_is)
@@ -19,7 +19,7 @@ returns-clause-steps c =
 
 pub returns-clause-appends : goal.returns-clause-appends
 returns-clause-appends c =
-    let outcome : Outcome = received_if c.self.inside.setup c.self.inside.slot c.self.inside.globals (telegram_of c.args.protocol c.args.src c.args.dst c.args.bytes.now) in
+    let outcome : Outcome = received_if c.self.inside.config c.self.inside.slot c.self.inside.globals (telegram_of c.args.protocol c.args.src c.args.dst c.args.bytes.now) in
     elim c.match-hear.branch [
       | in-Err w ↦ appends_none c.args.self.now.slots c.args.out.now.records c.hear.new.out.records w.in-Err.ensures.unrecorded
       | in-Ok w ↦ only_appends c.args.self.now.slots c.self.inside.slot outcome.records c.args.out.now.records c.hear.new.out.records (sym (ap (λ (n : NodeState). n.slots) c.self.view_is)) w.in-Ok.ensures.records
