@@ -18,7 +18,9 @@ use Rattle.trdp_engine.specs.Calls.{called}
 use Rattle.trdp_engine.specs.Moments.{moved_to}
 use Rattle.trdp_engine.specs.declared.fault.NodeFault.TheVariants.{NoSlot}
 use Rattle.trdp_engine.specs.Alone.{slot_after, records_after, refused_as, FaultIs}
-use Rattle.trdp_engine.specs.NodeStates.{NodeState, StepsAsAlone, Appends}
+use Rattle.trdp_marshal.specs.Items.{ItemModel}
+use Rattle.trdp_engine.specs.Values.{valued, valued_at}
+use Rattle.trdp_engine.specs.NodeStates.{NodeState, StepsAsAlone, Appends, GetsOutcome}
 
 records_of-append : (s : ℕ) (xs ys : List RecordModel) → records_of s (xs ++ ys) ≡ records_of s xs ++ records_of s ys
 records_of-append s xs ys = ap (map (λ r. r.content)) (filter-append (λ r. r.slot == s) xs ys) ∙ map-append _ _ _
@@ -98,3 +100,12 @@ seen_moment now t last le within = grind (arith, nat_tests)
 -- what slot 0 does at an admitted moment
 pub moment_effect : (setup : ConfigModel) (slot : SlotState) (g : Globals) (t : ℕ) → g.now ≤ t → t ≤ LAST → (slot_after setup 0 slot g (MomentIs t) ≡ (moved_to slot (record g { now = t })).slot) × (records_after setup 0 slot g (MomentIs t) ≡ (moved_to slot (record g { now = t })).records)
 moment_effect setup slot g t le within = let seen = seen_moment g.now t LAST le within in (rw seen refl, rw seen refl)
+
+-- a value that is handed over to slot 0
+pub only_values : (setup : ConfigModel) (old new : NodeState) (slot : SlotState) (handle : ℕ) (item : ItemModel) (records records_then : List RecordModel) → old.slots ≡ slot ∷ [] → new.slots ≡ (valued setup slot handle item).slot ∷ [] → records_then ≡ records ++ labelled 0 (valued setup slot handle item).records → (r : ℕ) → r ≡ 0 → (s : ℕ) (other : SlotState) → slice_get old.slots s ≡ Some other → GetsOutcome new records records_then s (valued_at setup r s other handle item)
+only_values setup old new slot handle item records records_then before after told r zero_is s other is =
+    let one = only slot other s (rw before at is) in
+    record {
+      slot_is = rw (after, zero_is, one.0, ← one.1) refl;
+      records_are = rw (told, zero_is, one.0, ← one.1, records_of-append 0 records (labelled 0 (valued setup slot handle item).records), records_of-labelled 0 (valued setup slot handle item).records) refl;
+    }

@@ -7,6 +7,7 @@ pub mod Datagrams
 pub mod Moments
 pub mod Alone
 pub mod Peeks
+pub mod Values
 pub mod NodeStates
 pub mod Handles
 pub mod Firing

@@ -6,7 +6,7 @@ use Rattle.trdp_dataset.specs.Configs.{ConfigModel}
 use Rattle.trdp_filter.specs.Globals.{first_globals}
 use Rattle.trdp_engine.specs.Records.{Content, RecordModel, records_of}
 use Rattle.trdp_engine.specs.Events.{EventModel, MomentIs, TopologyIs, DatagramIs, CallIs}
-use Rattle.trdp_engine.specs.Slots.{SlotState, opened_slot}
+use Rattle.trdp_engine.specs.Slots.{SlotState, Outcome, opened_slot}
 use Rattle.trdp_engine.specs.Configs.{quotas_of}
 use Rattle.trdp_engine.specs.Datagrams.{telegram_of, concerns}
 use Rattle.trdp_engine.specs.Moments.{is_due}
@@ -56,3 +56,8 @@ pub record GetsTheSame (first second : NodeState) (records records_then others o
   pub got : List Content
   pub first_got : records_of s records_then ≡ records_of s records ++ got
   pub second_got : records_of s others_then ≡ records_of s others ++ got
+
+-- slot s is that of the outcome, and has got its records
+pub record GetsOutcome (new : NodeState) (records records_then : List RecordModel) (s : ℕ) (outcome : Outcome) : Type 0 where
+  pub slot_is : slice_get new.slots s ≡ Some outcome.slot
+  pub records_are : records_of s records_then ≡ records_of s records ++ outcome.records

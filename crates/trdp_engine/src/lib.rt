@@ -15,6 +15,7 @@ mod record;
 mod slot;
 #[cfg(test)]
 mod tests;
+mod value;
 
 pub use event::{Call, Event};
 pub use fault::{NodeFault, Refusal};

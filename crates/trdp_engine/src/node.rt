@@ -1,6 +1,6 @@
 //! The node: one event after another.
 
-ghost use Rattle.std.specs.Prelude.{◌≡◌, ◌≢◌, ℕ, ◌<◌, ◌≤◌, ◌++◌, ◌∷◌, [], length, OnOk, OnErr, IfOk, IfErr, Err, Some, true, false, slice_get, map, filter, take, replicate};
+ghost use Rattle.std.specs.Prelude.{nat_le, if◌then◌else◌, None, ◌≡◌, ◌≢◌, ℕ, ◌<◌, ◌≤◌, ◌++◌, ◌∷◌, [], length, OnOk, OnErr, IfOk, IfErr, Err, Some, true, false, slice_get, map, filter, take, replicate};
 ghost use Rattle.trdp_base.specs.declared.moment.TheConstants.{LAST};
 ghost use Rattle.trdp_engine.specs.Records.{Answers, RecordModel, labelled};
 ghost use Rattle.trdp_engine.specs.Events.{MomentIs, TopologyIs, DatagramIs, CallIs, call_model, event_model};
@@ -9,6 +9,8 @@ ghost use Rattle.trdp_engine.specs.Calls.{called};
 ghost use Rattle.trdp_engine.specs.Datagrams.{telegram_of, received_if, concerns};
 ghost use Rattle.trdp_engine.specs.Moments.{is_due, moved_to};
 ghost use Rattle.trdp_engine.specs.Peeks.{peeked, peek_in};
+ghost use Rattle.trdp_marshal.specs.Items.{model_of};
+ghost use Rattle.trdp_engine.specs.Values.{valued_at};
 
 use crate::event::{Call, Event};
 use crate::fault::NodeFault;
@@ -23,6 +25,7 @@ use trdp_base::{LAST, Place, Quotas, Topo};
 use trdp_dataset::NodeConfig;
 use trdp_filter::{Globals, Groups, Telegram};
 use trdp_head::{PD_TELEGRAM_MAX, read_pd};
+use trdp_marshal::Item;
 use trdp_pd::Peek;
 
 /// The communication node of one end device. It serves slot 0.
@@ -47,7 +50,7 @@ impl Model for Node {
 }
 
 impl Node {
-    ghost use Rattle.trdp_engine.specs.NodeStates.{NodeState, StepsAsAlone, RunsAsAlone, Appends, MayTakeMemory, opened_node};
+    ghost use Rattle.trdp_engine.specs.NodeStates.{NodeState, GetsOutcome, StepsAsAlone, RunsAsAlone, Appends, MayTakeMemory, opened_node};
     ghost use Rattle.trdp_engine.specs.Alone.{FaultIs, refused_as, globals_after};
 
     /// A node at moment 0 that leads no group, with empty slots. For want of memory the configuration comes back.
@@ -203,6 +206,41 @@ impl Node {
                 bytes,
             } => self.step_datagram(protocol, src, dst, bytes, out),
             Event::Call { slot, call } => self.step_call(slot, &call, out),
+        }
+    }
+
+    /// Gives the publisher of that handle in slot `slot` a value that is handed over as an item: the call Put with the
+    /// bytes that the item is spelled by as a value of the publisher's dataset. An item without such bytes is the one record
+    /// Refused: NoHandle, WrongKind, NoDataset (dataset 0), Shape, TooLong, in this order.
+    ///
+    /// Its faults are `NoSlot`, and last `OutOfMemory`; after a fault node and outbox are as before.
+    pub fn put_value(
+        &mut self,
+        alloc: Global,
+        slot: u16,
+        handle: u32,
+        item: &Item,
+        out: &mut Outbox,
+    ) -> Result<(), NodeFault>
+        ensures fault { FaultIs (if nat_le (length self.old.slots) slot then Some NodeFault.NoSlot else None) result }
+        ensures kept { OnErr result (self.new ≡ self.old) }
+        ensures unrecorded { OnErr result (out.new.records ≡ out.old.records) }
+
+        ensures setup { self.new.setup ≡ self.old.setup }
+        ensures globals { self.new.globals ≡ self.old.globals }
+        ensures count { length self.new.slots ≡ length self.old.slots }
+        ensures values { OnOk result ((s : ℕ) (state : SlotState) → slice_get self.old.slots s ≡ Some state → GetsOutcome self.new out.old.records out.new.records s (valued_at self.old.setup slot s state handle (model_of item.now))) }
+        ensures appends { Appends self.old.slots out.old.records out.new.records }
+    {
+        if usize::from(slot) >= self.slots() {
+            return Err(NodeFault::NoSlot);
+        }
+        match self
+            .slot
+            .put_value(alloc, &self.config, handle, item, 0, out)
+        {
+            Err(_) => Err(NodeFault::OutOfMemory),
+            Ok(()) => Ok(()),
         }
     }
 

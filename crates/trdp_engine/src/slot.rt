@@ -16,6 +16,8 @@ ghost use Rattle.trdp_engine.specs.Datagrams.{received_if, concerns};
 ghost use Rattle.trdp_engine.specs.Moments.{is_due, moved_to};
 ghost use Rattle.trdp_engine.specs.Outboxes.{reply_model};
 ghost use Rattle.trdp_engine.specs.Peeks.{peeked, peek_of};
+ghost use Rattle.trdp_marshal.specs.Items.{model_of};
+ghost use Rattle.trdp_engine.specs.Values.{item_bytes, item_refusal, IsRefusedAs, valued};
 
 use crate::datagram::{count_addressed, is_valid_at, take_all};
 use crate::entries::{append, close_in, count_of_kind, entry_at, put_in};
@@ -25,12 +27,14 @@ use crate::moment::{count_due, fire_all};
 use crate::object::Entry;
 use crate::outbox::{Outbox, Reply};
 use crate::peek::PeekFault;
+use crate::value::{SpellFault, spell};
 use std::alloc::{AllocError, Global};
 use std::marker::Model;
 use trdp_base::{LAST, Quotas};
 use trdp_dataset::NodeConfig;
 use trdp_filter::{Globals, Telegram};
 use trdp_head::{PD_PAYLOAD_MAX, PD_TELEGRAM_MAX};
+use trdp_marshal::Item;
 use trdp_pd::{AnyObject, Peek, Publication, Publisher, Subscription, SubscriptionTerms};
 
 /// The shortest cycle or supervision time but 0, in microseconds (profile).
@@ -193,6 +197,54 @@ impl Slot {
         match put_in(&mut self.objects, setup, handle, bytes) {
             Some(refusal) => Reply::Refused(refusal),
             None => Reply::Done,
+        }
+    }
+
+    /// The bytes of an item as a value of the object of that handle, or why there are none.
+    fn spelled(
+        &self,
+        alloc: Global,
+        setup: &NodeConfig,
+        handle: u32,
+        item: &Item,
+    ) -> Result<Vec<u8>, SpellFault>
+        ensures bytes { IfOk result (λ bytes. bytes.items ≡ item_bytes setup.now (model_of item.now) (entry_of handle self.now.objects)) }
+        ensures spelled { IfOk result (λ bytes. item_refusal setup.now (model_of item.now) (entry_of handle self.now.objects) ≡ None) }
+        ensures refused { IfErr result (IsRefusedAs (item_refusal setup.now (model_of item.now) (entry_of handle self.now.objects))) }
+    {
+        match entry_at(&self.objects, handle) {
+            None => Err(SpellFault::Refused(Refusal::NoHandle)),
+            Some(entry) => spell(alloc, setup, &entry.object, item),
+        }
+    }
+
+    /// Puts an item in the publisher of that handle and records the answer; an item without bytes there is refused.
+    pub fn put_value(
+        &mut self,
+        alloc: Global,
+        setup: &NodeConfig,
+        handle: u32,
+        item: &Item,
+        s: u16,
+        out: &mut Outbox,
+    ) -> Result<(), AllocError>
+        ensures slot { OnOk result (self.new ≡ (valued setup.now self.old handle (model_of item.now)).slot) }
+        ensures records { OnOk result (out.new.records ≡ out.old.records ++ labelled s (valued setup.now self.old handle (model_of item.now)).records) }
+        ensures kept { OnErr result (self.new ≡ self.old) }
+        ensures unrecorded { OnErr result (out.new.records ≡ out.old.records) }
+    {
+        out.reserve(1, 0)?;
+        match self.spelled(alloc, setup, handle, item) {
+            Err(SpellFault::NoMemory) => Err(AllocError),
+            Err(SpellFault::Refused(refusal)) => {
+                out.push_reply(s, Reply::Refused(refusal));
+                Ok(())
+            }
+            Ok(bytes) => {
+                let reply = self.put(setup, handle, &bytes);
+                out.push_reply(s, reply);
+                Ok(())
+            }
         }
     }
 
