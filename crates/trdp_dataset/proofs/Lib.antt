@@ -2,6 +2,8 @@ pub mod Answering
 pub mod Lookups
 pub mod Addresses
 pub mod Arrays
+pub mod SlotNumbers
+pub mod Filled
 pub mod Meaning
 pub mod Loading
 pub mod Sound

@@ -1,8 +1,8 @@
 -- Datasets without a fault fit together.
-use Rattle.std.proofs.Common.{◌≡◌, ◌==◌, ◌&&◌, ◌||◌, ◌≤◌, ℕ, Bool, true, false, cond, not, nat_le, List, [], ◌∷◌, ◌++◌, Option, Some, None, option_map, if◌then◌else◌, refl, sym, ap, ◌∙◌, eqb-true, arith, inl, inr, ◌⊎◌}
+use Rattle.std.proofs.Common.{◌≡◌, ◌==◌, ◌&&◌, ◌||◌, ◌≤◌, ℕ, Bool, true, false, cond, not, nat_le, nat_lt, length, List, [], ◌∷◌, ◌++◌, Option, Some, None, option_map, if◌then◌else◌, refl, sym, ap, ◌∙◌, eqb-true, arith, inl, inr, ◌⊎◌}
 use Rattle.std.specs.Prelude.{find}
 use Rattle.std.specs.List.{list_all, cons_option}
-use Rattle.std.proofs.lemmas.Bool.{and_parts, leb-true}
+use Rattle.std.proofs.lemmas.Bool.{and_parts, leb-true, ltb-true}
 use Rattle.trdp_dataset.specs.declared.element.Element.{Element}
 use Rattle.trdp_dataset.specs.declared.element.Form.{Form}
 use Rattle.trdp_dataset.specs.declared.element.Form.TheVariants.{Unsigned, Signed, Time48, Time64, Nested}
@@ -93,14 +93,17 @@ size_by registry id true known all = leb-true _ _ (each_known (λ n. nat_le (zer
 size_by registry id false unknown all = let none = unknown_size registry 5 id (sym unknown) in omega (arith, none)
 
 -- datasets without a fault are a registry
-pub sound : (registry : List DatasetModel) → fit_fault registry ≡ None → IsRegistry registry
+pub sound : (registry : List DatasetModel) → fit_fault registry ≡ None → list_all (λ (m : DatasetModel). nat_le 31 m.id) registry ≡ true → list_all (λ (m : DatasetModel). nat_lt 0 (length m.elements)) registry ≡ true
+    → IsRegistry registry
 unfolding no_dataset_in no_count_in too_deep_in too_big_in
-sound registry fits =
+sound registry fits above filled =
     let a = none_first (no_dataset_in registry) _ fits in
     let b = none_first (no_count_in registry) _ a.1 in
     let c = none_first (too_deep_in registry) _ b.1 in
     let d = none_first (too_big_in registry) _ c.1 in
     record {
+      above = λ id known. leb-true 31 id (each_known (nat_le 31) registry id above known);
+      filled = λ id es found. ltb-true 0 (length es) (each_found (λ xs. nat_lt 0 (length xs)) registry id es filled found);
       known = λ id es found. nested_known (is_known registry) registry id es (none_mapped (λ id. NoDataset id) _ a.0) found;
       counted = λ id es found. each_found (all_counted false) registry id es (no_fault _ _ b.0) found;
       deep = λ id known. each_known (is_within registry 5) registry id (no_fault _ _ c.0) known;

@@ -1,6 +1,6 @@
 //! The configuration of a node.
 
-ghost use Rattle.std.specs.Prelude.{◌≡◌, ◌≤◌, unwrap_or, option_map, option_and_then, IfOk};
+ghost use Rattle.std.specs.Prelude.{◌≡◌, ◌≤◌, length, unwrap_or, option_map, option_and_then, IfOk};
 ghost use Rattle.toml.specs.Data.{as_table};
 ghost use Rattle.toml.specs.View.{view, table_view};
 ghost use Rattle.trdp_dataset.specs.Values.{address_in};
@@ -49,7 +49,7 @@ impl Model for NodeConfig {
 
     ghost view = { λ c. record { registry = c.registry; address = c.address.0; pd_port = c.pd_port; md_port = c.md_port; operator_port = c.operator_port; slots = slots_of c.slots.items } };
 
-    ghost invariant = { λ c. (1 ≤ c.pd_port) × (1 ≤ c.md_port) };
+    ghost invariant = { λ c. (1 ≤ c.pd_port) × (1 ≤ c.md_port) × (1 ≤ length c.slots.items) × (length c.slots.items ≤ 16) };
 }
 
 /// The quota at a key of a slot; 0 where there is none.
@@ -130,6 +130,8 @@ fn address_in(top: &Table) -> Ip
 fn config_in(top: &Table, registry: Registry, slots: Vec<Slot>) -> NodeConfig
     requires registry { registry ≡ datasets_in (table_view top.now) }
     requires slots { slots_of slots.items ≡ slots_in (table_view top.now) }
+    requires some { 1 ≤ length (slots_in (table_view top.now)) }
+    requires few { length (slots_in (table_view top.now)) ≤ 16 }
     ensures value { result ≡ config_in (table_view top.now) }
 {
     NodeConfig {
@@ -198,9 +200,11 @@ impl NodeConfig {
         self.operator_port
     }
 
-    /// How many application slots there are.
+    /// How many application slots there are, 1 to 16.
     pub fn slots(&self) -> usize
         ensures value { result ≡ length self.now.slots }
+        ensures least { 1 ≤ result }
+        ensures most { result ≤ 16 }
     {
         self.slots.len()
     }

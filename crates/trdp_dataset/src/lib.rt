@@ -15,6 +15,8 @@ mod place;
 mod read;
 mod registry;
 mod size;
+#[cfg(test)]
+mod tests;
 mod value;
 
 pub use config::NodeConfig;

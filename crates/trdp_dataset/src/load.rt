@@ -1,7 +1,8 @@
 //! The registry of a file, once nothing in the file is wrong.
 
-ghost use Rattle.std.specs.Prelude.{◌≡◌, IfOk};
+ghost use Rattle.std.specs.Prelude.{◌≡◌, ◌++◌, List, IfOk};
 ghost use Rattle.toml.specs.View.{table_view};
+ghost use Rattle.trdp_dataset.specs.Places.{PlaceModel, dataset_places};
 ghost use Rattle.trdp_dataset.specs.Seen.{places_seen};
 ghost use Rattle.trdp_dataset.specs.Faults.{fault_in, Answers};
 ghost use Rattle.trdp_dataset.specs.Configs.{datasets_in};
@@ -21,6 +22,7 @@ pub(crate) fn load(
     top: &Table,
     places: &[Place<'_>],
 ) -> Result<Registry, ConfigFault>
+    requires covers { (front : List PlaceModel) × (places_seen places.now ≡ front ++ dataset_places (table_view top.now)) }
     ensures value { IfOk result (λ registry. registry ≡ datasets_in (table_view top.now)) }
     ensures answers { Answers (fault_in (places_seen places.now) (datasets_in (table_view top.now))) result }
 {

@@ -1,4 +1,4 @@
-use Rattle.std.proofs.Common.{List, refl, ap, ◌∙◌, subst}
+use Rattle.std.proofs.Common.{List, [], refl, ap, ◌∙◌, subst}
 use Rattle.toml.specs.View.{table_view}
 use Rattle.trdp_dataset.specs.Places.{PlaceModel, dataset_places}
 use Rattle.trdp_dataset.specs.Seen.{places_seen}
@@ -17,3 +17,6 @@ returns c =
       reads = reads registry_of (dataset_places top) ds ds c.args.bytes.now top c.load.result c.in_ok-top.ensures.0 c.in_ok-top.ensures.1 refl c.load.ensures.value
           (subst (λ (places : List PlaceModel). Answers (fault_in places ds) c.load.result) same c.load.ensures.answers);
     }
+
+pub load-requires : goal.load-requires
+load-requires c = record { covers = ([], ap places_seen c.deref.ensures.value ∙ c.in_ok-places.ensures) }
