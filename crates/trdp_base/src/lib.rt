@@ -6,6 +6,7 @@ mod hex;
 mod moment;
 mod number;
 mod place;
+mod quotas;
 mod text;
 mod topo;
 
@@ -14,5 +15,6 @@ pub use hex::{push_hex, read_hex};
 pub use moment::{LAST, Moment};
 pub use number::{NUMBER_LENGTH, push_number, read_number};
 pub use place::{Ip, Place};
+pub use quotas::{QUOTA_LIMIT, Quotas};
 pub use text::TextFault;
 pub use topo::Topo;

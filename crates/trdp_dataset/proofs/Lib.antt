@@ -2,6 +2,9 @@ pub mod Answering
 pub mod Lookups
 pub mod Addresses
 pub mod Arrays
+pub mod Meaning
+pub mod Loading
+pub mod Sound
 pub mod Sizes
 pub mod Rows
 pub mod Steps

@@ -1,13 +1,20 @@
 -- Sums of sizes, where every size above a bound is taken for the bound.
-use Rattle.std.proofs.Common.{◌≡◌, ℕ, zero, suc, ◌+◌, ◌*◌, ◌<◌, ◌≤◌, false, List, [], ◌∷◌, length, drop, get_or, map, replicate, refl, sym, ap, ◌∙◌, arith, inl, inr, ◌⊎◌}
+use Rattle.std.proofs.Common.{◌≡◌, ℕ, zero, suc, ◌+◌, ◌*◌, ◌<◌, ◌≤◌, ◌&&◌, nat_le, if◌then◌else◌, Bool, true, false, List, [], ◌∷◌, length, drop, get_or, map, replicate, Some, None, refl, sym, ap, ◌∙◌, arith, inl, inr, ◌⊎◌}
 use Rattle.std.specs.Prelude.{min, unwrap_or}
+use Rattle.std.specs.List.{list_all}
+use Rattle.std.proofs.lemmas.Bool.{and_parts}
+use Rattle.std.proofs.lemmas.Bool.Decides.{nat_tests}
+use Rattle.std.proofs.lemmas.Bool.{leb-true}
+use Rattle.trdp_dataset.specs.declared.fault.ConfigFault.TheVariants.{TooBig}
+use Rattle.trdp_dataset.specs.Faults.{too_big_in}
 use Rattle.std.proofs.lemmas.List.{at_drop_more, at_drop_all}
 use Rattle.std.proofs.lemmas.Bool.{cases_lt}
 use Rattle.trdp_dataset.specs.declared.element.Element.{Element}
 use Rattle.trdp_dataset.specs.declared.element.Form.{Form}
 use Rattle.trdp_dataset.specs.Elements.{form_of}
 use Rattle.trdp_dataset.specs.Datasets.{DatasetModel, elements_of, is_known}
-use Rattle.trdp_dataset.specs.ZeroSizes.{form_size, entries_size, dataset_size}
+use Rattle.trdp_dataset.specs.ZeroSizes.{form_size, entries_size, dataset_size, zero_size}
+use Rattle.trdp_dataset.specs.Stored.{size_row, zero_sizes_of}
 use Rattle.trdp_dataset.proofs.Lookups.{none_found}
 
 -- a product stays above the bound
@@ -52,3 +59,42 @@ pub no_size_row : (registry ds : List DatasetModel) → replicate (length ds) 0 
 unfolding dataset_size
 no_size_row registry [] = refl
 no_size_row registry (d ∷ ds) = ap (λ xs. 0 ∷ xs) (no_size_row registry ds)
+
+small_by : (x bound : ℕ) → (x < suc bound) ⊎ (suc bound ≤ x) → nat_le (min x (suc bound)) bound ≡ nat_le x bound
+small_by x bound (inl below) = let same : min x (suc bound) ≡ x = omega arith in ap (λ n. nat_le n bound) same
+small_by x bound (inr above) = let same : min x (suc bound) ≡ suc bound = omega arith in grind (arith, nat_tests)
+
+small_tested : (x bound : ℕ) → nat_le (min x (suc bound)) bound ≡ nat_le x bound
+small_tested x bound = small_by x bound (cases_lt x (suc bound))
+
+small_kept : (x bound : ℕ) → nat_le x bound ≡ true → min x (suc bound) ≡ x
+small_kept x bound small = let below : x ≤ bound = leb-true x bound small in omega arith
+
+small_list : (registry ds : List DatasetModel) → list_all (λ n. nat_le n 65388) (map (λ (d : DatasetModel). min (dataset_size registry 5 d.id) 65389) ds) ≡ list_all (λ (d : DatasetModel). nat_le (zero_size registry d.id) 65388) ds
+unfolding zero_size
+small_list registry [] = refl
+small_list registry (d ∷ ds) =
+    ap (λ b. b && list_all (λ n. nat_le n 65388) (map (λ (m : DatasetModel). min (dataset_size registry 5 m.id) 65389) ds)) (small_tested (dataset_size registry 5 d.id) 65388)
+    ∙ ap (λ b. nat_le (dataset_size registry 5 d.id) 65388 && b) (small_list registry ds)
+
+-- each size is small enough where each zero value is
+pub all_small : (registry : List DatasetModel) (sizes : List ℕ) → sizes ≡ size_row registry 5 → list_all (λ n. nat_le n 65388) sizes ≡ list_all (λ (d : DatasetModel). nat_le (zero_size registry d.id) 65388) registry
+all_small registry sizes e = ap (list_all (λ n. nat_le n 65388)) e ∙ small_list registry registry
+
+exact_list : (registry ds : List DatasetModel) → list_all (λ (d : DatasetModel). nat_le (zero_size registry d.id) 65388) ds ≡ true
+    → map (λ (d : DatasetModel). min (dataset_size registry 5 d.id) 65389) ds ≡ map (λ (d : DatasetModel). zero_size registry d.id) ds
+unfolding zero_size
+exact_list registry [] small = refl
+exact_list registry (d ∷ ds) small =
+    let parts = and_parts (nat_le (dataset_size registry 5 d.id) 65388) (list_all (λ (m : DatasetModel). nat_le (dataset_size registry 5 m.id) 65388) ds) small in
+    ap (λ n. n ∷ map (λ (m : DatasetModel). min (dataset_size registry 5 m.id) 65389) ds) (small_kept (dataset_size registry 5 d.id) 65388 parts.0)
+    ∙ ap (λ ns. dataset_size registry 5 d.id ∷ ns) (exact_list registry ds parts.1)
+
+-- the sizes are those of the zero values where all are small
+pub exact_sizes : (registry : List DatasetModel) (sizes : List ℕ) (b : Bool) → sizes ≡ size_row registry 5 → b ≡ list_all (λ n. nat_le n 65388) sizes → b ≡ true → sizes ≡ zero_sizes_of registry
+exact_sizes registry sizes b e small passed = e ∙ exact_list registry registry (sym (all_small registry sizes e) ∙ (sym small ∙ passed))
+
+-- the fault where not all are small
+pub big_shown : (registry : List DatasetModel) (sizes : List ℕ) (b : Bool) → sizes ≡ size_row registry 5 → b ≡ list_all (λ n. nat_le n 65388) sizes → too_big_in registry ≡ (if b then None else Some TooBig)
+unfolding too_big_in
+big_shown registry sizes b e small = ap (λ v. if v then None else Some TooBig) (sym (all_small registry sizes e) ∙ sym small)

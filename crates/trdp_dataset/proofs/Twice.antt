@@ -114,6 +114,7 @@ taken_up old new (Some d) rest all once added e =
 
 twice_by_test : (old : List DatasetModel) (d : DatasetModel) (rest : List DatasetModel) (b : Bool) (f : ConfigFault) → is_known old d.id ≡ b → (if b then Some TwiceId else None) ≡ Some f
     → twice_id_in (old ++ d ∷ rest) ≡ Some f
+unfolding twice_id_in
 twice_by_test old d rest true f known e = ap (λ b. if b then Some TwiceId else None) (twice_found old d rest known) ∙ e
 twice_by_test old d rest false f known e = cc
 

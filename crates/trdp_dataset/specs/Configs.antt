@@ -2,8 +2,13 @@
 use Rattle.std.specs.Prelude.{◌≡◌, ℕ, List, Option, Some, None, Result, Ok, Err, map, option_map, option_and_then, unwrap_or}
 use Rattle.std.specs.List.{filter_map}
 use Rattle.std.specs.Str.{IsUtf8}
-use Rattle.toml.specs.Data.{Members, no_members}
+use Rattle.toml.specs.Data.{Data, Members}
 use Rattle.toml.specs.Parse.{parse_document}
+use Rattle.toml.specs.View.{table_view}
+use Rattle.std.specs.BTreeMap.{BTreeMap}
+use Rattle.std.specs.Prelude.{String}
+use Rattle.std.specs.declared.alloc.Global.{Global}
+use Rattle.toml.specs.declared.value.Value.{Value}
 use Rattle.trdp_dataset.specs.declared.element.Element.{Element}
 use Rattle.trdp_dataset.specs.declared.element.ElementKind.{ElementKind}
 use Rattle.trdp_dataset.specs.declared.key.Key.{Key}
@@ -16,9 +21,13 @@ use Rattle.trdp_dataset.specs.Datasets.{DatasetModel}
 use Rattle.trdp_dataset.specs.Places.{value_at, tables_at, node_in, dataset_places, all_places}
 use Rattle.trdp_dataset.specs.Faults.{fault_in}
 
--- the number at a key, or the default where there is none in the range
-unfoldable pub number_at : ℕ → ℕ → ℕ → Key → Members → ℕ
-number_at low high default key members = unwrap_or (option_and_then (number_in low high) (value_at key members)) default
+-- the number that a value is, or the default where it is none in the range
+unfoldable pub number_or : ℕ → ℕ → ℕ → Option Data → ℕ
+number_or low high default found = unwrap_or (option_and_then (number_in low high) found) default
+
+-- the number at a key
+abbrev pub number_at : ℕ → ℕ → ℕ → Key → Members → ℕ
+number_at low high default key members = number_or low high default (value_at key members)
 
 -- an element of that type, of the size that the table gives, or 1
 abbrev pub element_of : Members → ElementKind → Element
@@ -63,13 +72,18 @@ pub record ConfigModel : Type 0 where
   pub operator_port : ℕ
   pub slots : List SlotModel
 
-abbrev pub config_with : Members → Members → ConfigModel
-config_with top node = record {
+-- what the table of the node has at a key
+unfoldable pub node_value : Key → Members → Option Data
+node_value key top = option_and_then (value_at key) (node_in top)
+
+-- the configuration that a file without a fault means
+unfoldable pub config_in : Members → ConfigModel
+config_in top = record {
   registry = datasets_in top;
-  address = unwrap_or (option_and_then address_in (value_at Address node)) 0;
-  pd_port = number_at 1 65535 17224 PdPort node;
-  md_port = number_at 1 65535 17225 MdPort node;
-  operator_port = number_at 0 65535 0 OperatorPort node;
+  address = unwrap_or (option_and_then address_in (node_value Address top)) 0;
+  pd_port = number_or 1 65535 17224 (node_value PdPort top);
+  md_port = number_or 1 65535 17225 (node_value MdPort top);
+  operator_port = number_or 0 65535 0 (node_value OperatorPort top);
   slots = slots_in top;
 }
 
@@ -91,7 +105,7 @@ registry_of top = unless (registry_fault_of top) (datasets_in top)
 
 -- the configuration of a file, or its fault
 abbrev pub config_of : Members → Result ConfigModel ConfigFault
-config_of top = unless (config_fault_of top) (config_with top (unwrap_or (node_in top) no_members))
+config_of top = unless (config_fault_of top) (config_in top)
 
 -- what a call read from bytes is what they mean by a function of the table; Toml comes where they are no UTF-8
 -- or no table, and want of memory at any time
@@ -99,3 +113,10 @@ abbrev pub Reads : {A : Type 0} → (Members → Result A ConfigFault) → List 
 Reads meaning bytes (Err OutOfMemory) = Unit {0}
 Reads meaning bytes (Err Toml) = IsUtf8 bytes → parse_document bytes ≡ None
 Reads meaning bytes result = IsUtf8 bytes × ((top : Members) × (parse_document bytes ≡ Some top) × (result ≡ meaning top))
+
+-- what a call parsed is the table of the bytes
+abbrev pub Parses : List ℕ → Result (BTreeMap (String Global) Value) ConfigFault → Type 0
+Parses bytes (Ok top) = IsUtf8 bytes × (parse_document bytes ≡ Some (table_view top))
+Parses bytes (Err OutOfMemory) = Unit {0}
+Parses bytes (Err Toml) = IsUtf8 bytes → parse_document bytes ≡ None
+Parses bytes (Err _) = ⊥

@@ -1,5 +1,5 @@
 -- The faults of a configuration file, one definition for each kind.
-use Rattle.std.specs.Prelude.{◌≡◌, ◌==◌, ◌&&◌, ◌||◌, not, nat_lt, nat_le, ℕ, Bool, true, false, List, [], ◌∷◌, Option, Some, None, option_map, is_some, find, length, if◌then◌else◌}
+use Rattle.std.specs.Prelude.{◌≡◌, ◌==◌, ◌&&◌, ◌||◌, not, nat_lt, nat_le, ℕ, Bool, true, false, List, [], ◌∷◌, Option, Some, None, option_map, is_some, find, length, Result, Ok, Err, if◌then◌else◌}
 use Rattle.std.specs.List.{filter_map, flat_map, list_all, list_any}
 use Rattle.toml.specs.Data.{Data}
 use Rattle.trdp_dataset.specs.declared.element.Element.{Element}
@@ -76,16 +76,16 @@ exceeds key _ d = false
 abbrev pub is_excessive : PlaceModel → Bool
 is_excessive place = has (exceeds place.key (wanted_by place.key)) place.found
 
-abbrev pub missing_in : List PlaceModel → Option ConfigFault
+unfoldable pub missing_in : List PlaceModel → Option ConfigFault
 missing_in places = option_map (λ place. Missing place.key) (find is_missing places)
 
-abbrev pub wrong_type_in : List PlaceModel → Option ConfigFault
+unfoldable pub wrong_type_in : List PlaceModel → Option ConfigFault
 wrong_type_in places = option_map (λ place. WrongType place.key) (find is_wrong places)
 
-abbrev pub real_in : List PlaceModel → Option ConfigFault
+unfoldable pub real_in : List PlaceModel → Option ConfigFault
 real_in places = if list_any is_real_place places then Some Real else None
 
-abbrev pub bad_id_in : List PlaceModel → Option ConfigFault
+unfoldable pub bad_id_in : List PlaceModel → Option ConfigFault
 bad_id_in places = if list_any is_bad_place places then Some BadId else None
 
 -- some dataset has the identifier of an earlier one
@@ -93,7 +93,7 @@ abbrev pub has_twice : List DatasetModel → Bool
 has_twice [] = false
 has_twice (d ∷ ds) = is_known ds d.id || has_twice ds
 
-abbrev pub twice_id_in : List DatasetModel → Option ConfigFault
+unfoldable pub twice_id_in : List DatasetModel → Option ConfigFault
 twice_id_in datasets = if has_twice datasets then Some TwiceId else None
 
 -- the datasets that elements are of, in order
@@ -101,19 +101,19 @@ abbrev pub nested_ids : List Element → List ℕ
 nested_ids es = filter_map (λ e. nested_id (form_of e.kind)) es
 
 -- the first dataset that is nested somewhere and isn't there
-abbrev pub no_dataset_in : List DatasetModel → Option ConfigFault
+unfoldable pub no_dataset_in : List DatasetModel → Option ConfigFault
 no_dataset_in datasets = option_map (λ id. NoDataset id) (find (λ id. not (is_known datasets id)) (flat_map (λ d. nested_ids d.elements) datasets))
 
-abbrev pub no_count_in : List DatasetModel → Option ConfigFault
+unfoldable pub no_count_in : List DatasetModel → Option ConfigFault
 no_count_in datasets = if list_all (λ d. all_counted false d.elements) datasets then None else Some NoCount
 
-abbrev pub too_deep_in : List DatasetModel → Option ConfigFault
+unfoldable pub too_deep_in : List DatasetModel → Option ConfigFault
 too_deep_in datasets = if list_all (λ d. is_within datasets 5 d.id) datasets then None else Some TooDeep
 
-abbrev pub too_big_in : List DatasetModel → Option ConfigFault
+unfoldable pub too_big_in : List DatasetModel → Option ConfigFault
 too_big_in datasets = if list_all (λ d. nat_le (zero_size datasets d.id) 65388) datasets then None else Some TooBig
 
-abbrev pub too_many_in : List PlaceModel → Option ConfigFault
+unfoldable pub too_many_in : List PlaceModel → Option ConfigFault
 too_many_in places = if list_any is_excessive places then Some TooMany else None
 
 -- the first fault that there is
@@ -121,6 +121,14 @@ abbrev pub first_fault : List (Option ConfigFault) → Option ConfigFault
 first_fault [] = None
 first_fault (None ∷ later) = first_fault later
 first_fault (Some fault ∷ later) = Some fault
+
+-- the fault of single places other than too large numbers
+abbrev pub place_fault : List PlaceModel → Option ConfigFault
+place_fault places = first_fault (missing_in places ∷ wrong_type_in places ∷ real_in places ∷ bad_id_in places ∷ [])
+
+-- the fault of datasets that don't fit together
+abbrev pub fit_fault : List DatasetModel → Option ConfigFault
+fit_fault datasets = first_fault (no_dataset_in datasets ∷ no_count_in datasets ∷ too_deep_in datasets ∷ too_big_in datasets ∷ [])
 
 -- the fault of a file with these places and datasets: of the first kind that applies anywhere, the first place
 unfoldable pub fault_in : List PlaceModel → List DatasetModel → Option ConfigFault
@@ -132,3 +140,8 @@ fault_in places datasets = first_fault
 abbrev pub IsFaultOf : ConfigFault → Option ConfigFault → Type 0
 IsFaultOf OutOfMemory expected = Unit {0}
 IsFaultOf fault expected = expected ≡ Some fault
+
+-- a call succeeds where no fault is expected, and else answers that fault, unless memory runs out
+abbrev pub Answers : {A : Type 0} → Option ConfigFault → Result A ConfigFault → Type 0
+Answers expected (Ok x) = expected ≡ None
+Answers expected (Err fault) = IsFaultOf fault expected

@@ -12,3 +12,4 @@ pub mod Seen
 pub mod Faults
 pub mod Configs
 pub mod Adding
+pub mod StoredSlots

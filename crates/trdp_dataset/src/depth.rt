@@ -79,6 +79,7 @@ fn all_true(within: &[bool]) -> bool
 }
 
 /// Whether a dataset nests deeper than 5.
+#[tactic(auto, unfolding(crate::specs::Faults::too_deep_in))]
 pub(crate) fn too_deep(alloc: Global, datasets: &Datasets) -> Result<bool, AllocError>
     ensures value { IfOk result (λ deep. too_deep_in datasets.now ≡ (if deep then Some TooDeep else None)) }
 {

@@ -2,11 +2,14 @@
 #![tactic(auto)]
 
 mod check;
+mod config;
 mod datasets;
 mod depth;
 mod element;
 mod fault;
 mod key;
+mod load;
+mod parse;
 mod pass;
 mod place;
 mod read;
@@ -14,6 +17,7 @@ mod registry;
 mod size;
 mod value;
 
+pub use config::NodeConfig;
 pub use element::{Element, ElementKind, Form, Width};
 pub use fault::ConfigFault;
 pub use key::Key;

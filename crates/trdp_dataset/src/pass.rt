@@ -3,7 +3,7 @@
 ghost use Rattle.std.specs.Prelude.{◌≡◌, find, option_map};
 ghost use Rattle.std.specs.List.{list_any};
 ghost use Rattle.trdp_dataset.specs.Seen.{place_seen, places_seen};
-ghost use Rattle.trdp_dataset.specs.Faults.{is_missing, is_wrong, is_real_place, is_bad_place, is_excessive, most, missing_in, wrong_type_in, real_in, bad_id_in, too_many_in};
+ghost use Rattle.trdp_dataset.specs.Faults.{is_missing, is_wrong, is_real_place, is_bad_place, is_excessive, most, missing_in, wrong_type_in, real_in, bad_id_in, too_many_in, first_fault, place_fault};
 
 use crate::fault::ConfigFault;
 use crate::key::{Key, Wanted};
@@ -165,4 +165,28 @@ pub(crate) fn too_many(places: &[Place<'_>]) -> Option<ConfigFault>
     ensures value { result ≡ too_many_in (places_seen places.now) }
 {
     has_excess(places).then_some(ConfigFault::TooMany)
+}
+
+/// The first fault that there is.
+fn first_fault(faults: &[Option<ConfigFault>]) -> Option<ConfigFault>
+    ensures value { result ≡ first_fault faults.now }
+{
+    for fault in faults {
+        if fault.is_some() {
+            return *fault;
+        }
+    }
+    None
+}
+
+/// The fault of single places other than too large numbers.
+pub(crate) fn place_fault(places: &[Place<'_>]) -> Option<ConfigFault>
+    ensures value { result ≡ place_fault (places_seen places.now) }
+{
+    first_fault(&[
+        missing(places),
+        wrong_type(places),
+        real(places),
+        bad_id(places),
+    ])
 }

@@ -1,6 +1,6 @@
 //! Datasets as a file has them.
 
-ghost use Rattle.std.specs.Prelude.{◌≡◌, ◌++◌, false, option_map, option_and_then, None, IfOk, OnOk, IfErr};
+ghost use Rattle.std.specs.Prelude.{◌≡◌, ◌≤◌, ◌++◌, false, option_map, option_and_then, None, IfOk, OnOk, IfErr};
 ghost use Rattle.std.specs.List.{filter_map};
 ghost use Rattle.toml.specs.Data.{as_table};
 ghost use Rattle.toml.specs.View.{view, table_view};
@@ -9,7 +9,7 @@ ghost use Rattle.trdp_dataset.specs.Places.{value_at, tables_at};
 ghost use Rattle.trdp_dataset.specs.Seen.{tables_seen};
 ghost use Rattle.trdp_dataset.specs.Faults.{has_twice, IsFaultOf, twice_id_in};
 ghost use Rattle.trdp_dataset.specs.Adding.{Adds, twice_fault};
-ghost use Rattle.trdp_dataset.specs.Configs.{number_at, element_in, elements_in, dataset_in, datasets_in};
+ghost use Rattle.trdp_dataset.specs.Configs.{number_or, element_in, elements_in, dataset_in, datasets_in};
 
 use crate::datasets::Datasets;
 use crate::element::Element;
@@ -20,12 +20,16 @@ use crate::value::{identifier, kind, number};
 use std::alloc::{AllocError, Global};
 use toml::{Table, Value};
 
-/// The number at a key, or the default where there is none in the range.
-#[tactic(auto, unfolding(crate::specs::Configs::number_at))]
-pub(crate) fn number_at(table: &Table, key: Key, low: u16, high: u16, default: u16) -> u16
-    ensures value { result ≡ number_at low high default key (table_view table.now) }
+/// The number that a value is, or the default where it is none in the range.
+#[tactic(auto, unfolding(crate::specs::Configs::number_or))]
+pub(crate) fn number_or(found: Option<&Value>, low: u16, high: u16, default: u16) -> u16
+    requires least { low ≤ default }
+    requires most { default ≤ high }
+    ensures value { result ≡ number_or low high default (option_map (λ v. view v.now) found.entry) }
+    ensures least { low ≤ result }
+    ensures most { result ≤ high }
 {
-    match value_at(table, key) {
+    match found {
         Some(value) => match number(value, low, high) {
             Some(number) => number,
             None => default,
@@ -43,7 +47,7 @@ fn element_in(table: &Table) -> Option<Element>
         Some(value) => match kind(value) {
             Some(kind) => Some(Element {
                 kind,
-                size: number_at(table, Key::ElementSize, 0, 65535, 1),
+                size: number_or(value_at(table, Key::ElementSize), 0, 65535, 1),
             }),
             None => None,
         },
@@ -106,7 +110,7 @@ fn push_dataset(alloc: Global, datasets: &mut Datasets, member: &Value) -> Resul
 }
 
 /// The datasets of a file, if no two have one identifier.
-#[tactic(auto, unfolding(crate::specs::Configs::datasets_in))]
+#[tactic(auto, unfolding(crate::specs::Configs::datasets_in, crate::specs::Faults::twice_id_in))]
 pub(crate) fn datasets_in(alloc: Global, top: &Table) -> Result<Datasets, ConfigFault>
     ensures value { IfOk result (λ datasets. datasets ≡ datasets_in (table_view top.now)) }
     ensures once { OnOk result (twice_id_in (datasets_in (table_view top.now)) ≡ None) }

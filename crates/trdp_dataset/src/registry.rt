@@ -2,13 +2,18 @@
 
 use crate::datasets::Datasets;
 use crate::element::Element;
+use crate::fault::ConfigFault;
+use crate::load::load;
+use crate::parse::parse;
+use crate::place::dataset_places;
+use std::alloc::Global;
 use std::marker::Model;
 
 /// The datasets of a configuration, in the order of the file. An identifier is 31 to 4,294,967,295.
 #[derive(Drop)]
 pub struct Registry {
     datasets: Datasets,
-    zero_sizes: Vec<usize>,
+    zero_sizes: Vec<u32>,
 }
 
 impl Model for Registry {
@@ -30,6 +35,34 @@ impl Registry {
     ghost use Rattle.trdp_dataset.specs.Datasets.{elements_of, is_known};
     ghost use Rattle.trdp_dataset.specs.ZeroSizes.{zero_size};
     ghost use Rattle.trdp_dataset.specs.Registries.{IsRegistry};
+    ghost use Rattle.trdp_dataset.specs.Stored.{zero_sizes_of};
+    ghost use Rattle.trdp_dataset.specs.Configs.{Reads, registry_of};
+
+    /// The registry of a configuration file in TOML, of which the key `dataset` alone is looked at. Without that key
+    /// there is no dataset.
+    ///
+    /// # Errors
+    /// The faults of [`ConfigFault`], of which `Toml` says that the bytes aren't UTF-8 or not TOML; `OutOfMemory` may
+    /// come in place of any of them.
+    pub fn from_toml(alloc: Global, bytes: &[u8]) -> Result<Self, ConfigFault>
+        ensures reads { Reads registry_of bytes.now result }
+    {
+        let top = parse(alloc, bytes)?;
+        let places = dataset_places(alloc, &top)?;
+        load(alloc, &top, &places)
+    }
+
+    /// The registry of datasets that fit together, with the sizes of their zero values in order.
+    pub(crate) fn new(datasets: Datasets, zero_sizes: Vec<u32>) -> Self
+        requires sound { IsRegistry datasets }
+        requires sizes { zero_sizes.items ≡ zero_sizes_of datasets }
+        ensures value { result ≡ datasets }
+    {
+        Registry {
+            datasets,
+            zero_sizes,
+        }
+    }
 
     /// How many datasets there are.
     pub fn len(&self) -> usize
@@ -86,7 +119,7 @@ impl Registry {
         ensures bound { IfSome result (λ n. n ≤ 65388) }
     {
         match self.datasets.index_of(id) {
-            Some(i) => Some(self.zero_sizes[i]),
+            Some(i) => Some(self.zero_sizes[i] as usize),
             None => None,
         }
     }

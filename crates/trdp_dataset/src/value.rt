@@ -46,6 +46,7 @@ pub(crate) fn exceeds(value: &Value, most: u16) -> bool
 /// The whole number that a value is, if it is in the range, ends included.
 pub(crate) fn number(value: &Value, low: u16, high: u16) -> Option<u16>
     ensures value { result ≡ number_in low high (view value.now) }
+    ensures range { IfSome result (λ n. (low ≤ n) × (n ≤ high)) }
 {
     match natural(value) {
         Some(n) if u64::from(low) <= n && n <= u64::from(high) => Some(n as u16),

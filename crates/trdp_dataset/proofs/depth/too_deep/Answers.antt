@@ -1,3 +1,4 @@
+use Rattle.trdp_dataset.specs.Faults.{too_deep_in}
 use Rattle.std.proofs.Common.{◌≡◌, Bool, List, ap, ◌∙◌, arith, length}
 use Rattle.std.proofs.lemmas.List.{length-replicate}
 use Rattle.std.specs.List.{list_all}
@@ -10,6 +11,7 @@ pub loop-init : goal.loop-init
 loop-init c = record { len = ap length c.in_ok-within.ensures ∙ length-replicate _ _; row = c.in_ok-within.ensures ∙ none_within c.args.datasets.now c.args.datasets.now }
 
 pub returns : goal.returns
+unfolding too_deep_in
 returns c =
     let ds = c.args.datasets.now in
     let end : c.loop.counter ≡ 5 = omega arith in
