@@ -89,6 +89,25 @@ fn encode_fault(alloc: Global, registry: &Registry, id: u32, item: &Item) -> Opt
     encode(alloc, registry, id, item).err()
 }
 
+/// Why this first entry and an empty array are no value of dataset 1001.
+fn fault_of(
+    alloc: Global,
+    registry: &Registry,
+    first: Item,
+) -> Result<Option<MarshalFault>, AllocError> {
+    let item = uncounted(alloc, first)?;
+    Ok(encode_fault(alloc, registry, 1001, &item))
+}
+
+fn encoded_length(
+    alloc: Global,
+    registry: &Registry,
+    count: u32,
+) -> Result<Result<usize, MarshalFault>, AllocError> {
+    let item = long(alloc, count)?;
+    Ok(encode(alloc, registry, 1003, &item).map(|bytes| bytes.len()))
+}
+
 #[test]
 fn spells_a_counted_array(rt: HostRuntime) -> Result<(), Fail> {
     let alloc = rt.alloc();
@@ -147,14 +166,11 @@ fn knows_no_other_dataset(rt: HostRuntime) -> Result<(), Fail> {
 fn refuses_items(rt: HostRuntime) -> Result<(), Fail> {
     let alloc = rt.alloc();
     let registry = registry(alloc)?;
-    let uncounted_one = uncounted(alloc, Item::U(1))?;
-    let fault = encode_fault(alloc, &registry, 1001, &uncounted_one);
-    assert_eq!(rt; fault, Some(MarshalFault::Shape));
-    let too_wide = uncounted(alloc, Item::U(256))?;
-    let fault = encode_fault(alloc, &registry, 1001, &too_wide);
-    assert_eq!(rt; fault, Some(MarshalFault::Shape));
-    let signed = uncounted(alloc, Item::S(0))?;
-    let fault = encode_fault(alloc, &registry, 1001, &signed);
+    for first in [1, 256, u64::MAX] {
+        let fault = fault_of(alloc, &registry, Item::U(first))?;
+        assert_eq!(rt; fault, Some(MarshalFault::Shape), "at {first}");
+    }
+    let fault = fault_of(alloc, &registry, Item::S(0))?;
     assert_eq!(rt; fault, Some(MarshalFault::Shape));
     Ok(())
 }
@@ -163,12 +179,10 @@ fn refuses_items(rt: HostRuntime) -> Result<(), Fail> {
 fn refuses_long_items(rt: HostRuntime) -> Result<(), Fail> {
     let alloc = rt.alloc();
     let registry = registry(alloc)?;
-    let longest = long(alloc, 65_384)?;
-    let encoded = encode(alloc, &registry, 1003, &longest)?;
-    assert_eq!(rt; encoded.len(), 65_388);
-    let longer = long(alloc, 65_385)?;
-    let fault = encode_fault(alloc, &registry, 1003, &longer);
-    assert_eq!(rt; fault, Some(MarshalFault::TooLong));
+    let longest = encoded_length(alloc, &registry, 65_384)?;
+    assert_eq!(rt; longest, Ok(65_388));
+    let longer = encoded_length(alloc, &registry, 65_385)?;
+    assert_eq!(rt; longer, Err(MarshalFault::TooLong));
     Ok(())
 }
 
