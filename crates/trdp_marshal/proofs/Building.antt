@@ -11,7 +11,7 @@ use Rattle.trdp_dataset.specs.Elements.{form_of}
 use Rattle.trdp_dataset.specs.Datasets.{DatasetModel, elements_of}
 use Rattle.trdp_marshal.specs.Items.{ItemModel, ItemModels, list, none, more, model_of, models_of, models_in, count_of, items_in}
 use Rattle.trdp_marshal.specs.Spelling.{◌>>=◌}
-use Rattle.trdp_marshal.specs.Reading.{Reader, Reader, form_at, repeated_at, list_at, entry_at, entries_at, elements_at, dataset_at}
+use Rattle.trdp_marshal.specs.Reading.{Reader, form_at, repeated_at, list_at, entry_at, entries_at, elements_at, dataset_at}
 use Rattle.std.specs.Result.{IsErrAnd}
 use Rattle.trdp_marshal.specs.Faults.{Fails, Gives}
 use Rattle.trdp_marshal.proofs.Steps.{dataset_at-below}

@@ -15,7 +15,7 @@ use Rattle.trdp_dataset.specs.Elements.{width_len, form_of}
 use Rattle.trdp_dataset.specs.Datasets.{DatasetModel, elements_of}
 use Rattle.trdp_marshal.specs.Items.{ItemModel, ItemModels, unsigned, signed, time48, time64, list, none, more, count_of, items_in}
 use Rattle.trdp_marshal.specs.Spelling.{Speller, ◌>>=◌, joined, number_spelling, unsigned_spelling, signed_spelling, time48_spelling, time64_spelling, form_spelling, repeated_spelling, list_spelling, entry_spelling, entries_spelling, elements_spelling, dataset_spelling, spelling}
-use Rattle.trdp_marshal.specs.Reading.{Reader, Reader, number_at, unsigned_at, signed_at, time48_at, time64_at, form_at, repeated_at, list_at, entry_at, entries_at, elements_at, dataset_at, whole, reading}
+use Rattle.trdp_marshal.specs.Reading.{Reader, number_at, unsigned_at, signed_at, time48_at, time64_at, form_at, repeated_at, list_at, entry_at, entries_at, elements_at, dataset_at, whole, reading}
 use Rattle.trdp_marshal.specs.Numbers.{IsBytes, signed_number}
 use Rattle.trdp_marshal.proofs.Numbers.{bytes_of_number, number_fits}
 

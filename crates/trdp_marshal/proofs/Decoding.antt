@@ -6,10 +6,10 @@ use Rattle.std.proofs.lemmas.Bool.{false≢true}
 use Rattle.std.proofs.lemmas.Option.{none-some}
 use Rattle.trdp_marshal.specs.declared.fault.MarshalFault.{MarshalFault}
 use Rattle.trdp_marshal.specs.declared.fault.MarshalFault.TheVariants.{NoDataset, Shape, TooLong, OutOfMemory}
-use Rattle.trdp_dataset.specs.Datasets.{DatasetModel, is_known}
+use Rattle.trdp_dataset.specs.Datasets.{DatasetModel}
 use Rattle.trdp_marshal.specs.Items.{ItemModel}
 use Rattle.trdp_marshal.specs.Reading.{dataset_at, whole, reading}
-use Rattle.trdp_marshal.specs.Faults.{Fails, Answers, FaultIs, decode_fault}
+use Rattle.trdp_marshal.specs.Faults.{has_items, Fails, Answers, FaultIs, decode_fault}
 use Rattle.trdp_marshal.specs.Numbers.{IsBytes}
 use Rattle.trdp_marshal.specs.Spells.{IsSpelled}
 use Rattle.trdp_marshal.proofs.Spellings.{reading_if_spelled}
@@ -18,15 +18,15 @@ pub is_some-map : {A B : Type 0} (f : A → B) (o : Option A) (p : Option B) →
 is_some-map f None p e = ap is_some e
 is_some-map f (Some x) p e = ap is_some e
 
-pub unknown : (registry : List DatasetModel) (id : ℕ) (bytes : List ℕ) → is_known registry id ≡ false → decode_fault registry id bytes ≡ Some NoDataset
+pub unknown : (registry : List DatasetModel) (id : ℕ) (bytes : List ℕ) → has_items registry id ≡ false → decode_fault registry id bytes ≡ Some NoDataset
 unfolding decode_fault
 unknown registry id bytes e = rw e refl
 
-pub misfit : (registry : List DatasetModel) (id : ℕ) (bytes : List ℕ) → is_known registry id ≡ true → is_some (reading registry id bytes) ≡ false → decode_fault registry id bytes ≡ Some Shape
+pub misfit : (registry : List DatasetModel) (id : ℕ) (bytes : List ℕ) → has_items registry id ≡ true → is_some (reading registry id bytes) ≡ false → decode_fault registry id bytes ≡ Some Shape
 unfolding decode_fault
 misfit registry id bytes e f = rw (e, f) refl
 
-pub faultless : (registry : List DatasetModel) (id : ℕ) (bytes : List ℕ) → is_known registry id ≡ true → is_some (reading registry id bytes) ≡ true → decode_fault registry id bytes ≡ None
+pub faultless : (registry : List DatasetModel) (id : ℕ) (bytes : List ℕ) → has_items registry id ≡ true → is_some (reading registry id bytes) ≡ true → decode_fault registry id bytes ≡ None
 unfolding decode_fault
 faultless registry id bytes e f = rw (e, f) refl
 
@@ -37,7 +37,7 @@ fails_memory TooLong found expected some fails none = absurd fails
 fails_memory OutOfMemory found expected some fails none = none
 
 pub memory_alone : {X : Type 0} (registry : List DatasetModel) (id : ℕ) (bytes : List ℕ) (result : Result X MarshalFault) (fault : MarshalFault) → IsErrAnd result (λ e. e ≡ fault) → Fails fault (dataset_at registry 5 id bytes)
-    → is_known registry id ≡ true → is_some (reading registry id bytes) ≡ true → Answers result (decode_fault registry id bytes)
+    → has_items registry id ≡ true → is_some (reading registry id bytes) ≡ true → Answers result (decode_fault registry id bytes)
 unfolding reading
 memory_alone registry id bytes (Ok x) fault same fails known fits = absurd same
 memory_alone registry id bytes (Err e) fault same fails known fits =
@@ -66,4 +66,4 @@ pub shape_only : {X : Type 0} (registry : List DatasetModel) (id : ℕ) (bytes :
 unfolding decode_fault fault_of
 shape_only {X} registry id bytes result fits answers same = λ spelled.
     let expected : decode_fault registry id bytes ≡ Some Shape = subst (λ (r : Result X MarshalFault). Answers r (decode_fault registry id bytes)) same answers in
-    shape_by (is_known registry id) (is_some (reading registry id bytes)) expected ((reading_if_spelled registry id bytes fits).1 spelled)
+    shape_by (has_items registry id) (is_some (reading registry id bytes)) expected ((reading_if_spelled registry id bytes fits).1 spelled)

@@ -10,7 +10,7 @@ use Rattle.trdp_dataset.specs.Elements.{width_len}
 use Rattle.trdp_marshal.specs.Items.{ItemModel, unsigned, signed, time48, time64, more}
 use Rattle.trdp_marshal.specs.Numbers.{signed_number}
 use Rattle.trdp_marshal.specs.Spelling.{◌>>=◌}
-use Rattle.trdp_marshal.specs.Reading.{Reader, Reader, number_at, unsigned_at, signed_at, time48_at, time64_at, form_at, repeated_at, skipped}
+use Rattle.trdp_marshal.specs.Reading.{Reader, number_at, unsigned_at, signed_at, time48_at, time64_at, form_at, repeated_at, skipped}
 use Rattle.trdp_marshal.specs.Lengths.{fixed_size, rest_after}
 use Rattle.trdp_marshal.proofs.Steps.{skipped-made}
 

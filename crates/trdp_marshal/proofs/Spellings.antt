@@ -15,7 +15,7 @@ use Rattle.trdp_dataset.specs.Elements.{width_len, form_of}
 use Rattle.trdp_dataset.specs.Datasets.{DatasetModel, elements_of}
 use Rattle.trdp_marshal.specs.Items.{ItemModel, ItemModels, unsigned, signed, time48, time64, list, none, more, count_of, items_in}
 use Rattle.trdp_marshal.specs.Numbers.{IsBytes, IsNumber}
-use Rattle.trdp_marshal.specs.Spells.{Relation, Relation, Joins, SpellsUnsigned, SpellsSigned, SpellsTime48, SpellsTime64, SpellsForm, SpellsRepeated, SpellsList, SpellsEntry, SpellsEntries, SpellsElements, SpellsDataset, Spells, IsSpelled, Fits}
+use Rattle.trdp_marshal.specs.Spells.{Relation, Joins, SpellsUnsigned, SpellsSigned, SpellsTime48, SpellsTime64, SpellsForm, SpellsRepeated, SpellsList, SpellsEntry, SpellsEntries, SpellsElements, SpellsDataset, Spells, IsSpelled, Fits}
 use Rattle.trdp_marshal.specs.Spelling.{Speller, joined, number_spelling, unsigned_spelling, signed_spelling, time48_spelling, time64_spelling, form_spelling, repeated_spelling, list_spelling, entry_spelling, entries_spelling, elements_spelling, dataset_spelling, spelling}
 use Rattle.trdp_marshal.specs.Reading.{reading, is_fitting}
 use Rattle.trdp_marshal.proofs.Numbers.{bytes_of_number, number_fits, number_bytes}

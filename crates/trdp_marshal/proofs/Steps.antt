@@ -9,7 +9,7 @@ use Rattle.trdp_dataset.specs.Datasets.{DatasetModel, elements_of}
 use Rattle.trdp_marshal.specs.Items.{ItemModel, ItemModels, list, more, count_of, items_in}
 use Rattle.trdp_marshal.specs.Spelling.{◌>>=◌}
 use Rattle.std.proofs.lemmas.List.{drop_all}
-use Rattle.trdp_marshal.specs.Reading.{Reader, Reader, form_at, repeated_at, list_at, entry_at, entries_at, elements_at, dataset_at, counted, skipped, whole}
+use Rattle.trdp_marshal.specs.Reading.{Reader, form_at, repeated_at, list_at, entry_at, entries_at, elements_at, dataset_at, counted, skipped, whole}
 
 -- what is made of a value takes the same bytes
 pub skipped-made : {A B : Type 0} (found : Option (A × List ℕ)) (f : A → B) → skipped (found >>= λ x. Some (f x.0, x.1)) ≡ skipped found

@@ -7,11 +7,11 @@ use Rattle.std.proofs.lemmas.List.{drop_all, append-nil}
 use Rattle.trdp_marshal.specs.declared.fault.MarshalFault.{MarshalFault}
 use Rattle.trdp_marshal.specs.declared.fault.MarshalFault.TheVariants.{NoDataset, Shape, TooLong, OutOfMemory}
 use Rattle.trdp_marshal.specs.declared.item.Item.{Item}
-use Rattle.trdp_dataset.specs.Datasets.{DatasetModel, is_known}
+use Rattle.trdp_dataset.specs.Datasets.{DatasetModel}
 use Rattle.trdp_marshal.specs.Items.{ItemModel, none, model_of, models_in}
 use Rattle.trdp_marshal.specs.Spelling.{Speller, joined, repeated_spelling, dataset_spelling, spelling}
 use Rattle.trdp_marshal.specs.Lengths.{measured, Appends, Continues}
-use Rattle.trdp_marshal.specs.Faults.{Answers, length_fault, encode_fault}
+use Rattle.trdp_marshal.specs.Faults.{has_items, Answers, length_fault, encode_fault}
 use Rattle.trdp_marshal.proofs.Codecs.{joined_some}
 
 -- a spelling of two parts
@@ -74,11 +74,11 @@ pub nothing_left : (left : Option (List ℕ)) → left ≡ Some [] → (rest : L
 nothing_left left e rest h = same_Some _ _ (sym h ∙ e)
 
 -- what an encoder answers
-pub no_dataset : (registry : List DatasetModel) (id : ℕ) (t : ItemModel) → is_known registry id ≡ false → encode_fault registry id t ≡ Some NoDataset
+pub no_dataset : (registry : List DatasetModel) (id : ℕ) (t : ItemModel) → has_items registry id ≡ false → encode_fault registry id t ≡ Some NoDataset
 unfolding encode_fault
 no_dataset registry id t e = rw e refl
 
-fault_known : (registry : List DatasetModel) (id : ℕ) (t : ItemModel) → is_known registry id ≡ true → encode_fault registry id t ≡ length_fault (dataset_spelling registry 5 id t)
+fault_known : (registry : List DatasetModel) (id : ℕ) (t : ItemModel) → has_items registry id ≡ true → encode_fault registry id t ≡ length_fault (dataset_spelling registry 5 id t)
 unfolding encode_fault spelling
 fault_known registry id t e = rw e refl
 
@@ -100,13 +100,13 @@ sized (Some text) len e fine =
     let test : nat_lt 65388 (length text) ≡ false = le-ltb _ _ (omega arith) in
     rw test refl
 
-pub wrong_shape : (registry : List DatasetModel) (id : ℕ) (t : ItemModel) → is_known registry id ≡ true → None ≡ measured (dataset_spelling registry 5 id t) → encode_fault registry id t ≡ Some Shape
+pub wrong_shape : (registry : List DatasetModel) (id : ℕ) (t : ItemModel) → has_items registry id ≡ true → None ≡ measured (dataset_spelling registry 5 id t) → encode_fault registry id t ≡ Some Shape
 wrong_shape registry id t known e = fault_known registry id t known ∙ misshaped (dataset_spelling registry 5 id t) e
 
-pub too_long : (registry : List DatasetModel) (id : ℕ) (t : ItemModel) (len : ℕ) → is_known registry id ≡ true → Some len ≡ measured (dataset_spelling registry 5 id t) → len ≡ 65389 → encode_fault registry id t ≡ Some TooLong
+pub too_long : (registry : List DatasetModel) (id : ℕ) (t : ItemModel) (len : ℕ) → has_items registry id ≡ true → Some len ≡ measured (dataset_spelling registry 5 id t) → len ≡ 65389 → encode_fault registry id t ≡ Some TooLong
 too_long registry id t len known e long = fault_known registry id t known ∙ oversized (dataset_spelling registry 5 id t) len e long
 
-pub sendable : (registry : List DatasetModel) (id : ℕ) (t : ItemModel) (len : ℕ) → is_known registry id ≡ true → Some len ≡ measured (dataset_spelling registry 5 id t) → len ≢ 65389 → encode_fault registry id t ≡ None
+pub sendable : (registry : List DatasetModel) (id : ℕ) (t : ItemModel) (len : ℕ) → has_items registry id ≡ true → Some len ≡ measured (dataset_spelling registry 5 id t) → len ≢ 65389 → encode_fault registry id t ≡ None
 sendable registry id t len known e fine = fault_known registry id t known ∙ sized (dataset_spelling registry 5 id t) len e fine
 
 wrote_all : (spelled : Option (List ℕ)) (len : ℕ) (new : List ℕ) → Some len ≡ measured spelled → Appends spelled [] new → spelled ≡ Some new

@@ -1,5 +1,5 @@
 -- Which fault comes.
-use Rattle.std.specs.Prelude.{◌≡◌, ℕ, List, Option, Some, None, Result, Ok, Err, is_some, if◌then◌else◌, nat_lt, length}
+use Rattle.std.specs.Prelude.{◌≡◌, ◌==◌, ◌&&◌, not, Bool, ℕ, List, Option, Some, None, Result, Ok, Err, is_some, if◌then◌else◌, nat_lt, length}
 use Rattle.trdp_dataset.specs.Datasets.{DatasetModel, is_known}
 use Rattle.trdp_marshal.specs.declared.fault.MarshalFault.{MarshalFault}
 use Rattle.trdp_marshal.specs.declared.fault.MarshalFault.TheVariants.{NoDataset, Shape, TooLong, OutOfMemory}
@@ -7,20 +7,24 @@ use Rattle.trdp_marshal.specs.Items.{ItemModel}
 use Rattle.trdp_marshal.specs.Reading.{reading}
 use Rattle.trdp_marshal.specs.Spelling.{spelling}
 
--- why bytes have no item: the dataset is unknown, or they are those of none
+-- a dataset whose payloads are items: one that is known, and not dataset 0, of which any bytes are a payload
+abbrev pub has_items : List DatasetModel → ℕ → Bool
+has_items registry id = not (id == 0) && is_known registry id
+
+-- why bytes have no item: the dataset has none, or they are those of none
 unfoldable pub decode_fault : List DatasetModel → ℕ → List ℕ → Option MarshalFault
 decode_fault registry id bytes =
-    if is_known registry id then (if is_some (reading registry id bytes) then None else Some Shape) else Some NoDataset
+    if has_items registry id then (if is_some (reading registry id bytes) then None else Some Shape) else Some NoDataset
 
 -- why bytes are not sent: there are none, or more than 65388
 abbrev pub length_fault : Option (List ℕ) → Option MarshalFault
 length_fault None = Some Shape
 length_fault (Some bytes) = if nat_lt 65388 (length bytes) then Some TooLong else None
 
--- why an item is not sent: the dataset is unknown, or the item has no bytes or too many
+-- why an item is not sent: the dataset has no items, or the item has no bytes or too many
 unfoldable pub encode_fault : List DatasetModel → ℕ → ItemModel → Option MarshalFault
 encode_fault registry id item =
-    if is_known registry id then length_fault (spelling registry id item) else Some NoDataset
+    if has_items registry id then length_fault (spelling registry id item) else Some NoDataset
 
 -- this fault where it is expected, and want of memory where none is
 abbrev pub FaultIs : MarshalFault → Option MarshalFault → Type 0

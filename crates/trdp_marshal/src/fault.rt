@@ -6,7 +6,7 @@ use thiserror::Error;
 /// Why an item has no bytes, or bytes have no item. The first that holds is answered.
 #[derive(Clone, Copy, Debug, PartialEq, Eq, Error)]
 pub enum MarshalFault {
-    /// No dataset has that identifier. None has identifier 0.
+    /// No dataset has that identifier, or it is 0, of which any bytes are a payload.
     #[error("NoDataset")]
     NoDataset,
     /// The item is no value of the dataset, or the bytes are those of none.

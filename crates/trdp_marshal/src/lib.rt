@@ -13,6 +13,8 @@ mod measure;
 mod number;
 mod payload;
 mod reader;
+#[cfg(test)]
+mod tests;
 mod writer;
 mod zero;
 

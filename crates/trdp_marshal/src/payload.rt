@@ -3,6 +3,7 @@
 ghost use Rattle.std.specs.Prelude.{◌≡◌, ◌≤◌, ◌<◌, ◌*◌, ◌↔◌, option_map, IsTrue, IfSome, is_some};
 ghost use Rattle.trdp_dataset.specs.Elements.{form_of};
 ghost use Rattle.trdp_marshal.specs.Spells.{Fits};
+ghost use Rattle.trdp_marshal.specs.Faults.{has_items};
 ghost use Rattle.trdp_marshal.specs.Lengths.{fixed_size, rest_after};
 ghost use Rattle.trdp_marshal.specs.Reading.{unsigned_at, signed_at, time48_at, time64_at, form_at, repeated_at, entry_at, entries_at, dataset_at, counted, skipped, reading, is_fitting};
 
@@ -180,6 +181,13 @@ fn skip_dataset<'a>(
     let elements = registry.elements(id)?;
     let rest = skip_entries(registry, depth - 1, elements, bytes)?;
     Some((0, rest))
+}
+
+/// Whether the payloads of a dataset are items: where the registry has it, and it is not dataset 0.
+pub(crate) fn has_items(registry: &Registry, id: u32) -> bool
+    ensures { result ≡ has_items registry.now id }
+{
+    id != 0 && registry.has(id)
 }
 
 /// Whether the bytes are those of an item of a dataset that the registry has.

@@ -11,7 +11,7 @@ ghost use Rattle.trdp_marshal.specs.Faults.{Gives, Answers, decode_fault};
 use crate::fault::MarshalFault;
 use crate::item::Item;
 use crate::number::{DEPTH, half, item_count, number};
-use crate::payload::fits_dataset;
+use crate::payload::{fits_dataset, has_items};
 use std::alloc::Global;
 use trdp_dataset::{Element, Form, Registry, Width};
 
@@ -200,7 +200,7 @@ fn read_dataset<'a>(
 ///
 /// # Errors
 ///
-/// - `NoDataset`: no dataset has that identifier, as none has identifier 0.
+/// - `NoDataset`: no dataset has that identifier, or it is 0, of which any bytes are a payload.
 /// - `Shape`: the bytes are those of no item: too few, or some left over.
 /// - `OutOfMemory`: there is no memory for the item.
 pub fn decode(
@@ -215,7 +215,7 @@ pub fn decode(
     ensures shape { result ≡ Err MarshalFault.Shape → ¬ IsSpelled registry.now id bytes.now }
     ensures fault { Answers result (decode_fault registry.now id bytes.now) }
 {
-    if !registry.has(id) {
+    if !has_items(registry, id) {
         return Err(MarshalFault::NoDataset);
     }
     if !fits_dataset(registry, id, bytes) {

@@ -14,6 +14,7 @@ use crate::fault::MarshalFault;
 use crate::item::Item;
 use crate::measure::{TOO_LONG, measure_dataset};
 use crate::number::{DEPTH, item_count};
+use crate::payload::has_items;
 use std::alloc::{AllocError, Global};
 use trdp_dataset::{Element, Form, Registry, Width};
 
@@ -210,7 +211,7 @@ fn write_dataset(
 /// # Errors
 ///
 /// Each is found before memory is taken, in this order:
-/// - `NoDataset`: no dataset has that identifier, as none has identifier 0.
+/// - `NoDataset`: no dataset has that identifier, or it is 0, of which any bytes are a payload.
 /// - `Shape`: the item is no value of the dataset: an entry is of another kind or out of its type's range, or a
 ///   list has not as many items as it should, for an array of size 0 as the entry before it says.
 /// - `TooLong`: there are more than 65,388 bytes.
@@ -226,7 +227,7 @@ pub fn encode(
         ≡ Some bytes.items) }
     ensures fault { Answers result (encode_fault registry.now id (model_of item.now)) }
 {
-    if !registry.has(id) {
+    if !has_items(registry, id) {
         return Err(MarshalFault::NoDataset);
     }
     match measure_dataset(registry, DEPTH, id, item) {
