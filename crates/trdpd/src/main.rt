@@ -35,7 +35,11 @@ fn status(rt: &HostRuntime) -> u8 {
             Ok(path) => run_file(rt, path),
             Err(error) => refuse(rt, &error, error.kind() == ErrorKind::OutOfMemory),
         },
-        Err(error) => refuse(rt, &error, error.kind() == io::ErrorKind::OutOfMemory),
+        Err(error) => refuse(
+            rt,
+            format_args!("{error}\n"),
+            error.kind() == io::ErrorKind::OutOfMemory,
+        ),
     }
 }
 
@@ -68,13 +72,13 @@ fn given_words(rt: &HostRuntime) -> io::Result<Vec<String>> {
     Ok(env::args(rt)?.collect(rt.alloc())?)
 }
 
-/// Tells why the words can't be followed, and answers the exit status.
+/// Prints why the words can't be followed, and answers the exit status.
 fn refuse<D: Display + Drop>(rt: &impl Eprint, error: D, is_out_of_memory: bool) -> u8 {
     if is_out_of_memory {
         tell(rt, ScriptFault::OutOfMemory)
     } else {
         // What standard error does with the text changes nothing.
-        let _ = rt.eprintln(error);
+        let _ = rt.eprint(error);
         USAGE
     }
 }
