@@ -1,5 +1,5 @@
 -- Receive filters of process data.
-use Rattle.std.specs.Prelude.{ℕ, Bool, ◌==◌, ◌&&◌, ◌||◌, nat_le}
+use Rattle.std.specs.Prelude.{Bool, ◌==◌, ◌&&◌, ◌||◌, nat_le}
 use Rattle.trdp_base.specs.declared.place.Ip.{Ip}
 use Rattle.trdp_base.specs.declared.place.Place.{Place}
 use Rattle.trdp_base.specs.declared.topo.Topo.{Topo}

@@ -1,24 +1,20 @@
 -- Due moments lie later than now.
-use Rattle.std.proofs.Common.{◌≡◌, ℕ, ◌+◌, ◌<◌, ◌⊎◌, inl, inr, Some, None, Bool, true, false, refl, arith, IsSome, List}
-use Rattle.std.specs.Prelude.{◌==◌, ◌&&◌, ◌||◌, nat_le, is_some, not}
+use Rattle.std.proofs.Common.{◌≡◌, ℕ, ◌+◌, Bool, true, false, refl, arith}
+use Rattle.std.specs.Prelude.{◌==◌, not}
 use Rattle.std.proofs.lemmas.Bool.Decides.{nat_tests}
 use Rattle.trdp_base.specs.declared.place.Place.{Place}
-use Rattle.trdp_head.specs.declared.pd.PdHead.{PdHead}
 use Rattle.trdp_head.specs.PdTelegrams.{PdTelegram}
 use Rattle.trdp_filter.specs.declared.globals.Globals.{Globals}
-use Rattle.trdp_filter.specs.Counts.{topo_valid}
-use Rattle.trdp_filter.specs.Globals.{leads}
-use Rattle.trdp_filter.specs.PdFilters.{pd_passes}
 use Rattle.trdp_filter.specs.Telegrams.{TelegramModel, PdIs}
 use Rattle.trdp_pd.specs.declared.publication.Publication.{Publication}
 use Rattle.trdp_pd.specs.declared.any_object.AnyObject.{AnyObject}
-use Rattle.trdp_pd.specs.declared.any_object.AnyObject.TheVariants.{Publisher, Subscription}
-use Rattle.trdp_pd.specs.declared.object.Fired.TheVariants.{Nothing, Data}
+use Rattle.trdp_pd.specs.declared.any_object.AnyObject.TheVariants.{Publisher, Subscription, Requester}
 use Rattle.trdp_pd.specs.Due.{is_due_by}
-use Rattle.trdp_pd.specs.Publishers.{PublisherState, published, publisher_due, publisher_firing, publisher_taking, may_send}
-use Rattle.trdp_pd.specs.Subscriptions.{SubscriptionState, HasTaken, deadline_from, carries_value, is_for, is_accepted, storing, subscription_taking, subscription_firing}
+use Rattle.trdp_pd.specs.Publishers.{published, publisher_due}
+use Rattle.trdp_pd.specs.Subscriptions.{SubscriptionState, deadline_from, is_accepted, subscription_taking}
 use Rattle.trdp_pd.specs.Objects.{kind_of, due_of, after_taking, after_firing}
 use Rattle.trdp_pd.specs.PublisherLaws.{nat_le-past}
+use Rattle.trdp_pd.proofs.Sending.{publication-taking, due-taking as publisher_due-taking}
 
 -- a new publisher isn't due by now
 pub published-later : (publication : Publication) (now : ℕ) → is_due_by now (publisher_due (published publication now)) ≡ false
@@ -47,14 +43,18 @@ subscription_due-taking s (PdIs src dst telegram) g fits not = either s src dst 
 
 -- a telegram makes no object due
 pub due-taking : (object : AnyObject) (telegram : TelegramModel) (g : Globals) (fits : Bool) → is_due_by g.now (due_of object) ≡ false → is_due_by g.now (due_of (after_taking object telegram g fits)) ≡ false
-due-taking (Publisher p) telegram g fits not = not
+due-taking (Publisher p) telegram g fits not =
+    rw (publication-taking p telegram g fits, publisher_due-taking p telegram g fits) not
 due-taking (Subscription s) telegram g fits not = subscription_due-taking s telegram g fits not
+due-taking (Requester r) telegram g fits not = not
 
 -- an object keeps its kind
 pub kind-taking : (object : AnyObject) (telegram : TelegramModel) (g : Globals) (fits : Bool) → kind_of (after_taking object telegram g fits) ≡ kind_of object
 kind-taking (Publisher p) telegram g fits = refl
 kind-taking (Subscription s) telegram g fits = refl
+kind-taking (Requester r) telegram g fits = refl
 
 pub kind-firing : (object : AnyObject) (g : Globals) → kind_of (after_firing object g) ≡ kind_of object
 kind-firing (Publisher p) g = refl
 kind-firing (Subscription s) g = refl
+kind-firing (Requester r) g = refl

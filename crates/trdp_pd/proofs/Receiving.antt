@@ -1,23 +1,13 @@
 -- What a subscription shows.
-use Rattle.std.proofs.Common.{◌≡◌, ℕ, ◌+◌, ◌<◌, ◌⊎◌, inl, inr, Some, None, Bool, true, false, refl, arith, IsSome, List}
-use Rattle.std.specs.Prelude.{◌==◌, ◌&&◌, ◌||◌, nat_le, is_some, not}
+use Rattle.std.proofs.Common.{◌≡◌, ◌⊎◌, inl, inr, Bool, true, false, refl, arith}
 use Rattle.std.proofs.lemmas.Bool.Decides.{nat_tests}
 use Rattle.trdp_base.specs.declared.place.Place.{Place}
 use Rattle.trdp_head.specs.declared.pd.PdHead.{PdHead}
 use Rattle.trdp_head.specs.PdTelegrams.{PdTelegram}
 use Rattle.trdp_filter.specs.declared.globals.Globals.{Globals}
-use Rattle.trdp_filter.specs.Counts.{topo_valid}
-use Rattle.trdp_filter.specs.Globals.{leads}
 use Rattle.trdp_filter.specs.PdFilters.{pd_passes}
 use Rattle.trdp_filter.specs.Telegrams.{TelegramModel, PdIs}
-use Rattle.trdp_pd.specs.declared.publication.Publication.{Publication}
-use Rattle.trdp_pd.specs.declared.any_object.AnyObject.{AnyObject}
-use Rattle.trdp_pd.specs.declared.any_object.AnyObject.TheVariants.{Publisher, Subscription}
-use Rattle.trdp_pd.specs.declared.object.Fired.TheVariants.{Nothing, Data}
-use Rattle.trdp_pd.specs.Due.{is_due_by}
-use Rattle.trdp_pd.specs.Publishers.{PublisherState, published, publisher_due, publisher_firing, publisher_taking, may_send}
-use Rattle.trdp_pd.specs.Subscriptions.{SubscriptionState, HasTaken, deadline_from, carries_value, is_for, is_accepted, storing, subscription_taking, subscription_firing}
-use Rattle.trdp_pd.specs.Objects.{kind_of, due_of, after_taking, after_firing}
+use Rattle.trdp_pd.specs.Subscriptions.{SubscriptionState, HasTaken, is_for, is_accepted, subscription_taking}
 use Rattle.std.proofs.lemmas.Bool.Decides.{nat_tests}
 
 -- a telegram that is for a subscription has its comId

@@ -1,17 +1,15 @@
 -- What is true of every publisher.
-use Rattle.std.proofs.Common.{◌≡◌, ℕ, ◌+◌, ◌-◌, ◌*◌, ◌/◌, ◌<◌, Some, None, Bool, true, false, refl, arith, IsSome, List}
-use Rattle.std.specs.Prelude.{◌==◌, nat_le, is_some, ◌&&◌}
+use Rattle.std.proofs.Common.{◌≡◌, ℕ, ◌+◌, ◌-◌, ◌*◌, ◌/◌, ◌<◌, Bool, true, false, refl, arith}
+use Rattle.std.specs.Prelude.{◌==◌, nat_le}
 use Rattle.std.proofs.lemmas.Bool.Decides.{nat_tests}
 use Rattle.std.proofs.Math.Nat.{mod-lt}
 use Rattle.std.proofs.lemmas.Nat.{div-add-mod'}
 use Rattle.trdp_head.specs.declared.pd.PdHead.{PdHead}
 use Rattle.trdp_filter.specs.declared.globals.Globals.{Globals}
-use Rattle.trdp_filter.specs.Telegrams.{TelegramModel}
-use Rattle.trdp_pd.specs.declared.publication.Publication.{Publication}
+use Rattle.trdp_filter.specs.Telegrams.{TelegramModel, PdIs}
 use Rattle.trdp_pd.specs.declared.object.Taken.TheVariants.{Nothing as NotTaken}
-use Rattle.trdp_pd.specs.declared.object.Fired.TheVariants.{Nothing, Data}
 use Rattle.trdp_pd.specs.Due.{is_due_by}
-use Rattle.trdp_pd.specs.Publishers.{PublisherState, published, publisher_due, publisher_addressed, publisher_taking, publisher_firing, may_send, next_due}
+use Rattle.trdp_pd.specs.Publishers.{PublisherState, is_answered, is_asked, may_send, next_due, publisher_addressed, publisher_due, publisher_firing, publisher_taking}
 
 -- the next due moment is later than now
 pub next_due-later : (now due cycle : ℕ) → 0 < cycle → now < due + ((now - due) / cycle + 1) * cycle
@@ -43,6 +41,13 @@ publisher_due-firing p g = rw (publication-firing p g, due-firing p g) (either p
     either p g true is = rw is refl
     either p g false is = rw is (nat_le-past (next_due p g.now) g.now (next_due-later g.now p.due p.publication.cycle (grind (arith, nat_tests))))
 
+-- a telegram that isn't for a publisher isn't answered
+is_answered-unaddressed : (p : PublisherState) (head : PdHead) (g : Globals) → is_asked p head ≡ false → is_answered p head g ≡ false
+unfolding is_answered
+is_answered-unaddressed p head g is = rw is refl
+
 -- a telegram that isn't for a publisher changes nothing
 pub publisher_taking-unaddressed : (p : PublisherState) (telegram : TelegramModel) (g : Globals) (fits : Bool) → publisher_addressed p telegram g ≡ false → publisher_taking p telegram g fits ≡ record { object = p; taken = NotTaken }
-publisher_taking-unaddressed p telegram g fits not = refl
+publisher_taking-unaddressed p (PdIs src dst telegram) g fits is =
+    let none : is_answered p telegram.head g ≡ false = is_answered-unaddressed p telegram.head g is in
+    rw none refl

@@ -1,16 +1,12 @@
 -- What is true of every subscription.
-use Rattle.std.proofs.Common.{◌≡◌, ℕ, ◌+◌, ◌<◌, ◌⊎◌, inl, inr, Some, None, Bool, true, false, refl, arith}
-use Rattle.std.specs.Prelude.{◌==◌, ◌&&◌, not, nat_le}
-use Rattle.std.proofs.lemmas.Bool.Decides.{nat_tests}
+use Rattle.std.proofs.Common.{◌≡◌, Bool, false, refl}
 use Rattle.trdp_base.specs.declared.place.Place.{Place}
 use Rattle.trdp_head.specs.declared.pd.PdHead.{PdHead}
-use Rattle.trdp_head.specs.PdTelegrams.{PdTelegram}
 use Rattle.trdp_filter.specs.declared.globals.Globals.{Globals}
 use Rattle.trdp_filter.specs.Telegrams.{TelegramModel, PdIs}
 use Rattle.trdp_pd.specs.declared.object.Taken.TheVariants.{Nothing as NotTaken}
 use Rattle.trdp_pd.specs.Due.{is_due_by}
-use Rattle.trdp_pd.specs.Subscriptions.{SubscriptionState, deadline_from, is_for, is_accepted, is_stale, storing, subscription_addressed, subscription_taking, subscription_firing}
-use Rattle.trdp_pd.specs.PublisherLaws.{nat_le-past}
+use Rattle.trdp_pd.specs.Subscriptions.{SubscriptionState, is_for, is_accepted, subscription_addressed, subscription_taking, subscription_firing}
 
 -- a telegram that isn't for a subscription isn't accepted
 is_accepted-unaddressed : (s : SubscriptionState) (src dst : Place) (head : PdHead) (g : Globals) (fits : Bool) → is_for s src dst head g ≡ false → is_accepted s src dst head g fits ≡ false

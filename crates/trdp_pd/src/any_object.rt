@@ -5,6 +5,7 @@ ghost use Rattle.trdp_pd.specs.Objects.{kind_of};
 
 use crate::object::{Fired, Object, Taken};
 use crate::publisher::Publisher;
+use crate::requester::Requester;
 use crate::subscription::Subscription;
 use trdp_filter::{Globals, Telegram};
 
@@ -13,10 +14,12 @@ use trdp_filter::{Globals, Telegram};
 pub enum AnyObject {
     Publisher(Publisher),
     Subscription(Subscription),
+    Requester(Requester),
 }
 
 impl AnyObject {
-    /// The place of its kind in the order of the quotas: 0 for publishers, 1 for subscriptions.
+    /// The place of its kind in the order of the quotas: 0 for publishers, 1 for subscriptions, 2 for
+    /// requesters.
     pub fn kind(&self) -> usize
         ensures kind { result ≡ kind_of self.now }
         ensures within { result ≤ 5 }
@@ -24,6 +27,7 @@ impl AnyObject {
         match self {
             AnyObject::Publisher(_) => 0,
             AnyObject::Subscription(_) => 1,
+            AnyObject::Requester(_) => 2,
         }
     }
 }
@@ -48,6 +52,7 @@ impl Object for AnyObject {
         match self {
             AnyObject::Publisher(publisher) => publisher.due(),
             AnyObject::Subscription(subscription) => subscription.due(),
+            AnyObject::Requester(requester) => requester.due(),
         }
     }
 
@@ -55,6 +60,7 @@ impl Object for AnyObject {
         match self {
             AnyObject::Publisher(publisher) => publisher.addressed(telegram, globals),
             AnyObject::Subscription(subscription) => subscription.addressed(telegram, globals),
+            AnyObject::Requester(requester) => requester.addressed(telegram, globals),
         }
     }
 
@@ -62,6 +68,7 @@ impl Object for AnyObject {
         match self {
             AnyObject::Publisher(publisher) => publisher.take(telegram, globals, fits),
             AnyObject::Subscription(subscription) => subscription.take(telegram, globals, fits),
+            AnyObject::Requester(requester) => requester.take(telegram, globals, fits),
         }
     }
 
@@ -69,6 +76,7 @@ impl Object for AnyObject {
         match self {
             AnyObject::Publisher(publisher) => publisher.fire(globals),
             AnyObject::Subscription(subscription) => subscription.fire(globals),
+            AnyObject::Requester(requester) => requester.fire(globals),
         }
     }
 }

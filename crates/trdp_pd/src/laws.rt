@@ -13,7 +13,7 @@ ghost use Rattle.trdp_pd.specs.Publishers.{PublisherState, published, publisher_
 ghost use Rattle.trdp_pd.specs.Subscriptions.{SubscriptionState, HasTaken, subscribed, subscription_taking, subscription_firing};
 ghost use Rattle.trdp_pd.specs.Objects.{kind_of, due_of, is_addressed, taking, after_taking, after_firing};
 
-use crate::object::Fired;
+use crate::object::{Fired, Taken};
 use crate::terms::ValueState;
 
 /// A telegram that isn't addressed to an object changes nothing.
@@ -43,16 +43,20 @@ pub fn taken_stays_later()
     ensures { (object : AnyObject) (telegram : TelegramModel) (g : Globals) (fits : Bool) → is_due_by g.now (due_of object) ≡ false → is_due_by g.now (due_of (after_taking object telegram g fits)) ≡ false }
 {}
 
-/// Neither a telegram nor a moment changes what a publisher is to send, or its value.
+/// Neither a telegram nor a moment changes what a publisher is to send, or its value; and no telegram moves its due
+/// moment.
 pub fn publisher_keeps()
     ensures taken_publication { (p : PublisherState) (telegram : TelegramModel) (g : Globals) (fits : Bool) → (publisher_taking p telegram g fits).object.publication ≡ p.publication }
     ensures taken_value { (p : PublisherState) (telegram : TelegramModel) (g : Globals) (fits : Bool) → (publisher_taking p telegram g fits).object.value ≡ p.value }
+    ensures taken_due { (p : PublisherState) (telegram : TelegramModel) (g : Globals) (fits : Bool) → (publisher_taking p telegram g fits).object.due ≡ p.due }
     ensures fired_publication { (p : PublisherState) (g : Globals) → (publisher_firing p g).object.publication ≡ p.publication }
     ensures fired_value { (p : PublisherState) (g : Globals) → (publisher_firing p g).object.value ≡ p.value }
 {}
 
 /// What a publisher sends has its comId, and it sends nothing before it has a value.
 pub fn publisher_sends_its_own()
+    ensures pulled_com_id { (p : PublisherState) (telegram : TelegramModel) (g : Globals) (fits : Bool) (head : PdHead) → (publisher_taking p telegram g fits).taken ≡ Taken.Pulled head → head.com_id ≡ p.publication.com_id }
+    ensures pulled_value { (p : PublisherState) (telegram : TelegramModel) (g : Globals) (fits : Bool) (head : PdHead) → (publisher_taking p telegram g fits).taken ≡ Taken.Pulled head → IsSome p.value }
     ensures fired_com_id { (p : PublisherState) (g : Globals) (head : PdHead) → (publisher_firing p g).fired ≡ Fired.Data head → head.com_id ≡ p.publication.com_id }
     ensures fired_value { (p : PublisherState) (g : Globals) (head : PdHead) → (publisher_firing p g).fired ≡ Fired.Data head → IsSome p.value }
 {}

@@ -1,4 +1,4 @@
-//! The process data objects of a slot: publishers and subscriptions.
+//! The process data objects of a slot: publishers, subscriptions and requesters.
 //!
 //! Each object is one state, and what a telegram or a moment does to it is a function of this state, the telegram and
 //! the node's globals alone. The constructors take the memory of one payload; nothing later takes any.
@@ -10,6 +10,7 @@ mod laws;
 mod object;
 mod publication;
 mod publisher;
+mod requester;
 mod subscription;
 mod terms;
 
@@ -22,6 +23,7 @@ pub use laws::{
 pub use object::{Fired, Object, Taken};
 pub use publication::Publication;
 pub use publisher::Publisher;
+pub use requester::{Enquiry, Requester};
 pub use subscription::Subscription;
 pub use terms::{Behaviour, Peek, SubscriptionTerms, ValueState};
 

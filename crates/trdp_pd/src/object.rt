@@ -19,6 +19,8 @@ pub enum Taken {
     Stored,
     /// It took the value, and had been silent before.
     Alive,
+    /// It answers a pull request with its value under this header.
+    Pulled(PdHead),
 }
 
 /// What an object does as it fires.

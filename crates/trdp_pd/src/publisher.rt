@@ -2,6 +2,7 @@
 
 ghost use Rattle.std.specs.Prelude.{◌≡◌, ℕ, ◌≤◌, length, Some, IfOk, IfSome, option_copied};
 ghost use Rattle.trdp_base.specs.declared.moment.TheConstants.{LAST};
+ghost use Rattle.trdp_pd.specs.Publishers.{asks_for_value, asked_com_id};
 
 use crate::buffer::PayloadBuffer;
 use crate::object::{Fired, Object, Taken};
@@ -33,9 +34,31 @@ impl Model for Publisher {
     ghost invariant = { λ p. p.due ≤ 2 ^ 63 };
 }
 
+/// Whether telegrams of this type ask for a value.
+#[tactic(auto, unfolding(crate::specs::Publishers::asks_for_value))]
+fn asks_for_value(kind: PdKind) -> bool
+    ensures { result ≡ asks_for_value kind }
+{
+    match kind {
+        PdKind::PullRequest => true,
+        PdKind::Data | PdKind::PullReply | PdKind::Error => false,
+    }
+}
+
+/// The comId that a pull request asks for.
+#[tactic(auto, unfolding(crate::specs::Publishers::asked_com_id))]
+fn asked_com_id(head: &PdHead) -> u32
+    ensures { result ≡ asked_com_id head.now }
+{
+    if head.reply_com_id == 0 {
+        head.com_id
+    } else {
+        head.reply_com_id
+    }
+}
+
 impl Publisher {
-    ghost use Rattle.trdp_head.specs.declared.pd.PdKind.{PdKind};
-    ghost use Rattle.trdp_pd.specs.Publishers.{PublisherState, published, may_send, head_as};
+    ghost use Rattle.trdp_pd.specs.Publishers.{PublisherState, published, may_send, is_asked, is_answered, head_as, next_counter};
 
     /// A publisher without a value, first due one cycle after `now`, in microseconds (profile).
     ///
@@ -107,12 +130,33 @@ impl Publisher {
             && topo_valid(self.publication.topo, globals.topo)
     }
 
-    /// The header of its next telegram, as one of this type.
-    fn head(&self, kind: PdKind) -> PdHead
-        ensures { result ≡ head_as kind self.now }
+    /// Whether the telegram is a pull request for its comId, with topology counts that match its own.
+    #[tactic(auto, unfolding(crate::specs::Publishers::is_asked))]
+    fn is_asked(&self, head: &PdHead) -> bool
+        ensures { result ≡ is_asked self.now head.now }
     {
+        asks_for_value(head.kind)
+            && asked_com_id(head) == self.publication.com_id
+            && topo_valid(head.topo, self.publication.topo)
+    }
+
+    /// Whether it answers the telegram.
+    #[tactic(auto, unfolding(crate::specs::Publishers::is_answered))]
+    fn answers(&self, head: &PdHead, globals: &Globals) -> bool
+        ensures { result ≡ is_answered self.now head.now globals.entry.now }
+    {
+        self.is_asked(head) && self.may_send(globals)
+    }
+
+    /// The header of its next telegram, as one of this type, which is counted.
+    fn send(&mut self, kind: PdKind) -> PdHead
+        ensures head { result ≡ head_as kind self.old }
+        ensures state { self.new ≡ record self.old { counter = next_counter self.old.counter } }
+    {
+        let counter = self.counter;
+        self.counter = counter.wrapping_add(1);
         PdHead {
-            counter: self.counter,
+            counter,
             kind,
             com_id: self.publication.com_id,
             topo: self.publication.topo,
@@ -147,14 +191,32 @@ impl Object for Publisher {
         }
     }
 
-    /// No telegram is for a publisher.
-    fn addressed(&self, _telegram: &Telegram<'_>, _globals: &Globals) -> bool {
-        false
+    /// Pull requests that ask for its comId are for it, with topology counts that match its own.
+    fn addressed(&self, telegram: &Telegram<'_>, _globals: &Globals) -> bool {
+        match *telegram {
+            Telegram::Pd {
+                src: _,
+                dst: _,
+                view,
+            } => self.is_asked(&view.head),
+        }
     }
 
-    /// A publisher takes no telegram.
-    fn take(&mut self, _telegram: &Telegram<'_>, _globals: &Globals, _fits: bool) -> Taken {
-        Taken::Nothing
+    /// Answers a pull request if it may send, and changes nothing by any other telegram.
+    fn take(&mut self, telegram: &Telegram<'_>, globals: &Globals, _fits: bool) -> Taken {
+        match *telegram {
+            Telegram::Pd {
+                src: _,
+                dst: _,
+                view,
+            } => {
+                if self.answers(&view.head, globals) {
+                    Taken::Pulled(self.send(PdKind::PullReply))
+                } else {
+                    Taken::Nothing
+                }
+            }
+        }
     }
 
     /// Sends at most one telegram, and is next due at the first of its moments after now.
@@ -162,11 +224,9 @@ impl Object for Publisher {
         let cycle = u64::from(self.publication.cycle);
         let missed = (globals.now - self.due) / cycle;
         let may_send = self.may_send(globals);
-        let head = self.head(PdKind::Data);
         self.due += (missed + 1) * cycle;
         if may_send {
-            self.counter = self.counter.wrapping_add(1);
-            Fired::Data(head)
+            Fired::Data(self.send(PdKind::Data))
         } else {
             Fired::Nothing
         }

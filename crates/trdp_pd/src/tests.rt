@@ -4,8 +4,8 @@ ghost use Rattle.std.specs.Prelude.{◌≡◌, ◌≤◌, length};
 ghost use Rattle.trdp_base.specs.declared.moment.TheConstants.{LAST};
 
 use crate::{
-    AnyObject, Behaviour, Fired, Object, Publication, Publisher, Subscription, SubscriptionTerms,
-    Taken, ValueState,
+    AnyObject, Behaviour, Enquiry, Fired, Object, Publication, Publisher, Requester, Subscription,
+    SubscriptionTerms, Taken, ValueState,
 };
 use std::process::Abort;
 use std::test::Fail;
@@ -213,4 +213,82 @@ fn cycle(rt: HostRuntime) -> Result<(), Fail> {
     let sent = moment(&mut object, 400_000);
     assert_eq!(rt; sent, Some(Fired::Data(head(PdKind::Data, 1))));
     Ok(())
+}
+
+/// A pull request for comId 100 from X, handed to the object.
+fn pull_request<O: Object>(object: &mut O, globals: &Globals, reply_com_id: u32) -> (bool, Taken)
+    requires { globals.now.now ≤ LAST }
+{
+    let mut head = head(PdKind::PullRequest, 0);
+    head.reply_com_id = reply_com_id;
+    let view = PdView { head, payload: b"" };
+    let telegram = Telegram::Pd {
+        src: X,
+        dst: HERE,
+        view,
+    };
+    let addressed = object.addressed(&telegram, globals);
+    (addressed, object.take(&telegram, globals, true))
+}
+
+#[test]
+fn pull_reply_between_two_cycles(rt: HostRuntime) -> Result<(), Fail> {
+    let mut p = Publisher::new(rt.alloc(), &publication(100_000), 0)?;
+    p.put(b"\x0a");
+    let sent = moment(&mut p, 100_000);
+    assert_eq!(rt; sent, Some(Fired::Data(head(PdKind::Data, 0))));
+    let pulled = pull_request(&mut p, &at(100_000), 0);
+    assert_eq!(rt; pulled, (true, Taken::Pulled(head(PdKind::PullReply, 1))));
+    let sent = moment(&mut p, 200_000);
+    assert_eq!(rt; sent, Some(Fired::Data(head(PdKind::Data, 2))));
+    Ok(())
+}
+
+#[test]
+fn asked_com_id(rt: HostRuntime) -> Result<(), Fail> {
+    let mut p = Publisher::new(rt.alloc(), &publication(0), 0)?;
+    p.put(b"\x0a");
+    assert_eq!(rt; pull_request(&mut p, &at(0), 200), (false, Taken::Nothing));
+    let pulled = pull_request(&mut p, &at(0), 100);
+    assert_eq!(rt; pulled, (true, Taken::Pulled(head(PdKind::PullReply, 0))));
+    Ok(())
+}
+
+#[test]
+fn follower_is_silent(rt: HostRuntime) -> Result<(), Fail> {
+    let mut publication = publication(100_000);
+    publication.group = 3;
+    let mut p = Publisher::new(rt.alloc(), &publication, 0)?;
+    p.put(b"\x0a");
+    assert_eq!(rt; moment(&mut p, 100_000), Some(Fired::Nothing));
+    let mut globals = at(100_000);
+    assert_eq!(rt; pull_request(&mut p, &globals, 0), (true, Taken::Nothing));
+    globals.led.set(3, true);
+    let pulled = pull_request(&mut p, &globals, 0);
+    assert_eq!(rt; pulled, (true, Taken::Pulled(head(PdKind::PullReply, 0))));
+    assert_eq!(rt; p.due(), Some(200_000));
+    Ok(())
+}
+
+#[test]
+fn pull(rt: HostRuntime) {
+    let mut r = Requester::new(&Enquiry {
+        com_id: 100,
+        reply_com_id: 0,
+        reply_ip: Ip(0),
+        topo: ANY,
+        to: X,
+    });
+    assert_eq!(rt; r.pull(), head(PdKind::PullRequest, 0));
+    assert_eq!(rt; r.pull(), head(PdKind::PullRequest, 1));
+    assert_eq!(rt; r.com_id(), 100);
+    assert_eq!(rt; r.topo(), ANY);
+    assert_eq!(rt; r.to(), X);
+    let mut object = AnyObject::Requester(r);
+    assert_eq!(rt; object.kind(), 2);
+    assert_eq!(rt;
+        pull_request(&mut object, &at(0), 0),
+        (false, Taken::Nothing)
+    );
+    assert_eq!(rt; moment(&mut object, LAST), None);
 }
