@@ -73,7 +73,8 @@ pub trait Object {
         ensures outcome { result ≡ (firing self.old globals.entry.now).fired };
 
     /// A telegram that isn't addressed to the object changes nothing.
-    ghost unaddressed: { (x : Self) (telegram : TelegramModel) (g : Globals) (fits : Bool) → is_addressed x telegram g ≡ false → taking x telegram g fits ≡ record { object = x; taken = NotTaken } };
+    ghost unaddressed: { (x : Self) (telegram : TelegramModel) (g : Globals) (fits : Bool)
+        → is_addressed x telegram g ≡ false → taking x telegram g fits ≡ record { object = x; taken = NotTaken } };
 
     /// An object that fired isn't due by now.
     ghost later: { (x : Self) (g : Globals) → is_due_by g.now (due_of (firing x g).object) ≡ false };

@@ -194,22 +194,14 @@ impl Object for Publisher {
     /// Pull requests that ask for its comId are for it, with topology counts that match its own.
     fn addressed(&self, telegram: &Telegram<'_>, _globals: &Globals) -> bool {
         match *telegram {
-            Telegram::Pd {
-                src: _,
-                dst: _,
-                view,
-            } => self.is_asked(&view.head),
+            Telegram::Pd { view, .. } => self.is_asked(&view.head),
         }
     }
 
     /// Answers a pull request if it may send, and changes nothing by any other telegram.
     fn take(&mut self, telegram: &Telegram<'_>, globals: &Globals, _fits: bool) -> Taken {
         match *telegram {
-            Telegram::Pd {
-                src: _,
-                dst: _,
-                view,
-            } => {
+            Telegram::Pd { view, .. } => {
                 if self.answers(&view.head, globals) {
                     Taken::Pulled(self.send(PdKind::PullReply))
                 } else {

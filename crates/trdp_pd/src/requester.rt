@@ -122,7 +122,10 @@ impl Object for Requester {
     }
 
     /// A requester does nothing by itself.
-    fn fire(&mut self, _globals: &Globals) -> Fired {
+    fn fire(&mut self, _globals: &Globals) -> Fired
+        ensures state { self.new ≡ self.old }
+        ensures outcome { result ≡ Fired.Nothing }
+    {
         Fired::Nothing
     }
 }
