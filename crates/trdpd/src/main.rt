@@ -1,6 +1,12 @@
 //! The program `trdpd`: a communication node that takes its events from a script.
 //!
 //! `trdpd run CONFIG` reads the script from standard input and writes what the node gives its slots to standard output.
+//!
+//! What no contract pins yet, and tests with values from outside cover until the text form has a crate of its own: the value
+//! of each word and which of Unknown, Count and BadWord comes (`line`, `words`), the order of the records over several slots
+//! (`push_records`, `push_slot`), and a script as a whole (`run_script`, `Session`, a `run_program` that answers 0 at once). A
+//! reader or writer that always fails meets its contract (`next_line`, `write_whole`, `write_some`), since no contract can say
+//! that the outside works. The command line is `clap`'s, and is tried by hand.
 #![tactic(auto)]
 
 mod command;
