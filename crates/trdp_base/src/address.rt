@@ -48,7 +48,7 @@ pub fn read_place(text: &[u8]) -> Result<Place, TextFault>
     Ok(Place { ip, port })
 }
 
-// Reads a port of 0 to 65535.
+/// Reads a port of 0 to 65535.
 fn read_port(text: &[u8]) -> Result<u16, TextFault>
     ensures value { IfOk result (λ port. text.now ≡ text_of_number port) }
     ensures found { (port : ℕ) → port < 2 ^ 16
@@ -59,7 +59,7 @@ fn read_port(text: &[u8]) -> Result<u16, TextFault>
     Ok(port as u16)
 }
 
-// The parts of a text before and behind its first colon.
+/// The parts of a text before and behind its first colon.
 fn split_at_colon(text: &[u8]) -> Option<(&[u8], &[u8])>
     ensures parts { IfSome result (λ parts. text.now ≡ parts.0.now ++ 58 ∷ parts.1.now) }
     ensures first { IfSome result (λ parts. All (λ byte. byte ≢ 58) parts.0.now) }
@@ -104,7 +104,7 @@ pub fn push_place(out: &mut Vec<u8>, place: Place) -> Result<(), AllocError>
     Ok(())
 }
 
-// Appends the written form of an address to a list that has room for it.
+/// Appends the written form of an address to a list that has room for it.
 fn put_ip(out: &mut Vec<u8>, ip: Ip)
     requires room { vec_len out.old + IP_LENGTH ≤ vec_capacity out.old }
     ensures items { out.new.items ≡ out.old.items ++ text_of_ip ip }
@@ -121,7 +121,7 @@ fn put_ip(out: &mut Vec<u8>, ip: Ip)
     put_octet(out, fourth);
 }
 
-// Appends the written form of one number of an address to a list that has room for it.
+/// Appends the written form of one number of an address to a list that has room for it.
 fn put_octet(out: &mut Vec<u8>, octet: u8)
     requires room { vec_len out.old + 3 ≤ vec_capacity out.old }
     ensures items { out.new.items ≡ out.old.items ++ text_of_number octet }
@@ -131,7 +131,7 @@ fn put_octet(out: &mut Vec<u8>, octet: u8)
     put_number(out, u64::from(octet));
 }
 
-// Appends the written form of a port to a list that has room for it.
+/// Appends the written form of a port to a list that has room for it.
 fn put_port(out: &mut Vec<u8>, port: u16)
     requires room { vec_len out.old + 5 ≤ vec_capacity out.old }
     ensures items { out.new.items ≡ out.old.items ++ text_of_number port }

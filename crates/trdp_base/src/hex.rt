@@ -29,28 +29,28 @@ pub fn read_hex(alloc: Global, text: &[u8]) -> Result<Vec<u8>, TextFault>
     }
 }
 
-// Whether a text is the written form of no bytes.
+/// Whether a text is the written form of no bytes.
 fn is_dash(text: &[u8]) -> bool
     ensures { IsTrue result ↔ (text.now ≡ text_of_hex []) }
 {
     matches!(text, [b'-'])
 }
 
-// Whether a text is lower-case hexadecimal digits in pairs, one pair or more.
+/// Whether a text is lower-case hexadecimal digits in pairs, one pair or more.
 fn is_in_pairs(text: &[u8]) -> bool
     ensures { IsTrue result ↔ IsInPairs text.now }
 {
     !text.is_empty() && text.len() % 2 == 0 && text.iter().all(|digit| is_digit(*digit))
 }
 
-// Whether a character is a lower-case hexadecimal digit.
+/// Whether a character is a lower-case hexadecimal digit.
 fn is_digit(digit: u8) -> bool
     ensures { IsTrue result ↔ IsHexDigit digit }
 {
     matches!(digit, b'0'..=b'9' | b'a'..=b'f')
 }
 
-// The bytes with these pairs of digits.
+/// The bytes with these pairs of digits.
 fn bytes_of_pairs(alloc: Global, text: &[u8]) -> Result<Vec<u8>, AllocError>
     requires { IsInPairs text.now }
     ensures pairs { IfOk result (λ bytes. hex_pairs bytes.items ≡ text.now) }
@@ -64,7 +64,7 @@ fn bytes_of_pairs(alloc: Global, text: &[u8]) -> Result<Vec<u8>, AllocError>
     Ok(bytes)
 }
 
-// The value of a lower-case hexadecimal digit.
+/// The value of a lower-case hexadecimal digit.
 fn value_of_digit(digit: u8) -> u8
     requires { IsHexDigit digit }
     ensures small { result < 16 }
@@ -98,7 +98,7 @@ pub fn push_hex(out: &mut Vec<u8>, bytes: &[u8]) -> Result<(), AllocError>
     Ok(())
 }
 
-// The lower-case hexadecimal digit of a value below 16.
+/// The lower-case hexadecimal digit of a value below 16.
 fn digit_of(value: u8) -> u8
     requires { value < 16 }
     ensures { result ≡ hex_digit value }

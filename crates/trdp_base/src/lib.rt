@@ -1,4 +1,4 @@
-//! The small types of a TRDP node and their texts: addresses, places, topology counts, moments.
+//! The small types of a TRDP node and their texts: addresses, places, topology counts, moments, quotas.
 #![tactic(auto)]
 
 mod address;
@@ -6,6 +6,7 @@ mod hex;
 mod moment;
 mod number;
 mod place;
+mod quotas;
 #[cfg(test)]
 mod tests;
 mod text;
@@ -16,5 +17,6 @@ pub use hex::{push_hex, read_hex};
 pub use moment::{LAST, Moment};
 pub use number::{NUMBER_LENGTH, push_number, read_number};
 pub use place::{Ip, Place};
+pub use quotas::{QUOTA_LIMIT, Quotas};
 pub use text::TextFault;
 pub use topo::Topo;

@@ -26,7 +26,7 @@ pub fn read_number(text: &[u8], max: u64) -> Result<u64, TextFault>
     }
 }
 
-// The number of 64 bits with this written form.
+/// The number of 64 bits with this written form.
 fn number_of(text: &[u8]) -> Option<u64>
     ensures value { IfSome result (λ number. text.now ≡ text_of_number number) }
     ensures found { (number : ℕ) → number < 2 ^ 64
@@ -42,7 +42,7 @@ fn number_of(text: &[u8]) -> Option<u64>
     }
 }
 
-// Whether a text begins with a plus sign, or with a zero and more.
+/// Whether a text begins with a plus sign, or with a zero and more.
 fn has_needless_start(text: &[u8]) -> bool
     ensures { IsTrue result ↔ HasNeedlessStart text.now }
 {
@@ -65,7 +65,7 @@ pub fn push_number(out: &mut Vec<u8>, number: u64) -> Result<(), AllocError>
     Ok(())
 }
 
-// Appends the written form of a number to a list that has room for it.
+/// Appends the written form of a number to a list that has room for it.
 pub(crate) fn put_number(out: &mut Vec<u8>, number: u64)
     requires room { vec_len out.old + length (text_of_number number) ≤ vec_capacity out.old }
     ensures items { out.new.items ≡ out.old.items ++ text_of_number number }
@@ -78,7 +78,7 @@ pub(crate) fn put_number(out: &mut Vec<u8>, number: u64)
     out.extend_from_slice(written).unwrap();
 }
 
-// Writes a number's digits at the end of the list, and says where they begin.
+/// Writes a number's digits at the end of the list, and says where they begin.
 fn write_digits(number: u64, digits: &mut [u8; NUMBER_LENGTH]) -> usize
     ensures within { result ≤ NUMBER_LENGTH }
     ensures digits { drop result digits.new ≡ text_of_number number }
@@ -94,7 +94,7 @@ fn write_digits(number: u64, digits: &mut [u8; NUMBER_LENGTH]) -> usize
     start
 }
 
-// The character of a number's last digit.
+/// The character of a number's last digit.
 fn digit_of(number: u64) -> u8
     ensures { result ≡ 48 + number % 10 }
 {

@@ -1,0 +1,14 @@
+pub mod Answering
+pub mod Lookups
+pub mod Addresses
+pub mod Arrays
+pub mod SlotNumbers
+pub mod Filled
+pub mod Meaning
+pub mod Loading
+pub mod Sound
+pub mod Sizes
+pub mod Rows
+pub mod Steps
+pub mod Twice
+pub mod Passes

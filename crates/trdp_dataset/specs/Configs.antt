@@ -1,0 +1,122 @@
+-- What a configuration file means, as a function of the table that its text is.
+use Rattle.std.specs.Prelude.{◌≡◌, ℕ, List, Option, Some, None, Result, Ok, Err, map, option_map, option_and_then, unwrap_or}
+use Rattle.std.specs.List.{filter_map}
+use Rattle.std.specs.Str.{IsUtf8}
+use Rattle.toml.specs.Data.{Data, Members}
+use Rattle.toml.specs.Parse.{parse_document}
+use Rattle.toml.specs.View.{table_view}
+use Rattle.std.specs.BTreeMap.{BTreeMap}
+use Rattle.std.specs.Prelude.{String}
+use Rattle.std.specs.declared.alloc.Global.{Global}
+use Rattle.toml.specs.declared.value.Value.{Value}
+use Rattle.trdp_dataset.specs.declared.element.Element.{Element}
+use Rattle.trdp_dataset.specs.declared.element.ElementKind.{ElementKind}
+use Rattle.trdp_dataset.specs.declared.key.Key.{Key}
+use Rattle.trdp_dataset.specs.declared.key.Key.TheVariants.{Address, PdPort, MdPort, OperatorPort, Slot, ControlPort, Dataset, DatasetId, Elements, ElementType, ElementSize}
+use Rattle.trdp_dataset.specs.declared.fault.ConfigFault.{ConfigFault}
+use Rattle.trdp_dataset.specs.declared.fault.ConfigFault.TheVariants.{Toml, OutOfMemory}
+use Rattle.trdp_dataset.specs.Keys.{quota_keys}
+use Rattle.trdp_dataset.specs.Values.{number_in, address_in, identifier_in, kind_in}
+use Rattle.trdp_dataset.specs.Datasets.{DatasetModel}
+use Rattle.trdp_dataset.specs.Places.{value_at, tables_at, node_in, dataset_places, all_places}
+use Rattle.trdp_dataset.specs.Faults.{fault_in}
+
+-- the number that a value is, or the default where it is none in the range
+unfoldable pub number_or : ℕ → ℕ → ℕ → Option Data → ℕ
+number_or low high default found = unwrap_or (option_and_then (number_in low high) found) default
+
+-- the number at a key
+abbrev pub number_at : ℕ → ℕ → ℕ → Key → Members → ℕ
+number_at low high default key members = number_or low high default (value_at key members)
+
+-- an element of that type, of the size that the table gives, or 1
+abbrev pub element_of : Members → ElementKind → Element
+element_of members kind = record { kind = kind; size = number_at 0 65535 1 ElementSize members }
+
+-- the element that a table is, if its type is known
+unfoldable pub element_in : Members → Option Element
+element_in members = option_map (element_of members) (option_and_then kind_in (value_at ElementType members))
+
+-- the elements of a dataset
+unfoldable pub elements_in : Members → List Element
+elements_in members = filter_map element_in (tables_at Elements members)
+
+-- the dataset that a table is, if it has an identifier
+unfoldable pub dataset_in : Members → Option DatasetModel
+dataset_in members = option_map (λ id. record { id = id; elements = elements_in members }) (option_and_then identifier_in (value_at DatasetId members))
+
+-- the datasets of a file
+unfoldable pub datasets_in : Members → List DatasetModel
+datasets_in top = filter_map dataset_in (tables_at Dataset top)
+
+-- a slot: its quotas of publishers, subscriptions, requesters, listeners, callers and repliers, and its control port
+pub record SlotModel : Type 0 where
+  pub quotas : List ℕ
+  pub control_port : ℕ
+
+unfoldable pub quotas_in : Members → List ℕ
+quotas_in members = map (λ key. number_at 0 256 0 key members) quota_keys
+
+unfoldable pub slot_in : Members → SlotModel
+slot_in members = record { quotas = quotas_in members; control_port = number_at 0 65535 0 ControlPort members }
+
+unfoldable pub slots_in : Members → List SlotModel
+slots_in top = map slot_in (tables_at Slot top)
+
+-- the configuration of a node
+pub record ConfigModel : Type 0 where
+  pub registry : List DatasetModel
+  pub address : ℕ
+  pub pd_port : ℕ
+  pub md_port : ℕ
+  pub operator_port : ℕ
+  pub slots : List SlotModel
+
+-- what the table of the node has at a key
+unfoldable pub node_value : Key → Members → Option Data
+node_value key top = option_and_then (value_at key) (node_in top)
+
+-- the configuration that a file without a fault means
+unfoldable pub config_in : Members → ConfigModel
+config_in top = record {
+  registry = datasets_in top;
+  address = unwrap_or (option_and_then address_in (node_value Address top)) 0;
+  pd_port = number_or 1 65535 17224 (node_value PdPort top);
+  md_port = number_or 1 65535 17225 (node_value MdPort top);
+  operator_port = number_or 0 65535 0 (node_value OperatorPort top);
+  slots = slots_in top;
+}
+
+-- the fault of the datasets of a file
+unfoldable pub registry_fault_of : Members → Option ConfigFault
+registry_fault_of top = fault_in (dataset_places top) (datasets_in top)
+
+-- the fault of a file
+unfoldable pub config_fault_of : Members → Option ConfigFault
+config_fault_of top = fault_in (all_places top) (datasets_in top)
+
+abbrev pub unless : {A : Type 0} → Option ConfigFault → A → Result A ConfigFault
+unless None x = Ok x
+unless (Some fault) x = Err fault
+
+-- the datasets of a file, or its fault
+abbrev pub registry_of : Members → Result (List DatasetModel) ConfigFault
+registry_of top = unless (registry_fault_of top) (datasets_in top)
+
+-- the configuration of a file, or its fault
+abbrev pub config_of : Members → Result ConfigModel ConfigFault
+config_of top = unless (config_fault_of top) (config_in top)
+
+-- what a call read from bytes is what they mean by a function of the table; Toml comes where they are no UTF-8
+-- or no table, and want of memory at any time
+abbrev pub Reads : {A : Type 0} → (Members → Result A ConfigFault) → List ℕ → Result A ConfigFault → Type 0
+Reads meaning bytes (Err OutOfMemory) = Unit {0}
+Reads meaning bytes (Err Toml) = IsUtf8 bytes → parse_document bytes ≡ None
+Reads meaning bytes result = IsUtf8 bytes × ((top : Members) × (parse_document bytes ≡ Some top) × (result ≡ meaning top))
+
+-- what a call parsed is the table of the bytes
+abbrev pub Parses : List ℕ → Result (BTreeMap (String Global) Value) ConfigFault → Type 0
+Parses bytes (Ok top) = IsUtf8 bytes × (parse_document bytes ≡ Some (table_view top))
+Parses bytes (Err OutOfMemory) = Unit {0}
+Parses bytes (Err Toml) = IsUtf8 bytes → parse_document bytes ≡ None
+Parses bytes (Err _) = ⊥

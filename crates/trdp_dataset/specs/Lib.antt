@@ -1,0 +1,15 @@
+pub mod Elements
+pub mod Datasets
+pub mod Depths
+pub mod ZeroSizes
+pub mod Registries
+pub mod Stored
+pub mod Keys
+pub mod Types
+pub mod Values
+pub mod Places
+pub mod Seen
+pub mod Faults
+pub mod Configs
+pub mod Adding
+pub mod StoredSlots

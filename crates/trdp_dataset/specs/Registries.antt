@@ -1,0 +1,16 @@
+-- What holds of the datasets of every configuration.
+use Rattle.std.specs.Prelude.{◌≡◌, ◌<◌, ◌≤◌, length, ℕ, true, false, List, Some}
+use Rattle.trdp_dataset.specs.declared.element.Element.{Element}
+use Rattle.trdp_dataset.specs.Datasets.{DatasetModel, elements_of, is_known, all_pass, all_counted}
+use Rattle.trdp_dataset.specs.Depths.{is_within}
+use Rattle.trdp_dataset.specs.ZeroSizes.{zero_size}
+
+-- identifiers are 31 and above, a dataset has an element, each dataset that is nested in one is there, each array of size 0 comes after its count, no dataset is of a depth
+-- above 5, and each zero value has at most 65388 bytes
+pub record IsRegistry (registry : List DatasetModel) : Type 0 where
+  pub above : (id : ℕ) → is_known registry id ≡ true → 31 ≤ id
+  pub filled : (id : ℕ) (es : List Element) → elements_of registry id ≡ Some es → 0 < length es
+  pub known : (id : ℕ) (es : List Element) → elements_of registry id ≡ Some es → all_pass (is_known registry) es ≡ true
+  pub counted : (id : ℕ) (es : List Element) → elements_of registry id ≡ Some es → all_counted false es ≡ true
+  pub deep : (id : ℕ) → is_known registry id ≡ true → is_within registry 5 id ≡ true
+  pub sized : (id : ℕ) → zero_size registry id ≤ 65388

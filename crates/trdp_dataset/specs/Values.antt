@@ -1,0 +1,83 @@
+-- What the values of a configuration file mean.
+use Rattle.std.specs.Prelude.{◌&&◌, ◌||◌, nat_le, ℕ, pos, Bool, false, List, [], ◌∷◌, Option, Some, None, option_map, option_and_then, is_some, if◌then◌else◌}
+use Rattle.std.specs.List.{list_all}
+use Rattle.std.specs.Int.{from_be_bytes, w32}
+use Rattle.std.specs.Net.Reader.{read_ipv4, whole_value}
+use Rattle.toml.specs.Data.{Data, string, integer, array, Items, no_items, item, as_str, as_integer, as_table}
+use Rattle.trdp_dataset.specs.declared.element.ElementKind.{ElementKind}
+use Rattle.trdp_dataset.specs.declared.key.Wanted.{Wanted}
+use Rattle.trdp_dataset.specs.declared.key.Wanted.TheVariants as wanted
+use Rattle.trdp_dataset.specs.Types.{type_named, type_numbered, is_real_name, is_real_number}
+
+-- the items in order
+abbrev pub items_list : Items → List Data
+items_list no_items = []
+items_list (item d ds) = d ∷ items_list ds
+
+-- the members of an array; any other value has none
+abbrev pub items_in : Data → List Data
+items_in (array ds) = items_list ds
+items_in _ = []
+
+-- the address of a text: four decimal numbers of 0 to 255 without leading zeros, joined by dots
+unfoldable pub address_of : List ℕ → Option ℕ
+address_of text = option_map (λ octets. from_be_bytes w32 octets) (whole_value (read_ipv4 text))
+
+-- the address that a value gives
+abbrev pub address_in : Data → Option ℕ
+address_in (string text) = address_of text
+address_in _ = None
+
+-- the whole number that a value is, if it is 0 or above
+abbrev pub natural_in : Data → Option ℕ
+natural_in (integer (pos n)) = Some n
+natural_in _ = None
+
+-- the number, if it is in the range
+abbrev pub in_range : ℕ → ℕ → ℕ → Option ℕ
+in_range low high n = if nat_le low n && nat_le n high then Some n else None
+
+-- the whole number that a value is, if it is in the range
+abbrev pub number_in : ℕ → ℕ → Data → Option ℕ
+number_in low high d = option_and_then (in_range low high) (natural_in d)
+
+-- the identifier of a dataset that a value is
+abbrev pub identifier_in : Data → Option ℕ
+identifier_in d = number_in 31 4294967295 d
+
+-- the type that a value names or numbers
+abbrev pub kind_in : Data → Option ElementKind
+kind_in (string name) = type_named name
+kind_in (integer (pos n)) = type_numbered n
+kind_in _ = None
+
+-- a value that names or numbers a real number
+abbrev pub is_real : Data → Bool
+is_real (string name) = is_real_name name
+is_real (integer (pos n)) = is_real_number n
+is_real _ = false
+
+abbrev pub is_integer : Data → Bool
+is_integer d = is_some (as_integer d)
+
+abbrev pub is_table : Data → Bool
+is_table d = is_some (as_table d)
+
+-- an array each of whose members is a table
+abbrev pub is_tables : Data → Bool
+is_tables (array ds) = list_all is_table (items_list ds)
+is_tables _ = false
+
+-- a name or a whole number
+abbrev pub is_type : Data → Bool
+is_type d = is_some (as_str d) || is_integer d
+
+-- a value is of the kind that is wanted
+abbrev pub is_of : Wanted → Data → Bool
+is_of wanted.Table d = is_table d
+is_of wanted.Tables d = is_tables d
+is_of wanted.Address d = is_some (address_in d)
+is_of (wanted.Number low high) d = is_some (number_in low high d)
+is_of wanted.Quota d = is_some (natural_in d)
+is_of wanted.Identifier d = is_integer d
+is_of wanted.Kind d = is_type d

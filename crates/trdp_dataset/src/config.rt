@@ -1,0 +1,231 @@
+//! The configuration of a node.
+
+ghost use Rattle.std.specs.Prelude.{◌≡◌, ◌≤◌, length, unwrap_or, option_map, option_and_then, IfOk};
+ghost use Rattle.toml.specs.Data.{as_table};
+ghost use Rattle.toml.specs.View.{view, table_view};
+ghost use Rattle.trdp_dataset.specs.Values.{address_in};
+ghost use Rattle.trdp_dataset.specs.Places.{value_at};
+ghost use Rattle.trdp_dataset.specs.Seen.{tables_seen};
+ghost use Rattle.trdp_dataset.specs.Configs.{number_at, number_or, node_value, config_in, datasets_in, quotas_in, slot_in, slots_in};
+ghost use Rattle.trdp_dataset.specs.StoredSlots.{slot_seen, slots_of};
+
+use crate::fault::ConfigFault;
+use crate::key::Key;
+use crate::load::load;
+use crate::parse::parse;
+use crate::place::{all_places, members_at, node_in, value_at};
+use crate::read::number_or;
+use crate::registry::Registry;
+use crate::value::address;
+use std::alloc::{AllocError, Global};
+use std::marker::Model;
+use toml::{Table, Value};
+use trdp_base::{Ip, Quotas};
+
+/// An application slot as a configuration has it.
+#[derive(Clone, Copy, Drop)]
+struct Slot {
+    quotas: Quotas,
+    control_port: u16,
+}
+
+/// The configuration of a node: its datasets, its address and ports, and the quotas and control port of each slot.
+#[derive(Drop)]
+pub struct NodeConfig {
+    registry: Registry,
+    address: Ip,
+    pd_port: u16,
+    md_port: u16,
+    operator_port: u16,
+    slots: Vec<Slot>,
+}
+
+impl Model for NodeConfig {
+    ghost use Rattle.std.specs.Prelude.{◌≡◌, ◌≤◌, ◌<◌, length};
+    ghost use Rattle.trdp_dataset.specs.Configs.{ConfigModel};
+    ghost use Rattle.trdp_dataset.specs.StoredSlots.{slots_of};
+
+    ghost Value = { ConfigModel };
+
+    ghost view = { λ c. record { registry = c.registry; address = c.address.0; pd_port = c.pd_port; md_port = c.md_port; operator_port = c.operator_port; slots = slots_of c.slots.items } };
+
+    ghost invariant = { λ c. (1 ≤ c.pd_port) × (1 ≤ c.md_port) × (1 ≤ length c.slots.items) × (length c.slots.items ≤ 16) };
+}
+
+/// The quota at a key of a slot; 0 where there is none.
+fn quota(slot: &Table, key: Key) -> u16
+    ensures value { result ≡ number_at 0 256 0 key (table_view slot.now) }
+    ensures within { result ≤ 256 }
+{
+    number_or(value_at(slot, key), 0, 256, 0)
+}
+
+/// The quotas of a slot.
+#[tactic(auto, unfolding(crate::specs::Configs::quotas_in))]
+fn quotas_in(slot: &Table) -> Quotas
+    ensures value { result ≡ quotas_in (table_view slot.now) }
+{
+    let counts = [
+        quota(slot, Key::Publishers),
+        quota(slot, Key::Subscriptions),
+        quota(slot, Key::Requesters),
+        quota(slot, Key::Listeners),
+        quota(slot, Key::Callers),
+        quota(slot, Key::Repliers),
+    ];
+    Quotas::new(counts).unwrap()
+}
+
+/// The slot that a table is.
+#[tactic(auto, unfolding(crate::specs::Configs::slot_in))]
+fn slot_in(slot: &Table) -> Slot
+    ensures value { slot_seen result ≡ slot_in (table_view slot.now) }
+{
+    Slot {
+        quotas: quotas_in(slot),
+        control_port: number_or(value_at(slot, Key::ControlPort), 0, 65535, 0),
+    }
+}
+
+/// The slots of a file.
+#[tactic(auto, unfolding(crate::specs::Configs::slots_in))]
+fn slots_in(alloc: Global, top: &Table) -> Result<Vec<Slot>, AllocError>
+    ensures value { IfOk result (λ slots. slots_of slots.items ≡ slots_in (table_view top.now)) }
+{
+    let mut slots = Vec::new(alloc);
+    for member in members_at(top, Key::Slot) {
+        if let Some(table) = member.as_table() {
+            slots.push(slot_in(table))?;
+        }
+    }
+    Ok(slots)
+}
+
+/// What the table of the node has at a key.
+#[tactic(auto, unfolding(crate::specs::Configs::node_value))]
+fn node_value(top: &Table, key: Key) -> Option<&Value>
+    ensures value { option_map (λ v. view v.now) result ≡ node_value key (table_view top.now) }
+{
+    match node_in(top) {
+        Some(node) => value_at(node, key),
+        None => None,
+    }
+}
+
+/// The address of the node; 0.0.0.0 where there is none.
+fn address_in(top: &Table) -> Ip
+    ensures value { result.0 ≡ unwrap_or (option_and_then address_in (node_value Key.Address (table_view top.now))) 0 }
+{
+    match node_value(top, Key::Address) {
+        Some(value) => match address(value) {
+            Some(address) => address,
+            None => Ip(0),
+        },
+        None => Ip(0),
+    }
+}
+
+/// The configuration that a file without a fault means.
+#[tactic(auto, unfolding(crate::specs::Configs::config_in))]
+fn config_in(top: &Table, registry: Registry, slots: Vec<Slot>) -> NodeConfig
+    requires registry { registry ≡ datasets_in (table_view top.now) }
+    requires slots { slots_of slots.items ≡ slots_in (table_view top.now) }
+    requires some { 1 ≤ length (slots_in (table_view top.now)) }
+    requires few { length (slots_in (table_view top.now)) ≤ 16 }
+    ensures value { result ≡ config_in (table_view top.now) }
+{
+    NodeConfig {
+        registry,
+        address: address_in(top),
+        pd_port: number_or(node_value(top, Key::PdPort), 1, 65535, 17224),
+        md_port: number_or(node_value(top, Key::MdPort), 1, 65535, 17225),
+        operator_port: number_or(node_value(top, Key::OperatorPort), 0, 65535, 0),
+        slots,
+    }
+}
+
+impl NodeConfig {
+    ghost use Rattle.std.specs.Prelude.{◌≡◌, ◌≤◌, length, option_map, slice_get};
+    ghost use Rattle.trdp_dataset.specs.Configs.{Reads, config_of};
+
+    /// The configuration of a file in TOML.
+    ///
+    /// # Errors
+    /// The faults of [`ConfigFault`], of which `Toml` says that the bytes aren't UTF-8 or not TOML; `OutOfMemory` may
+    /// come in place of any of them.
+    pub fn from_toml(alloc: Global, bytes: &[u8]) -> Result<Self, ConfigFault>
+        ensures reads { Reads config_of bytes.now result }
+    {
+        let top = parse(alloc, bytes)?;
+        let places = all_places(alloc, &top)?;
+        let registry = load(alloc, &top, &places)?;
+        let slots = slots_in(alloc, &top)?;
+        Ok(config_in(&top, registry, slots))
+    }
+
+    /// The datasets.
+    pub fn registry(&self) -> &Registry
+        ensures value { result.now ≡ self.now.registry }
+    {
+        &self.registry
+    }
+
+    /// The address of the node.
+    pub fn address(&self) -> Ip
+        ensures value { result.0 ≡ self.now.address }
+    {
+        self.address
+    }
+
+    /// The UDP port of process data, 1 to 65535.
+    pub fn pd_port(&self) -> u16
+        ensures value { result ≡ self.now.pd_port }
+        ensures least { 1 ≤ result }
+    {
+        self.pd_port
+    }
+
+    /// The UDP port of message data, 1 to 65535.
+    pub fn md_port(&self) -> u16
+        ensures value { result ≡ self.now.md_port }
+        ensures least { 1 ≤ result }
+    {
+        self.md_port
+    }
+
+    /// The UDP port of the operator; 0 for none.
+    pub fn operator_port(&self) -> u16
+        ensures value { result ≡ self.now.operator_port }
+    {
+        self.operator_port
+    }
+
+    /// How many application slots there are, 1 to 16.
+    pub fn slots(&self) -> usize
+        ensures value { result ≡ length self.now.slots }
+        ensures least { 1 ≤ result }
+        ensures most { result ≤ 16 }
+    {
+        self.slots.len()
+    }
+
+    /// How many objects a slot may hold; None where there is no such slot.
+    pub fn quotas(&self, slot: usize) -> Option<Quotas>
+        ensures value { result ≡ option_map (λ s. s.quotas) (slice_get self.now.slots slot) }
+    {
+        match self.slots.get(slot) {
+            Some(slot) => Some(slot.quotas),
+            None => None,
+        }
+    }
+
+    /// The UDP port for the calls of a slot, 0 for none; None where there is no such slot.
+    pub fn control_port(&self, slot: usize) -> Option<u16>
+        ensures value { result ≡ option_map (λ s. s.control_port) (slice_get self.now.slots slot) }
+    {
+        match self.slots.get(slot) {
+            Some(slot) => Some(slot.control_port),
+            None => None,
+        }
+    }
+}

@@ -1,0 +1,124 @@
+//! Datasets as a file has them.
+
+ghost use Rattle.std.specs.Prelude.{◌≡◌, ◌≤◌, ◌++◌, false, option_map, option_and_then, None, IfOk, OnOk, IfErr};
+ghost use Rattle.std.specs.List.{filter_map};
+ghost use Rattle.toml.specs.Data.{as_table};
+ghost use Rattle.toml.specs.View.{view, table_view};
+ghost use Rattle.trdp_dataset.specs.Values.{identifier_in};
+ghost use Rattle.trdp_dataset.specs.Places.{value_at, tables_at};
+ghost use Rattle.trdp_dataset.specs.Seen.{tables_seen};
+ghost use Rattle.trdp_dataset.specs.Faults.{has_twice, IsFaultOf, twice_id_in};
+ghost use Rattle.trdp_dataset.specs.Adding.{Adds, twice_fault};
+ghost use Rattle.trdp_dataset.specs.Configs.{number_or, element_in, elements_in, dataset_in, datasets_in};
+
+use crate::datasets::Datasets;
+use crate::element::Element;
+use crate::fault::ConfigFault;
+use crate::key::Key;
+use crate::place::{members_at, value_at};
+use crate::value::{identifier, kind, number};
+use std::alloc::{AllocError, Global};
+use toml::{Table, Value};
+
+/// The number that a value is, or the default where it is none in the range.
+#[tactic(auto, unfolding(crate::specs::Configs::number_or))]
+pub(crate) fn number_or(found: Option<&Value>, low: u16, high: u16, default: u16) -> u16
+    requires least { low ≤ default }
+    requires most { default ≤ high }
+    ensures value { result ≡ number_or low high default (option_map (λ v. view v.now) found.entry) }
+    ensures least { low ≤ result }
+    ensures most { result ≤ high }
+{
+    match found {
+        Some(value) => match number(value, low, high) {
+            Some(number) => number,
+            None => default,
+        },
+        None => default,
+    }
+}
+
+/// The element that a table is, if its type is known.
+#[tactic(auto, unfolding(crate::specs::Configs::element_in))]
+fn element_in(table: &Table) -> Option<Element>
+    ensures value { result ≡ element_in (table_view table.now) }
+{
+    match value_at(table, Key::ElementType) {
+        Some(value) => match kind(value) {
+            Some(kind) => Some(Element {
+                kind,
+                size: number_or(value_at(table, Key::ElementSize), 0, 65535, 1),
+            }),
+            None => None,
+        },
+        None => None,
+    }
+}
+
+/// The element that a member of an array is.
+fn element_of(member: &Value) -> Option<Element>
+    ensures value { result ≡ option_and_then element_in (as_table (view member.now)) }
+{
+    match member.as_table() {
+        Some(table) => element_in(table),
+        None => None,
+    }
+}
+
+/// The elements of a dataset.
+#[tactic(auto, unfolding(crate::specs::Configs::elements_in))]
+fn elements_in(alloc: Global, dataset: &Table) -> Result<Vec<Element>, AllocError>
+    ensures value { IfOk result (λ elements. elements.items ≡ elements_in (table_view dataset.now)) }
+{
+    let mut elements = Vec::new(alloc);
+    for member in members_at(dataset, Key::Elements) {
+        if let Some(element) = element_of(member) {
+            elements.push(element)?;
+        }
+    }
+    Ok(elements)
+}
+
+/// The identifier of a dataset.
+fn identifier_of(dataset: &Table) -> Option<u32>
+    ensures value { result ≡ option_and_then identifier_in (value_at Key.DatasetId (table_view dataset.now)) }
+{
+    match value_at(dataset, Key::DatasetId) {
+        Some(value) => identifier(value),
+        None => None,
+    }
+}
+
+/// Adds the dataset that a member of an array is, if it is a table with an identifier.
+#[tactic(auto, unfolding(crate::specs::Configs::dataset_in))]
+fn push_dataset(alloc: Global, datasets: &mut Datasets, member: &Value) -> Result<(), ConfigFault>
+    ensures added { OnOk result (Adds datasets.old datasets.new (option_and_then dataset_in (as_table (view member.now)))) }
+    ensures fault { IfErr result (λ fault. IsFaultOf fault (twice_fault datasets.old (option_and_then dataset_in (as_table (view member.now))))) }
+{
+    let Some(dataset) = member.as_table() else {
+        return Ok(());
+    };
+    let Some(id) = identifier_of(dataset) else {
+        return Ok(());
+    };
+    let elements = elements_in(alloc, dataset)?;
+    if datasets.push(id, elements)? {
+        Ok(())
+    } else {
+        Err(ConfigFault::TwiceId)
+    }
+}
+
+/// The datasets of a file, if no two have one identifier.
+#[tactic(auto, unfolding(crate::specs::Configs::datasets_in, crate::specs::Faults::twice_id_in))]
+pub(crate) fn datasets_in(alloc: Global, top: &Table) -> Result<Datasets, ConfigFault>
+    ensures value { IfOk result (λ datasets. datasets ≡ datasets_in (table_view top.now)) }
+    ensures once { OnOk result (twice_id_in (datasets_in (table_view top.now)) ≡ None) }
+    ensures fault { IfErr result (λ fault. IsFaultOf fault (twice_id_in (datasets_in (table_view top.now)))) }
+{
+    let mut datasets = Datasets::new(alloc);
+    for member in members_at(top, Key::Dataset) {
+        push_dataset(alloc, &mut datasets, member)?;
+    }
+    Ok(datasets)
+}

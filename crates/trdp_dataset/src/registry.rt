@@ -1,0 +1,133 @@
+//! The datasets of a configuration.
+
+use crate::datasets::Datasets;
+use crate::element::Element;
+use crate::fault::ConfigFault;
+use crate::load::load;
+use crate::parse::parse;
+use crate::place::dataset_places;
+use std::alloc::Global;
+use std::marker::Model;
+
+/// The datasets of a configuration, in the order of the file. An identifier is 31 to 4,294,967,295.
+#[derive(Drop)]
+pub struct Registry {
+    datasets: Datasets,
+    zero_sizes: Vec<u32>,
+}
+
+impl Model for Registry {
+    ghost use Rattle.std.specs.Prelude.{◌≡◌, List};
+    ghost use Rattle.trdp_dataset.specs.Datasets.{DatasetModel};
+    ghost use Rattle.trdp_dataset.specs.ZeroSizes.{zero_size};
+    ghost use Rattle.trdp_dataset.specs.Registries.{IsRegistry};
+    ghost use Rattle.trdp_dataset.specs.Stored.{zero_sizes_of};
+
+    ghost Value = { List DatasetModel };
+
+    ghost view = { λ r. r.datasets };
+
+    ghost invariant = { λ r. IsRegistry r.datasets × (r.zero_sizes.items ≡ zero_sizes_of r.datasets) };
+}
+
+impl Registry {
+    ghost use Rattle.std.specs.Prelude.{◌≡◌, ◌==◌, ◌≤◌, length, option_map, option_and_then, is_some, slice_get, if◌then◌else◌, IfSome};
+    ghost use Rattle.trdp_dataset.specs.Datasets.{elements_of, is_known};
+    ghost use Rattle.trdp_dataset.specs.ZeroSizes.{zero_size};
+    ghost use Rattle.trdp_dataset.specs.Registries.{IsRegistry};
+    ghost use Rattle.trdp_dataset.specs.Stored.{zero_sizes_of};
+    ghost use Rattle.trdp_dataset.specs.Configs.{Reads, registry_of};
+
+    /// The registry of a configuration file in TOML, of which the key `dataset` alone is looked at. Without that key
+    /// there is no dataset.
+    ///
+    /// # Errors
+    /// The faults of [`ConfigFault`], of which `Toml` says that the bytes aren't UTF-8 or not TOML; `OutOfMemory` may
+    /// come in place of any of them.
+    pub fn from_toml(alloc: Global, bytes: &[u8]) -> Result<Self, ConfigFault>
+        ensures reads { Reads registry_of bytes.now result }
+    {
+        let top = parse(alloc, bytes)?;
+        let places = dataset_places(alloc, &top)?;
+        load(alloc, &top, &places)
+    }
+
+    /// The registry of datasets that fit together, with the sizes of their zero values in order.
+    pub(crate) fn new(datasets: Datasets, zero_sizes: Vec<u32>) -> Self
+        requires sound { IsRegistry datasets }
+        requires sizes { zero_sizes.items ≡ zero_sizes_of datasets }
+        ensures value { result ≡ datasets }
+    {
+        Registry {
+            datasets,
+            zero_sizes,
+        }
+    }
+
+    /// How many datasets there are.
+    pub fn len(&self) -> usize
+        ensures value { result ≡ length self.now }
+    {
+        self.datasets.len()
+    }
+
+    /// Whether there is no dataset.
+    pub fn is_empty(&self) -> bool
+        ensures value { result ≡ (length self.now == 0) }
+    {
+        self.len() == 0
+    }
+
+    /// The identifier of a dataset by its place in the file, from 0; None from `len()` on.
+    pub fn id_at(&self, i: usize) -> Option<u32>
+        ensures value { result ≡ option_map (λ d. d.id) (slice_get self.now i) }
+    {
+        match self.datasets.at(i) {
+            Some((id, _)) => Some(id),
+            None => None,
+        }
+    }
+
+    /// The elements of a dataset in order; None where no dataset has that identifier.
+    pub fn elements(&self, id: u32) -> Option<&[Element]>
+        ensures value { option_map (λ es. es.now) result ≡ elements_of self.now id }
+    {
+        self.datasets.elements(id)
+    }
+
+    /// Whether a dataset has that identifier. None has identifier 0.
+    pub fn has(&self, id: u32) -> bool
+        ensures value { result ≡ is_known self.now id }
+    {
+        self.elements(id).is_some()
+    }
+
+    /// One element of a dataset by its place, from 0; None where there is none.
+    pub fn element(&self, id: u32, i: usize) -> Option<Element>
+        ensures value { result ≡ option_and_then (λ es. slice_get es i) (elements_of self.now id) }
+    {
+        match self.elements(id) {
+            Some(elements) => elements.get(i).copied(),
+            None => None,
+        }
+    }
+
+    /// How many bytes the zero value of a dataset takes, at most 65,388: every number in it is 0, and so each
+    /// array of size 0 is empty. None where no dataset has that identifier.
+    pub fn zero_size(&self, id: u32) -> Option<usize>
+        ensures value { result ≡ (if is_known self.now id then Some (zero_size self.now id) else None) }
+        ensures bound { IfSome result (λ n. n ≤ 65388) }
+    {
+        match self.datasets.index_of(id) {
+            Some(i) => Some(self.zero_sizes[i] as usize),
+            None => None,
+        }
+    }
+
+    /// What holds of every registry: a law for callers, which does nothing when it runs.
+    pub fn sound(&self)
+        ensures sound { IsRegistry self.now }
+    {
+        let _ = &self.datasets;
+    }
+}

@@ -1,0 +1,10 @@
+pub mod Numbers
+pub mod Codecs
+pub mod Spellings
+pub mod Steps
+pub mod Fixed
+pub mod Building
+pub mod Decoding
+pub mod Measuring
+pub mod Writing
+pub mod Zeros

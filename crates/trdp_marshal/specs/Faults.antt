@@ -1,0 +1,49 @@
+-- Which fault comes.
+use Rattle.std.specs.Prelude.{◌≡◌, ◌==◌, ◌&&◌, not, Bool, ℕ, List, Option, Some, None, Result, Ok, Err, is_some, if◌then◌else◌, nat_lt, length}
+use Rattle.trdp_dataset.specs.Datasets.{DatasetModel, is_known}
+use Rattle.trdp_marshal.specs.declared.fault.MarshalFault.{MarshalFault}
+use Rattle.trdp_marshal.specs.declared.fault.MarshalFault.TheVariants.{NoDataset, Shape, TooLong, OutOfMemory}
+use Rattle.trdp_marshal.specs.Items.{ItemModel}
+use Rattle.trdp_marshal.specs.Reading.{reading}
+use Rattle.trdp_marshal.specs.Spelling.{spelling}
+
+-- a dataset whose payloads are items: one that is known, and not dataset 0, of which any bytes are a payload
+abbrev pub has_items : List DatasetModel → ℕ → Bool
+has_items registry id = not (id == 0) && is_known registry id
+
+-- why bytes have no item: the dataset has none, or they are those of none
+unfoldable pub decode_fault : List DatasetModel → ℕ → List ℕ → Option MarshalFault
+decode_fault registry id bytes =
+    if has_items registry id then (if is_some (reading registry id bytes) then None else Some Shape) else Some NoDataset
+
+-- why bytes are not sent: there are none, or more than 65388
+abbrev pub length_fault : Option (List ℕ) → Option MarshalFault
+length_fault None = Some Shape
+length_fault (Some bytes) = if nat_lt 65388 (length bytes) then Some TooLong else None
+
+-- why an item is not sent: the dataset has no items, or the item has no bytes or too many
+unfoldable pub encode_fault : List DatasetModel → ℕ → ItemModel → Option MarshalFault
+encode_fault registry id item =
+    if has_items registry id then length_fault (spelling registry id item) else Some NoDataset
+
+-- this fault where it is expected, and want of memory where none is
+abbrev pub FaultIs : MarshalFault → Option MarshalFault → Type 0
+FaultIs OutOfMemory expected = expected ≡ None
+FaultIs fault expected = expected ≡ Some fault
+
+-- a call succeeds or runs out of memory exactly where no fault is expected, and else answers the one that is
+abbrev pub Answers : {X : Type 0} → Result X MarshalFault → Option MarshalFault → Type 0
+Answers (Ok x) expected = expected ≡ None
+Answers (Err fault) expected = FaultIs fault expected
+
+-- a part of a call that answers this fault had nothing to give, unless memory ran out
+abbrev pub Fails : {Y : Type 0} → MarshalFault → Option Y → Type 0
+Fails NoDataset found = ⊥
+Fails Shape found = found ≡ None
+Fails TooLong found = ⊥
+Fails OutOfMemory found = Unit {0}
+
+-- what a part of a call gives, seen by view, is what was there, unless memory ran out
+abbrev pub Gives : {X Y : Type 0} → (X → Y) → Result X MarshalFault → Option Y → Type 0
+Gives view (Ok x) found = found ≡ Some (view x)
+Gives view (Err fault) found = Fails fault found

@@ -1,0 +1,43 @@
+//! Why an item has no bytes, or bytes have no item.
+
+use std::alloc::{AllocError, AllocFailed};
+use thiserror::Error;
+
+/// Why an item has no bytes, or bytes have no item. The first that holds is answered.
+#[derive(Clone, Copy, Debug, PartialEq, Eq, Error)]
+pub enum MarshalFault {
+    /// No dataset has that identifier, or it is 0, of which any bytes are a payload.
+    #[error("NoDataset")]
+    NoDataset,
+    /// The item is no value of the dataset, or the bytes are those of none.
+    #[error("Shape")]
+    Shape,
+    /// The item has more than 65,388 bytes, the most that one message carries.
+    #[error("TooLong")]
+    TooLong,
+    /// There is no memory for the answer.
+    #[error("OutOfMemory")]
+    OutOfMemory,
+}
+
+impl From<AllocError> for MarshalFault {
+    ghost use Rattle.std.specs.Prelude.{◌≡◌};
+    ghost use Rattle.trdp_marshal.specs.declared.fault.MarshalFault.TheVariants.{OutOfMemory};
+
+    ghost from_gives = { λ _ e. e ≡ OutOfMemory };
+
+    fn from(_: AllocError) -> MarshalFault {
+        MarshalFault::OutOfMemory
+    }
+}
+
+impl<T: Drop> From<AllocFailed<T>> for MarshalFault {
+    ghost use Rattle.std.specs.Prelude.{◌≡◌};
+    ghost use Rattle.trdp_marshal.specs.declared.fault.MarshalFault.TheVariants.{OutOfMemory};
+
+    ghost from_gives = { λ _ e. e ≡ OutOfMemory };
+
+    fn from(_: AllocFailed<T>) -> MarshalFault {
+        MarshalFault::OutOfMemory
+    }
+}
