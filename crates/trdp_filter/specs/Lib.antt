@@ -1,0 +1,4 @@
+pub mod Counts
+pub mod Globals
+pub mod Telegrams
+pub mod PdFilters

@@ -1,0 +1,26 @@
+-- Telegrams as they reach the objects of a slot, apart from where their bytes lie.
+use Rattle.std.specs.Prelude.{ℕ, List, length, ◌≤◌}
+use Rattle.trdp_base.specs.declared.place.Place.{Place}
+use Rattle.trdp_head.specs.PdTelegrams.{PdTelegram}
+use Rattle.trdp_filter.specs.declared.telegram.Telegram.{Telegram}
+use Rattle.trdp_filter.specs.declared.telegram.Telegram.TheVariants.{Pd}
+
+-- a telegram with the places that its datagram came from and was sent to
+pub data TelegramModel : Type 0 where
+  PdIs : (src dst : Place) (telegram : PdTelegram) → TelegramModel
+
+-- a telegram, apart from where its payload lies
+abbrev pub telegram_model : Telegram → TelegramModel
+telegram_model (Pd src dst view) = PdIs src dst (record { head = view.head; payload = view.payload.now })
+
+-- the telegram is as long as its kind may be: process data carries at most 1432 bytes
+abbrev pub IsWithinLimit : TelegramModel → Type 0
+IsWithinLimit (PdIs src dst telegram) = length telegram.payload ≤ 1432
+
+-- the comId of a telegram
+abbrev pub com_id_of : TelegramModel → ℕ
+com_id_of (PdIs src dst telegram) = telegram.head.com_id
+
+-- the payload of a telegram
+abbrev pub payload_of : TelegramModel → List ℕ
+payload_of (PdIs src dst telegram) = telegram.payload

@@ -1,0 +1,17 @@
+//! What a node lets in: topology counts, the globals that all objects see, telegrams, and receive filters.
+//!
+//! Nothing here takes memory, and no call is refused.
+#![tactic(auto)]
+
+mod counts;
+mod globals;
+mod pd_filter;
+mod telegram;
+
+pub use counts::{topo_valid, valid};
+pub use globals::{Globals, Groups};
+pub use pd_filter::PdFilter;
+pub use telegram::Telegram;
+
+#[cfg(test)]
+mod tests;

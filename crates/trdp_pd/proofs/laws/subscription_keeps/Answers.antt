@@ -1,0 +1,5 @@
+use Rattle.trdp_pd.proofs.Receiving.{terms-taking}
+use Rattle.trdp_pd.proofs.laws.subscription_keeps.Goals as goal
+
+pub returns-clause-taken : goal.returns-clause-taken
+returns-clause-taken c = terms-taking

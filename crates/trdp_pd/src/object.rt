@@ -1,0 +1,81 @@
+//! What all kinds of objects have in common.
+
+ghost use Rattle.std.specs.Prelude.{◌≡◌, ℕ, ◌≤◌, Option, Bool, false};
+ghost use Rattle.trdp_base.specs.declared.moment.TheConstants.{LAST};
+ghost use Rattle.trdp_filter.specs.Telegrams.{TelegramModel, telegram_model, IsWithinLimit};
+ghost use Rattle.trdp_filter.specs.declared.globals.Globals.{Globals};
+ghost use Rattle.trdp_pd.specs.Due.{IsDueBy, is_due_by};
+ghost use Rattle.trdp_pd.specs.Effects.{Taking, Firing};
+
+use trdp_filter::{Globals, Telegram};
+use trdp_head::PdHead;
+
+/// What an object did with a telegram.
+#[derive(Clone, Copy, Debug, PartialEq, Eq)]
+pub enum Taken {
+    /// Nothing: the object is as it was.
+    Nothing,
+    /// It took the value.
+    Stored,
+    /// It took the value, and had been silent before.
+    Alive,
+    /// It answers a pull request with its value under this header.
+    Pulled(PdHead),
+}
+
+/// What an object does as it fires.
+#[derive(Clone, Copy, Debug, PartialEq, Eq)]
+pub enum Fired {
+    /// It sends nothing and tells nothing.
+    Nothing,
+    /// It sends its value under this header.
+    Data(PdHead),
+    /// Its supervision time ran out.
+    Silent,
+}
+
+/// An object of a slot. What it does depends on its own state, the telegram and the globals alone.
+pub trait Object {
+    ghost use Rattle.trdp_pd.specs.declared.object.Taken.TheVariants.{Nothing as NotTaken};
+
+    /// When the object is to act next.
+    ghost due_of: { Self → Option ℕ };
+
+    /// The telegram is for the object.
+    ghost is_addressed: { Self → TelegramModel → Globals → Bool };
+
+    /// The object once it was handed a telegram, which fits its dataset or doesn't, and what it did with it.
+    ghost taking: { Self → TelegramModel → Globals → Bool → Taking Self };
+
+    /// The object once it fired, and what it did.
+    ghost firing: { Self → Globals → Firing Self };
+
+    /// When it is to act next, in microseconds; None for never.
+    fn due(&self) -> Option<u64>
+        ensures { result ≡ due_of self.now };
+
+    /// Whether the telegram is for it.
+    fn addressed(&self, telegram: &Telegram<'_>, globals: &Globals) -> bool
+        ensures { result ≡ is_addressed self.now (telegram_model telegram.now) globals.entry.now };
+
+    /// Hands it a telegram; `fits` says whether the payload is one of its dataset.
+    fn take(&mut self, telegram: &Telegram<'_>, globals: &Globals, fits: bool) -> Taken
+        requires limit { IsWithinLimit (telegram_model telegram.now) }
+        requires now { globals.now.now ≤ LAST }
+        ensures state { self.new ≡ (taking self.old (telegram_model telegram.now) globals.entry.now fits).object }
+        ensures outcome { result ≡ (taking self.old (telegram_model telegram.now) globals.entry.now fits).taken };
+
+    /// Lets it act once its due moment has come.
+    fn fire(&mut self, globals: &Globals) -> Fired
+        requires due { IsDueBy (due_of self.old) globals.now.now }
+        requires now { globals.now.now ≤ LAST }
+        ensures state { self.new ≡ (firing self.old globals.entry.now).object }
+        ensures outcome { result ≡ (firing self.old globals.entry.now).fired };
+
+    /// A telegram that isn't addressed to the object changes nothing.
+    ghost unaddressed: { (x : Self) (telegram : TelegramModel) (g : Globals) (fits : Bool)
+        → is_addressed x telegram g ≡ false → taking x telegram g fits ≡ record { object = x; taken = NotTaken } };
+
+    /// An object that fired isn't due by now.
+    ghost later: { (x : Self) (g : Globals) → is_due_by g.now (due_of (firing x g).object) ≡ false };
+}

@@ -1,0 +1,226 @@
+//! A publisher: cyclic process data of one value.
+
+ghost use Rattle.std.specs.Prelude.{◌≡◌, ℕ, ◌≤◌, length, Some, IfOk, IfSome, option_copied};
+ghost use Rattle.trdp_base.specs.declared.moment.TheConstants.{LAST};
+ghost use Rattle.trdp_pd.specs.Publishers.{asks_for_value, asked_com_id};
+
+use crate::buffer::PayloadBuffer;
+use crate::object::{Fired, Object, Taken};
+use crate::publication::Publication;
+use std::alloc::{AllocError, Global};
+use std::marker::Model;
+use trdp_base::{Ip, LAST, Place, Topo};
+use trdp_filter::{Globals, Telegram, topo_valid};
+use trdp_head::{PdHead, PdKind};
+
+/// A publisher, with room for the longest value.
+#[derive(Drop)]
+pub struct Publisher {
+    publication: Publication,
+    due: u64,
+    buffer: PayloadBuffer,
+    has_value: bool,
+    counter: u32,
+}
+
+impl Model for Publisher {
+    ghost use Rattle.std.specs.Prelude.{Some, None, if◌then◌else◌, ◌^◌, ◌≤◌};
+    ghost use Rattle.trdp_pd.specs.Publishers.{PublisherState};
+
+    ghost Value = { PublisherState };
+
+    ghost view = { λ p. record { publication = p.publication; due = p.due; value = if p.has_value then Some p.buffer else None; counter = p.counter } };
+
+    ghost invariant = { λ p. p.due ≤ 2 ^ 63 };
+}
+
+/// Whether telegrams of this type ask for a value.
+#[tactic(auto, unfolding(crate::specs::Publishers::asks_for_value))]
+fn asks_for_value(kind: PdKind) -> bool
+    ensures { result ≡ asks_for_value kind }
+{
+    match kind {
+        PdKind::PullRequest => true,
+        PdKind::Data | PdKind::PullReply | PdKind::Error => false,
+    }
+}
+
+/// The comId that a pull request asks for.
+#[tactic(auto, unfolding(crate::specs::Publishers::asked_com_id))]
+fn asked_com_id(head: &PdHead) -> u32
+    ensures { result ≡ asked_com_id head.now }
+{
+    if head.reply_com_id == 0 {
+        head.com_id
+    } else {
+        head.reply_com_id
+    }
+}
+
+impl Publisher {
+    ghost use Rattle.trdp_pd.specs.Publishers.{PublisherState, published, may_send, is_asked, is_answered, head_as, next_counter};
+
+    /// A publisher without a value, first due one cycle after `now`, in microseconds (profile).
+    ///
+    /// Its one error is want of memory for its buffer.
+    pub fn new(alloc: Global, publication: &Publication, now: u64) -> Result<Publisher, AllocError>
+        requires { now ≤ LAST }
+        ensures { IfOk result (λ p. p ≡ published publication.now now) }
+    {
+        let buffer = PayloadBuffer::new(alloc)?;
+        let due = now + u64::from(publication.cycle);
+        Ok(Publisher {
+            publication: *publication,
+            due,
+            buffer,
+            has_value: false,
+            counter: 0,
+        })
+    }
+
+    /// Gives it a new value.
+    pub fn put(&mut self, bytes: &[u8])
+        requires { length bytes.now ≤ 1432 }
+        ensures { self.new ≡ record self.old { value = Some bytes.now } }
+    {
+        self.buffer.set(bytes);
+        self.has_value = true;
+    }
+
+    /// Its value, at most 1432 bytes; None before the first put.
+    pub fn value(&self) -> Option<&[u8]>
+        ensures value { option_copied result ≡ self.now.value }
+        ensures within { IfSome result (λ bytes. length bytes.now ≤ 1432) }
+    {
+        if self.has_value {
+            Some(self.buffer.bytes())
+        } else {
+            None
+        }
+    }
+
+    /// The comId that its telegrams carry.
+    pub fn com_id(&self) -> u32
+        ensures { result ≡ self.now.publication.com_id }
+    {
+        self.publication.com_id
+    }
+
+    /// The dataset that its value is one of; 0 for any bytes.
+    pub fn dataset(&self) -> u32
+        ensures { result ≡ self.now.publication.dataset }
+    {
+        self.publication.dataset
+    }
+
+    /// Where its telegrams go.
+    pub fn to(&self) -> Place
+        ensures { result ≡ self.now.publication.to }
+    {
+        self.publication.to
+    }
+
+    /// Whether it may send: it has a value, the node leads its group, and its topology counts match the node's.
+    fn may_send(&self, globals: &Globals) -> bool
+        ensures { result ≡ may_send self.now globals.entry.now }
+    {
+        let group = self.publication.group;
+        self.has_value
+            && (group == 0 || globals.led.leads(group))
+            && topo_valid(self.publication.topo, globals.topo)
+    }
+
+    /// Whether the telegram is a pull request for its comId, with topology counts that match its own.
+    #[tactic(auto, unfolding(crate::specs::Publishers::is_asked))]
+    fn is_asked(&self, head: &PdHead) -> bool
+        ensures { result ≡ is_asked self.now head.now }
+    {
+        asks_for_value(head.kind)
+            && asked_com_id(head) == self.publication.com_id
+            && topo_valid(head.topo, self.publication.topo)
+    }
+
+    /// Whether it answers the telegram.
+    #[tactic(auto, unfolding(crate::specs::Publishers::is_answered))]
+    fn answers(&self, head: &PdHead, globals: &Globals) -> bool
+        ensures { result ≡ is_answered self.now head.now globals.entry.now }
+    {
+        self.is_asked(head) && self.may_send(globals)
+    }
+
+    /// The header of its next telegram, as one of this type, which is counted.
+    fn send(&mut self, kind: PdKind) -> PdHead
+        ensures head { result ≡ head_as kind self.old }
+        ensures state { self.new ≡ record self.old { counter = next_counter self.old.counter } }
+    {
+        let counter = self.counter;
+        self.counter = counter.wrapping_add(1);
+        PdHead {
+            counter,
+            kind,
+            com_id: self.publication.com_id,
+            topo: self.publication.topo,
+            reply_com_id: 0,
+            reply_ip: Ip(0),
+        }
+    }
+}
+
+impl Object for Publisher {
+    ghost use Rattle.trdp_pd.specs.Publishers.{publisher_due, publisher_addressed, publisher_taking, publisher_firing};
+    ghost use Rattle.trdp_pd.specs.PublisherLaws.{publisher_taking-unaddressed, publisher_due-firing};
+
+    ghost due_of = { publisher_due };
+
+    ghost is_addressed = { publisher_addressed };
+
+    ghost taking = { publisher_taking };
+
+    ghost firing = { publisher_firing };
+
+    ghost unaddressed = { publisher_taking-unaddressed };
+
+    ghost later = { publisher_due-firing };
+
+    /// When it is next due, in microseconds; None for a cycle of 0.
+    fn due(&self) -> Option<u64> {
+        if self.publication.cycle == 0 {
+            None
+        } else {
+            Some(self.due)
+        }
+    }
+
+    /// Pull requests that ask for its comId are for it, with topology counts that match its own.
+    fn addressed(&self, telegram: &Telegram<'_>, _globals: &Globals) -> bool {
+        match *telegram {
+            Telegram::Pd { view, .. } => self.is_asked(&view.head),
+        }
+    }
+
+    /// Answers a pull request if it may send, and changes nothing by any other telegram.
+    fn take(&mut self, telegram: &Telegram<'_>, globals: &Globals, _fits: bool) -> Taken {
+        match *telegram {
+            Telegram::Pd { view, .. } => {
+                if self.answers(&view.head, globals) {
+                    Taken::Pulled(self.send(PdKind::PullReply))
+                } else {
+                    Taken::Nothing
+                }
+            }
+        }
+    }
+
+    /// Sends at most one telegram, and is next due at the first of its moments after now.
+    fn fire(&mut self, globals: &Globals) -> Fired {
+        let cycle = u64::from(self.publication.cycle);
+        let missed = (globals.now - self.due) / cycle;
+        let may_send = self.may_send(globals);
+        self.due += (missed + 1) * cycle;
+        if may_send {
+            Fired::Data(self.send(PdKind::Data))
+        } else {
+            Fired::Nothing
+        }
+    }
+}

@@ -1,0 +1,131 @@
+//! A requester: sends pull requests when its application asks for it.
+
+ghost use Rattle.std.specs.Prelude.{◌≡◌};
+
+use crate::object::{Fired, Object, Taken};
+use std::marker::Model;
+use trdp_base::{Ip, Place, Topo};
+use trdp_filter::{Globals, Telegram};
+use trdp_head::{PdHead, PdKind};
+
+/// What a requester asks for, and whom.
+#[derive(Clone, Copy, Debug, PartialEq, Eq)]
+pub struct Enquiry {
+    /// The comId of IEC 61375-2-3 that the pull requests carry.
+    pub com_id: u32,
+    /// The comId that they ask for; 0 for `com_id`.
+    pub reply_com_id: u32,
+    /// Where the replies are to be sent; 0 for the requester's own node.
+    pub reply_ip: Ip,
+    /// The topology counts that the pull requests carry.
+    pub topo: Topo,
+    /// Where the pull requests go.
+    pub to: Place,
+}
+
+/// A requester.
+#[derive(Drop)]
+pub struct Requester {
+    enquiry: Enquiry,
+    counter: u32,
+}
+
+impl Model for Requester {
+    ghost use Rattle.trdp_pd.specs.Requesters.{RequesterState};
+
+    ghost Value = { RequesterState };
+
+    ghost view = { λ r. record { enquiry = r.enquiry; counter = r.counter } };
+}
+
+impl Requester {
+    ghost use Rattle.trdp_pd.specs.Requesters.{RequesterState, opened, pulling};
+
+    /// A requester that has sent nothing.
+    pub fn new(enquiry: &Enquiry) -> Requester
+        ensures { result ≡ opened enquiry.now }
+    {
+        Requester {
+            enquiry: *enquiry,
+            counter: 0,
+        }
+    }
+
+    /// The header of its next pull request, which is counted and has no payload.
+    pub fn pull(&mut self) -> PdHead
+        ensures state { self.new ≡ (pulling self.old).object }
+        ensures head { result ≡ (pulling self.old).head }
+    {
+        let counter = self.counter;
+        self.counter = counter.wrapping_add(1);
+        PdHead {
+            counter,
+            kind: PdKind::PullRequest,
+            com_id: self.enquiry.com_id,
+            topo: self.enquiry.topo,
+            reply_com_id: self.enquiry.reply_com_id,
+            reply_ip: self.enquiry.reply_ip,
+        }
+    }
+
+    /// The comId that its pull requests carry.
+    pub fn com_id(&self) -> u32
+        ensures { result ≡ self.now.enquiry.com_id }
+    {
+        self.enquiry.com_id
+    }
+
+    /// The topology counts that its pull requests carry.
+    pub fn topo(&self) -> Topo
+        ensures { result ≡ self.now.enquiry.topo }
+    {
+        self.enquiry.topo
+    }
+
+    /// Where its pull requests go.
+    pub fn to(&self) -> Place
+        ensures { result ≡ self.now.enquiry.to }
+    {
+        self.enquiry.to
+    }
+}
+
+impl Object for Requester {
+    ghost use Rattle.trdp_pd.specs.Requesters.{requester_due, requester_addressed, requester_taking, requester_firing};
+    ghost use Rattle.trdp_pd.specs.RequesterLaws.{requester_taking-unaddressed, requester_due-firing};
+
+    ghost due_of = { requester_due };
+
+    ghost is_addressed = { requester_addressed };
+
+    ghost taking = { requester_taking };
+
+    ghost firing = { requester_firing };
+
+    ghost unaddressed = { requester_taking-unaddressed };
+
+    ghost later = { requester_due-firing };
+
+    /// A requester is never due.
+    fn due(&self) -> Option<u64> {
+        None
+    }
+
+    /// No telegram is for a requester.
+    fn addressed(&self, _telegram: &Telegram<'_>, _globals: &Globals) -> bool {
+        false
+    }
+
+    /// A requester takes no telegram.
+    fn take(&mut self, _telegram: &Telegram<'_>, _globals: &Globals, _fits: bool) -> Taken {
+        Taken::Nothing
+    }
+
+    /// A requester does nothing by itself.
+    fn fire(&mut self, _globals: &Globals) -> Fired
+        ensures state { self.new ≡ self.old }
+        ensures outcome { result ≡ Fired.Nothing }
+    {
+        Fired::Nothing
+    }
+}

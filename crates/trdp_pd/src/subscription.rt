@@ -1,0 +1,252 @@
+//! A subscription: the latest process data of one comId, and whether it is still good.
+
+ghost use Rattle.std.specs.Prelude.{◌≡◌, ℕ, ◌≤◌, length, IfOk};
+ghost use Rattle.trdp_base.specs.declared.moment.TheConstants.{LAST};
+ghost use Rattle.trdp_pd.specs.Subscriptions.{deadline_from, carries_value, is_stale, taken_in};
+
+use crate::buffer::PayloadBuffer;
+use crate::object::{Fired, Object, Taken};
+use crate::terms::{Behaviour, Latest, Peek, SubscriptionTerms, ValueState};
+use std::alloc::{AllocError, Global};
+use std::marker::Model;
+use trdp_base::{Ip, LAST, Place};
+use trdp_filter::{Globals, Telegram};
+use trdp_head::{PdHead, PdKind, PdView};
+
+/// A telegram less than this many counters behind the latest one is stale (profile).
+const STALE_WINDOW: u32 = 16;
+
+/// A subscription, with room for the longest value.
+#[derive(Drop)]
+pub struct Subscription {
+    terms: SubscriptionTerms,
+    zero_size: usize,
+    deadline: Option<u64>,
+    state: ValueState,
+    counter: u32,
+    latest: Option<Latest>,
+    value: PayloadBuffer,
+}
+
+impl Model for Subscription {
+    ghost use Rattle.std.specs.Prelude.{◌≤◌};
+    ghost use Rattle.trdp_pd.specs.Subscriptions.{SubscriptionState};
+
+    ghost Value = { SubscriptionState };
+
+    ghost view = { λ s. record { terms = s.terms; zero_size = s.zero_size; deadline = s.deadline; state = s.state; counter = s.counter; latest = s.latest; value = s.value } };
+
+    ghost invariant = { λ s. s.zero_size ≤ 1432 };
+}
+
+/// The deadline of a supervision time that begins now.
+#[tactic(auto, unfolding(crate::specs::Subscriptions::deadline_from))]
+fn deadline_from(supervision: u32, now: u64) -> Option<u64>
+    requires { now ≤ LAST }
+    ensures { result ≡ deadline_from supervision now }
+{
+    if supervision == 0 {
+        None
+    } else {
+        Some(now + u64::from(supervision))
+    }
+}
+
+/// Whether telegrams of this type carry a value.
+#[tactic(auto, unfolding(crate::specs::Subscriptions::carries_value))]
+fn carries_value(kind: PdKind) -> bool
+    ensures { result ≡ carries_value kind }
+{
+    match kind {
+        PdKind::Data | PdKind::PullReply => true,
+        PdKind::PullRequest | PdKind::Error => false,
+    }
+}
+
+/// Whether a telegram is stale against the latest one that was taken.
+#[tactic(auto, unfolding(crate::specs::Subscriptions::is_stale))]
+fn is_stale(latest: Option<Latest>, source: Ip, head: &PdHead) -> bool
+    ensures { result ≡ is_stale latest source head.now }
+{
+    match latest {
+        None => false,
+        Some(latest) => {
+            latest.source == source
+                && latest.kind == head.kind
+                && latest.counter.wrapping_sub(head.counter) < STALE_WINDOW
+        }
+    }
+}
+
+/// What it is to take a telegram in this state.
+#[tactic(auto, unfolding(crate::specs::Subscriptions::taken_in))]
+fn taken_in(state: ValueState) -> Taken
+    ensures { result ≡ taken_in state }
+{
+    match state {
+        ValueState::Silent => Taken::Alive,
+        ValueState::Never | ValueState::Valid => Taken::Stored,
+    }
+}
+
+impl Subscription {
+    ghost use Rattle.trdp_head.specs.PdTelegrams.{PdTelegram};
+    ghost use Rattle.trdp_pd.specs.Subscriptions.{SubscriptionState, subscribed, is_for, is_accepted, storing, value_after_time_out};
+    ghost use Rattle.trdp_pd.specs.Peeks.{peek_model, shown};
+
+    /// A subscription that shows the zero value of its dataset, supervised from `now` on, in microseconds (profile).
+    ///
+    /// `zero_size` is the number of bytes of that zero value, and 0 for dataset 0. Its one error is want of memory for
+    /// its buffer.
+    pub fn new(
+        alloc: Global,
+        terms: &SubscriptionTerms,
+        zero_size: usize,
+        now: u64,
+    ) -> Result<Subscription, AllocError>
+        requires zero_size { zero_size ≤ 1432 }
+        requires now { now ≤ LAST }
+        ensures { IfOk result (λ s. s ≡ subscribed terms.now zero_size now) }
+    {
+        let mut value = PayloadBuffer::new(alloc)?;
+        value.set_zeros(zero_size);
+        Ok(Subscription {
+            terms: *terms,
+            zero_size,
+            deadline: deadline_from(terms.supervision, now),
+            state: ValueState::Never,
+            counter: 0,
+            latest: None,
+            value,
+        })
+    }
+
+    /// The comId that it takes.
+    pub fn com_id(&self) -> u32
+        ensures { result ≡ self.now.terms.filter.com_id }
+    {
+        self.terms.filter.com_id
+    }
+
+    /// The dataset that its value is one of; 0 for any bytes.
+    pub fn dataset(&self) -> u32
+        ensures { result ≡ self.now.terms.dataset }
+    {
+        self.terms.dataset
+    }
+
+    /// What it shows, in every state.
+    pub fn peek(&self) -> Peek<'_>
+        ensures shown { peek_model result ≡ shown self.now }
+        ensures within { length result.bytes.now ≤ 1432 }
+    {
+        Peek {
+            state: self.state,
+            counter: self.counter,
+            bytes: self.value.bytes(),
+        }
+    }
+
+    /// Whether the telegram is data or a pull reply that the filter passes.
+    #[tactic(auto, unfolding(crate::specs::Subscriptions::is_for))]
+    fn is_for(&self, src: Place, dst: Place, head: &PdHead, globals: &Globals) -> bool
+        ensures { result ≡ is_for self.now src dst head.now globals.entry.now }
+    {
+        carries_value(head.kind) && self.terms.filter.passes(src, dst, head, globals.topo)
+    }
+
+    /// Whether it takes the telegram: it is for it, the payload fits, and it isn't stale.
+    #[tactic(auto, unfolding(crate::specs::Subscriptions::is_accepted))]
+    fn accepts(&self, src: Place, dst: Place, head: &PdHead, globals: &Globals, fits: bool) -> bool
+        ensures { result ≡ is_accepted self.now src dst head.now globals.entry.now fits }
+    {
+        self.is_for(src, dst, head, globals) && fits && !is_stale(self.latest, src.ip, head)
+    }
+
+    /// Stores a telegram that it takes.
+    fn store(&mut self, src: Place, view: &PdView<'_>, now: u64)
+        requires limit { length view.now.payload.now ≤ 1432 }
+        requires now { now ≤ LAST }
+        ensures { self.new ≡ storing self.old src (record { head = view.now.head; payload = view.now.payload.now }) now }
+    {
+        self.deadline = deadline_from(self.terms.supervision, now);
+        self.state = ValueState::Valid;
+        self.counter = view.head.counter;
+        self.latest = Some(Latest {
+            source: src.ip,
+            kind: view.head.kind,
+            counter: view.head.counter,
+        });
+        self.value.set(view.payload);
+    }
+
+    /// What a time-out does to the value.
+    #[tactic(auto, unfolding(crate::specs::Subscriptions::value_after_time_out))]
+    fn time_out_value(&mut self)
+        ensures { self.new ≡ record self.old { value = value_after_time_out self.old.terms self.old.zero_size self.old.value } }
+    {
+        match self.terms.behaviour {
+            Behaviour::Keep => {}
+            Behaviour::Zero => {
+                let size = if self.terms.dataset == 0 {
+                    self.value.bytes().len()
+                } else {
+                    self.zero_size
+                };
+                self.value.set_zeros(size);
+            }
+        }
+    }
+}
+
+impl Object for Subscription {
+    ghost use Rattle.trdp_pd.specs.Subscriptions.{subscription_addressed, subscription_taking, subscription_firing};
+    ghost use Rattle.trdp_pd.specs.SubscriptionLaws.{subscription_taking-unaddressed, subscription_due-firing};
+
+    ghost due_of = { λ s. s.deadline };
+
+    ghost is_addressed = { subscription_addressed };
+
+    ghost taking = { subscription_taking };
+
+    ghost firing = { subscription_firing };
+
+    ghost unaddressed = { subscription_taking-unaddressed };
+
+    ghost later = { subscription_due-firing };
+
+    /// Its deadline, in microseconds; None where no supervision time runs.
+    fn due(&self) -> Option<u64> {
+        self.deadline
+    }
+
+    /// Data and pull replies that its filter passes are for it.
+    fn addressed(&self, telegram: &Telegram<'_>, globals: &Globals) -> bool {
+        match *telegram {
+            Telegram::Pd { src, dst, view } => self.is_for(src, dst, &view.head, globals),
+        }
+    }
+
+    /// Stores a telegram that it accepts, and changes nothing by any other.
+    fn take(&mut self, telegram: &Telegram<'_>, globals: &Globals, fits: bool) -> Taken {
+        match *telegram {
+            Telegram::Pd { src, dst, view } => {
+                if !self.accepts(src, dst, &view.head, globals, fits) {
+                    return Taken::Nothing;
+                }
+                let taken = taken_in(self.state);
+                self.store(src, &view, globals.now);
+                taken
+            }
+        }
+    }
+
+    /// Times out: it is silent until the next telegram that it accepts.
+    fn fire(&mut self, _globals: &Globals) -> Fired {
+        self.time_out_value();
+        self.deadline = None;
+        self.state = ValueState::Silent;
+        self.latest = None;
+        Fired::Silent
+    }
+}
