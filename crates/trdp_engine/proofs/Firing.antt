@@ -1,60 +1,25 @@
 -- One object fires, and the rest of the moment is left.
-use Rattle.std.proofs.Common.{◌≡◌, ℕ, ◌+◌, ◌-◌, ◌*◌, ◌/◌, ◌<◌, List, [], ◌∷◌, ◌++◌, length, map, filter, Some, None, Bool, true, false, refl, ap, sym, arith, append_assoc, IfSome}
-use Rattle.std.specs.Prelude.{slice_get, slice_set, ◌==◌, nat_le}
+use Rattle.std.proofs.Common.{◌≡◌, ℕ, ◌+◌, List, [], ◌∷◌, ◌++◌, length, map, filter, Some, Bool, true, false, refl, ap, sym, append_assoc, IfSome}
+use Rattle.std.specs.Prelude.{slice_get, slice_set}
 use Rattle.std.specs.List.{flat_map}
-use Rattle.std.proofs.lemmas.Bool.Decides.{nat_tests}
 use Rattle.std.proofs.lemmas.List.{map-append, set_at}
-use Rattle.std.proofs.Math.Nat.{mod-lt}
-use Rattle.std.proofs.lemmas.Nat.{div-add-mod'}
-use Rattle.trdp_engine.specs.declared.globals.Globals.{Globals}
-use Rattle.trdp_engine.specs.declared.object.AnyObject.{AnyObject}
-use Rattle.trdp_engine.specs.declared.object.AnyObject.TheVariants.{Publisher}
+use Rattle.trdp_filter.specs.declared.globals.Globals.{Globals}
 use Rattle.trdp_engine.specs.declared.object.Entry.{Entry}
-use Rattle.trdp_engine.specs.Publishers.{PublisherState, next_due, may_send, publisher_firing, publisher_due}
-use Rattle.trdp_engine.specs.Objects.{due_of, after_firing}
+use Rattle.trdp_pd.specs.declared.any_object.AnyObject.{AnyObject}
+use Rattle.trdp_pd.specs.declared.any_object.AnyObject.TheVariants.{Publisher, Subscription, Requester}
+use Rattle.trdp_pd.specs.Objects.{kind_of, after_firing}
+use Rattle.trdp_pd.specs.ObjectLaws.{due-firing}
+use Rattle.trdp_engine.proofs.Kept.{KeepsLabel}
 use Rattle.trdp_engine.specs.Handles.{IsRising}
 use Rattle.trdp_engine.specs.Records.{RecordModel, labelled}
-use Rattle.trdp_engine.specs.Moments.{is_due_by, is_due, in_order, records_firing, entry_after_moment}
-use Rattle.trdp_engine.specs.Firing.{AllAfter, FiresFirst, IsFirst}
+use Rattle.trdp_engine.specs.Moments.{is_due, in_order, records_firing, entry_after_moment}
+use Rattle.trdp_engine.specs.Firing.{AllAfter, FiresFirst}
 use Rattle.trdp_engine.proofs.Orders.{in_order-fires, count-fires}
 use Rattle.trdp_engine.proofs.Rising.{IsRising-handles}
 
--- the next due moment is later than now
-pub next_due-later : (now due cycle : ℕ) → 0 < cycle → now < due + ((now - due) / cycle + 1) * cycle
-next_due-later now due cycle some = omega (arith, div-add-mod' (now - due) cycle, mod-lt (now - due) some)
-
-nat_le-past : (a b : ℕ) → b < a → nat_le a b ≡ false
-nat_le-past a b lt = grind (arith, nat_tests)
-
--- what the firing of a publisher leaves
-due-firing : (p : PublisherState) (g : Globals) → (publisher_firing p g).object.due ≡ next_due p g.now
-due-firing p g = either p g (may_send p g) refl
-  where
-    either : (p : PublisherState) (g : Globals) (b : Bool) → may_send p g ≡ b → (publisher_firing p g).object.due ≡ next_due p g.now
-    either p g true is = rw is refl
-    either p g false is = rw is refl
-
-publication-firing : (p : PublisherState) (g : Globals) → (publisher_firing p g).object.publication ≡ p.publication
-publication-firing p g = either p g (may_send p g) refl
-  where
-    either : (p : PublisherState) (g : Globals) (b : Bool) → may_send p g ≡ b → (publisher_firing p g).object.publication ≡ p.publication
-    either p g true is = rw is refl
-    either p g false is = rw is refl
-
--- a publisher that fired isn't due by now
-publisher_is_quiet : (p : PublisherState) (g : Globals) → is_due_by g.now (publisher_due (publisher_firing p g).object) ≡ false
-publisher_is_quiet p g = rw (publication-firing p g, due-firing p g) (either p g (p.publication.cycle == 0) refl)
-  where
-    either : (p : PublisherState) (g : Globals) (b : Bool) → (p.publication.cycle == 0) ≡ b → is_due_by g.now (publisher_due (record p { due = next_due p g.now })) ≡ false
-    either p g true is = rw is refl
-    either p g false is = rw is (nat_le-past (next_due p g.now) g.now (next_due-later g.now p.due p.publication.cycle (grind (arith, nat_tests))))
-
-object_is_quiet : (object : AnyObject) (g : Globals) → is_due_by g.now (due_of (after_firing object g)) ≡ false
-object_is_quiet (Publisher p) g = publisher_is_quiet p g
-
 -- an object that fired isn't due by now
 pub is_quiet : (g : Globals) (entry : Entry) → is_due g.now entry ≡ true → is_due g.now (entry_after_moment g entry) ≡ false
-is_quiet g entry is = rw is (object_is_quiet entry.object g)
+is_quiet g entry is = rw is (due-firing entry.object g)
 
 fires_once : (g : Globals) (entry : Entry) → is_due g.now entry ≡ true → entry_after_moment g (entry_after_moment g entry) ≡ entry_after_moment g entry
 fires_once g entry is = settled g (entry_after_moment g entry) (is_quiet g entry is)
@@ -68,6 +33,18 @@ handle_kept g entry = either g entry (is_due g.now entry) refl
     either : (g : Globals) (entry : Entry) (b : Bool) → is_due g.now entry ≡ b → (entry_after_moment g entry).handle ≡ entry.handle
     either g entry true is = rw is refl
     either g entry false is = rw is refl
+
+kind-firing : (object : AnyObject) (g : Globals) → kind_of (after_firing object g) ≡ kind_of object
+kind-firing (Publisher p) g = refl
+kind-firing (Subscription s) g = refl
+kind-firing (Requester r) g = refl
+
+pub label_kept : (g : Globals) (entry : Entry) → KeepsLabel entry (entry_after_moment g entry)
+label_kept g entry = either g entry (is_due g.now entry) refl
+  where
+    either : (g : Globals) (entry : Entry) (b : Bool) → is_due g.now entry ≡ b → KeepsLabel entry (entry_after_moment g entry)
+    either g entry true is = rw is (record { handle = refl; kind = kind-firing entry.object g })
+    either g entry false is = rw is (record { handle = refl; kind = refl })
 
 got_at : (before : List Entry) (entry : Entry) (after : List Entry) → slice_get (before ++ entry ∷ after) (length before) ≡ Some entry
 got_at [] entry after = refl

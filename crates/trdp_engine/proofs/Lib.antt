@@ -3,7 +3,11 @@ pub mod Kept
 pub mod Puts
 pub mod Orders
 pub mod Firing
+pub mod Each
+pub mod Receiving
 pub mod Rows
 pub mod Views
 pub mod Steps
 pub mod Runs
+pub mod Fitting
+pub mod Showing

@@ -3,7 +3,7 @@ use Rattle.std.proofs.Common.{◌≡◌, ℕ, ◌+◌, ◌<◌, ◌≤◌, List,
 use Rattle.std.specs.Prelude.{nat_le, if◌then◌else◌, unwrap_or, option_map}
 use Rattle.std.proofs.lemmas.Bool.Decides.{nat_tests}
 use Rattle.std.proofs.lemmas.List.Elements.{filter-append}
-use Rattle.trdp_engine.specs.Objects.{due_of}
+use Rattle.trdp_pd.specs.Objects.{due_of}
 use Rattle.trdp_engine.specs.declared.object.Entry.{Entry}
 use Rattle.trdp_engine.specs.Handles.{AllAbove, IsRising}
 use Rattle.trdp_engine.specs.Moments.{is_due, is_before, inserted, in_order}

@@ -5,7 +5,7 @@ use Rattle.std.proofs.lemmas.Grind.{common_steps}
 use Rattle.std.proofs.lemmas.List.{take-append-le, length-append, map-append}
 use Rattle.std.proofs.Common.{length-drop}
 use Rattle.trdp_engine.specs.declared.outbox.Row.{Row}
-use Rattle.trdp_engine.specs.Records.{Content, RecordModel}
+use Rattle.trdp_engine.specs.Records.{RecordModel}
 use Rattle.trdp_engine.specs.Outboxes.{row_content, row_model, AllWithin}
 
 pub AllWithin-get : (n : ℕ) (rows : List Row) (i : ℕ) (row : Row) → slice_get rows i ≡ Some row → AllWithin n rows → row.at + row.len ≤ n

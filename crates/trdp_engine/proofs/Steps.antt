@@ -1,20 +1,26 @@
 -- A step of a node that has one slot.
-use Rattle.std.proofs.Common.{zero, suc, ◌≡◌, ℕ, ◌≤◌, ◌<◌, List, [], ◌∷◌, ◌++◌, length, take, map, filter, refl, ◌∙◌, ap, sym, arith, append_assoc, Some, None, Err, true, false, Bool}
+use Rattle.std.proofs.Common.{zero, suc, ◌≡◌, ℕ, ◌≤◌, List, [], ◌∷◌, ◌++◌, length, map, refl, ◌∙◌, ap, sym, arith, append_assoc, Some, None, Err, true, false, Bool}
 use Rattle.std.specs.Prelude.{slice_get, ◌==◌, ◌&&◌, nat_le}
 use Rattle.std.proofs.lemmas.Bool.Decides.{nat_tests}
 use Rattle.std.proofs.lemmas.List.{map-append, append-nil}
 use Rattle.std.proofs.lemmas.List.Elements.{filter-append}
 use Rattle.trdp_base.specs.declared.moment.TheConstants.{LAST}
-use Rattle.trdp_engine.specs.declared.config.NodeSetup.{NodeSetup}
-use Rattle.trdp_engine.specs.declared.globals.Globals.{Globals}
+use Rattle.trdp_dataset.specs.Configs.{ConfigModel}
+use Rattle.trdp_filter.specs.declared.globals.Globals.{Globals}
 use Rattle.trdp_engine.specs.Records.{Content, RecordModel, labelled, records_of}
-use Rattle.trdp_engine.specs.Events.{EventModel, MomentIs, CallIs, CallModel}
+use Rattle.trdp_base.specs.declared.place.Place.{Place}
+use Rattle.trdp_engine.specs.declared.record.Protocol.{Protocol}
+use Rattle.trdp_engine.specs.Events.{EventModel, MomentIs, DatagramIs, CallIs, CallModel}
+use Rattle.trdp_engine.specs.Datagrams.{telegram_of, received_if, concerns}
+use Rattle.trdp_engine.proofs.Receiving.{unconcerned}
 use Rattle.trdp_engine.specs.Slots.{SlotState, Outcome}
 use Rattle.trdp_engine.specs.Calls.{called}
 use Rattle.trdp_engine.specs.Moments.{moved_to}
 use Rattle.trdp_engine.specs.declared.fault.NodeFault.TheVariants.{NoSlot}
 use Rattle.trdp_engine.specs.Alone.{slot_after, records_after, refused_as, FaultIs}
-use Rattle.trdp_engine.specs.NodeStates.{NodeState, StepsAsAlone, Appends}
+use Rattle.trdp_marshal.specs.Items.{ItemModel}
+use Rattle.trdp_engine.specs.Values.{valued, valued_at}
+use Rattle.trdp_engine.specs.NodeStates.{NodeState, StepsAsAlone, Appends, GetsOutcome}
 
 records_of-append : (s : ℕ) (xs ys : List RecordModel) → records_of s (xs ++ ys) ≡ records_of s xs ++ records_of s ys
 records_of-append s xs ys = ap (map (λ r. r.content)) (filter-append (λ r. r.slot == s) xs ys) ∙ map-append _ _ _
@@ -78,9 +84,32 @@ appends_more slots others xs ys zs same a b = record {
 pub other_is_refused : (s : ℕ) (g : Globals) (call : CallModel) → (s == 0) ≡ false → FaultIs (refused_as 1 g (CallIs s call)) (Err NoSlot)
 other_is_refused s g call other = let past : nat_le 1 s ≡ true = grind (arith, nat_tests) in rw past refl
 
+-- what slot 0 does at a datagram: one that doesn't concern it changes nothing
+pub datagram_effect : (setup : ConfigModel) (slot : SlotState) (g : Globals) (protocol : Protocol) (src dst : Place) (bytes : List ℕ) → (slot_after setup 0 slot g (DatagramIs protocol src dst bytes) ≡ (received_if setup slot g (telegram_of protocol src dst bytes)).slot) × (records_after setup 0 slot g (DatagramIs protocol src dst bytes) ≡ (received_if setup slot g (telegram_of protocol src dst bytes)).records)
+datagram_effect setup slot g protocol src dst bytes = either setup slot g protocol src dst bytes (concerns g (telegram_of protocol src dst bytes) slot) refl
+  where
+    either : (setup : ConfigModel) (slot : SlotState) (g : Globals) (protocol : Protocol) (src dst : Place) (bytes : List ℕ) (b : Bool) → concerns g (telegram_of protocol src dst bytes) slot ≡ b → (slot_after setup 0 slot g (DatagramIs protocol src dst bytes) ≡ (received_if setup slot g (telegram_of protocol src dst bytes)).slot) × (records_after setup 0 slot g (DatagramIs protocol src dst bytes) ≡ (received_if setup slot g (telegram_of protocol src dst bytes)).records)
+    either setup slot g protocol src dst bytes true is = (rw is refl, rw is refl)
+    either setup slot g protocol src dst bytes false is =
+        let same = unconcerned setup slot g (telegram_of protocol src dst bytes) is in
+        (rw is (sym (ap (λ (o : Outcome). o.slot) same)), rw is (sym (ap (λ (o : Outcome). o.records) same)))
+
+-- what slot 0 does at a call of its own
+pub call_effect : (setup : ConfigModel) (slot : SlotState) (g : Globals) (s : ℕ) (call : CallModel) → s ≡ 0 → (slot_after setup 0 slot g (CallIs s call) ≡ (called setup slot g call).slot) × (records_after setup 0 slot g (CallIs s call) ≡ (called setup slot g call).records)
+call_effect setup slot g s call zero_is = rw zero_is (refl, refl)
+
 seen_moment : (now t last : ℕ) → now ≤ t → t ≤ last → (nat_le now t && nat_le t last) ≡ true
 seen_moment now t last le within = grind (arith, nat_tests)
 
 -- what slot 0 does at an admitted moment
-pub moment_effect : (setup : NodeSetup) (slot : SlotState) (g : Globals) (t : ℕ) → g.now ≤ t → t ≤ LAST → (slot_after setup 0 slot g (MomentIs t) ≡ (moved_to slot (record g { now = t })).slot) × (records_after setup 0 slot g (MomentIs t) ≡ (moved_to slot (record g { now = t })).records)
+pub moment_effect : (setup : ConfigModel) (slot : SlotState) (g : Globals) (t : ℕ) → g.now ≤ t → t ≤ LAST → (slot_after setup 0 slot g (MomentIs t) ≡ (moved_to slot (record g { now = t })).slot) × (records_after setup 0 slot g (MomentIs t) ≡ (moved_to slot (record g { now = t })).records)
 moment_effect setup slot g t le within = let seen = seen_moment g.now t LAST le within in (rw seen refl, rw seen refl)
+
+-- a value that is handed over to slot 0
+pub only_values : (setup : ConfigModel) (old new : NodeState) (slot : SlotState) (handle : ℕ) (item : ItemModel) (records records_then : List RecordModel) → old.slots ≡ slot ∷ [] → new.slots ≡ (valued setup slot handle item).slot ∷ [] → records_then ≡ records ++ labelled 0 (valued setup slot handle item).records → (r : ℕ) → r ≡ 0 → (s : ℕ) (other : SlotState) → slice_get old.slots s ≡ Some other → GetsOutcome new records records_then s (valued_at setup r s other handle item)
+only_values setup old new slot handle item records records_then before after told r zero_is s other is =
+    let one = only slot other s (rw before at is) in
+    record {
+      slot_is = rw (after, zero_is, one.0, ← one.1) refl;
+      records_are = rw (told, zero_is, one.0, ← one.1, records_of-append 0 records (labelled 0 (valued setup slot handle item).records), records_of-labelled 0 (valued setup slot handle item).records) refl;
+    }

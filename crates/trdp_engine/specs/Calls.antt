@@ -1,67 +1,134 @@
 -- What a call does to the slot that makes it.
-use Rattle.std.specs.Prelude.{ℕ, ◌+◌, List, [], ◌∷◌, length, Option, Some, None, Bool, not, count_by, slice_index, ◌==◌, ◌&&◌, ◌||◌, nat_lt, nat_le, if◌then◌else◌}
-use Rattle.trdp_engine.specs.declared.globals.Globals.{Globals}
-use Rattle.trdp_engine.specs.declared.event.Publication.{Publication}
-use Rattle.trdp_engine.specs.declared.object.AnyObject.{AnyObject}
-use Rattle.trdp_engine.specs.declared.object.AnyObject.TheVariants.{Publisher}
+use Rattle.std.specs.Prelude.{ℕ, List, [], ◌∷◌, length, Option, Some, None, Bool, not, slice_index, ◌==◌, ◌||◌, nat_lt, nat_le, if◌then◌else◌}
+use Rattle.trdp_filter.specs.declared.globals.Globals.{Globals}
+use Rattle.trdp_pd.specs.declared.publication.Publication.{Publication}
+use Rattle.trdp_pd.specs.declared.terms.SubscriptionTerms.{SubscriptionTerms}
+use Rattle.trdp_pd.specs.declared.any_object.AnyObject.{AnyObject}
+use Rattle.trdp_pd.specs.declared.any_object.AnyObject.TheVariants.{Publisher, Subscription, Requester}
+use Rattle.trdp_pd.specs.Publishers.{published}
+use Rattle.trdp_pd.specs.Subscriptions.{subscribed}
+use Rattle.trdp_pd.specs.Requesters.{opened}
+use Rattle.trdp_pd.specs.Peeks.{shown}
+use Rattle.trdp_pd.specs.Objects.{kind_of}
+use Rattle.trdp_dataset.specs.Configs.{ConfigModel}
 use Rattle.trdp_engine.specs.declared.object.Entry.{Entry}
 use Rattle.trdp_engine.specs.declared.fault.Refusal.{Refusal}
-use Rattle.trdp_engine.specs.declared.fault.Refusal.TheVariants.{NoHandle, Cycle, NoDataset, TooLong, Quota, Exhausted}
-use Rattle.trdp_engine.specs.declared.record.Answer.{Answer}
-use Rattle.trdp_engine.specs.declared.record.Answer.TheVariants.{Handle, Done, Refused}
-use Rattle.trdp_engine.specs.declared.config.NodeSetup.{NodeSetup}
-use Rattle.trdp_engine.specs.Configs.{is_dataset}
-use Rattle.trdp_engine.specs.Publishers.{published}
-use Rattle.trdp_engine.specs.Objects.{kind_of}
-use Rattle.trdp_engine.specs.Records.{Answers}
-use Rattle.trdp_engine.specs.Slots.{SlotState, Outcome, entry_of, with_object, changed}
-use Rattle.trdp_engine.specs.Events.{CallModel, PublishCall, PutCall}
+use Rattle.trdp_engine.specs.declared.fault.Refusal.TheVariants.{NoHandle, WrongKind, Cycle, Timeout, Range, NoDataset, TooLong, Shape, Quota, Exhausted}
+use Rattle.trdp_engine.specs.Configs.{is_dataset, zero_size_of, is_fitting}
+use Rattle.trdp_engine.specs.Records.{AnswerModel, HandleIs, DoneIs, ValueIs, RefusedIs, Answers}
+use Rattle.trdp_engine.specs.Slots.{SlotState, Outcome, count_of, entry_of, with_object, changed, without}
+use Rattle.trdp_engine.specs.Events.{CallModel, PublishCall, PutCall, UnpublishCall, SubscribeCall, GetCall, UnsubscribeCall, OpenPullCall, PullCall, ClosePullCall}
+use Rattle.trdp_engine.specs.Pulls.{pull_refusal, after_pull, pull_request_of}
 
 -- a slot with that one answer
-abbrev pub answered : SlotState → Answer → Outcome
+abbrev pub answered : SlotState → AnswerModel → Outcome
 answered slot answer = record { slot = slot; records = Answers answer ∷ [] }
 
 -- a refused call changes nothing, and its one record says why
 abbrev pub refused : SlotState → Refusal → Outcome
-refused slot refusal = answered slot (Refused refusal)
+refused slot refusal = answered slot (RefusedIs refusal)
 
--- a cycle is 0 or at least 1,000 microseconds
-abbrev pub is_cycle : ℕ → Bool
-is_cycle cycle = cycle == 0 || nat_le 1000 cycle
+-- a time is 0 or at least 1,000 microseconds
+abbrev pub is_span : ℕ → Bool
+is_span span = span == 0 || nat_le 1000 span
 
 -- a slot takes no new object of a kind whose quota is used up, and none once the handles up to 2^32 - 1 are given out
 abbrev pub opening_refusal : SlotState → ℕ → Option Refusal
 opening_refusal slot kind =
-    if nat_le (slice_index slot.quotas kind) (count_by (λ entry. kind_of entry.object == kind) slot.objects) then Some Quota else
+    if nat_le (slice_index slot.quotas kind) (count_of kind slot.objects) then Some Quota else
     if nat_lt 4294967295 slot.next then Some Exhausted else None
 
 -- a new object is answered by its handle
 abbrev pub opened_unless : Option Refusal → SlotState → AnyObject → Outcome
 opened_unless (Some refusal) slot object = refused slot refusal
-opened_unless None slot object = answered (with_object slot object) (Handle slot.next)
+opened_unless None slot object = answered (with_object slot object) (HandleIs slot.next)
+
+-- no such dataset, or one whose zero value, its shortest, is longer than process data carries
+abbrev pub dataset_refusal : ConfigModel → ℕ → Option Refusal → Option Refusal
+dataset_refusal setup dataset later =
+    if not (is_dataset setup dataset) then Some NoDataset else
+    if nat_lt 1432 (zero_size_of setup dataset) then Some TooLong else later
 
 -- first refusal of a publishing: the cycle, the dataset, the quota, the handles
-abbrev pub publish_refusal : NodeSetup → SlotState → Publication → Option Refusal
+abbrev pub publish_refusal : ConfigModel → SlotState → Publication → Option Refusal
 publish_refusal setup slot publication =
-    if not (is_cycle publication.cycle) then Some Cycle else
-    if not (is_dataset setup publication.dataset) then Some NoDataset else opening_refusal slot 0
+    if not (is_span publication.cycle) then Some Cycle else dataset_refusal setup publication.dataset (opening_refusal slot 0)
 
--- first refusal of a value for the object of a handle: no such handle; more than 1432 bytes
-abbrev pub put_refusal : List ℕ → Option Entry → Option Refusal
-put_refusal bytes None = Some NoHandle
-put_refusal bytes (Some entry) = if nat_lt 1432 (length bytes) then Some TooLong else None
+-- first refusal of a subscription: the supervision time, the source range, the dataset, the quota, the handles
+abbrev pub subscribe_refusal : ConfigModel → SlotState → SubscriptionTerms → Option Refusal
+subscribe_refusal setup slot terms =
+    if not (is_span terms.supervision) then Some Timeout else
+    if nat_lt terms.filter.high.0 terms.filter.low.0 then Some Range else
+    dataset_refusal setup terms.dataset (opening_refusal slot 1)
 
--- the publisher with a new value
+-- why a publisher takes no such value: more than 1432 bytes, or no value of its dataset
+abbrev pub value_refusal : ConfigModel → ℕ → List ℕ → Option Refusal
+value_refusal setup dataset bytes =
+    if nat_lt 1432 (length bytes) then Some TooLong else
+    if not (is_fitting setup dataset bytes) then Some Shape else None
+
+-- why an object takes no such value: it is no publisher, or the value's own refusal
+abbrev pub object_refusal : ConfigModel → List ℕ → AnyObject → Option Refusal
+object_refusal setup bytes (Publisher p) = value_refusal setup p.publication.dataset bytes
+object_refusal setup bytes (Subscription s) = Some WrongKind
+object_refusal setup bytes (Requester r) = Some WrongKind
+
+-- first refusal of a value for the object of a handle
+abbrev pub put_refusal : ConfigModel → List ℕ → Option Entry → Option Refusal
+put_refusal setup bytes None = Some NoHandle
+put_refusal setup bytes (Some entry) = object_refusal setup bytes entry.object
+
+-- a publisher with a new value
 abbrev pub with_value : List ℕ → AnyObject → AnyObject
 with_value bytes (Publisher p) = Publisher (record p { value = Some bytes })
+with_value bytes (Subscription s) = Subscription s
+with_value bytes (Requester r) = Requester r
 
 -- a value that isn't refused is the publisher's from now on
 abbrev pub put_unless : Option Refusal → SlotState → ℕ → List ℕ → Outcome
 put_unless (Some refusal) slot handle bytes = refused slot refusal
-put_unless None slot handle bytes = answered (record slot { objects = changed handle (with_value bytes) slot.objects }) Done
+put_unless None slot handle bytes = answered (record slot { objects = changed handle (with_value bytes) slot.objects }) DoneIs
+
+-- first refusal of the end of an object of that kind: no such handle; an object of another kind
+abbrev pub close_refusal : ℕ → Option Entry → Option Refusal
+close_refusal kind None = Some NoHandle
+close_refusal kind (Some entry) = if kind_of entry.object == kind then None else Some WrongKind
+
+-- an object whose end isn't refused is gone, and its handle is never given again
+abbrev pub closed_unless : Option Refusal → SlotState → ℕ → Outcome
+closed_unless (Some refusal) slot handle = refused slot refusal
+closed_unless None slot handle = answered (record slot { objects = without handle slot.objects }) DoneIs
+
+-- what an object shows
+abbrev pub shown_of : AnyObject → AnswerModel
+shown_of (Publisher p) = RefusedIs WrongKind
+shown_of (Subscription s) = ValueIs (shown s)
+shown_of (Requester r) = RefusedIs WrongKind
+
+-- the answer to a look at the object of a handle
+abbrev pub get_answer : Option Entry → AnswerModel
+get_answer None = RefusedIs NoHandle
+get_answer (Some entry) = shown_of entry.object
+
+-- a pull that isn't refused is answered, and then its pull request is sent
+abbrev pub pulled_unless : Option Refusal → SlotState → ℕ → Outcome
+pulled_unless (Some refusal) slot handle = refused slot refusal
+pulled_unless None slot handle = record {
+  slot = record slot { objects = changed handle after_pull slot.objects };
+  records = Answers DoneIs ∷ pull_request_of (entry_of handle slot.objects);
+}
 
 -- effect of a call on the slot that makes it
-abbrev pub called : NodeSetup → SlotState → Globals → CallModel → Outcome
+abbrev pub called : ConfigModel → SlotState → Globals → CallModel → Outcome
 called setup slot g (PublishCall publication) =
     opened_unless (publish_refusal setup slot publication) slot (Publisher (published publication g.now))
-called setup slot g (PutCall handle bytes) = put_unless (put_refusal bytes (entry_of handle slot.objects)) slot handle bytes
+called setup slot g (PutCall handle bytes) = put_unless (put_refusal setup bytes (entry_of handle slot.objects)) slot handle bytes
+called setup slot g (UnpublishCall handle) = closed_unless (close_refusal 0 (entry_of handle slot.objects)) slot handle
+called setup slot g (SubscribeCall terms) =
+    opened_unless (subscribe_refusal setup slot terms) slot
+    (Subscription (subscribed terms (zero_size_of setup terms.dataset) g.now))
+called setup slot g (GetCall handle) = answered slot (get_answer (entry_of handle slot.objects))
+called setup slot g (UnsubscribeCall handle) = closed_unless (close_refusal 1 (entry_of handle slot.objects)) slot handle
+called setup slot g (OpenPullCall enquiry) = opened_unless (opening_refusal slot 2) slot (Requester (opened enquiry))
+called setup slot g (PullCall handle) = pulled_unless (pull_refusal g (entry_of handle slot.objects)) slot handle
+called setup slot g (ClosePullCall handle) = closed_unless (close_refusal 2 (entry_of handle slot.objects)) slot handle

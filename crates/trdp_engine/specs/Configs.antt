@@ -1,19 +1,23 @@
--- A node's configuration, and the node that is made from it.
-use Rattle.std.specs.Prelude.{ℕ, List, [], ◌∷◌, Bool, ◌==◌}
-use Rattle.trdp_engine.specs.declared.config.NodeSetup.{NodeSetup}
+-- What objects and values ask of the configuration.
+use Rattle.std.specs.Prelude.{ℕ, List, Option, Some, None, Bool, replicate, ◌==◌, ◌||◌, if◌then◌else◌}
+use Rattle.trdp_dataset.specs.Datasets.{is_known}
+use Rattle.trdp_dataset.specs.ZeroSizes.{zero_size}
+use Rattle.trdp_dataset.specs.Configs.{ConfigModel, SlotModel}
+use Rattle.trdp_marshal.specs.Reading.{is_fitting as fits_dataset}
 
--- what is fixed while the node runs, and the quotas of its slot
-pub record ConfigModel : Type 0 where
-  pub setup : NodeSetup
-  pub quotas : List ℕ
+-- the quotas of a slot; none of any kind where there is no such slot
+abbrev pub quotas_of : Option SlotModel → List ℕ
+quotas_of (Some slot) = slot.quotas
+quotas_of None = replicate 6 0
 
--- address 10.0.0.1, ports 17224 and 17225, one slot with four publishers
-abbrev pub first_config : ConfigModel
-first_config = record {
-  setup = record { address = record { 0 = 0x0a000001 }; pd_port = 17224; md_port = 17225 };
-  quotas = 4 ∷ 0 ∷ 0 ∷ 0 ∷ 0 ∷ 0 ∷ [];
-}
+-- a dataset that values may be of: one of the registry, or 0, which any bytes are of
+abbrev pub is_dataset : ConfigModel → ℕ → Bool
+is_dataset setup dataset = dataset == 0 || is_known setup.registry dataset
 
--- a dataset that values may be of: 0, which any bytes are of
-abbrev pub is_dataset : NodeSetup → ℕ → Bool
-is_dataset setup dataset = dataset == 0
+-- how many bytes the zero value of a dataset takes; of dataset 0 none
+abbrev pub zero_size_of : ConfigModel → ℕ → ℕ
+zero_size_of setup dataset = if dataset == 0 then 0 else zero_size setup.registry dataset
+
+-- the bytes are a value of the dataset
+abbrev pub is_fitting : ConfigModel → ℕ → List ℕ → Bool
+is_fitting setup dataset bytes = fits_dataset setup.registry dataset bytes

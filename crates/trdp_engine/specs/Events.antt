@@ -1,27 +1,52 @@
 -- Events, apart from where their bytes lie.
-use Rattle.std.specs.Prelude.{ℕ, List}
-use Rattle.trdp_engine.specs.declared.event.Publication.{Publication}
+use Rattle.std.specs.Prelude.{ℕ, List, Bool}
+use Rattle.trdp_base.specs.declared.place.Place.{Place}
+use Rattle.trdp_base.specs.declared.topo.Topo.{Topo}
+use Rattle.trdp_pd.specs.declared.publication.Publication.{Publication}
+use Rattle.trdp_pd.specs.declared.terms.SubscriptionTerms.{SubscriptionTerms}
+use Rattle.trdp_pd.specs.declared.requester.Enquiry.{Enquiry}
+use Rattle.trdp_engine.specs.declared.record.Protocol.{Protocol}
 use Rattle.trdp_engine.specs.declared.event.Call.{Call as AnyCall}
-use Rattle.trdp_engine.specs.declared.event.Call.TheVariants.{Publish, Put}
+use Rattle.trdp_engine.specs.declared.event.Call.TheVariants.{Publish, Put, Unpublish, Subscribe, Get, Unsubscribe, OpenPull, Pull, ClosePull}
 use Rattle.trdp_engine.specs.declared.event.Event.{Event}
-use Rattle.trdp_engine.specs.declared.event.Event.TheVariants.{Moment, Call}
+use Rattle.trdp_engine.specs.declared.event.Event.TheVariants.{Moment, Topology, Role, Datagram, Call}
 
 -- a call of the application in a slot
 pub data CallModel : Type 0 where
   PublishCall : (publication : Publication) → CallModel
   PutCall : (handle : ℕ) (bytes : List ℕ) → CallModel
+  UnpublishCall : (handle : ℕ) → CallModel
+  SubscribeCall : (terms : SubscriptionTerms) → CallModel
+  GetCall : (handle : ℕ) → CallModel
+  UnsubscribeCall : (handle : ℕ) → CallModel
+  OpenPullCall : (enquiry : Enquiry) → CallModel
+  PullCall : (handle : ℕ) → CallModel
+  ClosePullCall : (handle : ℕ) → CallModel
 
 -- one event of a node
 pub data EventModel : Type 0 where
   MomentIs : (t : ℕ) → EventModel
+  TopologyIs : (topo : Topo) → EventModel
+  RoleIs : (group : ℕ) (leader : Bool) → EventModel
+  DatagramIs : (protocol : Protocol) (src dst : Place) (bytes : List ℕ) → EventModel
   CallIs : (slot : ℕ) (call : CallModel) → EventModel
 
 -- a call, apart from where its bytes lie
 abbrev pub call_model : AnyCall → CallModel
 call_model (Publish publication) = PublishCall publication
 call_model (Put handle bytes) = PutCall handle bytes.now
+call_model (Unpublish handle) = UnpublishCall handle
+call_model (Subscribe terms) = SubscribeCall terms
+call_model (Get handle) = GetCall handle
+call_model (Unsubscribe handle) = UnsubscribeCall handle
+call_model (OpenPull enquiry) = OpenPullCall enquiry
+call_model (Pull handle) = PullCall handle
+call_model (ClosePull handle) = ClosePullCall handle
 
 -- an event, apart from where its bytes lie
 abbrev pub event_model : Event → EventModel
 event_model (Moment t) = MomentIs t
+event_model (Topology topo) = TopologyIs topo
+event_model (Role group leader) = RoleIs group leader
+event_model (Datagram protocol src dst bytes) = DatagramIs protocol src dst bytes.now
 event_model (Call slot call) = CallIs slot (call_model call)

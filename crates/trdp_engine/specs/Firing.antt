@@ -1,7 +1,7 @@
 -- Words of the loop that fires what is due: the object that comes first, and what one firing leaves of the moment.
-use Rattle.std.specs.Prelude.{◌≡◌, ℕ, ◌+◌, ◌++◌, List, [], ◌∷◌, length, Option, Some, None, Bool, true, nat_le, filter, if◌then◌else◌}
+use Rattle.std.specs.Prelude.{◌≡◌, ℕ, ◌+◌, ◌++◌, List, [], ◌∷◌, length, Option, Some, None, true, nat_le, filter, if◌then◌else◌}
 use Rattle.trdp_engine.specs.declared.object.Entry.{Entry}
-use Rattle.trdp_engine.specs.Objects.{due_of}
+use Rattle.trdp_pd.specs.Objects.{due_of}
 use Rattle.trdp_engine.specs.Moments.{is_due, is_before}
 
 -- the due moment, if it has come by t

@@ -1,22 +1,20 @@
 -- What a moment does to a slot.
-use Rattle.std.specs.Prelude.{ℕ, List, [], ◌∷◌, Option, Some, None, Bool, false, ◌==◌, ◌&&◌, ◌||◌, nat_le, nat_lt, map, filter, if◌then◌else◌, unwrap_or}
+use Rattle.std.specs.Prelude.{ℕ, List, [], ◌∷◌, Bool, ◌==◌, ◌&&◌, ◌||◌, nat_lt, map, filter, if◌then◌else◌, unwrap_or}
 use Rattle.std.specs.List.{flat_map}
+use Rattle.trdp_head.specs.declared.pd.PdHead.{PdHead}
 use Rattle.trdp_head.specs.PdBytes.{pd_bytes}
-use Rattle.trdp_engine.specs.declared.globals.Globals.{Globals}
-use Rattle.trdp_engine.specs.declared.object.AnyObject.{AnyObject}
-use Rattle.trdp_engine.specs.declared.object.AnyObject.TheVariants.{Publisher}
+use Rattle.trdp_filter.specs.declared.globals.Globals.{Globals}
+use Rattle.trdp_pd.specs.declared.any_object.AnyObject.{AnyObject}
+use Rattle.trdp_pd.specs.declared.any_object.AnyObject.TheVariants.{Publisher, Subscription, Requester}
+use Rattle.trdp_pd.specs.declared.object.Fired.{Fired}
+use Rattle.trdp_pd.specs.declared.object.Fired.TheVariants.{Nothing, Data, Silent}
+use Rattle.trdp_pd.specs.Due.{is_due_by}
+use Rattle.trdp_pd.specs.Objects.{due_of, after_firing, fired}
 use Rattle.trdp_engine.specs.declared.object.Entry.{Entry}
-use Rattle.trdp_engine.specs.declared.object.Fired.{Fired}
-use Rattle.trdp_engine.specs.declared.object.Fired.TheVariants.{Nothing, Data}
 use Rattle.trdp_engine.specs.declared.record.Protocol.TheVariants.{Pd}
-use Rattle.trdp_engine.specs.Records.{Content, Sends}
-use Rattle.trdp_engine.specs.Objects.{due_of, after_firing, fired}
+use Rattle.trdp_engine.specs.declared.record.Indication.TheVariants.{Silent as SilentNow}
+use Rattle.trdp_engine.specs.Records.{Content, Indicates, Sends}
 use Rattle.trdp_engine.specs.Slots.{SlotState, Outcome}
-
--- the moment has come by t
-abbrev pub is_due_by : ℕ → Option ℕ → Bool
-is_due_by t None = false
-is_due_by t (Some due) = nat_le due t
 
 -- the object is due by t
 abbrev pub is_due : ℕ → Entry → Bool
@@ -38,14 +36,21 @@ abbrev pub in_order : List Entry → List Entry
 in_order [] = []
 in_order (entry ∷ entries) = inserted entry (in_order entries)
 
--- the records of an object that did this: data goes to the publisher's destination with its value
-abbrev pub firing_records : AnyObject → Fired → List Content
-firing_records (Publisher p) Nothing = []
-firing_records (Publisher p) (Data head) = Sends Pd p.publication.to (pd_bytes head (unwrap_or p.value [])) ∷ []
+-- a publisher's data goes to its destination with its value
+abbrev pub sends_data : AnyObject → PdHead → List Content
+sends_data (Publisher p) head = Sends Pd p.publication.to (pd_bytes head (unwrap_or p.value [])) ∷ []
+sends_data (Subscription s) head = []
+sends_data (Requester r) head = []
+
+-- the records of an object that did this
+abbrev pub firing_records : ℕ → AnyObject → Fired → List Content
+firing_records handle object Nothing = []
+firing_records handle object (Data head) = sends_data object head
+firing_records handle object Silent = Indicates (SilentNow handle) ∷ []
 
 -- the records of an object that fires
 abbrev pub records_firing : Globals → Entry → List Content
-records_firing g entry = firing_records entry.object (fired entry.object g)
+records_firing g entry = firing_records entry.handle entry.object (fired entry.object g)
 
 -- an object after the moment: it fired if it was due
 abbrev pub entry_after_moment : Globals → Entry → Entry

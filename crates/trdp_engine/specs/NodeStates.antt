@@ -1,19 +1,20 @@
 -- A node, and what its events do to each slot.
-use Rattle.std.specs.Prelude.{◌≡◌, ℕ, ◌<◌, ◌++◌, ◌∷◌, [], List, length, filter, slice_get, Some, None}
-use Rattle.std.specs.List.{sum_by}
-use Rattle.trdp_engine.specs.declared.globals.Globals.{Globals}
-use Rattle.trdp_engine.specs.declared.config.NodeSetup.{NodeSetup}
-use Rattle.trdp_engine.specs.Configs.{ConfigModel}
-use Rattle.trdp_engine.specs.Globals.{first_globals}
+use Rattle.std.specs.Prelude.{◌≡◌, ℕ, ◌<◌, ◌++◌, ◌∷◌, [], List, length, filter, slice_get, Some, None, true}
+use Rattle.std.specs.List.{sum_by, list_any}
+use Rattle.trdp_filter.specs.declared.globals.Globals.{Globals}
+use Rattle.trdp_dataset.specs.Configs.{ConfigModel}
+use Rattle.trdp_filter.specs.Globals.{first_globals}
 use Rattle.trdp_engine.specs.Records.{Content, RecordModel, records_of}
-use Rattle.trdp_engine.specs.Events.{EventModel, MomentIs, CallIs}
-use Rattle.trdp_engine.specs.Slots.{SlotState, opened_slot}
+use Rattle.trdp_engine.specs.Events.{EventModel, MomentIs, TopologyIs, RoleIs, DatagramIs, CallIs}
+use Rattle.trdp_engine.specs.Slots.{SlotState, Outcome, opened_slot}
+use Rattle.trdp_engine.specs.Configs.{quotas_of}
+use Rattle.trdp_engine.specs.Datagrams.{telegram_of, concerns}
 use Rattle.trdp_engine.specs.Moments.{is_due}
 use Rattle.trdp_engine.specs.Alone.{slot_after, records_after, alone_in_view}
 
--- a node: what is fixed, its globals, and its slots
+-- a node: its configuration, its globals, and its slots
 pub record NodeState : Type 0 where
-  pub setup : NodeSetup
+  pub setup : ConfigModel
   pub globals : Globals
   pub slots : List SlotState
 
@@ -38,14 +39,17 @@ pub record Appends (slots : List SlotState) (records records_then : List RecordM
 abbrev pub due_in : ℕ → List SlotState → ℕ
 due_in t slots = sum_by (λ slot. length (filter (is_due t) slot.objects)) slots
 
--- the events at which memory may be wanting: each call, and a moment by which something is due
+-- the events at which memory may be wanting: a call, a moment by which something is due, a datagram that concerns a slot
 abbrev pub MayTakeMemory : NodeState → EventModel → Type 0
 MayTakeMemory node (MomentIs t) = 0 < due_in t node.slots
+MayTakeMemory node (TopologyIs topo) = ⊥
+MayTakeMemory node (RoleIs group leader) = ⊥
+MayTakeMemory node (DatagramIs protocol src dst bytes) = list_any (concerns node.globals (telegram_of protocol src dst bytes)) node.slots ≡ true
 MayTakeMemory node (CallIs s call) = Unit {0}
 
--- a node that was just made: its slots are empty
+-- a node that was just made serves the first slot of its configuration, which is empty
 abbrev pub opened_node : ConfigModel → NodeState
-opened_node config = record { setup = config.setup; globals = first_globals; slots = opened_slot config.quotas ∷ [] }
+opened_node config = record { setup = config; globals = first_globals; slots = opened_slot (quotas_of (slice_get config.slots 0)) ∷ [] }
 
 -- slot s is the same in two nodes, and has got the same records since
 pub record GetsTheSame (first second : NodeState) (records records_then others others_then : List RecordModel) (s : ℕ) : Type 0 where
@@ -53,3 +57,8 @@ pub record GetsTheSame (first second : NodeState) (records records_then others o
   pub got : List Content
   pub first_got : records_of s records_then ≡ records_of s records ++ got
   pub second_got : records_of s others_then ≡ records_of s others ++ got
+
+-- slot s is that of the outcome, and has got its records
+pub record GetsOutcome (new : NodeState) (records records_then : List RecordModel) (s : ℕ) (outcome : Outcome) : Type 0 where
+  pub slot_is : slice_get new.slots s ≡ Some outcome.slot
+  pub records_are : records_of s records_then ≡ records_of s records ++ outcome.records

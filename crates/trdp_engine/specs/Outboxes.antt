@@ -1,19 +1,30 @@
 -- An outbox: its records, whose bytes lie one after the other in one list.
 use Rattle.std.specs.Prelude.{ℕ, ◌+◌, ◌≤◌, List, [], ◌∷◌, take, drop}
 use Rattle.trdp_engine.specs.declared.outbox.Row.{Row}
+use Rattle.trdp_engine.specs.declared.outbox.Reply.{Reply as AnyReply}
+use Rattle.trdp_engine.specs.declared.outbox.Reply.TheVariants.{Handle, Done, Refused}
 use Rattle.trdp_engine.specs.declared.outbox.Form.{Form}
-use Rattle.trdp_engine.specs.declared.outbox.Form.TheVariants.{Answer, Send}
-use Rattle.trdp_engine.specs.Records.{Content, Answers, Sends, RecordModel}
+use Rattle.trdp_engine.specs.declared.outbox.Form.TheVariants.{Reply, Value, Indication, Send}
+use Rattle.trdp_engine.specs.Records.{AnswerModel, HandleIs, DoneIs, ValueIs, RefusedIs, Content, Answers, Indicates, Sends, RecordModel}
 
--- the records, and how many more records and bytes of theirs find room
+-- the records, how many bytes they hold, and how many more records and bytes of theirs find room
 pub record OutboxState : Type 0 where
   pub records : List RecordModel
+  pub held : ℕ
   pub row_room : ℕ
   pub byte_room : ℕ
 
+-- the answer of a reply
+abbrev pub reply_model : AnyReply → AnswerModel
+reply_model (Handle handle) = HandleIs handle
+reply_model Done = DoneIs
+reply_model (Refused refusal) = RefusedIs refusal
+
 -- what a row says with these bytes
 abbrev pub row_content : Form → List ℕ → Content
-row_content (Answer answer) bytes = Answers answer
+row_content (Reply reply) bytes = Answers (reply_model reply)
+row_content (Value state counter) bytes = Answers (ValueIs (record { state = state; counter = counter; bytes = bytes }))
+row_content (Indication indication) bytes = Indicates indication
 row_content (Send protocol to) bytes = Sends protocol to bytes
 
 -- the record of a row

@@ -1,15 +1,27 @@
--- What a node gives its slots: answers and telegrams.
+-- What a node gives its slots: answers, indications and telegrams.
 use Rattle.std.specs.Prelude.{ℕ, List, map, filter, ◌==◌}
 use Rattle.trdp_base.specs.declared.place.Place.{Place}
-use Rattle.trdp_engine.specs.declared.record.Answer.{Answer as AnswerKind}
+use Rattle.trdp_pd.specs.Peeks.{PeekModel, peek_model}
+use Rattle.trdp_engine.specs.declared.fault.Refusal.{Refusal}
+use Rattle.trdp_engine.specs.declared.record.Answer.{Answer as AnyAnswer}
+use Rattle.trdp_engine.specs.declared.record.Answer.TheVariants.{Handle, Done, Value, Refused}
+use Rattle.trdp_engine.specs.declared.record.Indication.{Indication as AnyIndication}
 use Rattle.trdp_engine.specs.declared.record.Protocol.{Protocol}
 use Rattle.trdp_engine.specs.declared.record.What.{What}
-use Rattle.trdp_engine.specs.declared.record.What.TheVariants.{Answer, Send}
+use Rattle.trdp_engine.specs.declared.record.What.TheVariants.{Answer, Indication, Send}
 use Rattle.trdp_engine.specs.declared.record.Record.{Record}
 
--- what a record says: an answer, or a telegram with its protocol, its destination and every byte
+-- what a call comes to
+pub data AnswerModel : Type 0 where
+  HandleIs : (handle : ℕ) → AnswerModel
+  DoneIs : AnswerModel
+  ValueIs : (peek : PeekModel) → AnswerModel
+  RefusedIs : (refusal : Refusal) → AnswerModel
+
+-- what a record says: an answer, an indication, or a telegram with its protocol, its destination and every byte
 pub data Content : Type 0 where
-  Answers : (answer : AnswerKind) → Content
+  Answers : (answer : AnswerModel) → Content
+  Indicates : (indication : AnyIndication) → Content
   Sends : (protocol : Protocol) (to : Place) (telegram : List ℕ) → Content
 
 -- one thing that a node gives the slot of that number
@@ -17,9 +29,17 @@ pub record RecordModel : Type 0 where
   pub slot : ℕ
   pub content : Content
 
+-- an answer, apart from where its bytes lie
+abbrev pub answer_model : AnyAnswer → AnswerModel
+answer_model (Handle handle) = HandleIs handle
+answer_model Done = DoneIs
+answer_model (Value peek) = ValueIs (peek_model peek)
+answer_model (Refused refusal) = RefusedIs refusal
+
 -- what a record says, apart from where its bytes lie
 abbrev pub content_model : What → Content
-content_model (Answer answer) = Answers answer
+content_model (Answer answer) = Answers (answer_model answer)
+content_model (Indication indication) = Indicates indication
 content_model (Send protocol to telegram) = Sends protocol to telegram.now
 
 -- a record, apart from where its bytes lie

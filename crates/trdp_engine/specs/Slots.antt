@@ -1,6 +1,7 @@
 -- An application slot.
-use Rattle.std.specs.Prelude.{ℕ, ◌+◌, ◌<◌, ◌≤◌, ◌^◌, List, [], ◌∷◌, ◌++◌, length, find, Option, ◌==◌, if◌then◌else◌}
-use Rattle.trdp_engine.specs.declared.object.AnyObject.{AnyObject}
+use Rattle.std.specs.Prelude.{ℕ, ◌+◌, List, [], ◌∷◌, ◌++◌, find, count_by, Option, ◌==◌, if◌then◌else◌}
+use Rattle.trdp_pd.specs.declared.any_object.AnyObject.{AnyObject}
+use Rattle.trdp_pd.specs.Objects.{kind_of}
 use Rattle.trdp_engine.specs.declared.object.Entry.{Entry}
 use Rattle.trdp_engine.specs.Records.{Content}
 
@@ -15,9 +16,17 @@ pub record Outcome : Type 0 where
   pub slot : SlotState
   pub records : List Content
 
+-- a slot that an event leaves as it is, without a record
+abbrev pub unchanged : SlotState → Outcome
+unchanged slot = record { slot = slot; records = [] }
+
 -- an empty slot, whose first handle will be 1
 abbrev pub opened_slot : List ℕ → SlotState
 opened_slot quotas = record { quotas = quotas; next = 1; objects = [] }
+
+-- how many objects are of the kind at that place of the quotas
+abbrev pub count_of : ℕ → List Entry → ℕ
+count_of kind objects = count_by (λ entry. kind_of entry.object == kind) objects
 
 -- the object of a handle
 abbrev pub entry_of : ℕ → List Entry → Option Entry
@@ -35,3 +44,8 @@ changed handle change (entry ∷ entries) =
     if entry.handle == handle
     then record { handle = entry.handle; object = change entry.object } ∷ entries
     else entry ∷ changed handle change entries
+
+-- the objects but the one of the handle
+abbrev pub without : ℕ → List Entry → List Entry
+without handle [] = []
+without handle (entry ∷ entries) = if entry.handle == handle then entries else entry ∷ without handle entries

@@ -1,23 +1,8 @@
 //! What happens to a node, one event at a time.
 
+use crate::record::Protocol;
 use trdp_base::{Place, Topo};
-
-/// What a publisher is to send, to whom and how often.
-#[derive(Clone, Copy, Debug, PartialEq, Eq)]
-pub struct Publication {
-    /// The communication identifier of IEC 61375-2-3 that the telegrams carry.
-    pub com_id: u32,
-    /// The dataset that each value is one of; 0 for any bytes.
-    pub dataset: u32,
-    /// Microseconds from one telegram to the next: 1,000 or more, or 0 for a publisher that is never due (profile).
-    pub cycle: u32,
-    /// The redundancy group, 1 to 255, which the node must lead for the publisher to send; 0 for none (profile).
-    pub group: u8,
-    /// The topology counts that the telegrams carry.
-    pub topo: Topo,
-    /// Where the telegrams go.
-    pub to: Place,
-}
+use trdp_pd::{Enquiry, Publication, SubscriptionTerms};
 
 /// A call of the application in a slot.
 #[derive(Clone, Copy, Debug)]
@@ -26,6 +11,21 @@ pub enum Call<'a> {
     Publish(Publication),
     /// Gives the publisher of that handle a new value.
     Put { handle: u32, bytes: &'a [u8] },
+    /// Ends the publisher of that handle.
+    Unpublish { handle: u32 },
+    /// Makes a subscription, and answers its handle.
+    Subscribe(SubscriptionTerms),
+    /// Answers what the subscription of that handle shows.
+    Get { handle: u32 },
+    /// Ends the subscription of that handle.
+    Unsubscribe { handle: u32 },
+    /// Makes a requester, and answers its handle. Refused: Quota, Exhausted.
+    OpenPull(Enquiry),
+    /// Lets the requester of that handle send one pull request, after the answer. Refused: NoHandle, WrongKind, and State
+    /// where its topology counts don't match the node's.
+    Pull { handle: u32 },
+    /// Ends the requester of that handle. Refused: NoHandle, WrongKind.
+    ClosePull { handle: u32 },
 }
 
 /// One event, the atomic step of a node (profile).
@@ -33,6 +33,23 @@ pub enum Call<'a> {
 pub enum Event<'a> {
     /// Time has come to that moment, in microseconds.
     Moment(u64),
+    /// The train's network has these topology counts.
+    Topology(Topo),
+    /// The node is the leader of that redundancy group, 1 to 255, from now on, or a follower in it. Group 0 is `NoGroup`.
+    Role {
+        group: u8,
+        leader: bool,
+    },
+    /// These bytes came in over the protocol's port, from one place to another.
+    Datagram {
+        protocol: Protocol,
+        src: Place,
+        dst: Place,
+        bytes: &'a [u8],
+    },
     /// The application in that slot, numbered from 0, makes a call.
-    Call { slot: u16, call: Call<'a> },
+    Call {
+        slot: u16,
+        call: Call<'a>,
+    },
 }

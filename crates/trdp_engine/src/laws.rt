@@ -1,11 +1,11 @@
 //! What a slot gets depends on what it sees alone.
 
-ghost use Rattle.std.specs.Prelude.{◌≡◌, ℕ, List, Some, slice_get, map, take};
-ghost use Rattle.trdp_engine.specs.declared.config.NodeSetup.{NodeSetup};
-ghost use Rattle.trdp_engine.specs.declared.globals.Globals.{Globals};
+ghost use Rattle.std.specs.Prelude.{◌≡◌, ℕ, List, None, Some, slice_get, map, take};
+ghost use Rattle.trdp_dataset.specs.Configs.{ConfigModel};
+ghost use Rattle.trdp_filter.specs.declared.globals.Globals.{Globals};
 ghost use Rattle.trdp_engine.specs.Events.{EventModel, event_model};
 ghost use Rattle.trdp_engine.specs.Slots.{SlotState};
-ghost use Rattle.trdp_engine.specs.Alone.{view, alone_in_view};
+ghost use Rattle.trdp_engine.specs.Alone.{refused_as, plain_effect, slot_after, records_after, view, alone_in_view};
 ghost use Rattle.trdp_engine.specs.NodeStates.{GetsTheSame};
 
 use crate::event::Event;
@@ -15,11 +15,19 @@ use crate::outbox::Outbox;
 /// The law of equal views: two lists of events of which a slot sees the same come to the same for that slot, whatever
 /// else they hold.
 pub fn same_view()
-    ensures { (setup : NodeSetup) (s : ℕ) (slot : SlotState) (g : Globals) (events others : List EventModel) → view setup s slot g events ≡ view setup s slot g others → alone_in_view setup s slot g events ≡ alone_in_view setup s slot g others }
+    ensures { (setup : ConfigModel) (s : ℕ) (slot : SlotState) (g : Globals) (events others : List EventModel) → view setup s slot g events ≡ view setup s slot g others → alone_in_view setup s slot g events ≡ alone_in_view setup s slot g others }
 {}
 
-/// Runs two nodes of the same setup and globals over two lists of events, and answers how many each took. A slot that is
-/// the same in both, and sees the same of the events that were taken, is the same afterwards and has got the same records.
+/// The law of the view: an admitted event that a slot doesn't see does nothing in that slot's own model. What the slot
+/// sees comes to the same as all events, the calls of other slots left out.
+#[tactic(auto, using(crate::proofs::Views::view_is_plain))]
+pub fn view_drops_nothing()
+    ensures { (setup : ConfigModel) (s n : ℕ) (slot : SlotState) (g : Globals) (event : EventModel) → refused_as n g event ≡ None → plain_effect setup s slot g event ≡ record { slot = slot_after setup s slot g event; records = records_after setup s slot g event } }
+{}
+
+/// Runs two nodes over two lists of events, and answers how many each took. Where the nodes have the same setup and globals,
+/// a slot that is the same in both, and sees the same of the events that were taken, is the same afterwards and has got the
+/// same records.
 pub fn run_both(
     first: &mut Node,
     second: &mut Node,
@@ -28,9 +36,7 @@ pub fn run_both(
     out: &mut Outbox,
     other_out: &mut Outbox,
 ) -> (usize, usize)
-    requires setup { first.old.setup ≡ second.old.setup }
-    requires globals { first.old.globals ≡ second.old.globals }
-    ensures { (s : ℕ) (slot : SlotState) → slice_get first.old.slots s ≡ Some slot → slice_get second.old.slots s ≡ Some slot → view first.old.setup s slot first.old.globals (map event_model (take result.0 events.now)) ≡ view first.old.setup s slot first.old.globals (map event_model (take result.1 others.now)) → GetsTheSame first.new second.new out.old.records out.new.records other_out.old.records other_out.new.records s }
+    ensures { first.old.setup ≡ second.old.setup → first.old.globals ≡ second.old.globals → (s : ℕ) (slot : SlotState) → slice_get first.old.slots s ≡ Some slot → slice_get second.old.slots s ≡ Some slot → view first.old.setup s slot first.old.globals (map event_model (take result.0 events.now)) ≡ view first.old.setup s slot first.old.globals (map event_model (take result.1 others.now)) → GetsTheSame first.new second.new out.old.records out.new.records other_out.old.records other_out.new.records s }
 {
     let taken = first.run(events, out);
     let others_taken = second.run(others, other_out);

@@ -1,29 +1,33 @@
 //! The node: events come in, and each slot gets its answers and telegrams.
 //!
-//! What no contract can say is that memory is there. A `run` that answers 0, and a `run_both` that answers twice 0, meet their
-//! contracts, since the first event may lack memory; the tests show that with ample memory every event is taken. A kind that is
-//! always 0 is right as long as publishers are the only kind of object.
+//! What no contract can say is that memory is there. A `run` that answers 0, a `run_both` that answers twice 0, and a `value_of`
+//! that answers want of memory wherever it could show an item meet their contracts, since memory may be lacking; the tests show
+//! that with ample memory every event is taken and every item shown.
 #![tactic(auto)]
 
-mod config;
+mod datagram;
+mod entries;
 mod event;
 mod fault;
-mod globals;
 mod laws;
 mod moment;
 mod node;
 mod object;
 mod outbox;
-mod publisher;
+mod peek;
+mod pull;
 mod record;
+mod shown;
 mod slot;
 #[cfg(test)]
 mod tests;
+mod value;
 
-pub use config::NodeConfig;
-pub use event::{Call, Event, Publication};
+pub use event::{Call, Event};
 pub use fault::{NodeFault, Refusal};
-pub use laws::{run_both, same_view};
+pub use laws::{run_both, same_view, view_drops_nothing};
 pub use node::Node;
 pub use outbox::Outbox;
-pub use record::{Answer, Protocol, Record, What};
+pub use peek::PeekFault;
+pub use record::{Answer, Indication, Protocol, Record, What};
+pub use shown::ValueFault;

@@ -5,16 +5,18 @@ ghost use Rattle.std.specs.List.{flat_map};
 ghost use Rattle.trdp_base.specs.declared.moment.TheConstants.{LAST};
 ghost use Rattle.trdp_head.specs.declared.pd.TheConstants.{PD_TELEGRAM_MAX};
 ghost use Rattle.trdp_engine.specs.Handles.{IsRising};
-ghost use Rattle.trdp_engine.specs.Objects.{due_of};
+ghost use Rattle.trdp_pd.specs.Objects.{due_of};
 ghost use Rattle.trdp_engine.specs.Records.{labelled};
 ghost use Rattle.trdp_engine.specs.Moments.{is_due, in_order, records_firing, entry_after_moment};
 ghost use Rattle.trdp_engine.specs.Firing.{due_time, sooner, IsFirst};
 
-use crate::globals::Globals;
-use crate::object::{AnyObject, Entry, Fired};
+use crate::object::Entry;
 use crate::outbox::Outbox;
+use crate::record::Indication;
 use trdp_base::LAST;
+use trdp_filter::Globals;
 use trdp_head::PD_TELEGRAM_MAX;
+use trdp_pd::{AnyObject, Fired, Object};
 
 /// The object's due moment, if it has come by `t`.
 fn due_time(entry: &Entry, t: u64) -> Option<u64>
@@ -71,6 +73,7 @@ fn fire(entry: &mut Entry, g: &Globals, s: u16, out: &mut Outbox)
     ensures row_room { out.old.row_room ≤ out.new.row_room + 1 }
     ensures byte_room { out.old.byte_room ≤ out.new.byte_room + PD_TELEGRAM_MAX }
 {
+    let handle = entry.handle;
     match &mut entry.object {
         AnyObject::Publisher(publisher) => {
             if let Fired::Data(head) = publisher.fire(g) {
@@ -79,6 +82,12 @@ fn fire(entry: &mut Entry, g: &Globals, s: u16, out: &mut Outbox)
                 }
             }
         }
+        AnyObject::Subscription(subscription) => {
+            let _ = subscription.fire(g);
+            out.push_indication(s, Indication::Silent(handle));
+        }
+        // A requester is never due.
+        AnyObject::Requester(_) => {}
     }
 }
 

@@ -1,30 +1,40 @@
 //! The node: one event after another.
 
-ghost use Rattle.std.specs.Prelude.{◌≡◌, ◌≢◌, ℕ, ◌<◌, ◌≤◌, ◌++◌, ◌∷◌, [], length, OnOk, OnErr, IfOk, IfErr, Err, Some, true, false, slice_get, map, filter, take};
+ghost use Rattle.std.specs.Prelude.{nat_le, if◌then◌else◌, None, ◌≡◌, ◌≢◌, ℕ, ◌<◌, ◌≤◌, ◌++◌, ◌∷◌, [], length, OnOk, OnErr, IfOk, IfErr, Err, Some, true, false, slice_get, map, filter, take, replicate};
 ghost use Rattle.trdp_base.specs.declared.moment.TheConstants.{LAST};
 ghost use Rattle.trdp_engine.specs.Records.{Answers, RecordModel, labelled};
-ghost use Rattle.trdp_engine.specs.Events.{MomentIs, CallIs, call_model, event_model};
+ghost use Rattle.trdp_engine.specs.Events.{MomentIs, TopologyIs, RoleIs, DatagramIs, CallIs, call_model, event_model};
 ghost use Rattle.trdp_engine.specs.Slots.{SlotState};
 ghost use Rattle.trdp_engine.specs.Calls.{called};
+ghost use Rattle.trdp_engine.specs.Datagrams.{telegram_of, received_if, concerns};
 ghost use Rattle.trdp_engine.specs.Moments.{is_due, moved_to};
+ghost use Rattle.trdp_engine.specs.Peeks.{peeked, peek_in};
+ghost use Rattle.trdp_engine.specs.ShownItems.{showing_in, ShowsItem};
+ghost use Rattle.trdp_marshal.specs.Items.{model_of};
+ghost use Rattle.trdp_engine.specs.Values.{valued_at};
 
-use crate::config::{NodeConfig, NodeSetup};
 use crate::event::{Call, Event};
 use crate::fault::NodeFault;
-use crate::globals::{Globals, Groups};
 use crate::outbox::Outbox;
+use crate::peek::PeekFault;
+use crate::record::Protocol;
+use crate::shown::ValueFault;
 use crate::slot::Slot;
 use std::alloc::{AllocError, Global};
 use std::marker::Model;
 use std::slice;
-use trdp_base::{LAST, Topo};
-use trdp_head::PD_TELEGRAM_MAX;
+use trdp_base::{LAST, Place, Quotas, Topo};
+use trdp_dataset::NodeConfig;
+use trdp_filter::{Globals, Groups, Telegram};
+use trdp_head::{PD_TELEGRAM_MAX, read_pd};
+use trdp_marshal::Item;
+use trdp_pd::Peek;
 
 /// The communication node of one end device. It serves slot 0.
 #[derive(Drop)]
 pub struct Node {
     alloc: Global,
-    setup: NodeSetup,
+    config: NodeConfig,
     globals: Globals,
     slot: Slot,
 }
@@ -32,17 +42,19 @@ pub struct Node {
 impl Model for Node {
     ghost use Rattle.std.specs.Prelude.{◌≤◌, ◌∷◌, []};
     ghost use Rattle.trdp_base.specs.declared.moment.TheConstants.{LAST};
+    ghost use Rattle.trdp_dataset.specs.Registries.{IsRegistry};
     ghost use Rattle.trdp_engine.specs.NodeStates.{NodeState};
+    ghost use Rattle.trdp_engine.specs.Fitting.{AllFit};
 
     ghost Value = { NodeState };
 
-    ghost view = { λ n. record { setup = n.setup; globals = n.globals; slots = n.slot ∷ [] } };
+    ghost view = { λ n. record { setup = n.config; globals = n.globals; slots = n.slot ∷ [] } };
 
-    ghost invariant = { λ n. n.globals.now ≤ LAST };
+    ghost invariant = { λ n. (n.globals.now ≤ LAST) × IsRegistry n.config.registry × AllFit n.config n.slot.objects };
 }
 
 impl Node {
-    ghost use Rattle.trdp_engine.specs.NodeStates.{NodeState, StepsAsAlone, RunsAsAlone, Appends, MayTakeMemory, opened_node};
+    ghost use Rattle.trdp_engine.specs.NodeStates.{NodeState, GetsOutcome, StepsAsAlone, RunsAsAlone, Appends, MayTakeMemory, opened_node};
     ghost use Rattle.trdp_engine.specs.Alone.{FaultIs, refused_as, globals_after};
 
     /// A node at moment 0 that leads no group, with empty slots. For want of memory the configuration comes back.
@@ -50,17 +62,19 @@ impl Node {
         ensures opened { IfOk result (λ node. node ≡ opened_node config) }
         ensures returned { IfErr result (λ back. back ≡ config) }
     {
-        match Slot::new(alloc, config.quotas()) {
+        config.registry().sound();
+        let quotas = config.quotas(0).unwrap_or(no_quotas());
+        match Slot::new(alloc, quotas) {
             Err(_) => Err(config),
             Ok(slot) => {
                 let globals = Globals {
                     now: 0,
                     topo: Topo { etb: 0, op_trn: 0 },
-                    groups: Groups::none(),
+                    led: Groups::none(),
                 };
                 Ok(Node {
                     alloc,
-                    setup: config.setup(),
+                    config,
                     globals,
                     slot,
                 })
@@ -104,6 +118,66 @@ impl Node {
         }
     }
 
+    /// Takes new topology counts.
+    fn step_topology(&mut self, topo: Topo)
+        ensures globals { self.new.globals ≡ globals_after self.old.globals (TopologyIs topo) }
+        ensures slots { self.new.slots ≡ self.old.slots }
+        ensures setup { self.new.setup ≡ self.old.setup }
+    {
+        self.globals.topo = topo;
+    }
+
+    /// Takes the node's role in a redundancy group; there is no group 0.
+    fn step_role(&mut self, group: u8, leader: bool) -> Result<(), NodeFault>
+        ensures fault { FaultIs (refused_as (length self.old.slots) self.old.globals (RoleIs group leader)) result }
+        ensures kept { OnErr result (self.new ≡ self.old) }
+        ensures memory { result ≢ Err NodeFault.OutOfMemory }
+        ensures setup { self.new.setup ≡ self.old.setup }
+        ensures globals { OnOk result (self.new.globals ≡ globals_after self.old.globals (RoleIs group leader)) }
+        ensures slots { self.new.slots ≡ self.old.slots }
+        ensures group { OnOk result (0 < group) }
+    {
+        if group == 0 {
+            return Err(NodeFault::NoGroup);
+        }
+        self.globals.led.set(group, leader);
+        Ok(())
+    }
+
+    /// Takes a datagram. One that is no telegram, or of a protocol that isn't served yet, changes nothing.
+    fn step_datagram(
+        &mut self,
+        protocol: Protocol,
+        src: Place,
+        dst: Place,
+        bytes: &[u8],
+        out: &mut Outbox,
+    ) -> Result<(), NodeFault>
+        ensures fault { FaultIs (refused_as (length self.old.slots) self.old.globals (DatagramIs protocol src dst bytes.now)) result }
+        ensures kept { OnErr result (self.new ≡ self.old) }
+        ensures unrecorded { OnErr result (out.new.records ≡ out.old.records) }
+        ensures memory { result ≡ Err NodeFault.OutOfMemory → MayTakeMemory self.old (DatagramIs protocol src dst bytes.now) }
+        ensures setup { self.new.setup ≡ self.old.setup }
+        ensures globals { OnOk result (self.new.globals ≡ globals_after self.old.globals (DatagramIs protocol src dst bytes.now)) }
+        ensures count { length self.new.slots ≡ length self.old.slots }
+        ensures steps { OnOk result ((s : ℕ) (slot : SlotState) → slice_get self.old.slots s ≡ Some slot → StepsAsAlone self.old self.new out.old.records out.new.records (DatagramIs protocol src dst bytes.now) s slot) }
+        ensures appends { Appends self.old.slots out.old.records out.new.records }
+    {
+        match hear(
+            &mut self.slot,
+            &self.config,
+            protocol,
+            src,
+            dst,
+            bytes,
+            &self.globals,
+            out,
+        ) {
+            Err(_) => Err(NodeFault::OutOfMemory),
+            Ok(()) => Ok(()),
+        }
+    }
+
     /// Takes a call: room for its answer comes first.
     fn step_call(&mut self, s: u16, call: &Call<'_>, out: &mut Outbox) -> Result<(), NodeFault>
         ensures fault { FaultIs (refused_as (length self.old.slots) self.old.globals (CallIs s (call_model call.now))) result }
@@ -118,21 +192,17 @@ impl Node {
         if usize::from(s) >= self.slots() {
             return Err(NodeFault::NoSlot);
         }
-        match serve(
-            &mut self.slot,
-            self.alloc,
-            &self.setup,
-            call,
-            &self.globals,
-            out,
-        ) {
+        match self
+            .slot
+            .serve(self.alloc, &self.config, call, &self.globals, 0, out)
+        {
             Err(_) => Err(NodeFault::OutOfMemory),
             Ok(()) => Ok(()),
         }
     }
 
     /// Takes one event, and appends its records to the outbox. After a fault node and outbox are as before; want of memory
-    /// comes last, and only at a call or at a moment by which something is due.
+    /// comes last, and only at a call, at a moment by which something is due, or at a datagram that concerns a slot.
     pub fn step(&mut self, event: &Event<'_>, out: &mut Outbox) -> Result<(), NodeFault>
         ensures fault { FaultIs (refused_as (length self.old.slots) self.old.globals (event_model event.now)) result }
         ensures kept { OnErr result (self.new ≡ self.old) }
@@ -147,8 +217,79 @@ impl Node {
     {
         match *event {
             Event::Moment(t) => self.step_moment(t, out),
+            Event::Topology(topo) => {
+                self.step_topology(topo);
+                Ok(())
+            }
+            Event::Role { group, leader } => self.step_role(group, leader),
+            Event::Datagram {
+                protocol,
+                src,
+                dst,
+                bytes,
+            } => self.step_datagram(protocol, src, dst, bytes, out),
             Event::Call { slot, call } => self.step_call(slot, &call, out),
         }
+    }
+
+    /// Gives the publisher of that handle in slot `slot` a value that is handed over as an item: the call Put with the
+    /// bytes that the item is spelled by as a value of the publisher's dataset. An item without such bytes is the one record
+    /// Refused: NoHandle, WrongKind, NoDataset (dataset 0), Shape, TooLong, in this order.
+    ///
+    /// Its faults are `NoSlot`, and last `OutOfMemory`; after a fault node and outbox are as before.
+    pub fn put_value(
+        &mut self,
+        alloc: Global,
+        slot: u16,
+        handle: u32,
+        item: &Item,
+        out: &mut Outbox,
+    ) -> Result<(), NodeFault>
+        ensures fault { FaultIs (if nat_le (length self.old.slots) slot then Some NodeFault.NoSlot else None) result }
+        ensures kept { OnErr result (self.new ≡ self.old) }
+        ensures unrecorded { OnErr result (out.new.records ≡ out.old.records) }
+
+        ensures setup { self.new.setup ≡ self.old.setup }
+        ensures globals { self.new.globals ≡ self.old.globals }
+        ensures count { length self.new.slots ≡ length self.old.slots }
+        ensures values { OnOk result ((s : ℕ) (state : SlotState) → slice_get self.old.slots s ≡ Some state → GetsOutcome self.new out.old.records out.new.records s (valued_at self.old.setup slot s state handle (model_of item.now))) }
+        ensures appends { Appends self.old.slots out.old.records out.new.records }
+    {
+        if usize::from(slot) >= self.slots() {
+            return Err(NodeFault::NoSlot);
+        }
+        match self
+            .slot
+            .put_value(alloc, &self.config, handle, item, 0, out)
+        {
+            Err(_) => Err(NodeFault::OutOfMemory),
+            Ok(()) => Ok(()),
+        }
+    }
+
+    /// What the subscription of that handle shows, in every state of it. It takes no memory.
+    pub fn peek(&self, slot: u16, handle: u32) -> Result<Peek<'_>, PeekFault>
+        ensures { peeked result ≡ peek_in (slice_get self.now.slots slot) handle }
+    {
+        if usize::from(slot) >= self.slots() {
+            return Err(PeekFault::NoSlot);
+        }
+        self.slot.look(handle)
+    }
+
+    /// The item that the subscription of that handle shows, in every state of it: the one whose bytes, as a value of the
+    /// subscription's dataset, are those that `peek` shows.
+    ///
+    /// # Errors
+    /// The first that applies of `NoSlot`, `NoHandle`, `WrongKind` (the object is no subscription), `NoDataset` (it is one of
+    /// dataset 0), and last `OutOfMemory`.
+    pub fn value_of(&self, alloc: Global, slot: u16, handle: u32) -> Result<Item, ValueFault>
+        ensures { ShowsItem self.now.setup (showing_in (slice_get self.now.slots slot) handle) result }
+    {
+        if usize::from(slot) >= self.slots() {
+            return Err(ValueFault::NoSlot);
+        }
+        self.slot.item_of(alloc, &self.config, handle)
     }
 
     /// Takes events in turn. It goes on after an event that is refused for a cause of its own, stops before the first that
@@ -172,25 +313,38 @@ impl Node {
     }
 }
 
-/// Serves a call of slot 0, and records its answer.
-fn serve(
+/// What a datagram does to slot 0.
+fn hear(
     slot: &mut Slot,
-    alloc: Global,
-    setup: &NodeSetup,
-    call: &Call<'_>,
+    setup: &NodeConfig,
+    protocol: Protocol,
+    src: Place,
+    dst: Place,
+    bytes: &[u8],
     g: &Globals,
     out: &mut Outbox,
 ) -> Result<(), AllocError>
     requires { g.now.now ≤ LAST }
-    ensures slot { OnOk result (slot.new ≡ (called setup.now slot.old g.entry.now (call_model call.now)).slot) }
-    ensures records { OnOk result (out.new.records ≡ out.old.records ++ labelled 0 (called setup.now slot.old g.entry.now (call_model call.now)).records) }
+    ensures slot { OnOk result (slot.new ≡ (received_if setup.now slot.old g.entry.now (telegram_of protocol src dst bytes.now)).slot) }
+    ensures records { OnOk result (out.new.records ≡ out.old.records ++ labelled 0 (received_if setup.now slot.old g.entry.now (telegram_of protocol src dst bytes.now)).records) }
     ensures kept { OnErr result (slot.new ≡ slot.old) }
     ensures unrecorded { OnErr result (out.new.records ≡ out.old.records) }
+    ensures memory { OnErr result (concerns g.entry.now (telegram_of protocol src dst bytes.now) slot.old ≡ true) }
 {
-    out.reserve(1, 0)?;
-    let answer = slot.call(alloc, setup, call, g)?;
-    out.push_answer(0, answer);
-    Ok(())
+    match protocol {
+        Protocol::Md => Ok(()),
+        Protocol::Pd => match read_pd(bytes) {
+            Err(_) => Ok(()),
+            Ok(view) => slot.receive(setup, &Telegram::Pd { src, dst, view }, g, 0, out),
+        },
+    }
+}
+
+/// The quotas of a slot that may hold nothing.
+fn no_quotas() -> Quotas
+    ensures { result ≡ replicate 6 0 }
+{
+    Quotas::new([0; 6]).unwrap()
 }
 
 fn is_out_of_memory(answer: &Result<(), NodeFault>) -> bool

@@ -3,19 +3,32 @@
 ghost use Rattle.std.specs.Prelude.{◌≡◌, ℕ, ◌+◌, ◌<◌, ◌≤◌, ◌↔◌, ◌++◌, ◌∷◌, length, List, [], Option, OnOk, OnErr, IsTrue, ◌⊎◌, slice_get, option_map, take, drop, vec_len, vec_capacity};
 ghost use Rattle.trdp_head.specs.PdBytes.{pd_bytes, pd_length_of};
 ghost use Rattle.trdp_engine.specs.declared.record.Protocol.TheVariants.{Pd};
-ghost use Rattle.trdp_engine.specs.Records.{Answers, Sends, RecordModel, record_model};
-ghost use Rattle.trdp_engine.specs.Outboxes.{row_content};
+ghost use Rattle.trdp_pd.specs.Peeks.{peek_model};
+ghost use Rattle.trdp_engine.specs.Records.{Answers, ValueIs, Indicates, Sends, RecordModel, answer_model, content_model, record_model};
+ghost use Rattle.trdp_engine.specs.Outboxes.{reply_model, row_content};
 
-use crate::record::{Answer as CallAnswer, Protocol, Record, What};
+use crate::fault::Refusal;
+use crate::record::{Answer, Indication, Protocol, Record, What};
 use std::alloc::{AllocError, Global};
 use std::marker::Model;
 use trdp_base::Place;
 use trdp_head::{PdHead, pd_length, write_pd};
+use trdp_pd::{Peek, ValueState};
+
+/// An answer without bytes.
+#[derive(Clone, Copy)]
+pub enum Reply {
+    Handle(u32),
+    Done,
+    Refused(Refusal),
+}
 
 /// What a row says, but for its bytes.
 #[derive(Clone, Copy)]
 pub enum Form {
-    Answer(CallAnswer),
+    Reply(Reply),
+    Value(ValueState, u32),
+    Indication(Indication),
     Send(Protocol, Place),
 }
 
@@ -41,7 +54,7 @@ impl Model for Outbox {
 
     ghost Value = { OutboxState };
 
-    ghost view = { λ o. record { records = map (row_model o.bytes.items) o.rows.items; row_room = vec_capacity o.rows - vec_len o.rows; byte_room = vec_capacity o.bytes - vec_len o.bytes } };
+    ghost view = { λ o. record { records = map (row_model o.bytes.items) o.rows.items; held = vec_len o.bytes; row_room = vec_capacity o.rows - vec_len o.rows; byte_room = vec_capacity o.bytes - vec_len o.bytes } };
 
     ghost invariant = { λ o. AllWithin (length o.bytes.items) o.rows.items };
 }
@@ -83,11 +96,11 @@ impl Outbox {
         }
     }
 
-    /// Drops all records, and keeps the memory.
+    /// Drops all records, and keeps the memory: what they took is room again.
     pub fn clear(&mut self)
         ensures records { self.new.records ≡ [] }
-        ensures row_room { self.old.row_room ≤ self.new.row_room }
-        ensures byte_room { self.old.byte_room ≤ self.new.byte_room }
+        ensures row_room { self.old.row_room + length self.old.records ≤ self.new.row_room }
+        ensures byte_room { self.old.byte_room + self.old.held ≤ self.new.byte_room }
     {
         self.rows.clear();
         self.bytes.clear();
@@ -105,10 +118,10 @@ impl Outbox {
         Ok(())
     }
 
-    /// Adds an answer.
-    pub(crate) fn push_answer(&mut self, slot: u16, answer: CallAnswer)
+    /// Adds a record without bytes.
+    fn push(&mut self, slot: u16, form: Form)
         requires { 0 < self.old.row_room }
-        ensures records { self.new.records ≡ self.old.records ++ record { slot = slot; content = Answers answer } ∷ [] }
+        ensures records { self.new.records ≡ self.old.records ++ record { slot = slot; content = row_content form [] } ∷ [] }
         ensures row_room { self.old.row_room ≤ self.new.row_room + 1 }
         ensures byte_room { self.old.byte_room ≤ self.new.byte_room }
     {
@@ -117,9 +130,50 @@ impl Outbox {
             &mut self.rows,
             Row {
                 slot,
-                form: Form::Answer(answer),
+                form,
                 at,
                 len: 0,
+            },
+        );
+    }
+
+    /// Adds an answer without bytes.
+    pub(crate) fn push_reply(&mut self, slot: u16, reply: Reply)
+        requires { 0 < self.old.row_room }
+        ensures records { self.new.records ≡ self.old.records ++ record { slot = slot; content = Answers (reply_model reply) } ∷ [] }
+        ensures row_room { self.old.row_room ≤ self.new.row_room + 1 }
+        ensures byte_room { self.old.byte_room ≤ self.new.byte_room }
+    {
+        self.push(slot, Form::Reply(reply));
+    }
+
+    /// Adds an indication.
+    pub(crate) fn push_indication(&mut self, slot: u16, indication: Indication)
+        requires { 0 < self.old.row_room }
+        ensures records { self.new.records ≡ self.old.records ++ record { slot = slot; content = Indicates indication } ∷ [] }
+        ensures row_room { self.old.row_room ≤ self.new.row_room + 1 }
+        ensures byte_room { self.old.byte_room ≤ self.new.byte_room }
+    {
+        self.push(slot, Form::Indication(indication));
+    }
+
+    /// Adds the answer to a look at a subscription.
+    pub(crate) fn push_value(&mut self, slot: u16, peek: Peek<'_>)
+        requires row { 0 < self.old.row_room }
+        requires bytes { length peek.bytes.now ≤ self.old.byte_room }
+        ensures records { self.new.records ≡ self.old.records ++ record { slot = slot; content = Answers (ValueIs (peek_model peek.entry)) } ∷ [] }
+        ensures row_room { self.old.row_room ≤ self.new.row_room + 1 }
+        ensures byte_room { self.old.byte_room ≤ self.new.byte_room + length peek.entry.bytes.now }
+    {
+        let at = self.bytes.len();
+        let len = append(&mut self.bytes, peek.bytes);
+        append_row(
+            &mut self.rows,
+            Row {
+                slot,
+                form: Form::Value(peek.state, peek.counter),
+                at,
+                len,
             },
         );
     }
@@ -147,21 +201,44 @@ impl Outbox {
     }
 }
 
-/// The record of a row with its bytes.
-fn record(row: Row, bytes: &[u8]) -> Record<'_>
-    ensures { record_model result ≡ record { slot = row.slot; content = row_content row.form bytes.now } }
+/// The answer of a reply.
+fn answer<'a>(reply: Reply) -> Answer<'a>
+    ensures { answer_model result ≡ reply_model reply }
 {
-    let what = match row.form {
-        Form::Answer(answer) => What::Answer(answer),
+    match reply {
+        Reply::Handle(handle) => Answer::Handle(handle),
+        Reply::Done => Answer::Done,
+        Reply::Refused(refusal) => Answer::Refused(refusal),
+    }
+}
+
+/// What a row says with these bytes.
+fn content(form: Form, bytes: &[u8]) -> What<'_>
+    ensures { content_model result ≡ row_content form bytes.now }
+{
+    match form {
+        Form::Reply(reply) => What::Answer(answer(reply)),
+        Form::Value(state, counter) => What::Answer(Answer::Value(Peek {
+            state,
+            counter,
+            bytes,
+        })),
+        Form::Indication(indication) => What::Indication(indication),
         Form::Send(protocol, to) => What::Send {
             protocol,
             to,
             telegram: bytes,
         },
-    };
+    }
+}
+
+/// The record of a row with its bytes.
+fn record(row: Row, bytes: &[u8]) -> Record<'_>
+    ensures { record_model result ≡ record { slot = row.slot; content = row_content row.form bytes.now } }
+{
     Record {
         slot: row.slot,
-        what,
+        what: content(row.form, bytes),
     }
 }
 
@@ -176,6 +253,18 @@ fn part(bytes: &[u8], row: Row) -> &[u8]
     ensures { result.now ≡ take row.len (drop row.at bytes.now) }
 {
     &bytes[row.at..row.at + row.len]
+}
+
+/// Adds bytes at the end, within the room, and answers how many.
+fn append(bytes: &mut Vec<u8>, more: &[u8]) -> usize
+    requires { vec_len bytes.old + length more.now ≤ vec_capacity bytes.old }
+    ensures items { bytes.new.items ≡ bytes.old.items ++ more.now }
+    ensures length { result ≡ length more.now }
+    ensures len { vec_len bytes.new ≡ vec_len bytes.old + length more.now }
+    ensures capacity { vec_capacity bytes.old ≤ vec_capacity bytes.new }
+{
+    let _ = bytes.extend_from_slice(more);
+    more.len()
 }
 
 /// Writes a telegram at the end of the bytes, within their room, and answers its length.

@@ -1,7 +1,8 @@
-//! What a node gives a slot: answers and telegrams.
+//! What a node gives a slot: answers, indications and telegrams.
 
 use crate::fault::Refusal;
 use trdp_base::Place;
+use trdp_pd::Peek;
 
 /// The two protocols of TRDP, each with a UDP port of its own (IEC 61375-2-3).
 #[derive(Clone, Copy, Debug, PartialEq, Eq)]
@@ -13,21 +14,34 @@ pub enum Protocol {
 }
 
 /// What a call comes to.
-#[derive(Clone, Copy, Debug, PartialEq, Eq)]
-pub enum Answer {
+#[derive(Clone, Copy, Debug)]
+pub enum Answer<'a> {
     /// A new object has this handle.
     Handle(u32),
     /// The call took effect.
     Done,
+    /// A subscription shows this.
+    Value(Peek<'a>),
     /// The call was refused, and changed nothing.
     Refused(Refusal),
+}
+
+/// What a node tells a slot of its own accord.
+#[derive(Clone, Copy, Debug, PartialEq, Eq)]
+pub enum Indication {
+    /// The subscription of this handle had no telegram within its supervision time.
+    Silent(u32),
+    /// The subscription of this handle was silent, and has a telegram again.
+    Alive(u32),
 }
 
 /// What a record says.
 #[derive(Clone, Copy, Debug)]
 pub enum What<'a> {
     /// The answer of a call.
-    Answer(Answer),
+    Answer(Answer<'a>),
+    /// What happened to an object.
+    Indication(Indication),
     /// A telegram to send to that place.
     Send {
         protocol: Protocol,

@@ -1,39 +1,67 @@
 //! The objects of one application, under handles of its own.
 
-ghost use Rattle.std.specs.Prelude.{◌≡◌, ℕ, ◌+◌, ◌*◌, ◌<◌, ◌≤◌, ◌++◌, ◌∷◌, length, [], Option, OnErr, IfOk, None, Some, position, is_none, if◌then◌else◌, ◌==◌, slice_index, count_by, filter, vec_len, vec_capacity};
-ghost use Rattle.trdp_head.specs.declared.pd.TheConstants.{PD_TELEGRAM_MAX};
-ghost use Rattle.trdp_engine.specs.Objects.{kind_of};
+ghost use Rattle.std.specs.Prelude.{true, ◌≡◌, ℕ, ◌+◌, ◌*◌, ◌<◌, ◌≤◌, ◌++◌, ◌∷◌, length, [], Option, OnOk, OnErr, IfOk, IfErr, is_some, if◌then◌else◌, None, Some, slice_index, filter, vec_len, vec_capacity};
 ghost use Rattle.trdp_base.specs.declared.moment.TheConstants.{LAST};
-ghost use Rattle.trdp_engine.specs.Records.{labelled};
-ghost use Rattle.trdp_engine.specs.Events.{PublishCall, PutCall, call_model};
-ghost use Rattle.trdp_engine.specs.Slots.{opened_slot, entry_of, with_object, changed};
-ghost use Rattle.trdp_engine.specs.Calls.{is_cycle, opening_refusal, opened_unless, publish_refusal, put_refusal, put_unless, with_value, answered, called};
+ghost use Rattle.trdp_head.specs.declared.pd.TheConstants.{PD_TELEGRAM_MAX};
+ghost use Rattle.trdp_filter.specs.Telegrams.{telegram_model, IsWithinLimit};
+ghost use Rattle.trdp_pd.specs.Peeks.{peek_model};
+ghost use Rattle.trdp_pd.specs.Objects.{kind_of};
+ghost use Rattle.trdp_engine.specs.declared.fault.Refusal.{Refusal};
+ghost use Rattle.trdp_engine.specs.Configs.{zero_size_of};
+ghost use Rattle.trdp_engine.specs.Records.{labelled, ValueIs, RefusedIs};
+ghost use Rattle.trdp_engine.specs.Events.{PublishCall, SubscribeCall, call_model};
+ghost use Rattle.trdp_engine.specs.Slots.{opened_slot, entry_of, with_object};
+ghost use Rattle.trdp_engine.specs.Calls.{is_span, opening_refusal, dataset_refusal, publish_refusal, subscribe_refusal, put_refusal, put_unless, close_refusal, closed_unless, opened_unless, pulled_unless, get_answer, answered, called};
+ghost use Rattle.trdp_engine.specs.Pulls.{pull_refusal};
+ghost use Rattle.trdp_pd.specs.Requesters.{opened};
+ghost use Rattle.trdp_engine.specs.Datagrams.{is_for_entry, received_if, concerns};
 ghost use Rattle.trdp_engine.specs.Moments.{is_due, moved_to};
+ghost use Rattle.trdp_engine.specs.Outboxes.{reply_model};
+ghost use Rattle.trdp_engine.specs.Peeks.{peeked, peek_of};
+ghost use Rattle.trdp_engine.specs.Fitting.{AllFit};
+ghost use Rattle.trdp_engine.specs.ShownItems.{showing_at, ShowsItem};
+ghost use Rattle.trdp_marshal.specs.Items.{model_of};
+ghost use Rattle.trdp_engine.specs.Values.{item_bytes, item_refusal, IsRefusedAs, valued};
 
-use crate::config::NodeSetup;
-use crate::event::{Call, Publication};
+use crate::datagram::{count_addressed, is_valid_at, take_all};
+use crate::entries::{append, close_in, count_of_kind, entry_at, put_in};
+use crate::event::Call;
 use crate::fault::Refusal;
-use crate::globals::Globals;
 use crate::moment::{count_due, fire_all};
-use crate::object::{AnyObject, Entry};
-use crate::outbox::Outbox;
-use crate::publisher::Publisher;
-use crate::record::Answer;
+use crate::object::Entry;
+use crate::outbox::{Outbox, Reply};
+use crate::peek::PeekFault;
+use crate::pull::pull_in;
+use crate::shown::{ValueFault, item_of};
+use crate::value::{SpellFault, spell};
 use std::alloc::{AllocError, Global};
 use std::marker::Model;
-use trdp_base::LAST;
+use trdp_base::{LAST, Quotas};
+use trdp_dataset::NodeConfig;
+use trdp_filter::{Globals, Telegram};
 use trdp_head::{PD_PAYLOAD_MAX, PD_TELEGRAM_MAX};
+use trdp_marshal::Item;
+use trdp_pd::{
+    AnyObject, Enquiry, Peek, Publication, Publisher, Requester, Subscription, SubscriptionTerms,
+};
 
-/// The shortest cycle that a publisher may have, in microseconds (profile).
-const CYCLE_MIN: u32 = 1_000;
+/// The shortest cycle or supervision time but 0, in microseconds (profile).
+const SPAN_MIN: u32 = 1_000;
 
 /// The last handle of a slot (profile).
 const HANDLE_MAX: u64 = 4_294_967_295;
 
+/// The places of the kinds in the order of the quotas.
+const PUBLISHERS: usize = 0;
+
+const SUBSCRIPTIONS: usize = 1;
+
+const REQUESTERS: usize = 2;
+
 /// A slot: its quotas, its next handle, and its objects by rising handle, in a list that never grows.
 #[derive(Drop)]
 pub struct Slot {
-    quotas: [u16; 6],
+    quotas: Quotas,
     next: u64,
     objects: Vec<Entry>,
 }
@@ -54,11 +82,13 @@ impl Slot {
     ghost use Rattle.trdp_engine.specs.Slots.{SlotState};
 
     /// An empty slot. It may lack memory for its list.
-    pub fn new(alloc: Global, quotas: [u16; 6]) -> Result<Slot, AllocError>
-        requires { slice_index quotas 0 ≤ 256 }
+    pub fn new(alloc: Global, quotas: Quotas) -> Result<Slot, AllocError>
         ensures { IfOk result (λ slot. slot ≡ opened_slot quotas) }
     {
-        let objects = Vec::with_capacity(alloc, usize::from(quotas[0]))?;
+        let room = usize::from(quotas.get(PUBLISHERS))
+            + usize::from(quotas.get(SUBSCRIPTIONS))
+            + usize::from(quotas.get(REQUESTERS));
+        let objects = Vec::with_capacity(alloc, room)?;
         Ok(Slot {
             quotas,
             next: 1,
@@ -68,10 +98,10 @@ impl Slot {
 
     /// Why the slot takes no new object of the kind at that place of the quotas.
     fn opening_refusal(&self, kind: usize) -> Option<Refusal>
-        requires { kind ≤ 5 }
+        requires { kind ≤ 2 }
         ensures { result ≡ opening_refusal self.now kind }
     {
-        if usize::from(self.quotas[kind]) <= count_of_kind(&self.objects, kind) {
+        if usize::from(self.quotas.get(kind)) <= count_of_kind(&self.objects, kind) {
             Some(Refusal::Quota)
         } else if self.next > HANDLE_MAX {
             Some(Refusal::Exhausted)
@@ -80,34 +110,55 @@ impl Slot {
         }
     }
 
-    /// Adds a publisher under the next handle, and answers that handle.
-    fn add(&mut self, publisher: Publisher) -> u32
-        requires { opening_refusal self.old 0 ≡ None }
-        ensures slot { self.new ≡ with_object self.old (AnyObject.Publisher publisher) }
+    /// Adds an object under the next handle, and answers that handle.
+    fn add(&mut self, object: AnyObject) -> u32
+        requires { opening_refusal self.old (kind_of object) ≡ None }
+        ensures slot { self.new ≡ with_object self.old object }
         ensures handle { result ≡ self.old.next }
     {
         let handle = self.next as u32;
         self.next += 1;
-        append(
-            &mut self.objects,
-            Entry {
-                handle,
-                object: AnyObject::Publisher(publisher),
-            },
-        );
+        append(&mut self.objects, Entry { handle, object });
         handle
     }
 
     /// Why the slot refuses the publication.
-    fn publish_refusal(&self, setup: &NodeSetup, publication: &Publication) -> Option<Refusal>
+    fn publish_refusal(&self, setup: &NodeConfig, publication: &Publication) -> Option<Refusal>
         ensures { result ≡ publish_refusal setup.now self.now publication.now }
     {
-        if publication.cycle != 0 && publication.cycle < CYCLE_MIN {
-            Some(Refusal::Cycle)
-        } else if publication.dataset != 0 {
-            Some(Refusal::NoDataset)
-        } else {
-            self.opening_refusal(0)
+        if !is_span(publication.cycle) {
+            return Some(Refusal::Cycle);
+        }
+        match value_size(setup, publication.dataset) {
+            Err(refusal) => Some(refusal),
+            Ok(_) => self.opening_refusal(PUBLISHERS),
+        }
+    }
+
+    /// How many bytes the zero value of the subscription takes, or why the slot refuses it.
+    fn subscribed_size(
+        &self,
+        setup: &NodeConfig,
+        terms: &SubscriptionTerms,
+    ) -> Result<usize, Refusal>
+        ensures refused { IfErr result (λ refusal. subscribe_refusal setup.now self.now terms.now ≡ Some refusal) }
+        ensures accepted { IfOk result (λ size. subscribe_refusal setup.now self.now terms.now ≡ None) }
+        ensures opens { IfOk result (λ size. opening_refusal self.now 1 ≡ None) }
+        ensures size { IfOk result (λ size. size ≡ zero_size_of setup.now terms.now.dataset) }
+        ensures within { IfOk result (λ size. size ≤ 1432) }
+    {
+        if !is_span(terms.supervision) {
+            return Err(Refusal::Timeout);
+        }
+        if terms.filter.low > terms.filter.high {
+            return Err(Refusal::Range);
+        }
+        match value_size(setup, terms.dataset) {
+            Err(refusal) => Err(refusal),
+            Ok(size) => match self.opening_refusal(SUBSCRIPTIONS) {
+                Some(refusal) => Err(refusal),
+                None => Ok(size),
+            },
         }
     }
 
@@ -115,53 +166,235 @@ impl Slot {
     fn publish(
         &mut self,
         alloc: Global,
-        setup: &NodeSetup,
+        setup: &NodeConfig,
         publication: &Publication,
         g: &Globals,
-    ) -> Result<Answer, AllocError>
+    ) -> Result<Reply, AllocError>
         requires { g.now.now ≤ LAST }
-        ensures outcome { IfOk result (λ answer. called setup.now self.old g.entry.now (PublishCall publication.now) ≡ answered self.new answer) }
+        ensures outcome { IfOk result (λ reply. called setup.now self.old g.entry.now (PublishCall publication.now) ≡ answered self.new (reply_model reply)) }
         ensures kept { OnErr result (self.new ≡ self.old) }
     {
         if let Some(refusal) = self.publish_refusal(setup, publication) {
-            return Ok(Answer::Refused(refusal));
+            return Ok(Reply::Refused(refusal));
         }
         let publisher = Publisher::new(alloc, publication, g.now)?;
-        Ok(Answer::Handle(self.add(publisher)))
+        Ok(Reply::Handle(self.add(AnyObject::Publisher(publisher))))
+    }
+
+    /// Makes a subscription, in the same order.
+    fn subscribe(
+        &mut self,
+        alloc: Global,
+        setup: &NodeConfig,
+        terms: &SubscriptionTerms,
+        g: &Globals,
+    ) -> Result<Reply, AllocError>
+        requires { g.now.now ≤ LAST }
+        ensures outcome { IfOk result (λ reply. called setup.now self.old g.entry.now (SubscribeCall terms.now) ≡ answered self.new (reply_model reply)) }
+        ensures kept { OnErr result (self.new ≡ self.old) }
+    {
+        match self.subscribed_size(setup, terms) {
+            Err(refusal) => Ok(Reply::Refused(refusal)),
+            Ok(size) => {
+                let subscription = Subscription::new(alloc, terms, size, g.now)?;
+                Ok(Reply::Handle(self.add(AnyObject::Subscription(subscription))))
+            }
+        }
+    }
+
+    /// Makes a requester. It needs no memory.
+    fn open_pull(&mut self, enquiry: &Enquiry) -> Reply
+        ensures { opened_unless (opening_refusal self.old 2) self.old (AnyObject.Requester (opened enquiry.now)) ≡ answered self.new (reply_model result) }
+    {
+        match self.opening_refusal(REQUESTERS) {
+            Some(refusal) => Reply::Refused(refusal),
+            None => Reply::Handle(self.add(AnyObject::Requester(Requester::new(enquiry)))),
+        }
+    }
+
+    /// Lets the requester of that handle pull, and records the answer and the pull request.
+    fn pull(&mut self, handle: u32, g: &Globals, s: u16, out: &mut Outbox)
+        requires rows { 2 ≤ out.old.row_room }
+        requires bytes { 40 ≤ out.old.byte_room }
+        ensures slot { self.new ≡ (pulled_unless (pull_refusal g.entry.now (entry_of handle self.old.objects)) self.old handle).slot }
+        ensures records { out.new.records ≡ out.old.records ++ labelled s (pulled_unless (pull_refusal g.entry.now (entry_of handle self.old.objects)) self.old handle).records }
+    {
+        match pull_in(&mut self.objects, handle, g) {
+            Err(refusal) => out.push_reply(s, Reply::Refused(refusal)),
+            Ok(request) => {
+                out.push_reply(s, Reply::Done);
+                out.push_pd(s, request.to, &request.head, b"");
+            }
+        }
     }
 
     /// Gives the publisher of that handle a new value.
-    fn put(&mut self, handle: u32, bytes: &[u8]) -> Answer
-        ensures { put_unless (put_refusal bytes.now (entry_of handle self.old.objects)) self.old handle bytes.now ≡ answered self.new result }
+    fn put(&mut self, setup: &NodeConfig, handle: u32, bytes: &[u8]) -> Reply
+        ensures { put_unless (put_refusal setup.now bytes.now (entry_of handle self.old.objects)) self.old handle bytes.now ≡ answered self.new (reply_model result) }
     {
-        match put_in(&mut self.objects, handle, bytes) {
-            Some(refusal) => Answer::Refused(refusal),
-            None => Answer::Done,
+        match put_in(&mut self.objects, setup, handle, bytes) {
+            Some(refusal) => Reply::Refused(refusal),
+            None => Reply::Done,
         }
     }
 
-    /// Serves one call. A refused call changes nothing, and neither does one that lacks memory.
-    pub fn call(
+    /// The bytes of an item as a value of the object of that handle, or why there are none.
+    fn spelled(
+        &self,
+        alloc: Global,
+        setup: &NodeConfig,
+        handle: u32,
+        item: &Item,
+    ) -> Result<Vec<u8>, SpellFault>
+        ensures bytes { IfOk result (λ bytes. bytes.items ≡ item_bytes setup.now (model_of item.now) (entry_of handle self.now.objects)) }
+        ensures spelled { IfOk result (λ bytes. item_refusal setup.now (model_of item.now) (entry_of handle self.now.objects) ≡ None) }
+        ensures refused { IfErr result (IsRefusedAs (item_refusal setup.now (model_of item.now) (entry_of handle self.now.objects))) }
+    {
+        match entry_at(&self.objects, handle) {
+            None => Err(SpellFault::Refused(Refusal::NoHandle)),
+            Some(entry) => spell(alloc, setup, &entry.object, item),
+        }
+    }
+
+    /// Puts an item in the publisher of that handle and records the answer; an item without bytes there is refused.
+    pub fn put_value(
         &mut self,
         alloc: Global,
-        setup: &NodeSetup,
+        setup: &NodeConfig,
+        handle: u32,
+        item: &Item,
+        s: u16,
+        out: &mut Outbox,
+    ) -> Result<(), AllocError>
+        ensures slot { OnOk result (self.new ≡ (valued setup.now self.old handle (model_of item.now)).slot) }
+        ensures records { OnOk result (out.new.records ≡ out.old.records ++ labelled s (valued setup.now self.old handle (model_of item.now)).records) }
+        ensures kept { OnErr result (self.new ≡ self.old) }
+        ensures unrecorded { OnErr result (out.new.records ≡ out.old.records) }
+    {
+        out.reserve(1, 0)?;
+        match self.spelled(alloc, setup, handle, item) {
+            Err(SpellFault::NoMemory) => Err(AllocError),
+            Err(SpellFault::Refused(refusal)) => {
+                out.push_reply(s, Reply::Refused(refusal));
+                Ok(())
+            }
+            Ok(bytes) => {
+                let reply = self.put(setup, handle, &bytes);
+                out.push_reply(s, reply);
+                Ok(())
+            }
+        }
+    }
+
+    /// Ends the object of that handle and of the kind at that place of the quotas.
+    fn close(&mut self, kind: usize, handle: u32) -> Reply
+        ensures { closed_unless (close_refusal kind (entry_of handle self.old.objects)) self.old handle ≡ answered self.new (reply_model result) }
+    {
+        match close_in(&mut self.objects, kind, handle) {
+            Some(refusal) => Reply::Refused(refusal),
+            None => Reply::Done,
+        }
+    }
+
+    /// What the subscription of that handle shows, or why it shows nothing.
+    fn peek(&self, handle: u32) -> Result<Peek<'_>, Refusal>
+        ensures shown { IfOk result (λ peek. get_answer (entry_of handle self.now.objects) ≡ ValueIs (peek_model peek)) }
+        ensures refused { IfErr result (λ refusal. get_answer (entry_of handle self.now.objects) ≡ RefusedIs refusal) }
+        ensures within { IfOk result (λ peek. length peek.bytes.now ≤ 1432) }
+    {
+        match entry_at(&self.objects, handle) {
+            None => Err(Refusal::NoHandle),
+            Some(entry) => match &entry.object {
+                AnyObject::Publisher(_) | AnyObject::Requester(_) => Err(Refusal::WrongKind),
+                AnyObject::Subscription(subscription) => Ok(subscription.peek()),
+            },
+        }
+    }
+
+    /// What the subscription of that handle shows to a look from outside.
+    pub fn look(&self, handle: u32) -> Result<Peek<'_>, PeekFault>
+        ensures { peeked result ≡ peek_of (entry_of handle self.now.objects) }
+    {
+        match entry_at(&self.objects, handle) {
+            None => Err(PeekFault::NoHandle),
+            Some(entry) => match &entry.object {
+                AnyObject::Publisher(_) | AnyObject::Requester(_) => Err(PeekFault::WrongKind),
+                AnyObject::Subscription(subscription) => Ok(subscription.peek()),
+            },
+        }
+    }
+
+    /// The item that the subscription of that handle shows, or why it shows none.
+    pub fn item_of(
+        &self,
+        alloc: Global,
+        setup: &NodeConfig,
+        handle: u32,
+    ) -> Result<Item, ValueFault>
+        requires { AllFit setup.now self.now.objects }
+        ensures { ShowsItem setup.now (showing_at (entry_of handle self.now.objects)) result }
+    {
+        match entry_at(&self.objects, handle) {
+            None => Err(ValueFault::NoHandle),
+            Some(entry) => item_of(alloc, setup, &entry.object),
+        }
+    }
+
+    /// Records the answer to a look at the object of that handle.
+    fn get(&self, handle: u32, s: u16, out: &mut Outbox)
+        requires row { 0 < out.old.row_room }
+        requires bytes { 1432 ≤ out.old.byte_room }
+        ensures { out.new.records ≡ out.old.records ++ labelled s (answered self.now (get_answer (entry_of handle self.now.objects))).records }
+    {
+        match self.peek(handle) {
+            Err(refusal) => out.push_reply(s, Reply::Refused(refusal)),
+            Ok(peek) => out.push_value(s, peek),
+        }
+    }
+
+    /// Serves a call and records its answer. A refused call changes nothing, and neither does one that lacks memory.
+    pub fn serve(
+        &mut self,
+        alloc: Global,
+        setup: &NodeConfig,
         call: &Call<'_>,
         g: &Globals,
-    ) -> Result<Answer, AllocError>
-        requires { g.now.now ≤ LAST }
-        ensures outcome { IfOk result (λ answer. called setup.now self.old g.entry.now (call_model call.now) ≡ answered self.new answer) }
+        s: u16,
+        out: &mut Outbox,
+    ) -> Result<(), AllocError>
+        requires now { g.now.now ≤ LAST }
+        ensures slot { OnOk result (self.new ≡ (called setup.now self.old g.entry.now (call_model call.now)).slot) }
+        ensures records { OnOk result (out.new.records ≡ out.old.records ++ labelled s (called setup.now self.old g.entry.now (call_model call.now)).records) }
         ensures kept { OnErr result (self.new ≡ self.old) }
+        ensures unrecorded { OnErr result (out.new.records ≡ out.old.records) }
     {
-        match *call {
-            Call::Publish(publication) => self.publish(alloc, setup, &publication, g),
-            Call::Put { handle, bytes } => Ok(self.put(handle, bytes)),
-        }
+        // A pull has two records, and the longest value is longer than a pull request.
+        out.reserve(2, PD_PAYLOAD_MAX)?;
+        let reply = match *call {
+            Call::Publish(publication) => self.publish(alloc, setup, &publication, g)?,
+            Call::Subscribe(terms) => self.subscribe(alloc, setup, &terms, g)?,
+            Call::Put { handle, bytes } => self.put(setup, handle, bytes),
+            Call::Unpublish { handle } => self.close(PUBLISHERS, handle),
+            Call::Unsubscribe { handle } => self.close(SUBSCRIPTIONS, handle),
+            Call::OpenPull(enquiry) => self.open_pull(&enquiry),
+            Call::ClosePull { handle } => self.close(REQUESTERS, handle),
+            Call::Get { handle } => {
+                self.get(handle, s, out);
+                return Ok(());
+            }
+            Call::Pull { handle } => {
+                self.pull(handle, g, s, out);
+                return Ok(());
+            }
+        };
+        out.push_reply(s, reply);
+        Ok(())
     }
 
     /// How many of its objects are due by `t`, in microseconds.
     pub fn due(&self, t: u64) -> usize
         ensures count { result ≡ length (filter (is_due t) self.now.objects) }
-        ensures within { result ≤ 256 }
+        ensures within { result ≤ 768 }
     {
         count_due(&self.objects, t)
     }
@@ -176,58 +409,72 @@ impl Slot {
     {
         fire_all(&mut self.objects, g, s, out);
     }
-}
 
-/// How many of the objects are of the kind at that place of the quotas.
-fn count_of_kind(objects: &[Entry], kind: usize) -> usize
-    ensures { result ≡ count_by (λ entry. kind_of entry.object == kind) objects.now }
-{
-    objects
-        .iter()
-        .filter(|entry| entry.object.kind() == kind)
-        .count()
-}
-
-/// The place of the object of that handle.
-fn place(objects: &[Entry], handle: u32) -> Option<usize>
-    ensures { result ≡ position (λ entry. entry.handle == handle) objects.now }
-{
-    objects.iter().position(|entry| entry.handle == handle)
-}
-
-/// Gives the object its new value.
-fn put(object: &mut AnyObject, bytes: &[u8])
-    requires { length bytes.now ≤ 1432 }
-    ensures { object.new ≡ with_value bytes.now object.old }
-{
-    match object {
-        AnyObject::Publisher(publisher) => publisher.put(bytes),
+    /// How many of its objects the telegram is for.
+    fn addressed(&self, telegram: &Telegram<'_>, g: &Globals) -> usize
+        ensures count { result ≡ length (filter (is_for_entry (telegram_model telegram.now) g.entry.now) self.now.objects) }
+        ensures within { result ≤ 768 }
+    {
+        count_addressed(&self.objects, telegram, g)
     }
-}
 
-/// Gives the object of that handle a new value, or says why not.
-fn put_in(objects: &mut Vec<Entry>, handle: u32, bytes: &[u8]) -> Option<Refusal>
-    ensures refusal { result ≡ put_refusal bytes.now (entry_of handle objects.old.items) }
-    ensures items { objects.new.items ≡ (if is_none result then changed handle (with_value bytes.now) objects.old.items else objects.old.items) }
-    ensures capacity { vec_capacity objects.new ≡ vec_capacity objects.old }
-{
-    match place(objects, handle) {
-        None => Some(Refusal::NoHandle),
-        Some(at) => {
-            if bytes.len() > PD_PAYLOAD_MAX {
-                return Some(Refusal::TooLong);
+    /// Takes a telegram: each object that it is for is handed it, in the order of their handles. One whose topology counts
+    /// don't match the node's changes nothing. Room for the records comes first.
+    pub fn receive(
+        &mut self,
+        setup: &NodeConfig,
+        telegram: &Telegram<'_>,
+        g: &Globals,
+        s: u16,
+        out: &mut Outbox,
+    ) -> Result<(), AllocError>
+        requires now { g.now.now ≤ LAST }
+        requires limit { IsWithinLimit (telegram_model telegram.now) }
+        ensures slot { OnOk result (self.new ≡ (received_if setup.now self.old g.entry.now (Some (telegram_model telegram.now))).slot) }
+        ensures records { OnOk result (out.new.records ≡ out.old.records ++ labelled s (received_if setup.now self.old g.entry.now (Some (telegram_model telegram.now))).records) }
+        ensures kept { OnErr result (self.new ≡ self.old) }
+        ensures unrecorded { OnErr result (out.new.records ≡ out.old.records) }
+        ensures memory { OnErr result (concerns g.entry.now (Some (telegram_model telegram.now)) self.old ≡ true) }
+    {
+        if !is_valid_at(telegram, g) {
+            return Ok(());
+        }
+        let addressed = self.addressed(telegram, g);
+        match out.reserve(addressed, PD_TELEGRAM_MAX * addressed) {
+            Err(error) => Err(error),
+            Ok(()) => {
+                take_all(&mut self.objects, setup, telegram, g, s, out);
+                Ok(())
             }
-            let entry = &mut objects[at];
-            put(&mut entry.object, bytes);
-            None
         }
     }
 }
 
-fn append(objects: &mut Vec<Entry>, entry: Entry)
-    requires { vec_len objects.old < vec_capacity objects.old }
-    ensures items { objects.new.items ≡ objects.old.items ++ entry ∷ [] }
-    ensures capacity { vec_capacity objects.new ≡ vec_capacity objects.old }
+/// Whether a cycle or supervision time is 0 or at least 1,000 microseconds.
+fn is_span(span: u32) -> bool
+    ensures { result ≡ is_span span }
 {
-    objects.push_reserved(entry);
+    span == 0 || span >= SPAN_MIN
+}
+
+/// How many bytes the zero value of a dataset takes, or why no object can be of it.
+fn value_size(setup: &NodeConfig, dataset: u32) -> Result<usize, Refusal>
+    ensures refused { IfErr result (λ refusal. (later : Option Refusal) → dataset_refusal setup.now dataset later ≡ Some refusal) }
+    ensures accepted { IfOk result (λ size. (later : Option Refusal) → dataset_refusal setup.now dataset later ≡ later) }
+    ensures size { IfOk result (λ size. size ≡ zero_size_of setup.now dataset) }
+    ensures within { IfOk result (λ size. size ≤ 1432) }
+{
+    if dataset == 0 {
+        return Ok(0);
+    }
+    match setup.registry().zero_size(dataset) {
+        None => Err(Refusal::NoDataset),
+        Some(size) => {
+            if size > PD_PAYLOAD_MAX {
+                Err(Refusal::TooLong)
+            } else {
+                Ok(size)
+            }
+        }
+    }
 }

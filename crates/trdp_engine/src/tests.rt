@@ -1,28 +1,178 @@
 //! Worked examples, with telegrams from the standard's layout.
 
-ghost use Rattle.std.specs.Prelude.{◌≡◌, IfOk};
-ghost use Rattle.trdp_engine.specs.Configs.{first_config};
-ghost use Rattle.trdp_engine.specs.NodeStates.{opened_node};
+mod handles;
+mod items;
+mod laws;
+mod limits;
+mod publishers;
+mod pulls;
+mod reception;
+mod supervision;
 
-use crate::{
-    Answer, Call, Event, Node, NodeConfig, NodeFault, Outbox, Protocol, Publication, Refusal, What,
-};
+use crate::{Answer, Call, Event, Indication, Node, Outbox, Protocol, Refusal, What};
 use std::test::Fail;
-use trdp_base::{Ip, LAST, Place, Topo};
+use trdp_base::{Ip, Place, Topo};
+use trdp_dataset::NodeConfig;
+use trdp_filter::PdFilter;
+use trdp_head::{PdHead, PdKind, read_pd, write_pd};
+use trdp_pd::{Behaviour, Publication, SubscriptionTerms, ValueState};
 
+/// The node's own place for process data.
+const HERE: Place = Place {
+    ip: Ip(0x0a00_0001),
+    port: 17224,
+};
+
+/// Another device.
 const X: Place = Place {
     ip: Ip(0x0a00_0002),
     port: 17224,
 };
 
-/// The telegram of comId 100 with counter 0 and payload 0a0b.
-const FIRST: &[u8] =
-    b"\x00\x00\x00\x00\x01\x00\x50\x64\x00\x00\x00\x64\x00\x00\x00\x00\x00\x00\x00\x00\x00\x00\x00\x02\x00\x00\x00\x00\x00\x00\x00\x00\x00\x00\x00\x00\xec\x17\x9c\x94\x0a\x0b\x00\x00";
+/// Two slots of four publishers and four subscriptions, and two datasets.
+static C: &[u8] =
+    b"[node]\naddress = \"10.0.0.1\"\n[[slot]]\npublishers = 4\nsubscriptions = 4\nrequesters = 1\nlisteners = 2\ncallers = 2\nrepliers = 1\n[[slot]]\npublishers = 4\nsubscriptions = 4\nrequesters = 1\nlisteners = 2\ncallers = 2\nrepliers = 1\n[[dataset]]\nid = 1001\nelement = [{ type = \"UINT8\" }, { type = \"UINT16\", size = 0 }]\n[[dataset]]\nid = 1002\nelement = [{ type = \"INT16\" }, { type = 15 }, { type = 1001 }]\n";
 
-fn publication(cycle: u32) -> Publication {
+/// The longest payload that a test sends.
+const PAYLOAD_MAX: usize = 20;
+
+/// What one record says, in short.
+#[derive(Clone, Copy, Debug, PartialEq, Eq)]
+pub enum Said {
+    /// There is no such record.
+    Nothing,
+    Handle(u32),
+    Done,
+    /// The state and the counter that a subscription shows.
+    Shows(ValueState, u32),
+    Refused(Refusal),
+    Silent(u32),
+    Alive(u32),
+    /// A telegram with that counter.
+    Sent(u32),
+    /// Bytes that are no telegram.
+    Garbled,
+}
+
+fn answer_said(answer: &Answer<'_>) -> Said {
+    match answer {
+        Answer::Handle(handle) => Said::Handle(*handle),
+        Answer::Done => Said::Done,
+        Answer::Value(peek) => Said::Shows(peek.state, peek.counter),
+        Answer::Refused(refusal) => Said::Refused(*refusal),
+    }
+}
+
+/// What the record at that place of the outbox says.
+fn record_said(out: &Outbox, i: usize) -> Said {
+    match out.get(i) {
+        None => Said::Nothing,
+        Some(record) => match &record.what {
+            What::Answer(answer) => answer_said(answer),
+            What::Indication(Indication::Silent(handle)) => Said::Silent(*handle),
+            What::Indication(Indication::Alive(handle)) => Said::Alive(*handle),
+            What::Send { telegram, .. } => match read_pd(telegram) {
+                Ok(view) => Said::Sent(view.head.counter),
+                Err(_) => Said::Garbled,
+            },
+        },
+    }
+}
+
+/// A node with an outbox, which other devices send telegrams to.
+#[derive(Drop)]
+pub struct Bench {
+    node: Node,
+    out: Outbox,
+}
+
+/// A node of the configuration above.
+fn node(rt: &HostRuntime) -> Result<Node, Fail> {
+    let config = NodeConfig::from_toml(rt.alloc(), C)?;
+    Ok(Node::new(rt.alloc(), config).ok().ok_or("no memory")?)
+}
+
+impl Bench {
+    /// A new node with an empty outbox.
+    fn new(rt: &HostRuntime) -> Result<Bench, Fail> {
+        Ok(Bench {
+            node: node(rt)?,
+            out: Outbox::new(rt.alloc()),
+        })
+    }
+
+    /// Hands one event to the node, and answers what its first record says.
+    fn step(&mut self, event: &Event<'_>) -> Result<Said, Fail> {
+        self.out.clear();
+        self.node.step(event, &mut self.out)?;
+        Ok(record_said(&self.out, 0))
+    }
+
+    /// A call of slot 0.
+    fn call(&mut self, call: Call<'_>) -> Result<Said, Fail> {
+        self.step(&Event::Call { slot: 0, call })
+    }
+
+    fn put(&mut self, handle: u32, bytes: &[u8]) -> Result<Said, Fail> {
+        self.call(Call::Put { handle, bytes })
+    }
+
+    fn get(&mut self, handle: u32) -> Result<Said, Fail> {
+        self.call(Call::Get { handle })
+    }
+
+    fn moment(&mut self, t: u64) -> Result<Said, Fail> {
+        self.step(&Event::Moment(t))
+    }
+
+    /// A datagram of process data from X.
+    fn datagram(&mut self, bytes: &[u8]) -> Result<Said, Fail> {
+        self.step(&Event::Datagram {
+            protocol: Protocol::Pd,
+            src: X,
+            dst: HERE,
+            bytes,
+        })
+    }
+
+    /// The telegram with that header and payload from X.
+    fn telegram(&mut self, head: &PdHead, payload: &[u8]) -> Result<Said, Fail> {
+        if payload.len() > PAYLOAD_MAX {
+            return Err("long payload".into());
+        }
+        let mut room = [0; 60];
+        let length = write_pd(head, payload, &mut room);
+        self.datagram(room.get(..length).ok_or("no room")?)
+    }
+
+    /// The counter that the subscription of that handle shows.
+    fn counter_shown(&self, handle: u32) -> Result<u32, Fail> {
+        Ok(self.node.peek(0, handle)?.counter)
+    }
+
+    /// Whether the subscription of that handle shows these bytes.
+    fn shows(&self, handle: u32, bytes: &[u8]) -> Result<bool, Fail> {
+        Ok(self.node.peek(0, handle)?.bytes == bytes)
+    }
+}
+
+/// The header of a telegram of comId 100.
+fn head(kind: PdKind, counter: u32, etb: u32) -> PdHead {
+    PdHead {
+        counter,
+        kind,
+        com_id: 100,
+        topo: Topo { etb, op_trn: 0 },
+        reply_com_id: 0,
+        reply_ip: Ip(0),
+    }
+}
+
+/// A publication of comId 100 to X.
+fn publication(dataset: u32, cycle: u32) -> Publication {
     Publication {
         com_id: 100,
-        dataset: 0,
+        dataset,
         cycle,
         group: 0,
         topo: Topo { etb: 0, op_trn: 0 },
@@ -30,229 +180,35 @@ fn publication(cycle: u32) -> Publication {
     }
 }
 
-fn publish<'a>(cycle: u32) -> Event<'a> {
-    Event::Call {
-        slot: 0,
-        call: Call::Publish(publication(cycle)),
-    }
+fn publish<'a>(dataset: u32, cycle: u32) -> Call<'a> {
+    Call::Publish(publication(dataset, cycle))
 }
 
-fn put<'a>(handle: u32, bytes: &'a [u8]) -> Event<'a> {
-    Event::Call {
-        slot: 0,
-        call: Call::Put { handle, bytes },
-    }
-}
-
-fn node(rt: &HostRuntime) -> Result<Node, Fail>
-    ensures { IfOk result (λ node. node ≡ opened_node first_config) }
-{
-    match Node::new(rt.alloc(), NodeConfig::first()) {
-        Ok(node) => Ok(node),
-        Err(_) => Err("no memory".into()),
-    }
-}
-
-#[test]
-fn first_telegram(rt: HostRuntime) -> Result<(), Fail> {
-    let mut node = node(&rt)?;
-    let mut out = Outbox::new(rt.alloc());
-    assert!(rt; out.is_empty());
-    let taken = node.run(
-        &[
-            publish(100_000),
-            put(1, b"\x0a\x0b"),
-            Event::Moment(100_000),
-        ],
-        &mut out,
-    );
-    assert_eq!(rt; taken, 3);
-    assert_eq!(rt; out.len(), 3);
-    let handle = out.get(0).ok_or("none")?;
-    assert_eq!(rt; handle.slot, 0);
-    assert!(rt; matches!(&handle.what, What::Answer(Answer::Handle(1))));
-    let done = out.get(1).ok_or("none")?;
-    assert!(rt; matches!(&done.what, What::Answer(Answer::Done)));
-    let sent = out.get(2).ok_or("none")?;
-    match sent.what {
-        What::Send {
-            protocol,
-            to,
-            telegram,
-        } => {
-            assert_eq!(rt; protocol, Protocol::Pd);
-            assert_eq!(rt; to, X);
-            assert_eq!(rt; telegram, FIRST);
-        }
-        _ => return Err("no telegram".into()),
-    }
-    assert!(rt; out.get(3).is_none());
-    out.clear();
-    assert!(rt; out.is_empty());
-    Ok(())
-}
-
-#[test]
-fn nothing_to_send_before_the_first_put(rt: HostRuntime) -> Result<(), Fail> {
-    let mut node = node(&rt)?;
-    let mut out = Outbox::new(rt.alloc());
-    node.run(&[publish(100_000), Event::Moment(100_000)], &mut out);
-    assert_eq!(rt; out.len(), 1);
-    Ok(())
-}
-
-/// The counters of the telegrams that these moments give, after a publisher of cycle 100000 and its value.
-fn counter_at(rt: &HostRuntime, t: u64) -> Result<(usize, u8), Fail> {
-    let mut node = node(rt)?;
-    let mut out = Outbox::new(rt.alloc());
-    node.run(
-        &[
-            publish(100_000),
-            put(1, b"\x0a\x0b"),
-            Event::Moment(350_000),
-        ],
-        &mut out,
-    );
-    out.clear();
-    node.step(&Event::Moment(t), &mut out)?;
-    match out.get(0) {
-        None => Ok((0, 0)),
-        Some(record) => match record.what {
-            What::Send {
-                protocol: _,
-                to: _,
-                telegram,
-            } => Ok((out.len(), *telegram.get(3).ok_or("short")?)),
-            _ => Err("no telegram".into()),
-        },
-    }
-}
-
-#[test]
-fn a_jump_gives_one_telegram(rt: HostRuntime) -> Result<(), Fail> {
-    let mut node = node(&rt)?;
-    let mut out = Outbox::new(rt.alloc());
-    node.run(
-        &[
-            publish(100_000),
-            put(1, b"\x0a\x0b"),
-            Event::Moment(350_000),
-        ],
-        &mut out,
-    );
-    assert_eq!(rt; out.len(), 3);
-    let sent = out.get(2).ok_or("none")?;
-    assert!(rt; matches!(&sent.what, What::Send { telegram, .. } if *telegram == FIRST));
-    assert_eq!(rt; counter_at(&rt, 399_999)?, (0, 0));
-    assert_eq!(rt; counter_at(&rt, 400_000)?, (1, 1));
-    Ok(())
-}
-
-fn refusal(node: &mut Node, out: &mut Outbox, event: &Event<'_>) -> Result<Option<Refusal>, Fail> {
-    out.clear();
-    node.step(event, out)?;
-    match out.get(0).ok_or("none")?.what {
-        What::Answer(Answer::Refused(refusal)) => Ok(Some(refusal)),
-        _ => Ok(None),
-    }
-}
-
-#[test]
-fn calls_are_refused_in_order(rt: HostRuntime) -> Result<(), Fail> {
-    let mut node = node(&rt)?;
-    let mut out = Outbox::new(rt.alloc());
-    let bytes = vec![in rt.alloc(); 0u8; 1433]?;
-    assert_eq!(rt;
-        refusal(&mut node, &mut out, &put(1, &bytes))?,
-        Some(Refusal::NoHandle)
-    );
-    assert_eq!(rt;
-        refusal(&mut node, &mut out, &publish(999))?,
-        Some(Refusal::Cycle)
-    );
-    for _ in 0..4u8 {
-        assert_eq!(rt; refusal(&mut node, &mut out, &publish(0))?, None);
-    }
-    assert_eq!(rt;
-        refusal(&mut node, &mut out, &publish(0))?,
-        Some(Refusal::Quota)
-    );
-    assert_eq!(rt;
-        refusal(&mut node, &mut out, &put(4, &bytes))?,
-        Some(Refusal::TooLong)
-    );
-    assert_eq!(rt;
-        refusal(&mut node, &mut out, &put(4, bytes.get(1..).ok_or("short")?))?,
-        None
-    );
-    Ok(())
-}
-
-#[test]
-fn an_unknown_dataset_is_refused(rt: HostRuntime) -> Result<(), Fail> {
-    let mut node = node(&rt)?;
-    let mut out = Outbox::new(rt.alloc());
-    let other = Call::Publish(Publication {
-        dataset: 5,
-        ..publication(1_000)
-    });
-    assert_eq!(rt;
-        refusal(
-            &mut node,
-            &mut out,
-            &Event::Call {
-                slot: 0,
-                call: other
-            }
-        )?,
-        Some(Refusal::NoDataset)
-    );
-    Ok(())
-}
-
-#[test]
-fn moments_have_limits(rt: HostRuntime) -> Result<(), Fail> {
-    let mut node = node(&rt)?;
-    let mut out = Outbox::new(rt.alloc());
-    assert_eq!(rt; node.step(&Event::Moment(5), &mut out), Ok(()));
-    assert_eq!(rt;
-        node.step(&Event::Moment(4), &mut out),
-        Err(NodeFault::Past)
-    );
-    assert_eq!(rt; node.step(&Event::Moment(LAST), &mut out), Ok(()));
-    assert_eq!(rt;
-        node.step(&Event::Moment(LAST + 1), &mut out),
-        Err(NodeFault::TooLate)
-    );
-    let other = Event::Call {
-        slot: 1,
-        call: Call::Put {
-            handle: 1,
-            bytes: b"",
-        },
+/// The terms of a subscription of comId 100, from any source.
+fn terms(dataset: u32, supervision: u32, behaviour: Behaviour) -> SubscriptionTerms {
+    let any = Ip(0);
+    let filter = PdFilter {
+        com_id: 100,
+        low: any,
+        high: any,
+        dest: any,
+        topo: Topo { etb: 0, op_trn: 0 },
     };
-    assert_eq!(rt; node.step(&other, &mut out), Err(NodeFault::NoSlot));
-    assert_eq!(rt; out.len(), 0);
-    Ok(())
+    SubscriptionTerms {
+        filter,
+        dataset,
+        supervision,
+        behaviour,
+    }
 }
 
-#[test]
-fn two_nodes_run_alike(rt: HostRuntime) -> Result<(), Fail> {
-    let mut first = node(&rt)?;
-    let mut second = node(&rt)?;
-    let mut out = Outbox::new(rt.alloc());
-    let mut other_out = Outbox::new(rt.alloc());
-    let events = [publish(1_000), Event::Moment(1_000)];
-    let others = [publish(1_000), Event::Moment(1_000), Event::Moment(7)];
-    let taken = crate::run_both(
-        &mut first,
-        &mut second,
-        &events,
-        &others,
-        &mut out,
-        &mut other_out,
-    );
-    assert_eq!(rt; taken, (2, 3));
-    crate::same_view();
-    Ok(())
+fn subscribe<'a>(dataset: u32, supervision: u32, behaviour: Behaviour) -> Call<'a> {
+    Call::Subscribe(terms(dataset, supervision, behaviour))
+}
+
+/// So many zero bytes.
+fn zeros(rt: &HostRuntime, n: usize) -> Result<Vec<u8>, Fail> {
+    let mut bytes = Vec::new(rt.alloc());
+    bytes.resize(n, 0)?;
+    Ok(bytes)
 }

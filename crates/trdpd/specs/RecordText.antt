@@ -3,13 +3,16 @@ use Rattle.std.specs.Prelude.{ℕ, List, ◌++◌, codes}
 use Rattle.trdp_base.specs.AddressText.{text_of_place}
 use Rattle.trdp_base.specs.HexText.{text_of_hex}
 use Rattle.trdp_base.specs.NumberText.{text_of_number}
-use Rattle.trdp_engine.specs.Records.{Content, Answers, Sends, RecordModel}
+use Rattle.trdp_pd.specs.Peeks.{PeekModel}
+use Rattle.trdp_pd.specs.declared.terms.ValueState.{ValueState}
+use Rattle.trdp_pd.specs.declared.terms.ValueState.TheVariants.{Never, Valid, Silent}
+use Rattle.trdp_engine.specs.Records.{AnswerModel, HandleIs, DoneIs, ValueIs, RefusedIs, Content, Answers, Indicates, Sends, RecordModel}
 use Rattle.trdp_engine.specs.declared.fault.NodeFault.{NodeFault}
 use Rattle.trdp_engine.specs.declared.fault.NodeFault.TheVariants.{NoSlot, Past, TooLate, NoGroup, OutOfMemory}
 use Rattle.trdp_engine.specs.declared.fault.Refusal.{Refusal}
 use Rattle.trdp_engine.specs.declared.fault.Refusal.TheVariants.{NoHandle, WrongKind, State, Cycle, Timeout, Expected, Status, Range, NoDataset, TooLong, Shape, SessionOpen, Quota, Exhausted}
-use Rattle.trdp_engine.specs.declared.record.Answer.{Answer}
-use Rattle.trdp_engine.specs.declared.record.Answer.TheVariants.{Handle, Done, Refused}
+use Rattle.trdp_engine.specs.declared.record.Indication.{Indication}
+use Rattle.trdp_engine.specs.declared.record.Indication.TheVariants.{Silent as FellSilent, Alive}
 use Rattle.trdp_engine.specs.declared.record.Protocol.{Protocol}
 use Rattle.trdp_engine.specs.declared.record.Protocol.TheVariants.{Pd, Md}
 
@@ -38,20 +41,37 @@ name_of_refusal SessionOpen = codes "SessionOpen"
 name_of_refusal Quota = codes "Quota"
 name_of_refusal Exhausted = codes "Exhausted"
 
+-- the name of how good a subscription's value is
+abbrev pub name_of_state : ValueState → List ℕ
+name_of_state Never = codes "Never"
+name_of_state Valid = codes "Valid"
+name_of_state Silent = codes "Silent"
+
+-- the words of what a subscription shows, with a space before each
+unfoldable pub text_of_peek : PeekModel → List ℕ
+text_of_peek peek = codes " value " ++ name_of_state peek.state ++ codes " " ++ text_of_number peek.counter ++ codes " " ++ text_of_hex peek.bytes
+
 -- the words of an answer, with a space before each
-unfoldable pub text_of_answer : Answer → List ℕ
-text_of_answer (Handle handle) = codes " handle " ++ text_of_number handle
-text_of_answer Done = codes " done"
-text_of_answer (Refused refusal) = codes " refused " ++ name_of_refusal refusal
+unfoldable pub text_of_answer : AnswerModel → List ℕ
+text_of_answer (HandleIs handle) = codes " handle " ++ text_of_number handle
+text_of_answer DoneIs = codes " done"
+text_of_answer (ValueIs peek) = text_of_peek peek
+text_of_answer (RefusedIs refusal) = codes " refused " ++ name_of_refusal refusal
+
+-- the words of what happened to a subscription, with a space before each
+unfoldable pub text_of_indication : Indication → List ℕ
+text_of_indication (FellSilent handle) = codes " silent " ++ text_of_number handle
+text_of_indication (Alive handle) = codes " alive " ++ text_of_number handle
 
 -- the words before a telegram's destination
 abbrev pub words_of_send : Protocol → List ℕ
 words_of_send Pd = codes " send pd "
 words_of_send Md = codes " send md "
 
--- what a record says: an answer, or a telegram with its protocol, its destination and its bytes
+-- what a record says: an answer, an indication, or a telegram with its protocol, its destination and its bytes
 unfoldable pub text_of_content : Content → List ℕ
 text_of_content (Answers answer) = text_of_answer answer
+text_of_content (Indicates indication) = text_of_indication indication
 text_of_content (Sends protocol to telegram) = words_of_send protocol ++ text_of_place to ++ codes " " ++ text_of_hex telegram
 
 -- the slot's number, what the record says, and a newline

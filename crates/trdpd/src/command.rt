@@ -1,14 +1,21 @@
 //! The command line: `trdpd run CONFIG`.
 
-use clap::{Arg, Command, Error};
+use clap::{Arg, ArgMatches, Command, Error};
 use std::alloc::{AllocError, Global};
 
-/// Reads the words of the command line, of which the first names the program: good is `run` with a configuration file.
+/// Reads the words of the command line, of which the first names the program: good is `run` with a configuration file,
+/// whose path is the answer.
 ///
 /// The error's text is for the user. Its kind tells want of memory from wrong words and from a wish for help.
-pub fn read_words<'a>(alloc: Global, words: &'a [String]) -> Result<(), Error> {
-    command(alloc)?.try_get_matches_from(words)?;
-    Ok(())
+pub fn read_words<'a>(alloc: Global, words: &'a [String]) -> Result<&'a str, Error> {
+    let matches = command(alloc)?.try_get_matches_from(words)?;
+    // The path is required, so that good words have it. No file has the empty path.
+    Ok(config_of(&matches).unwrap_or(""))
+}
+
+/// The configuration file's path.
+fn config_of<'a>(matches: &ArgMatches<'a>) -> Option<&'a str> {
+    matches.subcommand_matches("run")?.get_str("CONFIG")
 }
 
 /// The words that are understood.

@@ -8,7 +8,8 @@ use crate::words::Words;
 use std::alloc::Global;
 use thiserror::Error;
 use trdp_base::{Place, TextFault, Topo, read_hex, read_number, read_place};
-use trdp_engine::{Call, Event, Publication};
+use trdp_engine::{Call, Event};
+use trdp_pd::Publication;
 
 /// The longest line, in bytes without its end (profile).
 pub const LINE_MAX: usize = 140_000;

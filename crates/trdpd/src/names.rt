@@ -1,9 +1,10 @@
-//! The names of faults and refusals, as they stand in a line.
+//! The names of faults, refusals and states, as they stand in a line.
 
 ghost use Rattle.std.specs.Prelude.{◌≡◌};
-ghost use Rattle.trdpd.specs.RecordText.{name_of_fault, name_of_refusal};
+ghost use Rattle.trdpd.specs.RecordText.{name_of_fault, name_of_refusal, name_of_state};
 
 use trdp_engine::{NodeFault, Refusal};
+use trdp_pd::ValueState;
 
 /// The name of a node's fault.
 pub fn fault_name(fault: NodeFault) -> &'static [u8]
@@ -37,5 +38,16 @@ pub fn refusal_name(refusal: Refusal) -> &'static [u8]
         Refusal::SessionOpen => b"SessionOpen",
         Refusal::Quota => b"Quota",
         Refusal::Exhausted => b"Exhausted",
+    }
+}
+
+/// The name of how good a subscription's value is.
+pub fn state_name(state: ValueState) -> &'static [u8]
+    ensures { result.now ≡ name_of_state state }
+{
+    match state {
+        ValueState::Never => b"Never",
+        ValueState::Valid => b"Valid",
+        ValueState::Silent => b"Silent",
     }
 }

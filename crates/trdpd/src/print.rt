@@ -3,13 +3,15 @@
 ghost use Rattle.std.specs.Prelude.{◌≡◌, ◌++◌, OnOk, codes};
 ghost use Rattle.trdp_base.specs.AddressText.{text_of_place};
 ghost use Rattle.trdp_base.specs.HexText.{text_of_hex};
-ghost use Rattle.trdp_engine.specs.Records.{record_model};
-ghost use Rattle.trdpd.specs.RecordText.{text_of_answer, words_of_send, text_of_record, text_of_fault};
+ghost use Rattle.trdp_pd.specs.Peeks.{peek_model};
+ghost use Rattle.trdp_engine.specs.Records.{record_model, answer_model};
+ghost use Rattle.trdpd.specs.RecordText.{text_of_peek, text_of_answer, text_of_indication, words_of_send, text_of_record, text_of_fault};
 
-use crate::names::{fault_name, refusal_name};
+use crate::names::{fault_name, refusal_name, state_name};
 use std::alloc::AllocError;
 use trdp_base::{Place, push_hex, push_number, push_place};
-use trdp_engine::{Answer, NodeFault, Outbox, Protocol, Record, What};
+use trdp_engine::{Answer, Indication, NodeFault, Outbox, Protocol, Record, What};
+use trdp_pd::Peek;
 
 /// How many slots a node has at most (profile).
 const SLOTS_MAX: u16 = 16;
@@ -41,6 +43,7 @@ pub fn push_record(text: &mut Vec<u8>, record: &Record<'_>) -> Result<(), AllocE
     push_number(text, u64::from(record.slot))?;
     match record.what {
         What::Answer(answer) => push_answer(text, answer)?,
+        What::Indication(indication) => push_indication(text, indication)?,
         What::Send {
             protocol,
             to,
@@ -52,8 +55,8 @@ pub fn push_record(text: &mut Vec<u8>, record: &Record<'_>) -> Result<(), AllocE
 
 /// Appends what a call came to, with a space before it.
 #[tactic(auto, unfolding(crate::specs::RecordText::text_of_answer))]
-fn push_answer(text: &mut Vec<u8>, answer: Answer) -> Result<(), AllocError>
-    ensures { OnOk result (text.new.items ≡ text.old.items ++ text_of_answer answer) }
+fn push_answer(text: &mut Vec<u8>, answer: Answer<'_>) -> Result<(), AllocError>
+    ensures { OnOk result (text.new.items ≡ text.old.items ++ text_of_answer (answer_model answer.entry)) }
 {
     match answer {
         Answer::Handle(handle) => {
@@ -61,9 +64,40 @@ fn push_answer(text: &mut Vec<u8>, answer: Answer) -> Result<(), AllocError>
             push_number(text, u64::from(handle))
         }
         Answer::Done => text.extend_from_slice(b" done"),
+        Answer::Value(peek) => push_peek(text, peek),
         Answer::Refused(refusal) => {
             text.extend_from_slice(b" refused ")?;
             text.extend_from_slice(refusal_name(refusal))
+        }
+    }
+}
+
+/// Appends what a subscription shows, with a space before it.
+#[tactic(auto, unfolding(crate::specs::RecordText::text_of_peek))]
+fn push_peek(text: &mut Vec<u8>, peek: Peek<'_>) -> Result<(), AllocError>
+    ensures { OnOk result (text.new.items ≡ text.old.items ++ text_of_peek (peek_model peek.entry)) }
+{
+    text.extend_from_slice(b" value ")?;
+    text.extend_from_slice(state_name(peek.state))?;
+    text.extend_from_slice(b" ")?;
+    push_number(text, u64::from(peek.counter))?;
+    text.extend_from_slice(b" ")?;
+    push_hex(text, peek.bytes)
+}
+
+/// Appends what happened to a subscription, with a space before it.
+#[tactic(auto, unfolding(crate::specs::RecordText::text_of_indication))]
+fn push_indication(text: &mut Vec<u8>, indication: Indication) -> Result<(), AllocError>
+    ensures { OnOk result (text.new.items ≡ text.old.items ++ text_of_indication indication) }
+{
+    match indication {
+        Indication::Silent(handle) => {
+            text.extend_from_slice(b" silent ")?;
+            push_number(text, u64::from(handle))
+        }
+        Indication::Alive(handle) => {
+            text.extend_from_slice(b" alive ")?;
+            push_number(text, u64::from(handle))
         }
     }
 }

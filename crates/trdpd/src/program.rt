@@ -1,8 +1,9 @@
 //! A script's way through the node: each line's event, and the lines that it gives.
 
-ghost use Rattle.std.specs.Prelude.{◌≡◌, ◌≤◌, ◌⊎◌, length, IfOk, IfErr, OnOk, OnErr};
-ghost use Rattle.std.specs.Io.KnownBytes.{Appends, WriteAppends};
-ghost use Rattle.trdpd.specs.Faults.{IsFaultAt, status_of};
+ghost use Rattle.std.specs.Prelude.{◌≡◌, ◌≤◌, ◌⊎◌, length, IfOk, IfErr, OnOk, OnErr, Ok};
+ghost use Rattle.std.specs.Io.KnownBytes.{Appends, Keeps, WriteAppends};
+ghost use Rattle.trdp_dataset.specs.Configs.{Reads, config_of};
+ghost use Rattle.trdpd.specs.Faults.{IsFaultAt, IsConfig, IsConfigFault, IsRunFault, RunsOver, status_of};
 ghost use Rattle.trdpd.specs.Written.{PartlyWrites};
 ghost use Rattle.trdpd.specs.declared.program.ScriptFault.TheVariants.{OutOfMemory};
 
@@ -12,11 +13,18 @@ use crate::print::{push_fault, push_records};
 use std::alloc::{AllocError, Global};
 use std::io::{BufReader, ErrorKind, Read, Write};
 use thiserror::Error;
-use trdp_engine::{Event, Node, NodeConfig, NodeFault, Outbox};
+use trdp_dataset::{ConfigFault, NodeConfig};
+use trdp_engine::{Event, Node, NodeFault, Outbox};
 
-/// Why a script ends before its end.
+/// Why a run ends before the end of its script.
 #[derive(Clone, Copy, Debug, PartialEq, Eq, Error)]
 pub enum ScriptFault {
+    /// The configuration isn't taken.
+    #[error("config fault {0}")]
+    Config(ConfigFault),
+    /// The configuration's file can't be read.
+    #[error("config fault Unreadable")]
+    Unreadable,
     /// The line of that number, counted from 1, is no good.
     #[error("line {0} fault {1}")]
     Line(u64, LineFault),
@@ -37,26 +45,30 @@ impl ScriptFault {
         ensures { result ≡ status_of self }
     {
         match self {
+            ScriptFault::Config(_) | ScriptFault::Unreadable => 1,
             ScriptFault::Line(..) => 3,
             ScriptFault::Read | ScriptFault::Write | ScriptFault::OutOfMemory => 4,
         }
     }
 }
 
-/// Runs a script from the reader, writes each event's lines to the writer before the next line is read, and answers the
-/// exit status: 0 at the script's end, and else 3 or 4 with one line on `errors`. What was written before a fault stands.
+/// Runs a script from the reader over a node of that configuration (TOML), writes each event's lines to the writer before
+/// the next line is read, and answers the exit status: 0 at the script's end, and else 1 where the configuration isn't
+/// taken, 3 for a bad line or 4, with one line on `errors`. What was written before a fault stands.
 ///
-/// The configuration isn't read yet: the node is the one of [`NodeConfig::first`].
+/// The configuration is looked at before the script: where it isn't taken, nothing is written.
 pub fn run_program<H: AllocGlobal, R: Read, W: Write, E: Write>(
     rt: &H,
-    _config: &[u8],
+    config: &[u8],
     reader: &mut R,
     writer: &mut W,
     errors: &mut E,
 ) -> u8
-    ensures { (result ≡ 0) ⊎ (result ≡ 3) ⊎ (result ≡ 4) }
+    ensures status { (result ≡ 0) ⊎ (result ≡ 1) ⊎ (result ≡ 3) ⊎ (result ≡ 4) }
+    ensures config { (result ≡ 1) ⊎ IsConfig config.now }
+    ensures quiet { result ≡ 1 → Keeps (W.contents writer.old) (W.contents writer.new) }
 {
-    match run_script(rt.alloc(), reader, writer) {
+    match run_script(rt.alloc(), config, reader, writer) {
         Ok(()) => 0,
         Err(fault) => {
             // A fault that can't be told is one all the same.
@@ -66,13 +78,30 @@ pub fn run_program<H: AllocGlobal, R: Read, W: Write, E: Write>(
     }
 }
 
-/// Runs a script to its end.
+/// Runs a script over the configuration that the bytes are.
 fn run_script<R: Read, W: Write>(
     alloc: Global,
+    config: &[u8],
     reader: &mut R,
     writer: &mut W,
-) -> Result<(), ScriptFault> {
-    let mut session = Session::new(alloc)?;
+) -> Result<(), ScriptFault>
+    ensures over { RunsOver config.now result }
+    ensures quiet { IfErr result (λ fault. status_of fault ≡ 1 → Keeps (W.contents writer.old) (W.contents writer.new)) }
+{
+    let config = read_config(alloc, config)?;
+    run_node(alloc, config, reader, writer)
+}
+
+/// Runs a script to its end over a node of that configuration.
+fn run_node<R: Read, W: Write>(
+    alloc: Global,
+    config: NodeConfig,
+    reader: &mut R,
+    writer: &mut W,
+) -> Result<(), ScriptFault>
+    ensures { IfErr result IsRunFault }
+{
+    let mut session = Session::new(alloc, config)?;
     let mut line = line_buffer(alloc)?;
     let mut input = match BufReader::new(alloc, reader) {
         Ok(input) => input,
@@ -91,6 +120,17 @@ fn run_script<R: Read, W: Write>(
     Err(ScriptFault::Read)
 }
 
+/// Reads the configuration.
+fn read_config(alloc: Global, config: &[u8]) -> Result<NodeConfig, ScriptFault>
+    ensures taken { IfOk result (λ taken. Reads config_of config.now (Ok taken)) }
+    ensures fault { IfErr result (IsConfigFault config.now) }
+{
+    match NodeConfig::from_toml(alloc, config) {
+        Ok(config) => Ok(config),
+        Err(fault) => Err(ScriptFault::Config(fault)),
+    }
+}
+
 /// A node, with the lists that are used again from event to event.
 #[derive(Drop)]
 struct Session {
@@ -100,8 +140,8 @@ struct Session {
 }
 
 impl Session {
-    fn new(alloc: Global) -> Result<Session, AllocError> {
-        match Node::new(alloc, NodeConfig::first()) {
+    fn new(alloc: Global, config: NodeConfig) -> Result<Session, AllocError> {
+        match Node::new(alloc, config) {
             Ok(node) => Ok(Session {
                 node,
                 records: Outbox::new(alloc),

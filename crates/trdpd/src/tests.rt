@@ -1,10 +1,18 @@
 //! Scripts through the whole program, over readers and writers in memory.
 
-use crate::program::run_program;
+use crate::print::push_record;
+use crate::program::{ScriptFault, run_program};
 use std::io;
 use std::io::{Read, Write};
 use std::process::Abort;
 use std::test::Fail;
+use trdp_dataset::ConfigFault;
+use trdp_engine::{Answer, Indication, Record, What};
+use trdp_pd::{Peek, ValueState};
+
+/// A node with two slots and two datasets.
+const CONFIG: &[u8] =
+    b"[node]\naddress = \"10.0.0.1\"\n[[slot]]\npublishers = 4\nsubscriptions = 4\nrequesters = 1\nlisteners = 2\ncallers = 2\nrepliers = 1\n[[slot]]\npublishers = 4\nsubscriptions = 4\nrequesters = 1\nlisteners = 2\ncallers = 2\nrepliers = 1\n[[dataset]]\nid = 1001\nelement = [{ type = \"UINT8\" }, { type = \"UINT16\", size = 0 }]\n[[dataset]]\nid = 1002\nelement = [{ type = \"INT16\" }, { type = 15 }, { type = 1001 }]\n";
 
 const PUBLISH: &[u8] = b"call 0 publish 100 0 100000 0 0 0 10.0.0.2:17224\n";
 
@@ -49,11 +57,11 @@ struct Outcome {
     error: Vec<u8>,
 }
 
-fn run(rt: &impl AllocGlobal, script: &[u8]) -> Outcome {
+fn run(rt: &impl AllocGlobal, config: &[u8], script: &[u8]) -> Outcome {
     let mut reader = script;
     let mut output = Vec::new(rt.alloc());
     let mut error = Vec::new(rt.alloc());
-    let status = run_program(rt, &[], &mut reader, &mut output, &mut error);
+    let status = run_program(rt, config, &mut reader, &mut output, &mut error);
     Outcome {
         status,
         output,
@@ -63,7 +71,7 @@ fn run(rt: &impl AllocGlobal, script: &[u8]) -> Outcome {
 
 /// A script is good and gives these lines.
 fn gives(rt: &(impl Abort + AllocGlobal), script: &[u8], output: &[u8]) {
-    let outcome = run(rt, script);
+    let outcome = run(rt, CONFIG, script);
     assert_eq!(rt; outcome.error.as_slice(), b"".as_slice());
     assert_eq!(rt; outcome.output.as_slice(), output);
     assert_eq!(rt; outcome.status, 0);
@@ -71,7 +79,7 @@ fn gives(rt: &(impl Abort + AllocGlobal), script: &[u8], output: &[u8]) {
 
 /// A script gives these lines, and then a fault with this text.
 fn ends(rt: &(impl Abort + AllocGlobal), script: &[u8], output: &[u8], error: &[u8], status: u8) {
-    let outcome = run(rt, script);
+    let outcome = run(rt, CONFIG, script);
     assert_eq!(rt; outcome.output.as_slice(), output);
     assert_eq!(rt; outcome.error.as_slice(), error);
     assert_eq!(rt; outcome.status, status);
@@ -228,7 +236,7 @@ fn a_failing_reader_ends_the_run(rt: HostRuntime) {
     };
     let mut output = Vec::new(rt.alloc());
     let mut error = Vec::new(rt.alloc());
-    let status = run_program(&rt, &[], &mut reader, &mut output, &mut error);
+    let status = run_program(&rt, CONFIG, &mut reader, &mut output, &mut error);
     assert_eq!(rt; output.as_slice(), b"fault Past\n".as_slice());
     assert_eq!(rt; error.as_slice(), b"read fault\n".as_slice());
     assert_eq!(rt; status, 4);
@@ -238,7 +246,7 @@ fn a_failing_reader_ends_the_run(rt: HostRuntime) {
 fn a_failing_writer_ends_the_run(rt: HostRuntime) {
     let mut reader = PUBLISH;
     let mut error = Vec::new(rt.alloc());
-    let status = run_program(&rt, &[], &mut reader, &mut FailingWriter, &mut error);
+    let status = run_program(&rt, CONFIG, &mut reader, &mut FailingWriter, &mut error);
     assert_eq!(rt; error.as_slice(), b"write fault\n".as_slice());
     assert_eq!(rt; status, 4);
 }
@@ -247,6 +255,115 @@ fn a_failing_writer_ends_the_run(rt: HostRuntime) {
 fn standard_error_changes_no_status(rt: HostRuntime) {
     let mut reader: &[u8] = b"moment x\n";
     let mut output = Vec::new(rt.alloc());
-    let status = run_program(&rt, &[], &mut reader, &mut output, &mut FailingWriter);
+    let status = run_program(&rt, CONFIG, &mut reader, &mut output, &mut FailingWriter);
     assert_eq!(rt; status, 3);
+}
+
+/// A configuration isn't taken, and this is told before the script is looked at.
+fn refuses(rt: &(impl Abort + AllocGlobal), config: &[u8], error: &[u8]) {
+    let outcome = run(rt, config, b"moment x\n");
+    assert_eq!(rt; outcome.output.as_slice(), b"".as_slice());
+    assert_eq!(rt; outcome.error.as_slice(), error);
+    assert_eq!(rt; outcome.status, 1);
+}
+
+#[test]
+fn tells_the_fault_of_a_configuration(rt: HostRuntime) {
+    refuses(&rt, b"", b"config fault Missing node\n");
+    refuses(&rt, b"[", b"config fault Toml\n");
+    refuses(
+        &rt,
+        b"[node]\naddress = \"10.0.0.1\"\n[[slot]]\n[[dataset]]\nid = 1001\nelement = [{ type = 1003 }]\n",
+        b"config fault NoDataset 1003\n",
+    );
+    refuses(
+        &rt,
+        b"[node]\naddress = \"10.0.0.1\"\n[[slot]]\npublishers = \"x\"\n",
+        b"config fault WrongType publishers\n",
+    );
+    refuses(
+        &rt,
+        b"[node]\naddres = \"10.0.0.1\"\n[[slot]]\n",
+        b"config fault Missing address\n",
+    );
+}
+
+/// A fault, with its text and the exit status.
+struct Told {
+    fault: ScriptFault,
+    text: &'static str,
+    status: u8,
+}
+
+/// Faults that no test can bring about, since they come from a file or from want of memory.
+static TOLD: [Told; 3] = [
+    Told {
+        fault: ScriptFault::Config(ConfigFault::OutOfMemory),
+        text: "config fault OutOfMemory",
+        status: 1,
+    },
+    Told {
+        fault: ScriptFault::Unreadable,
+        text: "config fault Unreadable",
+        status: 1,
+    },
+    Told {
+        fault: ScriptFault::OutOfMemory,
+        text: "memory fault",
+        status: 4,
+    },
+];
+
+#[test]
+fn tells_what_comes_from_outside(rt: HostRuntime) -> Result<(), Fail> {
+    for told in &TOLD {
+        assert_eq!(&rt;
+            format!(in rt.alloc(); "{}", told.fault)?.as_str(),
+            told.text
+        );
+        assert_eq!(&rt; told.fault.status(), told.status, "at {}", told.text);
+    }
+    Ok(())
+}
+
+#[test]
+fn takes_values_of_the_dataset_alone(rt: HostRuntime) {
+    gives(
+        &rt,
+        b"call 0 publish 100 1001 100000 0 0 0 10.0.0.2:17224\ncall 0 put 1 00\ncall 0 put 1 020001\ncall 0 put 1 -\n",
+        b"0 handle 1\n0 done\n0 refused Shape\n0 refused Shape\n",
+    );
+    gives(
+        &rt,
+        b"call 0 publish 100 5 100000 0 0 0 10.0.0.2:17224\n",
+        b"0 refused NoDataset\n",
+    );
+}
+
+#[test]
+fn prints_what_a_subscription_shows_and_what_happened_to_it(rt: HostRuntime) -> Result<(), Fail> {
+    let mut text = Vec::new(rt.alloc());
+    let rows: [(ValueState, u32, &[u8]); 3] = [
+        (ValueState::Never, 0, &[]),
+        (ValueState::Valid, 7, &[2, 0, 1, 0, 2]),
+        (ValueState::Silent, 4_294_967_295, &[0]),
+    ];
+    for (state, counter, bytes) in rows {
+        let peek = Peek {
+            state,
+            counter,
+            bytes,
+        };
+        let what = What::Answer(Answer::Value(peek));
+        push_record(&mut text, &Record { slot: 1, what })?;
+    }
+    for indication in [Indication::Silent(3), Indication::Alive(4)] {
+        let what = What::Indication(indication);
+        push_record(&mut text, &Record { slot: 0, what })?;
+    }
+    assert_eq!(&rt;
+        text.as_slice(),
+        b"1 value Never 0 -\n1 value Valid 7 0200010002\n1 value Silent 4294967295 00\n0 silent 3\n0 alive 4\n".as_slice()
+    );
+    Ok(())
 }

@@ -1,4 +1,4 @@
-use Rattle.std.proofs.Common.{arith, rules, refl, ◌∙◌}
+use Rattle.std.proofs.Common.{arith, refl, ◌∙◌}
 use Rattle.trdp_engine.specs.declared.event.Event.TheVariants.{Moment}
 use Rattle.trdp_engine.proofs.Runs.{one_event, so_far, one_more, at_start}
 use Rattle.trdp_engine.proofs.Steps.{appends_none, appends_more}

@@ -1,0 +1,66 @@
+-- A value that is handed over as an item.
+use Rattle.std.specs.Prelude.{◌≡◌, ℕ, List, [], Option, Some, None, unwrap_or, ◌==◌, if◌then◌else◌}
+use Rattle.trdp_dataset.specs.Configs.{ConfigModel}
+use Rattle.trdp_marshal.specs.declared.fault.MarshalFault.{MarshalFault}
+use Rattle.trdp_marshal.specs.declared.fault.MarshalFault.TheVariants.{NoDataset as UnknownDataset, Shape as WrongShape, TooLong as TooManyBytes, OutOfMemory}
+use Rattle.trdp_marshal.specs.Items.{ItemModel}
+use Rattle.trdp_marshal.specs.Spelling.{spelling}
+use Rattle.trdp_marshal.specs.Faults.{encode_fault}
+use Rattle.trdp_pd.specs.declared.any_object.AnyObject.{AnyObject}
+use Rattle.trdp_pd.specs.declared.any_object.AnyObject.TheVariants.{Publisher, Subscription, Requester}
+use Rattle.trdp_engine.specs.declared.object.Entry.{Entry}
+use Rattle.trdp_engine.specs.declared.fault.Refusal.{Refusal}
+use Rattle.trdp_engine.specs.declared.fault.Refusal.TheVariants.{NoHandle, WrongKind, NoDataset, TooLong, Shape}
+use Rattle.trdp_engine.specs.declared.value.SpellFault.{SpellFault}
+use Rattle.trdp_engine.specs.declared.value.SpellFault.TheVariants.{Refused, NoMemory}
+use Rattle.trdp_engine.specs.Slots.{SlotState, Outcome, entry_of, unchanged}
+use Rattle.trdp_engine.specs.Calls.{refused, put_refusal, put_unless}
+
+-- the refusal of an item that has no bytes, by what marshalling says
+abbrev pub marshal_refusal : Option MarshalFault → Option Refusal
+marshal_refusal None = None
+marshal_refusal (Some UnknownDataset) = Some NoDataset
+marshal_refusal (Some WrongShape) = Some Shape
+marshal_refusal (Some TooManyBytes) = Some TooLong
+marshal_refusal (Some OutOfMemory) = None
+
+-- why an item is no value of an object: it is no publisher, its dataset is 0, or the item has no bytes there
+abbrev pub item_refusal_of : ConfigModel → ItemModel → AnyObject → Option Refusal
+item_refusal_of setup item (Publisher p) = marshal_refusal (encode_fault setup.registry p.publication.dataset item)
+item_refusal_of setup item (Subscription s) = Some WrongKind
+item_refusal_of setup item (Requester r) = Some WrongKind
+
+-- first refusal of an item for the object of a handle
+abbrev pub item_refusal : ConfigModel → ItemModel → Option Entry → Option Refusal
+item_refusal setup item None = Some NoHandle
+item_refusal setup item (Some entry) = item_refusal_of setup item entry.object
+
+-- the bytes of an item as a value of an object
+abbrev pub bytes_for : ConfigModel → ItemModel → AnyObject → List ℕ
+bytes_for setup item (Publisher p) = unwrap_or (spelling setup.registry p.publication.dataset item) []
+bytes_for setup item (Subscription s) = []
+bytes_for setup item (Requester r) = []
+
+-- the bytes of an item as a value of the object of a handle
+abbrev pub item_bytes : ConfigModel → ItemModel → Option Entry → List ℕ
+item_bytes setup item None = []
+item_bytes setup item (Some entry) = bytes_for setup item entry.object
+
+-- an item that has bytes is put as these bytes are
+abbrev pub valued_unless : Option Refusal → ConfigModel → SlotState → ℕ → List ℕ → Outcome
+valued_unless (Some refusal) setup slot handle bytes = refused slot refusal
+valued_unless None setup slot handle bytes = put_unless (put_refusal setup bytes (entry_of handle slot.objects)) slot handle bytes
+
+-- effect of a value handed over as an item
+abbrev pub valued : ConfigModel → SlotState → ℕ → ItemModel → Outcome
+valued setup slot handle item =
+    valued_unless (item_refusal setup item (entry_of handle slot.objects)) setup slot handle (item_bytes setup item (entry_of handle slot.objects))
+
+-- the same at slot s, when it is slot r that hands the value over
+abbrev pub valued_at : ConfigModel → ℕ → ℕ → SlotState → ℕ → ItemModel → Outcome
+valued_at setup r s slot handle item = if r == s then valued setup slot handle item else unchanged slot
+
+-- a refused item is refused as expected; want of memory may come at any time
+abbrev pub IsRefusedAs : Option Refusal → SpellFault → Type 0
+IsRefusedAs expected (Refused refusal) = expected ≡ Some refusal
+IsRefusedAs expected NoMemory = Unit {0}
