@@ -84,3 +84,13 @@ fn bounds_moments(rt: HostRuntime) {
     assert_eq!(rt; Moment::new(4_611_686_018_427_387_905), None);
     assert_eq!(rt; Moment::new(7).map(|moment| moment.get()), Some(7));
 }
+
+#[test]
+fn quotas_have_a_limit(rt: HostRuntime) -> Result<(), Fail> {
+    let quotas = Quotas::new([256, 0, 1, 2, 3, 4]).ok_or("no quotas")?;
+    assert_eq!(rt; quotas.get(0), 256);
+    assert_eq!(rt; quotas.get(5), 4);
+    assert_eq!(rt; Quotas::new([257, 0, 0, 0, 0, 0]), None);
+    assert_eq!(rt; Quotas::new([0, 0, 0, 0, 0, 257]), None);
+    Ok(())
+}
