@@ -1,4 +1,5 @@
 pub mod AddressText
 pub mod HexText
+pub mod Moments
 pub mod NumberText
 pub mod Numbers

@@ -14,7 +14,7 @@ mod topo;
 
 pub use address::{IP_LENGTH, PLACE_LENGTH, push_ip, push_place, read_ip, read_place};
 pub use hex::{push_hex, read_hex};
-pub use moment::{LAST, Moment};
+pub use moment::{MOMENT_MAX, Moment};
 pub use number::{NUMBER_LENGTH, push_number, read_number};
 pub use place::{Ip, Place};
 pub use quotas::{QUOTA_LIMIT, Quotas};

@@ -1,14 +1,14 @@
 //! Moments: microseconds since the node began.
 
 ghost use Rattle.std.specs.Prelude.{◌≡◌, ℕ, ◌≤◌, ◌↔◌, IsSome, IfSome};
-ghost use Rattle.trdp_base.specs.declared.moment.TheConstants.{LAST};
+ghost use Rattle.trdp_base.specs.Moments.{last_moment};
 
 use std::marker::Model;
 
 /// The last moment, 2^62 microseconds (profile).
-pub const LAST: u64 = 4_611_686_018_427_387_904;
+pub const MOMENT_MAX: u64 = 4_611_686_018_427_387_904;
 
-/// A moment in microseconds, 0 to [`LAST`].
+/// A moment in microseconds, 0 to [`MOMENT_MAX`].
 #[derive(Clone, Copy, Debug, PartialEq, Eq, Hash, PartialOrd, Ord)]
 pub struct Moment {
     microseconds: u64,
@@ -19,18 +19,18 @@ impl Model for Moment {
 
     ghost view = { λ m. m.microseconds };
 
-    ghost invariant = { λ m. m.microseconds ≤ LAST };
+    ghost invariant = { λ m. m.microseconds ≤ last_moment };
 
     ghost inverse = { λ n. record { microseconds = n } };
 }
 
 impl Moment {
-    /// The moment of that many microseconds; None above [`LAST`].
+    /// The moment of that many microseconds; None above [`MOMENT_MAX`].
     pub fn new(microseconds: u64) -> Option<Self>
-        ensures valid { IsSome result ↔ (microseconds ≤ LAST) }
+        ensures valid { IsSome result ↔ (microseconds ≤ last_moment) }
         ensures value { IfSome result (λ m. m ≡ microseconds) }
     {
-        if microseconds <= LAST {
+        if microseconds <= MOMENT_MAX {
             Some(Moment { microseconds })
         } else {
             None
@@ -40,7 +40,7 @@ impl Moment {
     /// Its microseconds.
     pub fn get(self) -> u64
         ensures value { result ≡ self }
-        ensures within { result ≤ LAST }
+        ensures within { result ≤ last_moment }
     {
         self.microseconds
     }

@@ -202,14 +202,14 @@ received_fits setup slot g (Some telegram) all = either (is_valid_at g telegram)
 
 -- a call
 pub called_fits : (setup : ConfigModel) (slot : SlotState) (g : Globals) (call : CallModel) → IsRegistry setup.registry → AllFit setup slot.objects → AllFit setup (called setup slot g call).slot.objects
-called_fits setup slot g (PublishCall publication) sound all = opened_fits setup _ slot _ all (λ is. tt)
+called_fits setup slot g (PublishCall terms) sound all = opened_fits setup _ slot _ all (λ is. tt)
 called_fits setup slot g (PutCall handle bytes) sound all = put_fits setup _ slot handle bytes all
 called_fits setup slot g (UnpublishCall handle) sound all = closed_fits setup _ slot handle all
 called_fits setup slot g (SubscribeCall terms) sound all =
     opened_fits setup (subscribe_refusal setup slot terms) slot _ all (λ is. subscribed_fits setup terms g.now sound (subscribed_dataset setup slot terms is))
 called_fits setup slot g (GetCall handle) sound all = all
 called_fits setup slot g (UnsubscribeCall handle) sound all = closed_fits setup _ slot handle all
-called_fits setup slot g (OpenPullCall enquiry) sound all = opened_fits setup _ slot _ all (λ is. tt)
+called_fits setup slot g (OpenPullCall terms) sound all = opened_fits setup _ slot _ all (λ is. tt)
 called_fits setup slot g (PullCall handle) sound all = pulled_fits setup _ slot handle all
 called_fits setup slot g (ClosePullCall handle) sound all = closed_fits setup _ slot handle all
 

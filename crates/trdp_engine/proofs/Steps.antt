@@ -4,7 +4,7 @@ use Rattle.std.specs.Prelude.{slice_get, ◌==◌, ◌&&◌, nat_le}
 use Rattle.std.proofs.lemmas.Bool.Decides.{nat_tests}
 use Rattle.std.proofs.lemmas.List.{map-append, append-nil}
 use Rattle.std.proofs.lemmas.List.Elements.{filter-append}
-use Rattle.trdp_base.specs.declared.moment.TheConstants.{LAST}
+use Rattle.trdp_base.specs.Moments.{last_moment}
 use Rattle.trdp_dataset.specs.Configs.{ConfigModel}
 use Rattle.trdp_filter.specs.declared.globals.Globals.{Globals}
 use Rattle.trdp_engine.specs.Records.{Content, RecordModel, labelled, records_of}
@@ -102,8 +102,8 @@ seen_moment : (now t last : ℕ) → now ≤ t → t ≤ last → (nat_le now t 
 seen_moment now t last le within = grind (arith, nat_tests)
 
 -- what slot 0 does at an admitted moment
-pub moment_effect : (setup : ConfigModel) (slot : SlotState) (g : Globals) (t : ℕ) → g.now ≤ t → t ≤ LAST → (slot_after setup 0 slot g (MomentIs t) ≡ (moved_to slot (record g { now = t })).slot) × (records_after setup 0 slot g (MomentIs t) ≡ (moved_to slot (record g { now = t })).records)
-moment_effect setup slot g t le within = let seen = seen_moment g.now t LAST le within in (rw seen refl, rw seen refl)
+pub moment_effect : (setup : ConfigModel) (slot : SlotState) (g : Globals) (t : ℕ) → g.now ≤ t → t ≤ last_moment → (slot_after setup 0 slot g (MomentIs t) ≡ (moved_to slot (record g { now = t })).slot) × (records_after setup 0 slot g (MomentIs t) ≡ (moved_to slot (record g { now = t })).records)
+moment_effect setup slot g t le within = let seen = seen_moment g.now t last_moment le within in (rw seen refl, rw seen refl)
 
 -- a value that is handed over to slot 0
 pub only_values : (setup : ConfigModel) (old new : NodeState) (slot : SlotState) (handle : ℕ) (item : ItemModel) (records records_then : List RecordModel) → old.slots ≡ slot ∷ [] → new.slots ≡ (valued setup slot handle item).slot ∷ [] → records_then ≡ records ++ labelled 0 (valued setup slot handle item).records → (r : ℕ) → r ≡ 0 → (s : ℕ) (other : SlotState) → slice_get old.slots s ≡ Some other → GetsOutcome new records records_then s (valued_at setup r s other handle item)

@@ -7,7 +7,7 @@ use Rattle.trdp_filter.specs.declared.globals.Globals.{Globals}
 use Rattle.trdp_engine.specs.declared.fault.NodeFault.{NodeFault}
 use Rattle.trdp_engine.specs.Records.{Content}
 use Rattle.trdp_engine.specs.Events.{EventModel, MomentIs, TopologyIs, RoleIs, DatagramIs, CallIs, CallModel}
-use Rattle.trdp_base.specs.declared.moment.TheConstants.{LAST}
+use Rattle.trdp_base.specs.Moments.{last_moment}
 use Rattle.trdp_filter.specs.Telegrams.{TelegramModel}
 use Rattle.trdp_engine.specs.Slots.{SlotState, unchanged}
 use Rattle.trdp_engine.specs.Calls.{called}
@@ -50,7 +50,7 @@ prepend-prepend xs ys run = ap (λ (records : List Content). let r : Run = recor
 -- an admitted event that a slot doesn't see does nothing in its own model
 pub view_is_plain : (setup : ConfigModel) (s n : ℕ) (slot : SlotState) (g : Globals) (event : EventModel) → refused_as n g event ≡ None → plain_effect setup s slot g event ≡ record { slot = slot_after setup s slot g event; records = records_after setup s slot g event }
 view_is_plain setup s n slot g (MomentIs t) admitted =
-    let seen : (nat_le g.now t && nat_le t LAST) ≡ true = grind (arith, nat_tests) in
+    let seen : (nat_le g.now t && nat_le t last_moment) ≡ true = grind (arith, nat_tests) in
     rw seen refl
 view_is_plain setup s n slot g (TopologyIs topo) admitted = refl
 view_is_plain setup s n slot g (RoleIs group leader) admitted =

@@ -1,6 +1,6 @@
 -- A slot run by itself, and what a slot sees of a node's events.
 use Rattle.std.specs.Prelude.{◌≡◌, ℕ, List, [], ◌∷◌, ◌++◌, Option, Some, None, Bool, true, not, ◌==◌, ◌&&◌, nat_le, nat_lt, if◌then◌else◌, Result, Ok, Err}
-use Rattle.trdp_base.specs.declared.moment.TheConstants.{LAST}
+use Rattle.trdp_base.specs.Moments.{last_moment}
 use Rattle.trdp_filter.specs.declared.globals.Globals.{Globals}
 use Rattle.trdp_filter.specs.Globals.{with_role}
 use Rattle.trdp_engine.specs.declared.fault.NodeFault.{NodeFault}
@@ -15,7 +15,7 @@ use Rattle.trdp_engine.specs.Moments.{moved_to}
 
 -- the fault of an event in a node of so many slots, but for want of memory; an event without one is admitted
 abbrev pub refused_as : ℕ → Globals → EventModel → Option NodeFault
-refused_as slots g (MomentIs t) = if nat_lt t g.now then Some Past else if nat_lt LAST t then Some TooLate else None
+refused_as slots g (MomentIs t) = if nat_lt t g.now then Some Past else if nat_lt last_moment t then Some TooLate else None
 refused_as slots g (TopologyIs topo) = None
 refused_as slots g (RoleIs group leader) = if group == 0 then Some NoGroup else None
 refused_as slots g (DatagramIs protocol src dst bytes) = None
@@ -38,7 +38,7 @@ globals_after g (CallIs slot call) = g
 
 -- an event that slot s sees: each admitted moment, topology counts, each admitted role, the datagrams that concern it, and its own calls
 abbrev pub is_in_view : ℕ → SlotState → Globals → EventModel → Bool
-is_in_view s slot g (MomentIs t) = nat_le g.now t && nat_le t LAST
+is_in_view s slot g (MomentIs t) = nat_le g.now t && nat_le t last_moment
 is_in_view s slot g (TopologyIs topo) = true
 is_in_view s slot g (RoleIs group leader) = not (group == 0)
 is_in_view s slot g (DatagramIs protocol src dst bytes) = concerns g (telegram_of protocol src dst bytes) slot

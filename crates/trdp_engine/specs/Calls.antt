@@ -1,7 +1,7 @@
 -- What a call does to the slot that makes it.
 use Rattle.std.specs.Prelude.{ℕ, List, [], ◌∷◌, length, Option, Some, None, Bool, not, slice_index, ◌==◌, ◌||◌, nat_lt, nat_le, if◌then◌else◌}
 use Rattle.trdp_filter.specs.declared.globals.Globals.{Globals}
-use Rattle.trdp_pd.specs.declared.publication.Publication.{Publication}
+use Rattle.trdp_pd.specs.declared.terms.PublisherTerms.{PublisherTerms}
 use Rattle.trdp_pd.specs.declared.terms.SubscriptionTerms.{SubscriptionTerms}
 use Rattle.trdp_pd.specs.declared.any_object.AnyObject.{AnyObject}
 use Rattle.trdp_pd.specs.declared.any_object.AnyObject.TheVariants.{Publisher, Subscription, Requester}
@@ -50,9 +50,9 @@ dataset_refusal setup dataset later =
     if nat_lt 1432 (zero_size_of setup dataset) then Some TooLong else later
 
 -- first refusal of a publishing: the cycle, the dataset, the quota, the handles
-abbrev pub publish_refusal : ConfigModel → SlotState → Publication → Option Refusal
-publish_refusal setup slot publication =
-    if not (is_span publication.cycle) then Some Cycle else dataset_refusal setup publication.dataset (opening_refusal slot 0)
+abbrev pub publish_refusal : ConfigModel → SlotState → PublisherTerms → Option Refusal
+publish_refusal setup slot terms =
+    if not (is_span terms.cycle) then Some Cycle else dataset_refusal setup terms.dataset (opening_refusal slot 0)
 
 -- first refusal of a subscription: the supervision time, the source range, the dataset, the quota, the handles
 abbrev pub subscribe_refusal : ConfigModel → SlotState → SubscriptionTerms → Option Refusal
@@ -69,7 +69,7 @@ value_refusal setup dataset bytes =
 
 -- why an object takes no such value: it is no publisher, or the value's own refusal
 abbrev pub object_refusal : ConfigModel → List ℕ → AnyObject → Option Refusal
-object_refusal setup bytes (Publisher p) = value_refusal setup p.publication.dataset bytes
+object_refusal setup bytes (Publisher p) = value_refusal setup p.terms.dataset bytes
 object_refusal setup bytes (Subscription s) = Some WrongKind
 object_refusal setup bytes (Requester r) = Some WrongKind
 
@@ -120,8 +120,8 @@ pulled_unless None slot handle = record {
 
 -- effect of a call on the slot that makes it
 abbrev pub called : ConfigModel → SlotState → Globals → CallModel → Outcome
-called setup slot g (PublishCall publication) =
-    opened_unless (publish_refusal setup slot publication) slot (Publisher (published publication g.now))
+called setup slot g (PublishCall terms) =
+    opened_unless (publish_refusal setup slot terms) slot (Publisher (published terms g.now))
 called setup slot g (PutCall handle bytes) = put_unless (put_refusal setup bytes (entry_of handle slot.objects)) slot handle bytes
 called setup slot g (UnpublishCall handle) = closed_unless (close_refusal 0 (entry_of handle slot.objects)) slot handle
 called setup slot g (SubscribeCall terms) =
@@ -129,6 +129,6 @@ called setup slot g (SubscribeCall terms) =
     (Subscription (subscribed terms (zero_size_of setup terms.dataset) g.now))
 called setup slot g (GetCall handle) = answered slot (get_answer (entry_of handle slot.objects))
 called setup slot g (UnsubscribeCall handle) = closed_unless (close_refusal 1 (entry_of handle slot.objects)) slot handle
-called setup slot g (OpenPullCall enquiry) = opened_unless (opening_refusal slot 2) slot (Requester (opened enquiry))
+called setup slot g (OpenPullCall terms) = opened_unless (opening_refusal slot 2) slot (Requester (opened terms))
 called setup slot g (PullCall handle) = pulled_unless (pull_refusal g (entry_of handle slot.objects)) slot handle
 called setup slot g (ClosePullCall handle) = closed_unless (close_refusal 2 (entry_of handle slot.objects)) slot handle

@@ -33,7 +33,7 @@ counts_of (PdIs src dst telegram) = telegram.head.topo
 
 -- the dataset of an object's value; a requester has none, and any bytes fit it
 abbrev pub dataset_of : AnyObject → ℕ
-dataset_of (Publisher p) = p.publication.dataset
+dataset_of (Publisher p) = p.terms.dataset
 dataset_of (Subscription s) = s.terms.dataset
 dataset_of (Requester r) = 0
 

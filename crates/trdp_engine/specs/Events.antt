@@ -2,9 +2,9 @@
 use Rattle.std.specs.Prelude.{ℕ, List, Bool}
 use Rattle.trdp_base.specs.declared.place.Place.{Place}
 use Rattle.trdp_base.specs.declared.topo.Topo.{Topo}
-use Rattle.trdp_pd.specs.declared.publication.Publication.{Publication}
+use Rattle.trdp_pd.specs.declared.terms.PublisherTerms.{PublisherTerms}
 use Rattle.trdp_pd.specs.declared.terms.SubscriptionTerms.{SubscriptionTerms}
-use Rattle.trdp_pd.specs.declared.requester.Enquiry.{Enquiry}
+use Rattle.trdp_pd.specs.declared.terms.RequesterTerms.{RequesterTerms}
 use Rattle.trdp_engine.specs.declared.record.Protocol.{Protocol}
 use Rattle.trdp_engine.specs.declared.event.Call.{Call as AnyCall}
 use Rattle.trdp_engine.specs.declared.event.Call.TheVariants.{Publish, Put, Unpublish, Subscribe, Get, Unsubscribe, OpenPull, Pull, ClosePull}
@@ -13,13 +13,13 @@ use Rattle.trdp_engine.specs.declared.event.Event.TheVariants.{Moment, Topology,
 
 -- a call of the application in a slot
 pub data CallModel : Type 0 where
-  PublishCall : (publication : Publication) → CallModel
+  PublishCall : (terms : PublisherTerms) → CallModel
   PutCall : (handle : ℕ) (bytes : List ℕ) → CallModel
   UnpublishCall : (handle : ℕ) → CallModel
   SubscribeCall : (terms : SubscriptionTerms) → CallModel
   GetCall : (handle : ℕ) → CallModel
   UnsubscribeCall : (handle : ℕ) → CallModel
-  OpenPullCall : (enquiry : Enquiry) → CallModel
+  OpenPullCall : (terms : RequesterTerms) → CallModel
   PullCall : (handle : ℕ) → CallModel
   ClosePullCall : (handle : ℕ) → CallModel
 
@@ -33,13 +33,13 @@ pub data EventModel : Type 0 where
 
 -- a call, apart from where its bytes lie
 abbrev pub call_model : AnyCall → CallModel
-call_model (Publish publication) = PublishCall publication
+call_model (Publish terms) = PublishCall terms
 call_model (Put handle bytes) = PutCall handle bytes.now
 call_model (Unpublish handle) = UnpublishCall handle
 call_model (Subscribe terms) = SubscribeCall terms
 call_model (Get handle) = GetCall handle
 call_model (Unsubscribe handle) = UnsubscribeCall handle
-call_model (OpenPull enquiry) = OpenPullCall enquiry
+call_model (OpenPull terms) = OpenPullCall terms
 call_model (Pull handle) = PullCall handle
 call_model (ClosePull handle) = ClosePullCall handle
 

@@ -38,7 +38,7 @@ in_order (entry ∷ entries) = inserted entry (in_order entries)
 
 -- a publisher's data goes to its destination with its value
 abbrev pub sends_data : AnyObject → PdHead → List Content
-sends_data (Publisher p) head = Sends Pd p.publication.to (pd_bytes head (unwrap_or p.value [])) ∷ []
+sends_data (Publisher p) head = Sends Pd p.terms.to (pd_bytes head (unwrap_or p.value [])) ∷ []
 sends_data (Subscription s) head = []
 sends_data (Requester r) head = []
 

@@ -20,7 +20,7 @@ use Rattle.trdp_engine.specs.Records.{Content, Sends}
 abbrev pub object_pull_refusal : Globals → AnyObject → Option Refusal
 object_pull_refusal g (Publisher p) = Some WrongKind
 object_pull_refusal g (Subscription s) = Some WrongKind
-object_pull_refusal g (Requester r) = if topo_valid r.enquiry.topo g.topo then None else Some State
+object_pull_refusal g (Requester r) = if topo_valid r.terms.topo g.topo then None else Some State
 
 -- first refusal of a pull by the object of a handle
 abbrev pub pull_refusal : Globals → Option Entry → Option Refusal
@@ -37,7 +37,7 @@ after_pull (Requester r) = Requester (pulling r).object
 abbrev pub pull_request : AnyObject → List Content
 pull_request (Publisher p) = []
 pull_request (Subscription s) = []
-pull_request (Requester r) = Sends Pd r.enquiry.to (pd_bytes (pulling r).head []) ∷ []
+pull_request (Requester r) = Sends Pd r.terms.to (pd_bytes (pulling r).head []) ∷ []
 
 -- the pull request that the object of a handle sends
 abbrev pub pull_request_of : Option Entry → List Content

@@ -26,7 +26,7 @@ marshal_refusal (Some OutOfMemory) = None
 
 -- why an item is no value of an object: it is no publisher, its dataset is 0, or the item has no bytes there
 abbrev pub item_refusal_of : ConfigModel → ItemModel → AnyObject → Option Refusal
-item_refusal_of setup item (Publisher p) = marshal_refusal (encode_fault setup.registry p.publication.dataset item)
+item_refusal_of setup item (Publisher p) = marshal_refusal (encode_fault setup.registry p.terms.dataset item)
 item_refusal_of setup item (Subscription s) = Some WrongKind
 item_refusal_of setup item (Requester r) = Some WrongKind
 
@@ -37,7 +37,7 @@ item_refusal setup item (Some entry) = item_refusal_of setup item entry.object
 
 -- the bytes of an item as a value of an object
 abbrev pub bytes_for : ConfigModel → ItemModel → AnyObject → List ℕ
-bytes_for setup item (Publisher p) = unwrap_or (spelling setup.registry p.publication.dataset item) []
+bytes_for setup item (Publisher p) = unwrap_or (spelling setup.registry p.terms.dataset item) []
 bytes_for setup item (Subscription s) = []
 bytes_for setup item (Requester r) = []
 

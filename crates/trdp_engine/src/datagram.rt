@@ -2,7 +2,7 @@
 
 ghost use Rattle.std.specs.Prelude.{◌≡◌, ℕ, ◌+◌, ◌*◌, ◌≤◌, ◌++◌, ◌∷◌, length, [], vec_capacity, map, filter};
 ghost use Rattle.std.specs.List.{flat_map};
-ghost use Rattle.trdp_base.specs.declared.moment.TheConstants.{LAST};
+ghost use Rattle.trdp_base.specs.Moments.{last_moment};
 ghost use Rattle.trdp_head.specs.declared.pd.TheConstants.{PD_TELEGRAM_MAX};
 ghost use Rattle.trdp_filter.specs.Telegrams.{telegram_model, IsWithinLimit};
 ghost use Rattle.trdp_engine.specs.Records.{labelled};
@@ -12,7 +12,6 @@ use crate::object::Entry;
 use crate::outbox::Outbox;
 use crate::pull::{answer_place, push_answer};
 use crate::record::Indication;
-use trdp_base::LAST;
 use trdp_dataset::NodeConfig;
 use trdp_filter::{Globals, Telegram, topo_valid};
 use trdp_head::PD_TELEGRAM_MAX;
@@ -51,7 +50,7 @@ fn take(
     s: u16,
     out: &mut Outbox,
 )
-    requires now { g.now.now ≤ LAST }
+    requires now { g.now.now ≤ last_moment }
     requires limit { IsWithinLimit (telegram_model telegram.now) }
     requires rows { length (filter (is_for_entry (telegram_model telegram.now) g.now) (entry.old ∷ [])) ≤ out.old.row_room }
     requires bytes { PD_TELEGRAM_MAX * length (filter (is_for_entry (telegram_model telegram.now) g.now) (entry.old ∷ [])) ≤ out.old.byte_room }
@@ -83,7 +82,7 @@ pub fn take_all(
     s: u16,
     out: &mut Outbox,
 )
-    requires now { g.now.now ≤ LAST }
+    requires now { g.now.now ≤ last_moment }
     requires limit { IsWithinLimit (telegram_model telegram.now) }
     requires rows { length (filter (is_for_entry (telegram_model telegram.now) g.now) objects.old.items) ≤ out.old.row_room }
     requires bytes { PD_TELEGRAM_MAX * length (filter (is_for_entry (telegram_model telegram.now) g.now) objects.old.items) ≤ out.old.byte_room }

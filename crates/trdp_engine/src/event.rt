@@ -2,13 +2,13 @@
 
 use crate::record::Protocol;
 use trdp_base::{Place, Topo};
-use trdp_pd::{Enquiry, Publication, SubscriptionTerms};
+use trdp_pd::{RequesterTerms, PublisherTerms, SubscriptionTerms};
 
 /// A call of the application in a slot.
 #[derive(Clone, Copy, Debug)]
 pub enum Call<'a> {
     /// Makes a publisher, and answers its handle.
-    Publish(Publication),
+    Publish(PublisherTerms),
     /// Gives the publisher of that handle a new value.
     Put { handle: u32, bytes: &'a [u8] },
     /// Ends the publisher of that handle.
@@ -20,7 +20,7 @@ pub enum Call<'a> {
     /// Ends the subscription of that handle.
     Unsubscribe { handle: u32 },
     /// Makes a requester, and answers its handle. Refused: Quota, Exhausted.
-    OpenPull(Enquiry),
+    OpenPull(RequesterTerms),
     /// Lets the requester of that handle send one pull request, after the answer. Refused: NoHandle, WrongKind, and State
     /// where its topology counts don't match the node's.
     Pull { handle: u32 },

@@ -2,7 +2,7 @@
 
 ghost use Rattle.std.specs.Prelude.{◌≡◌, ℕ, ◌+◌, ◌*◌, ◌<◌, ◌≤◌, ◌++◌, length, Option, IfSome, true, slice_get, slice_set, vec_capacity, map, filter};
 ghost use Rattle.std.specs.List.{flat_map};
-ghost use Rattle.trdp_base.specs.declared.moment.TheConstants.{LAST};
+ghost use Rattle.trdp_base.specs.Moments.{last_moment};
 ghost use Rattle.trdp_head.specs.declared.pd.TheConstants.{PD_TELEGRAM_MAX};
 ghost use Rattle.trdp_engine.specs.Handles.{IsRising};
 ghost use Rattle.trdp_pd.specs.Objects.{due_of};
@@ -13,7 +13,6 @@ ghost use Rattle.trdp_engine.specs.Firing.{due_time, sooner, IsFirst};
 use crate::object::Entry;
 use crate::outbox::Outbox;
 use crate::record::Indication;
-use trdp_base::LAST;
 use trdp_filter::Globals;
 use trdp_head::PD_TELEGRAM_MAX;
 use trdp_pd::{AnyObject, Fired, Object};
@@ -65,7 +64,7 @@ fn first_due(objects: &[Entry], t: u64) -> Option<usize>
 /// Fires one object that is due.
 fn fire(entry: &mut Entry, g: &Globals, s: u16, out: &mut Outbox)
     requires due { is_due g.now.now entry.old ≡ true }
-    requires now { g.now.now ≤ LAST }
+    requires now { g.now.now ≤ last_moment }
     requires row { 0 < out.old.row_room }
     requires bytes { PD_TELEGRAM_MAX ≤ out.old.byte_room }
     ensures entry { entry.new ≡ entry_after_moment g.entry.now entry.old }
@@ -95,7 +94,7 @@ fn fire(entry: &mut Entry, g: &Globals, s: u16, out: &mut Outbox)
 fn fire_at(objects: &mut Vec<Entry>, at: usize, g: &Globals, s: u16, out: &mut Outbox)
     requires within { at < length objects.old.items }
     requires due { IfSome (slice_get objects.old.items at) (λ entry. is_due g.now.now entry ≡ true) }
-    requires now { g.now.now ≤ LAST }
+    requires now { g.now.now ≤ last_moment }
     requires row { 0 < out.old.row_room }
     requires bytes { PD_TELEGRAM_MAX ≤ out.old.byte_room }
     ensures items { IfSome (slice_get objects.old.items at) (λ entry. objects.new.items ≡ slice_set objects.old.items at (entry_after_moment g.entry.now entry)) }
@@ -111,7 +110,7 @@ fn fire_at(objects: &mut Vec<Entry>, at: usize, g: &Globals, s: u16, out: &mut O
 /// Fires the objects that are due, once each, in the order of their due moments and handles.
 pub fn fire_all(objects: &mut Vec<Entry>, g: &Globals, s: u16, out: &mut Outbox)
     requires rising { IsRising objects.old.items }
-    requires now { g.now.now ≤ LAST }
+    requires now { g.now.now ≤ last_moment }
     requires rows { length (filter (is_due g.now.now) objects.old.items) ≤ out.old.row_room }
     requires bytes { PD_TELEGRAM_MAX * length (filter (is_due g.now.now) objects.old.items) ≤ out.old.byte_room }
     ensures items { objects.new.items ≡ map (entry_after_moment g.entry.now) objects.old.items }

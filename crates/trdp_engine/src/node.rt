@@ -1,7 +1,7 @@
 //! The node: one event after another.
 
 ghost use Rattle.std.specs.Prelude.{nat_le, if◌then◌else◌, None, ◌≡◌, ◌≢◌, ℕ, ◌<◌, ◌≤◌, ◌++◌, ◌∷◌, [], length, OnOk, OnErr, IfOk, IfErr, Err, Some, true, false, slice_get, map, filter, take, replicate};
-ghost use Rattle.trdp_base.specs.declared.moment.TheConstants.{LAST};
+ghost use Rattle.trdp_base.specs.Moments.{last_moment};
 ghost use Rattle.trdp_engine.specs.Records.{Answers, RecordModel, labelled};
 ghost use Rattle.trdp_engine.specs.Events.{MomentIs, TopologyIs, RoleIs, DatagramIs, CallIs, call_model, event_model};
 ghost use Rattle.trdp_engine.specs.Slots.{SlotState};
@@ -23,7 +23,7 @@ use crate::slot::Slot;
 use std::alloc::{AllocError, Global};
 use std::marker::Model;
 use std::slice;
-use trdp_base::{LAST, Place, Quotas, Topo};
+use trdp_base::{MOMENT_MAX, Place, Quotas, Topo};
 use trdp_dataset::NodeConfig;
 use trdp_filter::{Globals, Groups, Telegram};
 use trdp_head::{PD_TELEGRAM_MAX, read_pd};
@@ -41,7 +41,7 @@ pub struct Node {
 
 impl Model for Node {
     ghost use Rattle.std.specs.Prelude.{◌≤◌, ◌∷◌, []};
-    ghost use Rattle.trdp_base.specs.declared.moment.TheConstants.{LAST};
+    ghost use Rattle.trdp_base.specs.Moments.{last_moment};
     ghost use Rattle.trdp_dataset.specs.Registries.{IsRegistry};
     ghost use Rattle.trdp_engine.specs.NodeStates.{NodeState};
     ghost use Rattle.trdp_engine.specs.Fitting.{AllFit};
@@ -50,7 +50,7 @@ impl Model for Node {
 
     ghost view = { λ n. record { setup = n.config; globals = n.globals; slots = n.slot ∷ [] } };
 
-    ghost invariant = { λ n. (n.globals.now ≤ LAST) × IsRegistry n.config.registry × AllFit n.config n.slot.objects };
+    ghost invariant = { λ n. (n.globals.now ≤ last_moment) × IsRegistry n.config.registry × AllFit n.config n.slot.objects };
 }
 
 impl Node {
@@ -104,7 +104,7 @@ impl Node {
         if t < self.globals.now {
             return Err(NodeFault::Past);
         }
-        if t > LAST {
+        if t > MOMENT_MAX {
             return Err(NodeFault::TooLate);
         }
         let due = self.slot.due(t);
@@ -324,7 +324,7 @@ fn hear(
     g: &Globals,
     out: &mut Outbox,
 ) -> Result<(), AllocError>
-    requires { g.now.now ≤ LAST }
+    requires { g.now.now ≤ last_moment }
     ensures slot { OnOk result (slot.new ≡ (received_if setup.now slot.old g.entry.now (telegram_of protocol src dst bytes.now)).slot) }
     ensures records { OnOk result (out.new.records ≡ out.old.records ++ labelled 0 (received_if setup.now slot.old g.entry.now (telegram_of protocol src dst bytes.now)).records) }
     ensures kept { OnErr result (slot.new ≡ slot.old) }

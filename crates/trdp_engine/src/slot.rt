@@ -1,7 +1,7 @@
 //! The objects of one application, under handles of its own.
 
 ghost use Rattle.std.specs.Prelude.{true, ◌≡◌, ℕ, ◌+◌, ◌*◌, ◌<◌, ◌≤◌, ◌++◌, ◌∷◌, length, [], Option, OnOk, OnErr, IfOk, IfErr, is_some, if◌then◌else◌, None, Some, slice_index, filter, vec_len, vec_capacity};
-ghost use Rattle.trdp_base.specs.declared.moment.TheConstants.{LAST};
+ghost use Rattle.trdp_base.specs.Moments.{last_moment};
 ghost use Rattle.trdp_head.specs.declared.pd.TheConstants.{PD_TELEGRAM_MAX};
 ghost use Rattle.trdp_filter.specs.Telegrams.{telegram_model, IsWithinLimit};
 ghost use Rattle.trdp_pd.specs.Peeks.{peek_model};
@@ -36,13 +36,13 @@ use crate::shown::{ValueFault, item_of};
 use crate::value::{SpellFault, spell};
 use std::alloc::{AllocError, Global};
 use std::marker::Model;
-use trdp_base::{LAST, Quotas};
+use trdp_base::Quotas;
 use trdp_dataset::NodeConfig;
 use trdp_filter::{Globals, Telegram};
 use trdp_head::{PD_PAYLOAD_MAX, PD_TELEGRAM_MAX};
 use trdp_marshal::Item;
 use trdp_pd::{
-    AnyObject, Enquiry, Peek, Publication, Publisher, Requester, Subscription, SubscriptionTerms,
+    AnyObject, RequesterTerms, Peek, PublisherTerms, Publisher, Requester, Subscription, SubscriptionTerms,
 };
 
 /// The shortest cycle or supervision time but 0, in microseconds (profile).
@@ -122,14 +122,14 @@ impl Slot {
         handle
     }
 
-    /// Why the slot refuses the publication.
-    fn publish_refusal(&self, setup: &NodeConfig, publication: &Publication) -> Option<Refusal>
-        ensures { result ≡ publish_refusal setup.now self.now publication.now }
+    /// Why the slot refuses the terms.
+    fn publish_refusal(&self, setup: &NodeConfig, terms: &PublisherTerms) -> Option<Refusal>
+        ensures { result ≡ publish_refusal setup.now self.now terms.now }
     {
-        if !is_span(publication.cycle) {
+        if !is_span(terms.cycle) {
             return Some(Refusal::Cycle);
         }
-        match value_size(setup, publication.dataset) {
+        match value_size(setup, terms.dataset) {
             Err(refusal) => Some(refusal),
             Ok(_) => self.opening_refusal(PUBLISHERS),
         }
@@ -167,17 +167,17 @@ impl Slot {
         &mut self,
         alloc: Global,
         setup: &NodeConfig,
-        publication: &Publication,
+        terms: &PublisherTerms,
         g: &Globals,
     ) -> Result<Reply, AllocError>
-        requires { g.now.now ≤ LAST }
-        ensures outcome { IfOk result (λ reply. called setup.now self.old g.entry.now (PublishCall publication.now) ≡ answered self.new (reply_model reply)) }
+        requires { g.now.now ≤ last_moment }
+        ensures outcome { IfOk result (λ reply. called setup.now self.old g.entry.now (PublishCall terms.now) ≡ answered self.new (reply_model reply)) }
         ensures kept { OnErr result (self.new ≡ self.old) }
     {
-        if let Some(refusal) = self.publish_refusal(setup, publication) {
+        if let Some(refusal) = self.publish_refusal(setup, terms) {
             return Ok(Reply::Refused(refusal));
         }
-        let publisher = Publisher::new(alloc, publication, g.now)?;
+        let publisher = Publisher::new(alloc, terms, g.now)?;
         Ok(Reply::Handle(self.add(AnyObject::Publisher(publisher))))
     }
 
@@ -189,7 +189,7 @@ impl Slot {
         terms: &SubscriptionTerms,
         g: &Globals,
     ) -> Result<Reply, AllocError>
-        requires { g.now.now ≤ LAST }
+        requires { g.now.now ≤ last_moment }
         ensures outcome { IfOk result (λ reply. called setup.now self.old g.entry.now (SubscribeCall terms.now) ≡ answered self.new (reply_model reply)) }
         ensures kept { OnErr result (self.new ≡ self.old) }
     {
@@ -203,12 +203,12 @@ impl Slot {
     }
 
     /// Makes a requester. It needs no memory.
-    fn open_pull(&mut self, enquiry: &Enquiry) -> Reply
-        ensures { opened_unless (opening_refusal self.old 2) self.old (AnyObject.Requester (opened enquiry.now)) ≡ answered self.new (reply_model result) }
+    fn open_pull(&mut self, terms: &RequesterTerms) -> Reply
+        ensures { opened_unless (opening_refusal self.old 2) self.old (AnyObject.Requester (opened terms.now)) ≡ answered self.new (reply_model result) }
     {
         match self.opening_refusal(REQUESTERS) {
             Some(refusal) => Reply::Refused(refusal),
-            None => Reply::Handle(self.add(AnyObject::Requester(Requester::new(enquiry)))),
+            None => Reply::Handle(self.add(AnyObject::Requester(Requester::new(terms)))),
         }
     }
 
@@ -362,7 +362,7 @@ impl Slot {
         s: u16,
         out: &mut Outbox,
     ) -> Result<(), AllocError>
-        requires now { g.now.now ≤ LAST }
+        requires now { g.now.now ≤ last_moment }
         ensures slot { OnOk result (self.new ≡ (called setup.now self.old g.entry.now (call_model call.now)).slot) }
         ensures records { OnOk result (out.new.records ≡ out.old.records ++ labelled s (called setup.now self.old g.entry.now (call_model call.now)).records) }
         ensures kept { OnErr result (self.new ≡ self.old) }
@@ -371,12 +371,12 @@ impl Slot {
         // A pull has two records, and the longest value is longer than a pull request.
         out.reserve(2, PD_PAYLOAD_MAX)?;
         let reply = match *call {
-            Call::Publish(publication) => self.publish(alloc, setup, &publication, g)?,
+            Call::Publish(terms) => self.publish(alloc, setup, &terms, g)?,
             Call::Subscribe(terms) => self.subscribe(alloc, setup, &terms, g)?,
             Call::Put { handle, bytes } => self.put(setup, handle, bytes),
             Call::Unpublish { handle } => self.close(PUBLISHERS, handle),
             Call::Unsubscribe { handle } => self.close(SUBSCRIPTIONS, handle),
-            Call::OpenPull(enquiry) => self.open_pull(&enquiry),
+            Call::OpenPull(terms) => self.open_pull(&terms),
             Call::ClosePull { handle } => self.close(REQUESTERS, handle),
             Call::Get { handle } => {
                 self.get(handle, s, out);
@@ -401,7 +401,7 @@ impl Slot {
 
     /// Fires each object that is due, once, in order.
     pub fn move_to(&mut self, g: &Globals, s: u16, out: &mut Outbox)
-        requires now { g.now.now ≤ LAST }
+        requires now { g.now.now ≤ last_moment }
         requires rows { length (filter (is_due g.now.now) self.old.objects) ≤ out.old.row_room }
         requires bytes { PD_TELEGRAM_MAX * length (filter (is_due g.now.now) self.old.objects) ≤ out.old.byte_room }
         ensures slot { self.new ≡ (moved_to self.old g.entry.now).slot }
@@ -428,7 +428,7 @@ impl Slot {
         s: u16,
         out: &mut Outbox,
     ) -> Result<(), AllocError>
-        requires now { g.now.now ≤ LAST }
+        requires now { g.now.now ≤ last_moment }
         requires limit { IsWithinLimit (telegram_model telegram.now) }
         ensures slot { OnOk result (self.new ≡ (received_if setup.now self.old g.entry.now (Some (telegram_model telegram.now))).slot) }
         ensures records { OnOk result (out.new.records ≡ out.old.records ++ labelled s (received_if setup.now self.old g.entry.now (Some (telegram_model telegram.now))).records) }

@@ -15,7 +15,7 @@ use trdp_base::{Ip, Place, Topo};
 use trdp_dataset::NodeConfig;
 use trdp_filter::PdFilter;
 use trdp_head::{PdHead, PdKind, read_pd, write_pd};
-use trdp_pd::{Behaviour, Publication, SubscriptionTerms, ValueState};
+use trdp_pd::{Behaviour, PublisherTerms, SubscriptionTerms, ValueState};
 
 /// The node's own place for process data.
 const HERE: Place = Place {
@@ -168,9 +168,9 @@ fn head(kind: PdKind, counter: u32, etb: u32) -> PdHead {
     }
 }
 
-/// A publication of comId 100 to X.
-fn publication(dataset: u32, cycle: u32) -> Publication {
-    Publication {
+/// A terms of comId 100 to X.
+fn terms(dataset: u32, cycle: u32) -> PublisherTerms {
+    PublisherTerms {
         com_id: 100,
         dataset,
         cycle,
@@ -181,7 +181,7 @@ fn publication(dataset: u32, cycle: u32) -> Publication {
 }
 
 fn publish<'a>(dataset: u32, cycle: u32) -> Call<'a> {
-    Call::Publish(publication(dataset, cycle))
+    Call::Publish(terms(dataset, cycle))
 }
 
 /// The terms of a subscription of comId 100, from any source.

@@ -6,7 +6,7 @@ use Rattle.trdp_base.specs.declared.place.Place.{Place}
 use Rattle.trdp_head.specs.PdTelegrams.{PdTelegram}
 use Rattle.trdp_filter.specs.declared.globals.Globals.{Globals}
 use Rattle.trdp_filter.specs.Telegrams.{TelegramModel, PdIs}
-use Rattle.trdp_pd.specs.declared.publication.Publication.{Publication}
+use Rattle.trdp_pd.specs.declared.terms.PublisherTerms.{PublisherTerms}
 use Rattle.trdp_pd.specs.declared.any_object.AnyObject.{AnyObject}
 use Rattle.trdp_pd.specs.declared.any_object.AnyObject.TheVariants.{Publisher, Subscription, Requester}
 use Rattle.trdp_pd.specs.Due.{is_due_by}
@@ -14,15 +14,15 @@ use Rattle.trdp_pd.specs.Publishers.{published, publisher_due}
 use Rattle.trdp_pd.specs.Subscriptions.{SubscriptionState, deadline_from, is_accepted, subscription_taking}
 use Rattle.trdp_pd.specs.Objects.{kind_of, due_of, after_taking, after_firing}
 use Rattle.trdp_pd.specs.PublisherLaws.{nat_le-past}
-use Rattle.trdp_pd.proofs.Sending.{publication-taking, due-taking as publisher_due-taking}
+use Rattle.trdp_pd.proofs.Sending.{terms-taking, due-taking as publisher_due-taking}
 
 -- a new publisher isn't due by now
-pub published-later : (publication : Publication) (now : ℕ) → is_due_by now (publisher_due (published publication now)) ≡ false
-published-later publication now = either publication now (publication.cycle == 0) refl
+pub published-later : (terms : PublisherTerms) (now : ℕ) → is_due_by now (publisher_due (published terms now)) ≡ false
+published-later terms now = either terms now (terms.cycle == 0) refl
   where
-    either : (publication : Publication) (now : ℕ) (b : Bool) → (publication.cycle == 0) ≡ b → is_due_by now (publisher_due (published publication now)) ≡ false
-    either publication now true is = rw is refl
-    either publication now false is = rw is (nat_le-past (now + publication.cycle) now (grind (arith, nat_tests)))
+    either : (terms : PublisherTerms) (now : ℕ) (b : Bool) → (terms.cycle == 0) ≡ b → is_due_by now (publisher_due (published terms now)) ≡ false
+    either terms now true is = rw is refl
+    either terms now false is = rw is (nat_le-past (now + terms.cycle) now (grind (arith, nat_tests)))
 
 -- a supervision time that begins now ends later
 pub deadline_from-later : (supervision now : ℕ) → is_due_by now (deadline_from supervision now) ≡ false
@@ -44,7 +44,7 @@ subscription_due-taking s (PdIs src dst telegram) g fits not = either s src dst 
 -- a telegram makes no object due
 pub due-taking : (object : AnyObject) (telegram : TelegramModel) (g : Globals) (fits : Bool) → is_due_by g.now (due_of object) ≡ false → is_due_by g.now (due_of (after_taking object telegram g fits)) ≡ false
 due-taking (Publisher p) telegram g fits not =
-    rw (publication-taking p telegram g fits, publisher_due-taking p telegram g fits) not
+    rw (terms-taking p telegram g fits, publisher_due-taking p telegram g fits) not
 due-taking (Subscription s) telegram g fits not = subscription_due-taking s telegram g fits not
 due-taking (Requester r) telegram g fits not = not
 

@@ -21,10 +21,10 @@ value-firing p g = either p g (may_send p g) refl
     either p g false is = rw is refl
 
 -- what a publisher sends has its comId, and is sent for a value that it has
-pub sent-com_id : (p : PublisherState) (g : Globals) (head : PdHead) → (publisher_firing p g).fired ≡ Data head → head.com_id ≡ p.publication.com_id
+pub sent-com_id : (p : PublisherState) (g : Globals) (head : PdHead) → (publisher_firing p g).fired ≡ Data head → head.com_id ≡ p.terms.com_id
 sent-com_id p g head is = either p g head (may_send p g) refl is
   where
-    either : (p : PublisherState) (g : Globals) (head : PdHead) (b : Bool) → may_send p g ≡ b → (publisher_firing p g).fired ≡ Data head → head.com_id ≡ p.publication.com_id
+    either : (p : PublisherState) (g : Globals) (head : PdHead) (b : Bool) → may_send p g ≡ b → (publisher_firing p g).fired ≡ Data head → head.com_id ≡ p.terms.com_id
     either p g head true may is = let h = rw may at is in cc
     either p g head false may is = let h = rw may at is in absurd (cc)
 
@@ -37,7 +37,7 @@ sent-may_send p g head is = either p g head (may_send p g) refl is
 
 -- leave to send needs a value
 is_some-may_send : (p : PublisherState) (g : Globals) → may_send p g ≡ true → IsSome p.value
-is_some-may_send p g may = either p.value (p.publication.group == 0 || leads g.led p.publication.group) (topo_valid p.publication.topo g.topo) may
+is_some-may_send p g may = either p.value (p.terms.group == 0 || leads g.led p.terms.group) (topo_valid p.terms.topo g.topo) may
   where
     either : (value : Option (List ℕ)) (group topo : Bool) → (is_some value && group && topo) ≡ true → IsSome value
     either (Some bytes) group topo may = refl
@@ -47,10 +47,10 @@ pub sent-value : (p : PublisherState) (g : Globals) (head : PdHead) → (publish
 sent-value p g head is = is_some-may_send p g (sent-may_send p g head is)
 
 -- a pull request leaves what is sent, the value and the due moment
-pub publication-taking : (p : PublisherState) (telegram : TelegramModel) (g : Globals) (fits : Bool) → (publisher_taking p telegram g fits).object.publication ≡ p.publication
-publication-taking p (PdIs src dst telegram) g fits = either p src dst telegram g fits (is_answered p telegram.head g) refl
+pub terms-taking : (p : PublisherState) (telegram : TelegramModel) (g : Globals) (fits : Bool) → (publisher_taking p telegram g fits).object.terms ≡ p.terms
+terms-taking p (PdIs src dst telegram) g fits = either p src dst telegram g fits (is_answered p telegram.head g) refl
   where
-    either : (p : PublisherState) (src dst : Place) (telegram : PdTelegram) (g : Globals) (fits : Bool) (b : Bool) → is_answered p telegram.head g ≡ b → (publisher_taking p (PdIs src dst telegram) g fits).object.publication ≡ p.publication
+    either : (p : PublisherState) (src dst : Place) (telegram : PdTelegram) (g : Globals) (fits : Bool) (b : Bool) → is_answered p telegram.head g ≡ b → (publisher_taking p (PdIs src dst telegram) g fits).object.terms ≡ p.terms
     either p src dst telegram g fits true is = rw is refl
     either p src dst telegram g fits false is = rw is refl
 
@@ -77,14 +77,14 @@ may_send-is_answered p head g is = second (is_asked p head) (may_send p g) is
     second true b is = is
     second false b is = absurd (cc)
 
-pub pulled-is_answered : (p : PublisherState) (src dst : Place) (telegram : PdTelegram) (g : Globals) (fits : Bool) (head : PdHead) → (publisher_taking p (PdIs src dst telegram) g fits).taken ≡ Pulled head → (is_answered p telegram.head g ≡ true) × (head.com_id ≡ p.publication.com_id)
+pub pulled-is_answered : (p : PublisherState) (src dst : Place) (telegram : PdTelegram) (g : Globals) (fits : Bool) (head : PdHead) → (publisher_taking p (PdIs src dst telegram) g fits).taken ≡ Pulled head → (is_answered p telegram.head g ≡ true) × (head.com_id ≡ p.terms.com_id)
 pulled-is_answered p src dst telegram g fits head is = either p src dst telegram g fits head (is_answered p telegram.head g) refl is
   where
-    either : (p : PublisherState) (src dst : Place) (telegram : PdTelegram) (g : Globals) (fits : Bool) (head : PdHead) (b : Bool) → is_answered p telegram.head g ≡ b → (publisher_taking p (PdIs src dst telegram) g fits).taken ≡ Pulled head → (is_answered p telegram.head g ≡ true) × (head.com_id ≡ p.publication.com_id)
+    either : (p : PublisherState) (src dst : Place) (telegram : PdTelegram) (g : Globals) (fits : Bool) (head : PdHead) (b : Bool) → is_answered p telegram.head g ≡ b → (publisher_taking p (PdIs src dst telegram) g fits).taken ≡ Pulled head → (is_answered p telegram.head g ≡ true) × (head.com_id ≡ p.terms.com_id)
     either p src dst telegram g fits head true answered is = let h = rw answered at is in (answered, cc)
     either p src dst telegram g fits head false answered is = let h = rw answered at is in absurd (cc)
 
-pub pulled-com_id : (p : PublisherState) (telegram : TelegramModel) (g : Globals) (fits : Bool) (head : PdHead) → (publisher_taking p telegram g fits).taken ≡ Pulled head → head.com_id ≡ p.publication.com_id
+pub pulled-com_id : (p : PublisherState) (telegram : TelegramModel) (g : Globals) (fits : Bool) (head : PdHead) → (publisher_taking p telegram g fits).taken ≡ Pulled head → head.com_id ≡ p.terms.com_id
 pulled-com_id p (PdIs src dst telegram) g fits head is = (pulled-is_answered p src dst telegram g fits head is).1
 
 pub pulled-value : (p : PublisherState) (telegram : TelegramModel) (g : Globals) (fits : Bool) (head : PdHead) → (publisher_taking p telegram g fits).taken ≡ Pulled head → IsSome p.value

@@ -26,20 +26,20 @@ due-firing p g = either p g (may_send p g) refl
     either p g true is = rw is refl
     either p g false is = rw is refl
 
-pub publication-firing : (p : PublisherState) (g : Globals) → (publisher_firing p g).object.publication ≡ p.publication
-publication-firing p g = either p g (may_send p g) refl
+pub terms-firing : (p : PublisherState) (g : Globals) → (publisher_firing p g).object.terms ≡ p.terms
+terms-firing p g = either p g (may_send p g) refl
   where
-    either : (p : PublisherState) (g : Globals) (b : Bool) → may_send p g ≡ b → (publisher_firing p g).object.publication ≡ p.publication
+    either : (p : PublisherState) (g : Globals) (b : Bool) → may_send p g ≡ b → (publisher_firing p g).object.terms ≡ p.terms
     either p g true is = rw is refl
     either p g false is = rw is refl
 
 -- a publisher that fired isn't due by now
 pub publisher_due-firing : (p : PublisherState) (g : Globals) → is_due_by g.now (publisher_due (publisher_firing p g).object) ≡ false
-publisher_due-firing p g = rw (publication-firing p g, due-firing p g) (either p g (p.publication.cycle == 0) refl)
+publisher_due-firing p g = rw (terms-firing p g, due-firing p g) (either p g (p.terms.cycle == 0) refl)
   where
-    either : (p : PublisherState) (g : Globals) (b : Bool) → (p.publication.cycle == 0) ≡ b → is_due_by g.now (publisher_due (record p { due = next_due p g.now })) ≡ false
+    either : (p : PublisherState) (g : Globals) (b : Bool) → (p.terms.cycle == 0) ≡ b → is_due_by g.now (publisher_due (record p { due = next_due p g.now })) ≡ false
     either p g true is = rw is refl
-    either p g false is = rw is (nat_le-past (next_due p g.now) g.now (next_due-later g.now p.due p.publication.cycle (grind (arith, nat_tests))))
+    either p g false is = rw is (nat_le-past (next_due p g.now) g.now (next_due-later g.now p.due p.terms.cycle (grind (arith, nat_tests))))
 
 -- a telegram that isn't for a publisher isn't answered
 is_answered-unaddressed : (p : PublisherState) (head : PdHead) (g : Globals) → is_asked p head ≡ false → is_answered p head g ≡ false

@@ -7,34 +7,34 @@ use Rattle.trdp_filter.specs.declared.globals.Globals.{Globals}
 use Rattle.trdp_filter.specs.Counts.{topo_valid}
 use Rattle.trdp_filter.specs.Globals.{leads}
 use Rattle.trdp_filter.specs.Telegrams.{TelegramModel, PdIs}
-use Rattle.trdp_pd.specs.declared.publication.Publication.{Publication}
+use Rattle.trdp_pd.specs.declared.terms.PublisherTerms.{PublisherTerms}
 use Rattle.trdp_pd.specs.declared.object.Taken.TheVariants.{Nothing as NotTaken, Pulled}
 use Rattle.trdp_pd.specs.declared.object.Fired.TheVariants.{Nothing, Data}
 use Rattle.trdp_pd.specs.Effects.{Taking, Firing}
 
 -- a publisher: what it is to send, when it is next due, its value if it has one, and the counter of its next telegram
 pub record PublisherState : Type 0 where
-  pub publication : Publication
+  pub terms : PublisherTerms
   pub due : ℕ
   pub value : Option (List ℕ)
   pub counter : ℕ
 
 -- a new publisher is first due one cycle later, has no value, and counts from 0
-abbrev pub published : Publication → ℕ → PublisherState
-published publication now = record { publication = publication; due = now + publication.cycle; value = None; counter = 0 }
+abbrev pub published : PublisherTerms → ℕ → PublisherState
+published terms now = record { terms = terms; due = now + terms.cycle; value = None; counter = 0 }
 
 -- a publisher of cycle 0 is never due
 abbrev pub publisher_due : PublisherState → Option ℕ
-publisher_due p = if p.publication.cycle == 0 then None else Some p.due
+publisher_due p = if p.terms.cycle == 0 then None else Some p.due
 
 -- leave to send: it has a value, the node leads its group if it has one, and its topology counts match the node's
 abbrev pub may_send : PublisherState → Globals → Bool
 may_send p g =
-    is_some p.value && (p.publication.group == 0 || leads g.led p.publication.group) && topo_valid p.publication.topo g.topo
+    is_some p.value && (p.terms.group == 0 || leads g.led p.terms.group) && topo_valid p.terms.topo g.topo
 
 -- no catching up: the first of its moments after now, in whole cycles from the one that it was due at
 abbrev pub next_due : PublisherState → ℕ → ℕ
-next_due p now = p.due + ((now - p.due) / p.publication.cycle + 1) * p.publication.cycle
+next_due p now = p.due + ((now - p.due) / p.terms.cycle + 1) * p.terms.cycle
 
 -- the sequence counter after one more telegram
 abbrev pub next_counter : ℕ → ℕ
@@ -45,8 +45,8 @@ abbrev pub head_as : PdKind → PublisherState → PdHead
 head_as kind p = record {
   counter = p.counter;
   kind = kind;
-  com_id = p.publication.com_id;
-  topo = p.publication.topo;
+  com_id = p.terms.com_id;
+  topo = p.terms.topo;
   reply_com_id = 0;
   reply_ip = record { 0 = 0 };
 }
@@ -78,7 +78,7 @@ asked_com_id head = if head.reply_com_id == 0 then head.com_id else head.reply_c
 -- the telegram is a pull request that asks for the publisher's comId, with counts that match the publisher's
 unfoldable pub is_asked : PublisherState → PdHead → Bool
 is_asked p head =
-    asks_for_value head.kind && asked_com_id head == p.publication.com_id && topo_valid head.topo p.publication.topo
+    asks_for_value head.kind && asked_com_id head == p.terms.com_id && topo_valid head.topo p.terms.topo
 
 -- what the telegrams for a publisher are
 abbrev pub publisher_addressed : PublisherState → TelegramModel → Globals → Bool

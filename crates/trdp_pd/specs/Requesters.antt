@@ -4,7 +4,7 @@ use Rattle.trdp_head.specs.declared.pd.PdHead.{PdHead}
 use Rattle.trdp_head.specs.declared.pd.PdKind.TheVariants.{PullRequest}
 use Rattle.trdp_filter.specs.declared.globals.Globals.{Globals}
 use Rattle.trdp_filter.specs.Telegrams.{TelegramModel}
-use Rattle.trdp_pd.specs.declared.requester.Enquiry.{Enquiry}
+use Rattle.trdp_pd.specs.declared.terms.RequesterTerms.{RequesterTerms}
 use Rattle.trdp_pd.specs.declared.object.Taken.TheVariants.{Nothing as NotTaken}
 use Rattle.trdp_pd.specs.declared.object.Fired.TheVariants.{Nothing}
 use Rattle.trdp_pd.specs.Effects.{Taking, Firing}
@@ -12,22 +12,22 @@ use Rattle.trdp_pd.specs.Publishers.{next_counter}
 
 -- a requester: what it asks for, and the counter of its next pull request
 pub record RequesterState : Type 0 where
-  pub enquiry : Enquiry
+  pub terms : RequesterTerms
   pub counter : ℕ
 
 -- a new requester counts from 0
-abbrev pub opened : Enquiry → RequesterState
-opened enquiry = record { enquiry = enquiry; counter = 0 }
+abbrev pub opened : RequesterTerms → RequesterState
+opened terms = record { terms = terms; counter = 0 }
 
 -- the header of the next pull request
 abbrev pub pull_head : RequesterState → PdHead
 pull_head r = record {
   counter = r.counter;
   kind = PullRequest;
-  com_id = r.enquiry.com_id;
-  topo = r.enquiry.topo;
-  reply_com_id = r.enquiry.reply_com_id;
-  reply_ip = r.enquiry.reply_ip;
+  com_id = r.terms.com_id;
+  topo = r.terms.topo;
+  reply_com_id = r.terms.reply_com_id;
+  reply_ip = r.terms.reply_ip;
 }
 
 -- a requester that pulled, and the header that it sends

@@ -6,7 +6,7 @@ ghost use Rattle.trdp_filter.specs.declared.globals.Globals.{Globals};
 ghost use Rattle.trdp_filter.specs.Telegrams.{TelegramModel};
 ghost use Rattle.trdp_pd.specs.declared.any_object.AnyObject.{AnyObject};
 ghost use Rattle.trdp_pd.specs.declared.object.Taken.TheVariants.{Nothing as NotTaken};
-ghost use Rattle.trdp_pd.specs.declared.publication.Publication.{Publication};
+ghost use Rattle.trdp_pd.specs.declared.terms.PublisherTerms.{PublisherTerms};
 ghost use Rattle.trdp_pd.specs.declared.terms.SubscriptionTerms.{SubscriptionTerms};
 ghost use Rattle.trdp_pd.specs.Due.{is_due_by};
 ghost use Rattle.trdp_pd.specs.Publishers.{PublisherState, published, publisher_due, publisher_taking, publisher_firing};
@@ -32,8 +32,8 @@ pub fn kind_stays()
 
 /// A new object is due later than now, if ever.
 pub fn new_is_later()
-    ensures publisher { (publication : Publication) (now : ℕ)
-        → is_due_by now (publisher_due (published publication now)) ≡ false }
+    ensures publisher { (terms : PublisherTerms) (now : ℕ)
+        → is_due_by now (publisher_due (published terms now)) ≡ false }
     ensures subscription { (terms : SubscriptionTerms) (zero_size now : ℕ)
         → is_due_by now (subscribed terms zero_size now).deadline ≡ false }
 {}
@@ -54,13 +54,13 @@ pub fn taken_stays_later()
 /// moment.
 pub fn publisher_keeps()
     ensures taken_publication { (p : PublisherState) (telegram : TelegramModel) (g : Globals) (fits : Bool)
-        → (publisher_taking p telegram g fits).object.publication ≡ p.publication }
+        → (publisher_taking p telegram g fits).object.terms ≡ p.terms }
     ensures taken_value { (p : PublisherState) (telegram : TelegramModel) (g : Globals) (fits : Bool)
         → (publisher_taking p telegram g fits).object.value ≡ p.value }
     ensures taken_due { (p : PublisherState) (telegram : TelegramModel) (g : Globals) (fits : Bool)
         → (publisher_taking p telegram g fits).object.due ≡ p.due }
     ensures fired_publication { (p : PublisherState) (g : Globals)
-        → (publisher_firing p g).object.publication ≡ p.publication }
+        → (publisher_firing p g).object.terms ≡ p.terms }
     ensures fired_value { (p : PublisherState) (g : Globals) → (publisher_firing p g).object.value ≡ p.value }
 {}
 
@@ -68,11 +68,11 @@ pub fn publisher_keeps()
 pub fn publisher_sends_its_own()
     ensures pulled_com_id { (p : PublisherState) (telegram : TelegramModel) (g : Globals) (fits : Bool) (head : PdHead)
         → (publisher_taking p telegram g fits).taken ≡ Taken.Pulled head
-        → head.com_id ≡ p.publication.com_id }
+        → head.com_id ≡ p.terms.com_id }
     ensures pulled_value { (p : PublisherState) (telegram : TelegramModel) (g : Globals) (fits : Bool) (head : PdHead)
         → (publisher_taking p telegram g fits).taken ≡ Taken.Pulled head → IsSome p.value }
     ensures fired_com_id { (p : PublisherState) (g : Globals) (head : PdHead)
-        → (publisher_firing p g).fired ≡ Fired.Data head → head.com_id ≡ p.publication.com_id }
+        → (publisher_firing p g).fired ≡ Fired.Data head → head.com_id ≡ p.terms.com_id }
     ensures fired_value { (p : PublisherState) (g : Globals) (head : PdHead)
         → (publisher_firing p g).fired ≡ Fired.Data head → IsSome p.value }
 {}

@@ -8,7 +8,6 @@ mod any_object;
 mod buffer;
 mod laws;
 mod object;
-mod publication;
 mod publisher;
 mod requester;
 mod subscription;
@@ -21,11 +20,10 @@ pub use laws::{
     unaddressed_changes_nothing,
 };
 pub use object::{Fired, Object, Taken};
-pub use publication::Publication;
 pub use publisher::Publisher;
-pub use requester::{Enquiry, Requester};
+pub use requester::Requester;
 pub use subscription::Subscription;
-pub use terms::{Behaviour, Peek, SubscriptionTerms, ValueState};
+pub use terms::{Behaviour, Peek, PublisherTerms, RequesterTerms, SubscriptionTerms, ValueState};
 
 #[cfg(test)]
 mod tests;

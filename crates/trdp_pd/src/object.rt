@@ -1,7 +1,7 @@
 //! What all kinds of objects have in common.
 
 ghost use Rattle.std.specs.Prelude.{◌≡◌, ℕ, ◌≤◌, Option, Bool, false};
-ghost use Rattle.trdp_base.specs.declared.moment.TheConstants.{LAST};
+ghost use Rattle.trdp_base.specs.Moments.{last_moment};
 ghost use Rattle.trdp_filter.specs.Telegrams.{TelegramModel, telegram_model, IsWithinLimit};
 ghost use Rattle.trdp_filter.specs.declared.globals.Globals.{Globals};
 ghost use Rattle.trdp_pd.specs.Due.{IsDueBy, is_due_by};
@@ -61,14 +61,14 @@ pub trait Object {
     /// Hands it a telegram; `fits` says whether the payload is one of its dataset.
     fn take(&mut self, telegram: &Telegram<'_>, globals: &Globals, fits: bool) -> Taken
         requires limit { IsWithinLimit (telegram_model telegram.now) }
-        requires now { globals.now.now ≤ LAST }
+        requires now { globals.now.now ≤ last_moment }
         ensures state { self.new ≡ (taking self.old (telegram_model telegram.now) globals.entry.now fits).object }
         ensures outcome { result ≡ (taking self.old (telegram_model telegram.now) globals.entry.now fits).taken };
 
     /// Lets it act once its due moment has come.
     fn fire(&mut self, globals: &Globals) -> Fired
         requires due { IsDueBy (due_of self.old) globals.now.now }
-        requires now { globals.now.now ≤ LAST }
+        requires now { globals.now.now ≤ last_moment }
         ensures state { self.new ≡ (firing self.old globals.entry.now).object }
         ensures outcome { result ≡ (firing self.old globals.entry.now).fired };
 

@@ -1,22 +1,22 @@
 //! A publisher: cyclic process data of one value.
 
 ghost use Rattle.std.specs.Prelude.{◌≡◌, ℕ, ◌≤◌, length, Some, IfOk, IfSome, option_copied};
-ghost use Rattle.trdp_base.specs.declared.moment.TheConstants.{LAST};
+ghost use Rattle.trdp_base.specs.Moments.{last_moment};
 ghost use Rattle.trdp_pd.specs.Publishers.{asks_for_value, asked_com_id};
 
 use crate::buffer::PayloadBuffer;
 use crate::object::{Fired, Object, Taken};
-use crate::publication::Publication;
+use crate::terms::PublisherTerms;
 use std::alloc::{AllocError, Global};
 use std::marker::Model;
-use trdp_base::{Ip, LAST, Place, Topo};
+use trdp_base::{Ip, Place, Topo};
 use trdp_filter::{Globals, Telegram, topo_valid};
 use trdp_head::{PdHead, PdKind};
 
 /// A publisher, with room for the longest value.
 #[derive(Drop)]
 pub struct Publisher {
-    publication: Publication,
+    terms: PublisherTerms,
     due: u64,
     buffer: PayloadBuffer,
     has_value: bool,
@@ -29,7 +29,7 @@ impl Model for Publisher {
 
     ghost Value = { PublisherState };
 
-    ghost view = { λ p. record { publication = p.publication; due = p.due; value = if p.has_value then Some p.buffer else None; counter = p.counter } };
+    ghost view = { λ p. record { terms = p.terms; due = p.due; value = if p.has_value then Some p.buffer else None; counter = p.counter } };
 
     ghost invariant = { λ p. p.due ≤ 2 ^ 63 };
 }
@@ -63,14 +63,14 @@ impl Publisher {
     /// A publisher without a value, first due one cycle after `now`, in microseconds (profile).
     ///
     /// Its one error is want of memory for its buffer.
-    pub fn new(alloc: Global, publication: &Publication, now: u64) -> Result<Publisher, AllocError>
-        requires { now ≤ LAST }
-        ensures { IfOk result (λ p. p ≡ published publication.now now) }
+    pub fn new(alloc: Global, terms: &PublisherTerms, now: u64) -> Result<Publisher, AllocError>
+        requires { now ≤ last_moment }
+        ensures { IfOk result (λ p. p ≡ published terms.now now) }
     {
         let buffer = PayloadBuffer::new(alloc)?;
-        let due = now + u64::from(publication.cycle);
+        let due = now + u64::from(terms.cycle);
         Ok(Publisher {
-            publication: *publication,
+            terms: *terms,
             due,
             buffer,
             has_value: false,
@@ -101,33 +101,33 @@ impl Publisher {
 
     /// The comId that its telegrams carry.
     pub fn com_id(&self) -> u32
-        ensures { result ≡ self.now.publication.com_id }
+        ensures { result ≡ self.now.terms.com_id }
     {
-        self.publication.com_id
+        self.terms.com_id
     }
 
     /// The dataset that its value is one of; 0 for any bytes.
     pub fn dataset(&self) -> u32
-        ensures { result ≡ self.now.publication.dataset }
+        ensures { result ≡ self.now.terms.dataset }
     {
-        self.publication.dataset
+        self.terms.dataset
     }
 
     /// Where its telegrams go.
     pub fn to(&self) -> Place
-        ensures { result ≡ self.now.publication.to }
+        ensures { result ≡ self.now.terms.to }
     {
-        self.publication.to
+        self.terms.to
     }
 
     /// Whether it may send: it has a value, the node leads its group, and its topology counts match the node's.
     fn may_send(&self, globals: &Globals) -> bool
         ensures { result ≡ may_send self.now globals.entry.now }
     {
-        let group = self.publication.group;
+        let group = self.terms.group;
         self.has_value
             && (group == 0 || globals.led.leads(group))
-            && topo_valid(self.publication.topo, globals.topo)
+            && topo_valid(self.terms.topo, globals.topo)
     }
 
     /// Whether the telegram is a pull request for its comId, with topology counts that match its own.
@@ -136,8 +136,8 @@ impl Publisher {
         ensures { result ≡ is_asked self.now head.now }
     {
         asks_for_value(head.kind)
-            && asked_com_id(head) == self.publication.com_id
-            && topo_valid(head.topo, self.publication.topo)
+            && asked_com_id(head) == self.terms.com_id
+            && topo_valid(head.topo, self.terms.topo)
     }
 
     /// Whether it answers the telegram.
@@ -158,8 +158,8 @@ impl Publisher {
         PdHead {
             counter,
             kind,
-            com_id: self.publication.com_id,
-            topo: self.publication.topo,
+            com_id: self.terms.com_id,
+            topo: self.terms.topo,
             reply_com_id: 0,
             reply_ip: Ip(0),
         }
@@ -184,7 +184,7 @@ impl Object for Publisher {
 
     /// When it is next due, in microseconds; None for a cycle of 0.
     fn due(&self) -> Option<u64> {
-        if self.publication.cycle == 0 {
+        if self.terms.cycle == 0 {
             None
         } else {
             Some(self.due)
@@ -213,7 +213,7 @@ impl Object for Publisher {
 
     /// Sends at most one telegram, and is next due at the first of its moments after now.
     fn fire(&mut self, globals: &Globals) -> Fired {
-        let cycle = u64::from(self.publication.cycle);
+        let cycle = u64::from(self.terms.cycle);
         let missed = (globals.now - self.due) / cycle;
         let may_send = self.may_send(globals);
         self.due += (missed + 1) * cycle;

@@ -3,30 +3,16 @@
 ghost use Rattle.std.specs.Prelude.{◌≡◌};
 
 use crate::object::{Fired, Object, Taken};
+use crate::terms::RequesterTerms;
 use std::marker::Model;
 use trdp_base::{Ip, Place, Topo};
 use trdp_filter::{Globals, Telegram};
 use trdp_head::{PdHead, PdKind};
 
-/// What a requester asks for, and whom.
-#[derive(Clone, Copy, Debug, PartialEq, Eq)]
-pub struct Enquiry {
-    /// The comId of IEC 61375-2-3 that the pull requests carry.
-    pub com_id: u32,
-    /// The comId that they ask for; 0 for `com_id`.
-    pub reply_com_id: u32,
-    /// Where the replies are to be sent; 0 for the requester's own node.
-    pub reply_ip: Ip,
-    /// The topology counts that the pull requests carry.
-    pub topo: Topo,
-    /// Where the pull requests go.
-    pub to: Place,
-}
-
 /// A requester.
 #[derive(Drop)]
 pub struct Requester {
-    enquiry: Enquiry,
+    terms: RequesterTerms,
     counter: u32,
 }
 
@@ -35,18 +21,18 @@ impl Model for Requester {
 
     ghost Value = { RequesterState };
 
-    ghost view = { λ r. record { enquiry = r.enquiry; counter = r.counter } };
+    ghost view = { λ r. record { terms = r.terms; counter = r.counter } };
 }
 
 impl Requester {
     ghost use Rattle.trdp_pd.specs.Requesters.{RequesterState, opened, pulling};
 
     /// A requester that has sent nothing.
-    pub fn new(enquiry: &Enquiry) -> Requester
-        ensures { result ≡ opened enquiry.now }
+    pub fn new(terms: &RequesterTerms) -> Requester
+        ensures { result ≡ opened terms.now }
     {
         Requester {
-            enquiry: *enquiry,
+            terms: *terms,
             counter: 0,
         }
     }
@@ -61,32 +47,32 @@ impl Requester {
         PdHead {
             counter,
             kind: PdKind::PullRequest,
-            com_id: self.enquiry.com_id,
-            topo: self.enquiry.topo,
-            reply_com_id: self.enquiry.reply_com_id,
-            reply_ip: self.enquiry.reply_ip,
+            com_id: self.terms.com_id,
+            topo: self.terms.topo,
+            reply_com_id: self.terms.reply_com_id,
+            reply_ip: self.terms.reply_ip,
         }
     }
 
     /// The comId that its pull requests carry.
     pub fn com_id(&self) -> u32
-        ensures { result ≡ self.now.enquiry.com_id }
+        ensures { result ≡ self.now.terms.com_id }
     {
-        self.enquiry.com_id
+        self.terms.com_id
     }
 
     /// The topology counts that its pull requests carry.
     pub fn topo(&self) -> Topo
-        ensures { result ≡ self.now.enquiry.topo }
+        ensures { result ≡ self.now.terms.topo }
     {
-        self.enquiry.topo
+        self.terms.topo
     }
 
     /// Where its pull requests go.
     pub fn to(&self) -> Place
-        ensures { result ≡ self.now.enquiry.to }
+        ensures { result ≡ self.now.terms.to }
     {
-        self.enquiry.to
+        self.terms.to
     }
 }
 

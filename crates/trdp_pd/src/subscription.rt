@@ -1,7 +1,7 @@
 //! A subscription: the latest process data of one comId, and whether it is still good.
 
 ghost use Rattle.std.specs.Prelude.{◌≡◌, ℕ, ◌≤◌, length, IfOk};
-ghost use Rattle.trdp_base.specs.declared.moment.TheConstants.{LAST};
+ghost use Rattle.trdp_base.specs.Moments.{last_moment};
 ghost use Rattle.trdp_pd.specs.Subscriptions.{deadline_from, carries_value, is_stale, taken_in};
 
 use crate::buffer::PayloadBuffer;
@@ -9,7 +9,7 @@ use crate::object::{Fired, Object, Taken};
 use crate::terms::{Behaviour, Latest, Peek, SubscriptionTerms, ValueState};
 use std::alloc::{AllocError, Global};
 use std::marker::Model;
-use trdp_base::{Ip, LAST, Place};
+use trdp_base::{Ip, Place};
 use trdp_filter::{Globals, Telegram};
 use trdp_head::{PdHead, PdKind, PdView};
 
@@ -42,7 +42,7 @@ impl Model for Subscription {
 /// The deadline of a supervision time that begins now.
 #[tactic(auto, unfolding(crate::specs::Subscriptions::deadline_from))]
 fn deadline_from(supervision: u32, now: u64) -> Option<u64>
-    requires { now ≤ LAST }
+    requires { now ≤ last_moment }
     ensures { result ≡ deadline_from supervision now }
 {
     if supervision == 0 {
@@ -105,7 +105,7 @@ impl Subscription {
         now: u64,
     ) -> Result<Subscription, AllocError>
         requires zero_size { zero_size ≤ 1432 }
-        requires now { now ≤ LAST }
+        requires now { now ≤ last_moment }
         ensures { IfOk result (λ s. s ≡ subscribed terms.now zero_size now) }
     {
         let mut value = PayloadBuffer::new(alloc)?;
@@ -166,7 +166,7 @@ impl Subscription {
     /// Stores a telegram that it takes.
     fn store(&mut self, src: Place, view: &PdView<'_>, now: u64)
         requires limit { length view.now.payload.now ≤ 1432 }
-        requires now { now ≤ LAST }
+        requires now { now ≤ last_moment }
         ensures { self.new ≡ storing self.old src (record { head = view.now.head; payload = view.now.payload.now }) now }
     {
         self.deadline = deadline_from(self.terms.supervision, now);

@@ -1,8 +1,40 @@
-//! What a subscription is made from, and what it shows.
+//! What publishers, subscriptions and requesters are made from, and what a subscription shows.
 
-use trdp_base::Ip;
+use trdp_base::{Ip, Place, Topo};
 use trdp_filter::PdFilter;
 use trdp_head::PdKind;
+
+/// What a publisher is to send, to whom and how often.
+#[derive(Clone, Copy, Debug, PartialEq, Eq)]
+pub struct PublisherTerms {
+    /// The comId of IEC 61375-2-3 that the telegrams carry.
+    pub com_id: u32,
+    /// The dataset that each value is one of; 0 for any bytes.
+    pub dataset: u32,
+    /// Microseconds from one telegram to the next: 1,000 or more, or 0 for a publisher that is never due (profile).
+    pub cycle: u32,
+    /// The redundancy group, 1 to 255, which the node must lead for the publisher to send; 0 for none (profile).
+    pub group: u8,
+    /// The topology counts that the telegrams carry.
+    pub topo: Topo,
+    /// Where the telegrams go.
+    pub to: Place,
+}
+
+/// What a requester asks for, and whom.
+#[derive(Clone, Copy, Debug, PartialEq, Eq)]
+pub struct RequesterTerms {
+    /// The comId of IEC 61375-2-3 that the pull requests carry.
+    pub com_id: u32,
+    /// The comId that they ask for; 0 for `com_id`.
+    pub reply_com_id: u32,
+    /// Where the replies are to be sent; 0 for the requester's own node.
+    pub reply_ip: Ip,
+    /// The topology counts that the pull requests carry.
+    pub topo: Topo,
+    /// Where the pull requests go.
+    pub to: Place,
+}
 
 /// What a time-out does to the value of a subscription.
 #[derive(Clone, Copy, Debug, PartialEq, Eq)]

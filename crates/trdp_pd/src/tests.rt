@@ -1,15 +1,15 @@
 //! Worked examples.
 
 ghost use Rattle.std.specs.Prelude.{◌≡◌, ◌≤◌, length};
-ghost use Rattle.trdp_base.specs.declared.moment.TheConstants.{LAST};
+ghost use Rattle.trdp_base.specs.Moments.{last_moment};
 
 use crate::{
-    AnyObject, Behaviour, Enquiry, Fired, Object, Publication, Publisher, Requester, Subscription,
-    SubscriptionTerms, Taken, ValueState,
+    AnyObject, Behaviour, Fired, Object, Publisher, PublisherTerms, Requester, RequesterTerms,
+    Subscription, SubscriptionTerms, Taken, ValueState,
 };
 use std::process::Abort;
 use std::test::Fail;
-use trdp_base::{Ip, LAST, Place, Topo};
+use trdp_base::{Ip, MOMENT_MAX, Place, Topo};
 use trdp_filter::{Globals, Groups, PdFilter, Telegram};
 use trdp_head::{PdHead, PdKind, PdView};
 
@@ -70,7 +70,7 @@ fn hand<O: Object>(
     counter: u32,
     payload: &[u8],
 ) -> Taken
-    requires now { now ≤ LAST }
+    requires now { now ≤ last_moment }
     requires limit { length payload.now ≤ 1432 }
 {
     let view = PdView {
@@ -89,7 +89,7 @@ fn hand<O: Object>(
 
 /// What the object does at a moment; nothing before it is due.
 fn moment<O: Object>(object: &mut O, now: u64) -> Option<Fired>
-    requires { now ≤ LAST }
+    requires { now ≤ last_moment }
 {
     let globals = at(now);
     match object.due() {
@@ -138,7 +138,7 @@ fn new_objects(rt: HostRuntime) -> Result<(), Fail> {
     assert_eq!(rt; peek.bytes, b"\x00".as_slice());
     assert_eq!(rt; s.com_id(), 100);
     assert_eq!(rt; s.dataset(), 0);
-    let p = Publisher::new(rt.alloc(), &publication(100_000), 0)?;
+    let p = Publisher::new(rt.alloc(), &terms(100_000), 0)?;
     assert!(rt; p.value().is_none());
     assert_eq!(rt; p.com_id(), 100);
     assert_eq!(rt; p.dataset(), 0);
@@ -189,8 +189,8 @@ fn counters_before_and_after_a_time_out(rt: HostRuntime) -> Result<(), Fail> {
     Ok(())
 }
 
-fn publication(cycle: u32) -> Publication {
-    Publication {
+fn terms(cycle: u32) -> PublisherTerms {
+    PublisherTerms {
         com_id: 100,
         dataset: 0,
         cycle,
@@ -202,7 +202,7 @@ fn publication(cycle: u32) -> Publication {
 
 #[test]
 fn cycle(rt: HostRuntime) -> Result<(), Fail> {
-    let mut p = Publisher::new(rt.alloc(), &publication(100_000), 0)?;
+    let mut p = Publisher::new(rt.alloc(), &terms(100_000), 0)?;
     p.put(b"\x0a\x0b");
     assert_eq!(rt; p.value(), Some(b"\x0a\x0b".as_slice()));
     let mut object = AnyObject::Publisher(p);
@@ -217,7 +217,7 @@ fn cycle(rt: HostRuntime) -> Result<(), Fail> {
 
 /// A pull request for comId 100 from X, handed to the object.
 fn pull_request<O: Object>(object: &mut O, globals: &Globals, reply_com_id: u32) -> (bool, Taken)
-    requires { globals.now.now ≤ LAST }
+    requires { globals.now.now ≤ last_moment }
 {
     let mut head = head(PdKind::PullRequest, 0);
     head.reply_com_id = reply_com_id;
@@ -233,7 +233,7 @@ fn pull_request<O: Object>(object: &mut O, globals: &Globals, reply_com_id: u32)
 
 #[test]
 fn pull_reply_between_two_cycles(rt: HostRuntime) -> Result<(), Fail> {
-    let mut p = Publisher::new(rt.alloc(), &publication(100_000), 0)?;
+    let mut p = Publisher::new(rt.alloc(), &terms(100_000), 0)?;
     p.put(b"\x0a");
     let sent = moment(&mut p, 100_000);
     assert_eq!(rt; sent, Some(Fired::Data(head(PdKind::Data, 0))));
@@ -246,7 +246,7 @@ fn pull_reply_between_two_cycles(rt: HostRuntime) -> Result<(), Fail> {
 
 #[test]
 fn asked_com_id(rt: HostRuntime) -> Result<(), Fail> {
-    let mut p = Publisher::new(rt.alloc(), &publication(0), 0)?;
+    let mut p = Publisher::new(rt.alloc(), &terms(0), 0)?;
     p.put(b"\x0a");
     assert_eq!(rt; pull_request(&mut p, &at(0), 200), (false, Taken::Nothing));
     let pulled = pull_request(&mut p, &at(0), 100);
@@ -256,9 +256,9 @@ fn asked_com_id(rt: HostRuntime) -> Result<(), Fail> {
 
 #[test]
 fn follower_is_silent(rt: HostRuntime) -> Result<(), Fail> {
-    let mut publication = publication(100_000);
-    publication.group = 3;
-    let mut p = Publisher::new(rt.alloc(), &publication, 0)?;
+    let mut terms = terms(100_000);
+    terms.group = 3;
+    let mut p = Publisher::new(rt.alloc(), &terms, 0)?;
     p.put(b"\x0a");
     assert_eq!(rt; moment(&mut p, 100_000), Some(Fired::Nothing));
     let mut globals = at(100_000);
@@ -272,7 +272,7 @@ fn follower_is_silent(rt: HostRuntime) -> Result<(), Fail> {
 
 #[test]
 fn pull(rt: HostRuntime) {
-    let mut r = Requester::new(&Enquiry {
+    let mut r = Requester::new(&RequesterTerms {
         com_id: 100,
         reply_com_id: 0,
         reply_ip: Ip(0),
@@ -290,5 +290,5 @@ fn pull(rt: HostRuntime) {
         pull_request(&mut object, &at(0), 0),
         (false, Taken::Nothing)
     );
-    assert_eq!(rt; moment(&mut object, LAST), None);
+    assert_eq!(rt; moment(&mut object, MOMENT_MAX), None);
 }

@@ -8,7 +8,7 @@ use Rattle.trdpd.specs.declared.line.Line.TheVariants.{Skipped, Moment, Publish,
 abbrev pub event_of : Line → Option EventModel
 event_of Skipped = None
 event_of (Moment t) = Some (MomentIs t)
-event_of (Publish slot publication) = Some (CallIs slot (PublishCall publication))
+event_of (Publish slot terms) = Some (CallIs slot (PublishCall terms))
 event_of (Put slot handle bytes) = Some (CallIs slot (PutCall handle bytes.items))
 
 -- an empty line, or one that begins with `#`

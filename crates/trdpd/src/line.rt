@@ -9,7 +9,7 @@ use std::alloc::Global;
 use thiserror::Error;
 use trdp_base::{Place, TextFault, Topo, read_hex, read_number, read_place};
 use trdp_engine::{Call, Event};
-use trdp_pd::Publication;
+use trdp_pd::PublisherTerms;
 
 /// The longest line, in bytes without its end (profile).
 pub const LINE_MAX: usize = 140_000;
@@ -44,7 +44,7 @@ pub enum Line {
     /// The slot calls for a publisher.
     Publish {
         slot: u16,
-        publication: Publication,
+        terms: PublisherTerms,
     },
     /// The slot gives the publisher of that handle a new value.
     Put {
@@ -62,9 +62,9 @@ impl Line {
         match self {
             Line::Skipped => None,
             Line::Moment(t) => Some(Event::Moment(*t)),
-            Line::Publish { slot, publication } => Some(Event::Call {
+            Line::Publish { slot, terms } => Some(Event::Call {
                 slot: *slot,
-                call: Call::Publish(*publication),
+                call: Call::Publish(*terms),
             }),
             Line::Put {
                 slot,
@@ -163,7 +163,7 @@ fn read_publish(slot: &[u8], mut words: Words<'_>) -> Result<Line, LineFault>
     let to = next_place(&mut words)?;
     Ok(Line::Publish {
         slot,
-        publication: Publication {
+        terms: PublisherTerms {
             com_id,
             dataset,
             cycle,

@@ -3,7 +3,7 @@
 use crate::tests::{Bench, Said, publish, subscribe, terms, zeros};
 use crate::{Call, Event, NodeFault, Refusal};
 use std::test::Fail;
-use trdp_base::{Ip, LAST};
+use trdp_base::{Ip, MOMENT_MAX};
 use trdp_pd::{Behaviour, SubscriptionTerms};
 
 #[test]
@@ -12,8 +12,8 @@ fn moments_have_limits(rt: HostRuntime) -> Result<(), Fail> {
     bench.moment(5)?;
     let past = bench.node.step(&Event::Moment(4), &mut bench.out);
     assert_eq!(rt; past, Err(NodeFault::Past));
-    bench.moment(LAST)?;
-    let late = bench.node.step(&Event::Moment(LAST + 1), &mut bench.out);
+    bench.moment(MOMENT_MAX)?;
+    let late = bench.node.step(&Event::Moment(MOMENT_MAX + 1), &mut bench.out);
     assert_eq!(rt; late, Err(NodeFault::TooLate));
     Ok(())
 }

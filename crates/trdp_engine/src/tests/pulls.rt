@@ -1,10 +1,10 @@
 //! Pull requests and redundancy groups.
 
-use crate::tests::{Bench, HERE, Said, X, publication, record_said};
+use crate::tests::{Bench, HERE, Said, X, terms, record_said};
 use crate::{Call, Event, NodeFault, Protocol, Refusal, What};
 use std::test::Fail;
 use trdp_base::{Ip, Place, Topo};
-use trdp_pd::{Enquiry, Publication};
+use trdp_pd::{RequesterTerms, PublisherTerms};
 
 /// The place of a stranger.
 const STRANGER: Place = Place {
@@ -56,20 +56,20 @@ static THIRD_DATA: &[u8] =
 
 /// Makes a publisher of that comId, cycle and group.
 fn publish<'a>(com_id: u32, cycle: u32, group: u8) -> Event<'a> {
-    let publication = Publication {
+    let terms = PublisherTerms {
         com_id,
         group,
-        ..publication(0, cycle)
+        ..terms(0, cycle)
     };
     Event::Call {
         slot: 0,
-        call: Call::Publish(publication),
+        call: Call::Publish(terms),
     }
 }
 
 /// Makes a requester of comId 100 with that etb count, which asks X.
 fn open_pull<'a>(etb: u32) -> Event<'a> {
-    let enquiry = Enquiry {
+    let terms = RequesterTerms {
         com_id: 100,
         reply_com_id: 0,
         reply_ip: Ip(0),
@@ -78,7 +78,7 @@ fn open_pull<'a>(etb: u32) -> Event<'a> {
     };
     Event::Call {
         slot: 0,
-        call: Call::OpenPull(enquiry),
+        call: Call::OpenPull(terms),
     }
 }
 

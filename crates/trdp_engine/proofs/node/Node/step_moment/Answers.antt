@@ -13,7 +13,7 @@ pub returns-in-Ok-clause-steps : goal.returns-in-Ok-clause-steps
 returns-in-Ok-clause-steps c =
     let g : Globals = record c.self.inside.globals { now = c.args.t } in
     let outcome : Outcome = moved_to c.self.inside.slot g in
-    let effect = moment_effect c.self.inside.config c.self.inside.slot c.self.inside.globals c.args.t c.if-t-self.false c.if-t-gt-LAST.false in
+    let effect = moment_effect c.self.inside.config c.self.inside.slot c.self.inside.globals c.args.t c.if-t-self.false c.if-t-gt-MOMENT_MAX.false in
     let told : c.move_to.new.out.records ≡ c.args.out.now.records ++ labelled 0 outcome.records =
     c.move_to.ensures.records ∙ ap (λ (rs : List RecordModel). rs ++ labelled 0 outcome.records) c.in-Ok.ensures.records in
     rw (← c.self.view_is)
@@ -31,4 +31,4 @@ pub invariant_of-self : goal.invariant_of-self
 invariant_of-self c =
     let g : Globals = record c.self.inside.globals { now = c.args.t } in
     let fits = moved_fits c.self.inside.config c.self.inside.slot g c.self.invariant.1 c.self.invariant.2 in
-    rw c.move_to.ensures.slot (c.if-t-gt-LAST.false, c.self.invariant.1, fits)
+    rw c.move_to.ensures.slot (c.if-t-gt-MOMENT_MAX.false, c.self.invariant.1, fits)
