@@ -1,8 +1,8 @@
 //! The frame check sequence of TRDP telegram headers: the CRC-32 of IEEE 802.3.
 //!
-//! What the check is stands in `specs/FrameCheck.antt`, as the remainder of a division of bits. The
-//! code here keeps the remainder in a register and takes the message bit by bit; its proof shows
-//! that this is that division.
+//! What the check is stands in `specs/FrameCheck.antt`, as the remainder of a division of bits.
+//! The code here keeps the remainder in a register and takes the message bit by bit; its proof
+//! shows that this is that division.
 #![tactic(auto)]
 
 ghost use Rattle.std.specs.Prelude.{◌≡◌};
