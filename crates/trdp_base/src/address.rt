@@ -19,7 +19,8 @@ pub const IP_LENGTH: usize = 15;
 /// The length in bytes of the longest written place, that of 255.255.255.255:65535.
 pub const PLACE_LENGTH: usize = 21;
 
-/// Reads an IPv4 address: four numbers of 0 to 255 joined by dots, without leading zeros (profile).
+/// Reads an IPv4 address: four numbers of 0 to 255 joined by dots, without leading zeros
+/// (profile).
 ///
 /// # Errors
 /// [`TextFault::BadText`] at any other text.

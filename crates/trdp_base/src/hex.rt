@@ -10,7 +10,7 @@ use std::alloc::{AllocError, Global};
 /// Reads bytes: lower-case hexadecimal digits in pairs, or `-` for no bytes (profile).
 ///
 /// # Errors
-/// [`TextFault::BadText`] at any other text, the empty one too: it is found before memory is taken.
+/// [`TextFault::BadText`] at any other text, the empty one too, before memory is taken.
 /// [`TextFault::OutOfMemory`] where there is no memory for the bytes of a good text.
 pub fn read_hex(alloc: Global, text: &[u8]) -> Result<Vec<u8>, TextFault>
     ensures value { IfOk result (λ bytes. text.now ≡ text_of_hex bytes.items) }

@@ -12,8 +12,8 @@ pub const QUOTA_LIMIT: u16 = 256;
 /// How many objects of each kind a slot may hold (profile).
 #[derive(Clone, Copy, Debug, PartialEq, Eq)]
 pub struct Quotas {
-    /// Objects, each 0 to [`QUOTA_LIMIT`]: publishers, subscriptions, requesters, listeners, callers
-    /// and repliers, in this order.
+    /// Objects, each 0 to [`QUOTA_LIMIT`]: publishers, subscriptions, requesters, listeners,
+    /// callers and repliers, in this order.
     counts: [u16; 6],
 }
 
