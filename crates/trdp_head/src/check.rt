@@ -6,7 +6,8 @@ ghost use Rattle.trdp_head.specs.Checks.{is_checked, with_check};
 use crate::fields::{little_u32_at, put_bytes};
 use trdp_fcs::frame_check;
 
-/// Whether the four bytes at the offset are the frame check of the bytes before them, least significant byte first.
+/// Whether the four bytes at the offset are the frame check of the bytes before them, least
+/// significant byte first (IEC 61375-2-3).
 pub fn passes_check(bytes: &[u8], offset: usize) -> bool
     requires { offset + 4 ≤ length bytes.now }
     ensures { result ≡ is_checked offset bytes.now }
@@ -15,7 +16,7 @@ pub fn passes_check(bytes: &[u8], offset: usize) -> bool
     little_u32_at(bytes, offset) == frame_check(checked)
 }
 
-/// Writes the frame check of the bytes before the offset there.
+/// Writes the frame check of the bytes before the offset there, least significant byte first.
 pub fn put_check(room: &mut [u8], offset: usize)
     requires { offset + 4 ≤ length room.old }
     ensures front { take (offset + 4) room.new ≡ with_check (take offset room.old) }

@@ -1,4 +1,4 @@
-//! Numbers and bytes at their places in a telegram.
+//! Numbers and bytes at their offsets in a telegram.
 
 ghost use Rattle.std.specs.Prelude.{ℕ, ◌≡◌, ◌≤◌, ◌+◌, ◌-◌, ◌++◌, length, take, drop, replicate};
 ghost use Rattle.trdp_head.specs.Fields.{field, little_field, be_bytes};
