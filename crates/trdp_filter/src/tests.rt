@@ -76,8 +76,8 @@ fn counts_match(rt: HostRuntime) {
 
 const HERE: u32 = 0x0a00_0001;
 
-/// A telegram with its last topology count 0, and whether it passes a filter for comId 100, for the
-/// addresses from `low` to `high`, for the destination `HERE` and for the topology counts 7 and 0.
+/// A telegram with its last topology count 0, and whether it passes a filter for comId 100, for
+/// the addresses from `low` to `high`, for the destination `HERE`, and for the counts 7 and 0.
 struct Passage {
     low: u32,
     high: u32,
