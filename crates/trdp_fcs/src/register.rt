@@ -7,7 +7,7 @@ ghost use Rattle.trdp_fcs.specs.Register.{step, steps};
 const GENERATOR: u32 = 0xEDB8_8320;
 
 /// The register after one more byte of the message.
-pub fn with_byte(register: u32, byte: u8) -> u32
+pub(crate) fn with_byte(register: u32, byte: u8) -> u32
     ensures { result ≡ steps 0xEDB88320 8 (bit_xor register byte) }
 {
     let mut shifted = register ^ u32::from(byte);

@@ -20,13 +20,14 @@ pub mod writing;
 
 use trdp_base::{Ip, Topo};
 
-/// The length of a process data header in bytes (IEC 61375-2-3).
+/// The length in bytes of a process data header (IEC 61375-2-3).
 pub const PD_HEAD: usize = 40;
 
 /// The most bytes of payload that a process data telegram carries (IEC 61375-2-3).
 pub const PD_PAYLOAD_MAX: usize = 1432;
 
-/// The length of the longest process data telegram in bytes: a header and the longest payload.
+/// The length in bytes of the longest process data telegram, a header and the longest payload
+/// (IEC 61375-2-3).
 pub const PD_TELEGRAM_MAX: usize = 1472;
 
 const _: () = prove!(PD_TELEGRAM_MAX == PD_HEAD + PD_PAYLOAD_MAX);
