@@ -18,8 +18,8 @@ pub enum AnyObject {
 }
 
 impl AnyObject {
-    /// The place of its kind in the order of the quotas: 0 for publishers, 1 for subscriptions, 2 for
-    /// requesters.
+    /// The place of its kind in the order of the quotas: 0 for publishers, 1 for subscriptions, 2
+    /// for requesters.
     pub fn kind(&self) -> usize
         ensures kind { result ≡ kind_of self.now }
         ensures within { result ≤ 5 }
