@@ -6,19 +6,12 @@ use Rattle.trdp_filter.specs.declared.globals.Globals.{Globals}
 use Rattle.trdp_filter.specs.Telegrams.{TelegramModel, PdIs}
 use Rattle.trdp_pd.specs.declared.terms.PublisherTerms.{PublisherTerms}
 use Rattle.trdp_pd.specs.declared.any_object.AnyObject.{AnyObject}
-use Rattle.trdp_pd.specs.declared.any_object.AnyObject.TheVariants.{
-  Publisher,
-  Subscription,
-  Requester,
-}
+use Rattle.trdp_pd.specs.declared.any_object.AnyObject.TheVariants.{Publisher, Subscription}
+use Rattle.trdp_pd.specs.declared.any_object.AnyObject.TheVariants.{Requester}
 use Rattle.trdp_pd.specs.Due.{is_due_by}
 use Rattle.trdp_pd.specs.Publishers.{published, publisher_due}
-use Rattle.trdp_pd.specs.Subscriptions.{
-  SubscriptionState,
-  deadline_from,
-  is_accepted,
-  subscription_taking,
-}
+use Rattle.trdp_pd.specs.Subscriptions.{SubscriptionState, deadline_from, is_accepted}
+use Rattle.trdp_pd.specs.Subscriptions.{subscription_taking}
 use Rattle.trdp_pd.specs.Objects.{kind_of, due_of, after_taking, after_firing}
 use Rattle.trdp_pd.specs.PublisherLaws.{nat_le-past}
 use Rattle.trdp_pd.proofs.Sending.{terms-taking, due-taking as publisher_due-taking}
@@ -27,27 +20,26 @@ use Rattle.trdp_pd.proofs.Sending.{terms-taking, due-taking as publisher_due-tak
 pub published-later :
     (terms : PublisherTerms) (now : ℕ)
     → is_due_by now (publisher_due (published terms now)) ≡ false
-published-later terms now = either terms now (terms.cycle == 0) refl
+published-later terms now = either (terms.cycle == 0) refl
   where
     either :
-        (terms : PublisherTerms) (now : ℕ) (b : Bool) → (terms.cycle == 0) ≡ b
+        (b : Bool) → (terms.cycle == 0) ≡ b
         → is_due_by now (publisher_due (published terms now)) ≡ false
-    either terms now true is = rw is refl
-    either terms now false is =
+    either true is = rw is refl
+    either false is =
         rw is (nat_le-past (now + terms.cycle) now (grind (arith, nat_tests)))
 
 -- a supervision time that begins now ends later
 pub deadline_from-later :
     (supervision now : ℕ) → is_due_by now (deadline_from supervision now) ≡ false
 unfolding deadline_from
-deadline_from-later supervision now = either supervision now (supervision == 0) refl
+deadline_from-later supervision now = either (supervision == 0) refl
   where
     either :
-        (supervision now : ℕ) (b : Bool) → (supervision == 0) ≡ b
+        (b : Bool) → (supervision == 0) ≡ b
         → is_due_by now (deadline_from supervision now) ≡ false
-    either supervision now true is = rw is refl
-    either supervision now false is =
-        rw is (nat_le-past (now + supervision) now (grind (arith, nat_tests)))
+    either true is = rw is refl
+    either false is = rw is (nat_le-past (now + supervision) now (grind (arith, nat_tests)))
 
 -- a telegram makes no subscription due
 subscription_due-taking :

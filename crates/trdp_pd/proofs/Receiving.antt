@@ -9,7 +9,8 @@ use Rattle.trdp_head.specs.declared.pd.PdKind.TheVariants.{Data, PullReply, Pull
 use Rattle.trdp_filter.specs.declared.globals.Globals.{Globals}
 use Rattle.trdp_filter.specs.PdFilters.{pd_passes}
 use Rattle.trdp_filter.specs.Telegrams.{TelegramModel, PdIs}
-use Rattle.trdp_pd.specs.Subscriptions.{SubscriptionState, HasTaken, carries_value, is_stale, is_for, is_accepted, subscription_taking}
+use Rattle.trdp_pd.specs.Subscriptions.{SubscriptionState, HasTaken, carries_value, is_stale}
+use Rattle.trdp_pd.specs.Subscriptions.{is_for, is_accepted, subscription_taking}
 
 false-true : false ≡ true → ⊥
 false-true is = absurd (cc)

@@ -1,69 +1,56 @@
 -- What a publisher sends.
 use Rattle.std.proofs.Common.{◌≡◌, ℕ, Some, None, Bool, true, false, refl, IsSome, List, Option}
 use Rattle.std.specs.Prelude.{◌==◌, ◌&&◌, ◌||◌, is_some}
-use Rattle.trdp_base.specs.declared.place.Place.{Place}
 use Rattle.trdp_head.specs.declared.pd.PdHead.{PdHead}
-use Rattle.trdp_head.specs.PdTelegrams.{PdTelegram}
 use Rattle.trdp_filter.specs.declared.globals.Globals.{Globals}
 use Rattle.trdp_filter.specs.Counts.{topo_valid}
 use Rattle.trdp_filter.specs.Globals.{leads}
 use Rattle.trdp_filter.specs.Telegrams.{TelegramModel, PdIs}
 use Rattle.trdp_pd.specs.declared.object.Fired.TheVariants.{Data}
 use Rattle.trdp_pd.specs.declared.object.Taken.TheVariants.{Pulled}
-use Rattle.trdp_pd.specs.Publishers.{
-  PublisherState,
-  is_answered,
-  is_asked,
-  may_send,
-  publisher_firing,
-  publisher_taking,
-}
+use Rattle.trdp_pd.specs.Publishers.{PublisherState, is_answered, is_asked, may_send}
+use Rattle.trdp_pd.specs.Publishers.{publisher_firing, publisher_taking}
 
 -- a moment leaves the value
 pub value-firing :
     (p : PublisherState) (globals : Globals) → (publisher_firing p globals).object.value ≡ p.value
-value-firing p globals = either p globals (may_send p globals) refl
+value-firing p globals = either (may_send p globals) refl
   where
     either :
-        (p : PublisherState) (globals : Globals) (b : Bool) → may_send p globals ≡ b
+        (b : Bool) → may_send p globals ≡ b
         → (publisher_firing p globals).object.value ≡ p.value
-    either p globals true is = rw is refl
-    either p globals false is = rw is refl
+    either true is = rw is refl
+    either false is = rw is refl
 
 -- what a publisher sends has its comId, and is sent for a value that it has
 pub sent-com_id :
     (p : PublisherState) (globals : Globals) (head : PdHead)
     → (publisher_firing p globals).fired ≡ Data head → head.com_id ≡ p.terms.com_id
-sent-com_id p globals head is = either p globals head (may_send p globals) refl is
+sent-com_id p globals head is = either (may_send p globals) refl is
   where
     either :
-        (p : PublisherState) (globals : Globals) (head : PdHead) (b : Bool)
-        → may_send p globals ≡ b → (publisher_firing p globals).fired ≡ Data head
+        (b : Bool) → may_send p globals ≡ b → (publisher_firing p globals).fired ≡ Data head
         → head.com_id ≡ p.terms.com_id
-    either p globals head true may is = let h = rw may at is in cc
-    either p globals head false may is = let h = rw may at is in absurd (cc)
+    either true may is = let h = rw may at is in cc
+    either false may is = let h = rw may at is in absurd (cc)
 
-pub sent-may_send :
+sent-may_send :
     (p : PublisherState) (globals : Globals) (head : PdHead)
     → (publisher_firing p globals).fired ≡ Data head → may_send p globals ≡ true
-sent-may_send p globals head is = either p globals head (may_send p globals) refl is
+sent-may_send p globals head is = either (may_send p globals) refl is
   where
     either :
-        (p : PublisherState) (globals : Globals) (head : PdHead) (b : Bool)
-        → may_send p globals ≡ b → (publisher_firing p globals).fired ≡ Data head
+        (b : Bool) → may_send p globals ≡ b → (publisher_firing p globals).fired ≡ Data head
         → may_send p globals ≡ true
-    either p globals head true may is = may
-    either p globals head false may is = let h = rw may at is in absurd (cc)
+    either true may is = may
+    either false may is = let h = rw may at is in absurd (cc)
 
 -- leave to send needs a value
 is_some-may_send :
     (p : PublisherState) (globals : Globals) → may_send p globals ≡ true → IsSome p.value
 is_some-may_send p globals may =
-    either
-    p.value
-    (p.terms.group == 0 || leads globals.led p.terms.group)
-    (topo_valid p.terms.topo globals.topo)
-    may
+    let leads : Bool = p.terms.group == 0 || leads globals.led p.terms.group in
+    either p.value leads (topo_valid p.terms.topo globals.topo) may
   where
     either :
         (value : Option (List ℕ)) (group topo : Bool) → (is_some value && group && topo) ≡ true
@@ -77,46 +64,39 @@ pub sent-value :
 sent-value p globals head is = is_some-may_send p globals (sent-may_send p globals head is)
 
 -- a pull request leaves what is sent, the value and the due moment
+record Keeps (p after : PublisherState) : Type 0 where
+  terms : after.terms ≡ p.terms
+  value : after.value ≡ p.value
+  due : after.due ≡ p.due
+
+keeps-taking :
+    (p : PublisherState) (telegram : TelegramModel) (globals : Globals) (fits : Bool)
+    → Keeps p (publisher_taking p telegram globals fits).object
+keeps-taking p (PdIs src dst telegram) globals fits =
+    either (is_answered p telegram.head globals) refl
+  where
+    either :
+        (b : Bool) → is_answered p telegram.head globals ≡ b
+        → Keeps p (publisher_taking p (PdIs src dst telegram) globals fits).object
+    either true is = rw is (record { terms = refl; value = refl; due = refl })
+    either false is = rw is (record { terms = refl; value = refl; due = refl })
+
 pub terms-taking :
     (p : PublisherState) (telegram : TelegramModel) (globals : Globals) (fits : Bool)
     → (publisher_taking p telegram globals fits).object.terms ≡ p.terms
-terms-taking p (PdIs src dst telegram) globals fits =
-    either p src dst telegram globals fits (is_answered p telegram.head globals) refl
-  where
-    either :
-        (p : PublisherState) (src dst : Place) (telegram : PdTelegram) (globals : Globals)
-        (fits : Bool) (b : Bool) → is_answered p telegram.head globals ≡ b
-        → (publisher_taking p (PdIs src dst telegram) globals fits).object.terms ≡ p.terms
-    either p src dst telegram globals fits true is = rw is refl
-    either p src dst telegram globals fits false is = rw is refl
+terms-taking p telegram globals fits = (keeps-taking p telegram globals fits).terms
 
 pub value-taking :
     (p : PublisherState) (telegram : TelegramModel) (globals : Globals) (fits : Bool)
     → (publisher_taking p telegram globals fits).object.value ≡ p.value
-value-taking p (PdIs src dst telegram) globals fits =
-    either p src dst telegram globals fits (is_answered p telegram.head globals) refl
-  where
-    either :
-        (p : PublisherState) (src dst : Place) (telegram : PdTelegram) (globals : Globals)
-        (fits : Bool) (b : Bool) → is_answered p telegram.head globals ≡ b
-        → (publisher_taking p (PdIs src dst telegram) globals fits).object.value ≡ p.value
-    either p src dst telegram globals fits true is = rw is refl
-    either p src dst telegram globals fits false is = rw is refl
+value-taking p telegram globals fits = (keeps-taking p telegram globals fits).value
 
 pub due-taking :
     (p : PublisherState) (telegram : TelegramModel) (globals : Globals) (fits : Bool)
     → (publisher_taking p telegram globals fits).object.due ≡ p.due
-due-taking p (PdIs src dst telegram) globals fits =
-    either p src dst telegram globals fits (is_answered p telegram.head globals) refl
-  where
-    either :
-        (p : PublisherState) (src dst : Place) (telegram : PdTelegram) (globals : Globals)
-        (fits : Bool) (b : Bool) → is_answered p telegram.head globals ≡ b
-        → (publisher_taking p (PdIs src dst telegram) globals fits).object.due ≡ p.due
-    either p src dst telegram globals fits true is = rw is refl
-    either p src dst telegram globals fits false is = rw is refl
+due-taking p telegram globals fits = (keeps-taking p telegram globals fits).due
 
--- a pull reply has the publisher's comId, and is sent for a value that it has
+-- a pull reply is sent where the publisher may send, and has its comId
 may_send-is_answered :
     (p : PublisherState) (head : PdHead) (globals : Globals) → is_answered p head globals ≡ true
     → may_send p globals ≡ true
@@ -127,35 +107,31 @@ may_send-is_answered p head globals is = second (is_asked p head) (may_send p gl
     second true b is = is
     second false b is = absurd (cc)
 
-pub pulled-is_answered :
-    (p : PublisherState) (src dst : Place) (telegram : PdTelegram) (globals : Globals)
-    (fits : Bool) (head : PdHead)
-    → (publisher_taking p (PdIs src dst telegram) globals fits).taken ≡ Pulled head
-    → (is_answered p telegram.head globals ≡ true) × (head.com_id ≡ p.terms.com_id)
-pulled-is_answered p src dst telegram globals fits head is =
-    either p src dst telegram globals fits head (is_answered p telegram.head globals) refl is
+pulled-may_send :
+    (p : PublisherState) (telegram : TelegramModel) (globals : Globals) (fits : Bool)
+    (head : PdHead) → (publisher_taking p telegram globals fits).taken ≡ Pulled head
+    → (may_send p globals ≡ true) × (head.com_id ≡ p.terms.com_id)
+pulled-may_send p (PdIs src dst telegram) globals fits head is =
+    either (is_answered p telegram.head globals) refl is
   where
     either :
-        (p : PublisherState) (src dst : Place) (telegram : PdTelegram) (globals : Globals)
-        (fits : Bool) (head : PdHead) (b : Bool) → is_answered p telegram.head globals ≡ b
+        (b : Bool) → is_answered p telegram.head globals ≡ b
         → (publisher_taking p (PdIs src dst telegram) globals fits).taken ≡ Pulled head
-        → (is_answered p telegram.head globals ≡ true) × (head.com_id ≡ p.terms.com_id)
-    either p src dst telegram globals fits head true answered is =
-        let h = rw answered at is in (answered, cc)
-    either p src dst telegram globals fits head false answered is =
-        let h = rw answered at is in absurd (cc)
+        → (may_send p globals ≡ true) × (head.com_id ≡ p.terms.com_id)
+    either true answered is =
+        let h = rw answered at is in (may_send-is_answered p telegram.head globals answered, cc)
+    either false answered is = let h = rw answered at is in absurd (cc)
 
 pub pulled-com_id :
     (p : PublisherState) (telegram : TelegramModel) (globals : Globals) (fits : Bool)
     (head : PdHead) → (publisher_taking p telegram globals fits).taken ≡ Pulled head
     → head.com_id ≡ p.terms.com_id
-pulled-com_id p (PdIs src dst telegram) globals fits head is =
-    (pulled-is_answered p src dst telegram globals fits head is).1
+pulled-com_id p telegram globals fits head is =
+    (pulled-may_send p telegram globals fits head is).1
 
 pub pulled-value :
     (p : PublisherState) (telegram : TelegramModel) (globals : Globals) (fits : Bool)
     (head : PdHead) → (publisher_taking p telegram globals fits).taken ≡ Pulled head
     → IsSome p.value
-pulled-value p (PdIs src dst telegram) globals fits head is =
-    let answered = (pulled-is_answered p src dst telegram globals fits head is).0 in
-    is_some-may_send p globals (may_send-is_answered p telegram.head globals answered)
+pulled-value p telegram globals fits head is =
+    is_some-may_send p globals (pulled-may_send p telegram globals fits head is).0

@@ -5,11 +5,8 @@ use Rattle.trdp_filter.specs.declared.globals.Globals.{Globals}
 use Rattle.trdp_filter.specs.Telegrams.{TelegramModel}
 use Rattle.trdp_pd.specs.declared.object.Taken.TheVariants.{Nothing as NotTaken}
 use Rattle.trdp_pd.specs.declared.any_object.AnyObject.{AnyObject}
-use Rattle.trdp_pd.specs.declared.any_object.AnyObject.TheVariants.{
-  Publisher,
-  Subscription,
-  Requester,
-}
+use Rattle.trdp_pd.specs.declared.any_object.AnyObject.TheVariants.{Publisher, Subscription}
+use Rattle.trdp_pd.specs.declared.any_object.AnyObject.TheVariants.{Requester}
 use Rattle.trdp_pd.specs.Effects.{Taking, taking_as}
 use Rattle.trdp_pd.specs.Due.{is_due_by}
 use Rattle.trdp_pd.specs.Publishers.{PublisherState}
@@ -17,10 +14,8 @@ use Rattle.trdp_pd.specs.Subscriptions.{SubscriptionState}
 use Rattle.trdp_pd.specs.Requesters.{RequesterState}
 use Rattle.trdp_pd.specs.Objects.{due_of, is_addressed, taking, firing}
 use Rattle.trdp_pd.specs.PublisherLaws.{publisher_taking-unaddressed, publisher_due-firing}
-use Rattle.trdp_pd.specs.SubscriptionLaws.{
-  subscription_taking-unaddressed,
-  subscription_due-firing,
-}
+use Rattle.trdp_pd.specs.SubscriptionLaws.{subscription_taking-unaddressed}
+use Rattle.trdp_pd.specs.SubscriptionLaws.{subscription_due-firing}
 use Rattle.trdp_pd.specs.RequesterLaws.{requester_taking-unaddressed, requester_due-firing}
 
 -- a telegram that isn't addressed to an object changes nothing

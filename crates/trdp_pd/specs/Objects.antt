@@ -5,32 +5,18 @@ use Rattle.trdp_filter.specs.Telegrams.{TelegramModel}
 use Rattle.trdp_pd.specs.declared.object.Taken.{Taken}
 use Rattle.trdp_pd.specs.declared.object.Fired.{Fired}
 use Rattle.trdp_pd.specs.declared.any_object.AnyObject.{AnyObject}
-use Rattle.trdp_pd.specs.declared.any_object.AnyObject.TheVariants.{
-  Publisher,
-  Subscription,
-  Requester,
-}
+use Rattle.trdp_pd.specs.declared.any_object.AnyObject.TheVariants.{Publisher, Subscription}
+use Rattle.trdp_pd.specs.declared.any_object.AnyObject.TheVariants.{Requester}
 use Rattle.trdp_pd.specs.Effects.{Taking, Firing, taking_as, firing_as}
-use Rattle.trdp_pd.specs.Publishers.{
-  publisher_due,
-  publisher_addressed,
-  publisher_taking,
-  publisher_firing,
-}
-use Rattle.trdp_pd.specs.Subscriptions.{
-  subscription_addressed,
-  subscription_taking,
-  subscription_firing,
-}
-use Rattle.trdp_pd.specs.Requesters.{
-  requester_due,
-  requester_addressed,
-  requester_taking,
-  requester_firing,
-}
+use Rattle.trdp_pd.specs.Publishers.{publisher_due, publisher_addressed, publisher_taking}
+use Rattle.trdp_pd.specs.Publishers.{publisher_firing}
+use Rattle.trdp_pd.specs.Subscriptions.{subscription_addressed, subscription_taking}
+use Rattle.trdp_pd.specs.Subscriptions.{subscription_firing}
+use Rattle.trdp_pd.specs.Requesters.{requester_due, requester_addressed, requester_taking}
+use Rattle.trdp_pd.specs.Requesters.{requester_firing}
 
--- the place of the object's kind in the order of the quotas: publishers come first, then
--- subscriptions, then requesters
+-- the index of the object's kind among the quotas: publishers come first, then subscriptions, then
+-- requesters
 abbrev pub kind_of : AnyObject → ℕ
 kind_of (Publisher p) = 0
 kind_of (Subscription s) = 1

@@ -10,17 +10,9 @@ use Rattle.trdp_filter.specs.declared.globals.Globals.{Globals}
 use Rattle.trdp_filter.specs.Telegrams.{TelegramModel, PdIs}
 use Rattle.trdp_pd.specs.declared.object.Taken.TheVariants.{Nothing as NotTaken}
 use Rattle.trdp_pd.specs.Due.{is_due_by}
-use Rattle.trdp_pd.specs.Publishers.{
-  PublisherState,
-  is_answered,
-  is_asked,
-  may_send,
-  next_due,
-  publisher_addressed,
-  publisher_due,
-  publisher_firing,
-  publisher_taking,
-}
+use Rattle.trdp_pd.specs.Publishers.{PublisherState, is_answered, is_asked, may_send, next_due}
+use Rattle.trdp_pd.specs.Publishers.{publisher_addressed, publisher_due, publisher_firing}
+use Rattle.trdp_pd.specs.Publishers.{publisher_taking}
 
 -- the next due moment is later than now
 pub next_due-later :
@@ -35,36 +27,36 @@ nat_le-past a b lt = grind (arith, nat_tests)
 due-firing :
     (p : PublisherState) (globals : Globals)
     → (publisher_firing p globals).object.due ≡ next_due p globals.now
-due-firing p globals = either p globals (may_send p globals) refl
+due-firing p globals = either (may_send p globals) refl
   where
     either :
-        (p : PublisherState) (globals : Globals) (b : Bool) → may_send p globals ≡ b
+        (b : Bool) → may_send p globals ≡ b
         → (publisher_firing p globals).object.due ≡ next_due p globals.now
-    either p globals true is = rw is refl
-    either p globals false is = rw is refl
+    either true is = rw is refl
+    either false is = rw is refl
 
 pub terms-firing :
     (p : PublisherState) (globals : Globals) → (publisher_firing p globals).object.terms ≡ p.terms
-terms-firing p globals = either p globals (may_send p globals) refl
+terms-firing p globals = either (may_send p globals) refl
   where
     either :
-        (p : PublisherState) (globals : Globals) (b : Bool) → may_send p globals ≡ b
+        (b : Bool) → may_send p globals ≡ b
         → (publisher_firing p globals).object.terms ≡ p.terms
-    either p globals true is = rw is refl
-    either p globals false is = rw is refl
+    either true is = rw is refl
+    either false is = rw is refl
 
 -- a publisher that fired isn't due by now
 pub publisher_due-firing :
     (p : PublisherState) (globals : Globals)
     → is_due_by globals.now (publisher_due (publisher_firing p globals).object) ≡ false
 publisher_due-firing p globals =
-    rw (terms-firing p globals, due-firing p globals) (either p globals (p.terms.cycle == 0) refl)
+    rw (terms-firing p globals, due-firing p globals) (either (p.terms.cycle == 0) refl)
   where
     either :
-        (p : PublisherState) (globals : Globals) (b : Bool) → (p.terms.cycle == 0) ≡ b
+        (b : Bool) → (p.terms.cycle == 0) ≡ b
         → is_due_by globals.now (publisher_due (record p { due = next_due p globals.now })) ≡ false
-    either p globals true is = rw is refl
-    either p globals false is =
+    either true is = rw is refl
+    either false is =
         let some : 0 < p.terms.cycle = grind (arith, nat_tests) in
         let later = next_due-later globals.now p.due p.terms.cycle some in
         rw is (nat_le-past (next_due p globals.now) globals.now later)

@@ -1,32 +1,10 @@
 -- A publisher and its moment.
-use Rattle.std.specs.Prelude.{
-  ℕ,
-  ◌+◌,
-  ◌-◌,
-  ◌*◌,
-  ◌/◌,
-  ◌%◌,
-  ◌^◌,
-  List,
-  Option,
-  Some,
-  None,
-  Bool,
-  true,
-  false,
-  is_some,
-  ◌==◌,
-  ◌&&◌,
-  ◌||◌,
-  if◌then◌else◌,
-}
+use Rattle.std.specs.Prelude.{ℕ, ◌+◌, ◌-◌, ◌*◌, ◌/◌, ◌%◌, ◌^◌, List, Option, Some, None, Bool}
+use Rattle.std.specs.Prelude.{true, false, is_some, ◌==◌, ◌&&◌, ◌||◌, if◌then◌else◌}
 use Rattle.trdp_head.specs.declared.pd.PdHead.{PdHead}
 use Rattle.trdp_head.specs.declared.pd.PdKind.{PdKind}
-use Rattle.trdp_head.specs.declared.pd.PdKind.TheVariants.{
-  Data as DataKind,
-  PullReply,
-  PullRequest,
-}
+use Rattle.trdp_head.specs.declared.pd.PdKind.TheVariants.{Data as DataKind, PullReply}
+use Rattle.trdp_head.specs.declared.pd.PdKind.TheVariants.{PullRequest}
 use Rattle.trdp_filter.specs.declared.globals.Globals.{Globals}
 use Rattle.trdp_filter.specs.Counts.{topo_valid}
 use Rattle.trdp_filter.specs.Globals.{leads}

@@ -5,13 +5,8 @@ use Rattle.trdp_filter.specs.declared.globals.Globals.{Globals}
 use Rattle.trdp_filter.specs.Telegrams.{TelegramModel}
 use Rattle.trdp_pd.specs.declared.object.Taken.TheVariants.{Nothing as NotTaken}
 use Rattle.trdp_pd.specs.Due.{is_due_by}
-use Rattle.trdp_pd.specs.Requesters.{
-  RequesterState,
-  requester_due,
-  requester_addressed,
-  requester_taking,
-  requester_firing,
-}
+use Rattle.trdp_pd.specs.Requesters.{RequesterState, requester_due, requester_addressed}
+use Rattle.trdp_pd.specs.Requesters.{requester_taking, requester_firing}
 
 -- no telegram changes a requester
 pub requester_taking-unaddressed :

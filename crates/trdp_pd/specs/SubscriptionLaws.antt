@@ -7,14 +7,9 @@ use Rattle.trdp_filter.specs.declared.globals.Globals.{Globals}
 use Rattle.trdp_filter.specs.Telegrams.{TelegramModel, PdIs}
 use Rattle.trdp_pd.specs.declared.object.Taken.TheVariants.{Nothing as NotTaken}
 use Rattle.trdp_pd.specs.Due.{is_due_by}
-use Rattle.trdp_pd.specs.Subscriptions.{
-  SubscriptionState,
-  is_for,
-  is_accepted,
-  subscription_addressed,
-  subscription_taking,
-  subscription_firing,
-}
+use Rattle.trdp_pd.specs.Subscriptions.{SubscriptionState, is_for, is_accepted}
+use Rattle.trdp_pd.specs.Subscriptions.{subscription_addressed, subscription_taking}
+use Rattle.trdp_pd.specs.Subscriptions.{subscription_firing}
 
 -- a telegram that isn't for a subscription isn't accepted
 is_accepted-unaddressed :

@@ -1,27 +1,7 @@
 -- A subscription, its telegrams and its supervision.
-use Rattle.std.specs.Prelude.{
-  ◌≡◌,
-  ◌⊎◌,
-  ℕ,
-  ◌+◌,
-  ◌-◌,
-  ◌%◌,
-  ◌^◌,
-  List,
-  length,
-  replicate,
-  Option,
-  Some,
-  None,
-  Bool,
-  true,
-  false,
-  not,
-  nat_lt,
-  ◌==◌,
-  ◌&&◌,
-  if◌then◌else◌,
-}
+use Rattle.std.specs.Prelude.{◌≡◌, ◌⊎◌, ℕ, ◌+◌, ◌-◌, ◌%◌, ◌^◌, List, length, replicate, Option}
+use Rattle.std.specs.Prelude.{Some, None, Bool, true, false, not, nat_lt, ◌==◌, ◌&&◌}
+use Rattle.std.specs.Prelude.{if◌then◌else◌}
 use Rattle.trdp_base.specs.declared.place.Ip.{Ip}
 use Rattle.trdp_base.specs.declared.place.Place.{Place}
 use Rattle.trdp_head.specs.declared.pd.PdHead.{PdHead}
@@ -36,11 +16,8 @@ use Rattle.trdp_pd.specs.declared.terms.Behaviour.{Behaviour}
 use Rattle.trdp_pd.specs.declared.terms.Behaviour.TheVariants.{Zero, Keep}
 use Rattle.trdp_pd.specs.declared.terms.SubscriptionTerms.{SubscriptionTerms}
 use Rattle.trdp_pd.specs.declared.terms.ValueState.{ValueState}
-use Rattle.trdp_pd.specs.declared.terms.ValueState.TheVariants.{
-  Never,
-  Valid,
-  Silent as SilentState,
-}
+use Rattle.trdp_pd.specs.declared.terms.ValueState.TheVariants.{Never, Valid}
+use Rattle.trdp_pd.specs.declared.terms.ValueState.TheVariants.{Silent as SilentState}
 use Rattle.trdp_pd.specs.declared.terms.Latest.{Latest}
 use Rattle.trdp_pd.specs.declared.object.Taken.{Taken}
 use Rattle.trdp_pd.specs.declared.object.Taken.TheVariants.{Nothing, Stored, Alive}
@@ -63,8 +40,8 @@ pub record SubscriptionState : Type 0 where
 unfoldable pub deadline_from : ℕ → ℕ → Option ℕ
 deadline_from supervision now = if supervision == 0 then None else Some (now + supervision)
 
--- the size of the zero value of these terms' dataset, which has one of this size; any bytes have
--- the empty one
+-- the length of the first value: that of the dataset's zero value, which is given, and 0 for
+-- dataset 0, which has none
 unfoldable pub first_size : SubscriptionTerms → ℕ → ℕ
 first_size terms zero_size = if terms.dataset == 0 then 0 else zero_size
 

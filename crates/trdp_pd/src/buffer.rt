@@ -11,7 +11,8 @@ use trdp_head::PD_PAYLOAD_MAX;
 pub struct PayloadBuffer {
     /// 1432 bytes, which the payload overwrites from the front.
     room: Vec<u8>,
-    /// The bytes of the payload, 0 to 1432; the room behind them holds what was there before.
+    /// The length of the payload in bytes, 0 to 1432; what the room holds behind it counts for
+    /// nothing.
     size: usize,
 }
 

@@ -9,20 +9,10 @@ ghost use Rattle.trdp_pd.specs.declared.any_object.AnyObject.{AnyObject};
 ghost use Rattle.trdp_pd.specs.declared.terms.PublisherTerms.{PublisherTerms};
 ghost use Rattle.trdp_pd.specs.declared.terms.SubscriptionTerms.{SubscriptionTerms};
 ghost use Rattle.trdp_pd.specs.Due.{is_due_by};
-ghost use Rattle.trdp_pd.specs.Publishers.{
-  PublisherState,
-  published,
-  publisher_due,
-  publisher_taking,
-  publisher_firing,
-};
-ghost use Rattle.trdp_pd.specs.Subscriptions.{
-  SubscriptionState,
-  HasTaken,
-  subscribed,
-  subscription_taking,
-  subscription_firing,
-};
+ghost use Rattle.trdp_pd.specs.Publishers.{PublisherState, published, publisher_due};
+ghost use Rattle.trdp_pd.specs.Publishers.{publisher_taking, publisher_firing};
+ghost use Rattle.trdp_pd.specs.Subscriptions.{SubscriptionState, HasTaken, subscribed};
+ghost use Rattle.trdp_pd.specs.Subscriptions.{subscription_taking, subscription_firing};
 ghost use Rattle.trdp_pd.specs.Objects.{kind_of, due_of, after_taking, after_firing};
 
 use crate::object::{Fired, Taken};

@@ -68,15 +68,8 @@ fn asked_com_id(head: &PdHead) -> u32
 }
 
 impl Publisher {
-    ghost use Rattle.trdp_pd.specs.Publishers.{
-      PublisherState,
-      published,
-      may_send,
-      is_asked,
-      is_answered,
-      head_as,
-      next_counter,
-    };
+    ghost use Rattle.trdp_pd.specs.Publishers.{PublisherState, published, may_send, is_asked};
+    ghost use Rattle.trdp_pd.specs.Publishers.{is_answered, head_as, next_counter};
 
     /// A publisher without a value, first due one cycle after `now`, in microseconds (profile).
     ///
@@ -97,7 +90,7 @@ impl Publisher {
         })
     }
 
-    /// Gives it a new value.
+    /// Gives it a new value of at most 1432 bytes.
     pub fn put(&mut self, bytes: &[u8])
         requires { length bytes.now ≤ 1432 }
         ensures { self.new ≡ record self.old { value = Some bytes.now } }
@@ -188,16 +181,10 @@ impl Publisher {
 }
 
 impl Object for Publisher {
-    ghost use Rattle.trdp_pd.specs.Publishers.{
-      publisher_due,
-      publisher_addressed,
-      publisher_taking,
-      publisher_firing,
-    };
-    ghost use Rattle.trdp_pd.specs.PublisherLaws.{
-      publisher_taking-unaddressed,
-      publisher_due-firing,
-    };
+    ghost use Rattle.trdp_pd.specs.Publishers.{publisher_due, publisher_addressed};
+    ghost use Rattle.trdp_pd.specs.Publishers.{publisher_taking, publisher_firing};
+    ghost use Rattle.trdp_pd.specs.PublisherLaws.{publisher_taking-unaddressed};
+    ghost use Rattle.trdp_pd.specs.PublisherLaws.{publisher_due-firing};
 
     ghost due_of = { publisher_due };
 

@@ -2,13 +2,8 @@
 
 ghost use Rattle.std.specs.Prelude.{◌≡◌, ℕ, ◌≤◌, length, IfOk};
 ghost use Rattle.trdp_base.specs.Moments.{last_moment};
-ghost use Rattle.trdp_pd.specs.Subscriptions.{
-  first_size,
-  deadline_from,
-  carries_value,
-  is_stale,
-  taken_in,
-};
+ghost use Rattle.trdp_pd.specs.Subscriptions.{first_size, deadline_from, carries_value, is_stale};
+ghost use Rattle.trdp_pd.specs.Subscriptions.{taken_in};
 
 use crate::buffer::PayloadBuffer;
 use crate::object::{Fired, Object, Taken};
@@ -27,8 +22,8 @@ const STALE_WINDOW: u32 = 16;
 pub struct Subscription {
     /// What it takes, and for how long a value is good; never changed.
     terms: SubscriptionTerms,
-    /// The bytes of its dataset's zero value, 0 to 1432; 0 for dataset 0, which has none; never
-    /// changed.
+    /// The length of its dataset's zero value in bytes, 0 to 1432; 0 for dataset 0, which has
+    /// none; never changed.
     zero_size: usize,
     /// When its value times out, in microseconds; None for a supervision time of 0, and from a
     /// time-out to the next telegram that it takes.
@@ -63,7 +58,8 @@ impl Model for Subscription {
     ghost invariant = { λ s. s.zero_size ≤ 1432 };
 }
 
-/// The size of its dataset's zero value, of these bytes; 0 for dataset 0, whatever they are.
+/// The length of a new subscription's value in bytes: that of its dataset's zero value, which is
+/// given, and 0 for dataset 0, whatever is given.
 #[tactic(auto, unfolding(crate::specs::Subscriptions::first_size))]
 fn first_size(terms: &SubscriptionTerms, zero_size: usize) -> usize
     requires { zero_size ≤ 1432 }
@@ -125,14 +121,8 @@ fn taken_in(state: ValueState) -> Taken
 
 impl Subscription {
     ghost use Rattle.trdp_head.specs.PdTelegrams.{PdTelegram};
-    ghost use Rattle.trdp_pd.specs.Subscriptions.{
-      SubscriptionState,
-      subscribed,
-      is_for,
-      is_accepted,
-      storing,
-      value_after_time_out,
-    };
+    ghost use Rattle.trdp_pd.specs.Subscriptions.{SubscriptionState, subscribed, is_for};
+    ghost use Rattle.trdp_pd.specs.Subscriptions.{is_accepted, storing, value_after_time_out};
     ghost use Rattle.trdp_pd.specs.Peeks.{peek_model, shown};
 
     /// A subscription that shows the zero value of its dataset, supervised from `now` on, in
@@ -249,15 +239,10 @@ impl Subscription {
 }
 
 impl Object for Subscription {
-    ghost use Rattle.trdp_pd.specs.Subscriptions.{
-      subscription_addressed,
-      subscription_taking,
-      subscription_firing,
-    };
-    ghost use Rattle.trdp_pd.specs.SubscriptionLaws.{
-      subscription_taking-unaddressed,
-      subscription_due-firing,
-    };
+    ghost use Rattle.trdp_pd.specs.Subscriptions.{subscription_addressed, subscription_taking};
+    ghost use Rattle.trdp_pd.specs.Subscriptions.{subscription_firing};
+    ghost use Rattle.trdp_pd.specs.SubscriptionLaws.{subscription_taking-unaddressed};
+    ghost use Rattle.trdp_pd.specs.SubscriptionLaws.{subscription_due-firing};
 
     ghost due_of = { λ s. s.deadline };
 

@@ -250,10 +250,10 @@ fn stale_window(rt: HostRuntime) -> Result<(), Fail> {
 fn new_subscription(rt: HostRuntime) -> Result<(), Fail> {
     let mut terms = subscribed(0, Behaviour::Zero);
     terms.dataset = 1001;
-    let s = Subscription::new(rt.alloc(), &terms, 1, 0)?;
+    let s = Subscription::new(rt.alloc(), &terms, 1432, 0)?;
     let peek = s.peek();
     assert_eq!(rt; (peek.state, peek.counter), (ValueState::Never, 0));
-    assert_eq!(rt; peek.bytes, b"\x00".as_slice());
+    assert_eq!(rt; peek.bytes, [0; 1432].as_slice());
     assert_eq!(rt; (s.com_id(), s.dataset()), (100, 1001));
     Ok(())
 }
