@@ -18,7 +18,7 @@ use Rattle.trdp_pd.specs.declared.any_object.AnyObject.TheVariants.{Publisher, S
 use Rattle.trdp_pd.specs.declared.terms.Behaviour.{Behaviour}
 use Rattle.trdp_pd.specs.declared.terms.Behaviour.TheVariants.{Zero, Keep}
 use Rattle.trdp_pd.specs.declared.terms.SubscriptionTerms.{SubscriptionTerms}
-use Rattle.trdp_pd.specs.Subscriptions.{SubscriptionState, subscribed, is_accepted, is_for, is_stale, value_after_time_out}
+use Rattle.trdp_pd.specs.Subscriptions.{SubscriptionState, first_size, subscribed, is_accepted, is_for, is_stale, value_after_time_out}
 use Rattle.trdp_pd.specs.Objects.{after_taking, after_firing}
 use Rattle.trdp_engine.specs.declared.object.Entry.{Entry}
 use Rattle.trdp_engine.specs.declared.fault.Refusal.{Refusal}
@@ -51,9 +51,28 @@ zero_fits setup dataset sound is = either (dataset == 0) refl
 any_fit : (setup : ConfigModel) (dataset : ℕ) (bytes : List ℕ) → (dataset == 0) ≡ true → is_fitting setup dataset bytes ≡ true
 any_fit setup dataset bytes none = rw none refl
 
+-- the size that a subscription begins with is that of its dataset's zero value
+first_size-zero_size_of :
+    (setup : ConfigModel) (terms : SubscriptionTerms)
+    → first_size terms (zero_size_of setup terms.dataset) ≡ zero_size_of setup terms.dataset
+unfolding first_size
+first_size-zero_size_of setup terms = either (terms.dataset == 0) refl
+  where
+    either :
+        (b : Bool) → (terms.dataset == 0) ≡ b
+        → first_size terms (zero_size_of setup terms.dataset) ≡ zero_size_of setup terms.dataset
+    either true none = rw none refl
+    either false some = rw some refl
+
 -- a new subscription shows the zero value
 subscribed_fits : (setup : ConfigModel) (terms : SubscriptionTerms) (now : ℕ) → IsRegistry setup.registry → is_dataset setup terms.dataset ≡ true → ShowsFitting setup (subscribed terms (zero_size_of setup terms.dataset) now)
-subscribed_fits setup terms now sound is = record { dataset = is; zero_size = refl; value = zero_fits setup terms.dataset sound is }
+subscribed_fits setup terms now sound is =
+    let same = first_size-zero_size_of setup terms in
+    record {
+      dataset = is;
+      zero_size = same;
+      value = rw same (zero_fits setup terms.dataset sound is);
+    }
 
 -- a time-out keeps the value, or makes it the zero value, or of dataset 0 as many zeros
 time_out_fits : (setup : ConfigModel) (terms : SubscriptionTerms) (size : ℕ) (value : List ℕ) → IsRegistry setup.registry → is_dataset setup terms.dataset ≡ true → size ≡ zero_size_of setup terms.dataset → is_fitting setup terms.dataset value ≡ true → is_fitting setup terms.dataset (value_after_time_out terms size value) ≡ true
