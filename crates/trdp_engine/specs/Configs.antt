@@ -12,12 +12,12 @@ quotas_of None = replicate 6 0
 
 -- a dataset that values may be of: one of the registry, or 0, which any bytes are of
 abbrev pub is_dataset : ConfigModel → ℕ → Bool
-is_dataset setup dataset = dataset == 0 || is_known setup.registry dataset
+is_dataset config dataset = dataset == 0 || is_known config.registry dataset
 
 -- how many bytes the zero value of a dataset takes; of dataset 0 none
 abbrev pub zero_size_of : ConfigModel → ℕ → ℕ
-zero_size_of setup dataset = if dataset == 0 then 0 else zero_size setup.registry dataset
+zero_size_of config dataset = if dataset == 0 then 0 else zero_size config.registry dataset
 
 -- the bytes are a value of the dataset
 abbrev pub is_fitting : ConfigModel → ℕ → List ℕ → Bool
-is_fitting setup dataset bytes = fits_dataset setup.registry dataset bytes
+is_fitting config dataset bytes = fits_dataset config.registry dataset bytes

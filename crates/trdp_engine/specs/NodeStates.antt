@@ -14,20 +14,20 @@ use Rattle.trdp_engine.specs.Alone.{slot_after, records_after, alone_in_view}
 
 -- a node: its configuration, its globals, and its slots
 pub record NodeState : Type 0 where
-  pub setup : ConfigModel
+  pub config : ConfigModel
   pub globals : Globals
   pub slots : List SlotState
 
 -- one event, as slot s sees it
 pub record StepsAsAlone (old new : NodeState) (records records_then : List RecordModel) (event : EventModel) (s : ℕ) (slot : SlotState) : Type 0 where
-  pub slot_is : slice_get new.slots s ≡ Some (slot_after old.setup s slot old.globals event)
-  pub records_are : records_of s records_then ≡ records_of s records ++ records_after old.setup s slot old.globals event
+  pub slot_is : slice_get new.slots s ≡ Some (slot_after old.config s slot old.globals event)
+  pub records_are : records_of s records_then ≡ records_of s records ++ records_after old.config s slot old.globals event
 
 -- a list of events, as slot s sees it: the slot, the globals and the records are those of the slot run by itself
 pub record RunsAsAlone (old new : NodeState) (records records_then : List RecordModel) (events : List EventModel) (s : ℕ) (slot : SlotState) : Type 0 where
-  pub slot_is : slice_get new.slots s ≡ Some (alone_in_view old.setup s slot old.globals events).slot
-  pub globals_are : new.globals ≡ (alone_in_view old.setup s slot old.globals events).globals
-  pub records_are : records_of s records_then ≡ records_of s records ++ (alone_in_view old.setup s slot old.globals events).records
+  pub slot_is : slice_get new.slots s ≡ Some (alone_in_view old.config s slot old.globals events).slot
+  pub globals_are : new.globals ≡ (alone_in_view old.config s slot old.globals events).globals
+  pub records_are : records_of s records_then ≡ records_of s records ++ (alone_in_view old.config s slot old.globals events).records
 
 -- the records of before stand first, and none is added for a number that no slot has
 pub record Appends (slots : List SlotState) (records records_then : List RecordModel) : Type 0 where
@@ -49,7 +49,7 @@ MayTakeMemory node (CallIs s call) = Unit {0}
 
 -- a node that was just made serves the first slot of its configuration, which is empty
 abbrev pub opened_node : ConfigModel → NodeState
-opened_node config = record { setup = config; globals = first_globals; slots = opened_slot (quotas_of (slice_get config.slots 0)) ∷ [] }
+opened_node config = record { config = config; globals = first_globals; slots = opened_slot (quotas_of (slice_get config.slots 0)) ∷ [] }
 
 -- slot s is the same in two nodes, and has got the same records since
 pub record GetsTheSame (first second : NodeState) (records records_then others others_then : List RecordModel) (s : ℕ) : Type 0 where

@@ -18,14 +18,14 @@ use Rattle.trdp_engine.specs.Records.{Content, Sends}
 
 -- why an object doesn't pull: it is no requester, or its topology counts don't match the node's
 abbrev pub object_pull_refusal : Globals → AnyObject → Option Refusal
-object_pull_refusal g (Publisher p) = Some WrongKind
-object_pull_refusal g (Subscription s) = Some WrongKind
-object_pull_refusal g (Requester r) = if topo_valid r.terms.topo g.topo then None else Some State
+object_pull_refusal globals (Publisher p) = Some WrongKind
+object_pull_refusal globals (Subscription s) = Some WrongKind
+object_pull_refusal globals (Requester r) = if topo_valid r.terms.topo globals.topo then None else Some State
 
 -- first refusal of a pull by the object of a handle
 abbrev pub pull_refusal : Globals → Option Entry → Option Refusal
-pull_refusal g None = Some NoHandle
-pull_refusal g (Some entry) = object_pull_refusal g entry.object
+pull_refusal globals None = Some NoHandle
+pull_refusal globals (Some entry) = object_pull_refusal globals entry.object
 
 -- an object once it pulled: a requester has counted its pull request
 abbrev pub after_pull : AnyObject → AnyObject
@@ -47,8 +47,8 @@ pull_request_of (Some entry) = pull_request entry.object
 -- where a pull request is answered: at its reply address, at the node's own process data port, or where it has no such
 -- address at the place that it came from
 unfoldable pub answer_place : ConfigModel → TelegramModel → Place
-answer_place setup (PdIs src dst telegram) =
-    if telegram.head.reply_ip.0 == 0 then src else record { ip = telegram.head.reply_ip; port = setup.pd_port }
+answer_place config (PdIs src dst telegram) =
+    if telegram.head.reply_ip.0 == 0 then src else record { ip = telegram.head.reply_ip; port = config.pd_port }
 
 -- a value that is sent to that place under this header; without a value nothing is sent
 abbrev pub value_sent : Place → PdHead → Option (List ℕ) → List Content

@@ -31,7 +31,7 @@ showing_in (Some slot) handle = showing_at (entry_of handle slot.objects)
 -- the answer to a look at that subscription: the item whose bytes it shows, or want of memory for it; without such a
 -- subscription the reason
 abbrev pub ShowsItem : ConfigModel → Result SubscriptionState ValueFault → Result Item ValueFault → Type 0
-ShowsItem setup (Ok s) (Ok item) = Spells setup.registry s.terms.dataset (model_of item) s.value
-ShowsItem setup (Ok s) (Err fault) = fault ≡ OutOfMemory
-ShowsItem setup (Err fault) (Ok item) = ⊥
-ShowsItem setup (Err fault) (Err other) = other ≡ fault
+ShowsItem config (Ok s) (Ok item) = Spells config.registry s.terms.dataset (model_of item) s.value
+ShowsItem config (Ok s) (Err fault) = fault ≡ OutOfMemory
+ShowsItem config (Err fault) (Ok item) = ⊥
+ShowsItem config (Err fault) (Err other) = other ≡ fault

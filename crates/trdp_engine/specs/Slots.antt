@@ -24,7 +24,7 @@ unchanged slot = record { slot = slot; records = [] }
 abbrev pub opened_slot : List ℕ → SlotState
 opened_slot quotas = record { quotas = quotas; next = 1; objects = [] }
 
--- how many objects are of the kind at that place of the quotas
+-- how many objects are of the kind with that index in the quotas
 abbrev pub count_of : ℕ → List Entry → ℕ
 count_of kind objects = count_by (λ entry. kind_of entry.object == kind) objects
 

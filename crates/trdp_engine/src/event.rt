@@ -2,7 +2,7 @@
 
 use crate::record::Protocol;
 use trdp_base::{Place, Topo};
-use trdp_pd::{RequesterTerms, PublisherTerms, SubscriptionTerms};
+use trdp_pd::{PublisherTerms, RequesterTerms, SubscriptionTerms};
 
 /// A call of the application in a slot.
 #[derive(Clone, Copy, Debug)]

@@ -27,7 +27,7 @@ fn due_time(entry: &Entry, t: u64) -> Option<u64>
     }
 }
 
-/// The earlier of what is known and an object before it, each with its place and due moment.
+/// The earlier of what is known and an object before it, each with its index and due moment.
 fn sooner(first: Option<(usize, u64)>, at: usize, due: Option<u64>) -> Option<(usize, u64)>
     ensures { result ≡ sooner first at due }
 {
@@ -46,7 +46,7 @@ fn sooner(first: Option<(usize, u64)>, at: usize, due: Option<u64>) -> Option<(u
     }
 }
 
-/// The place of the object that fires first of those that are due by `t`.
+/// The index of the object that fires first of those that are due by `t`.
 fn first_due(objects: &[Entry], t: u64) -> Option<usize>
     requires { IsRising objects.now }
     ensures { IsFirst t objects.now result }
@@ -62,27 +62,27 @@ fn first_due(objects: &[Entry], t: u64) -> Option<usize>
 }
 
 /// Fires one object that is due.
-fn fire(entry: &mut Entry, g: &Globals, s: u16, out: &mut Outbox)
-    requires due { is_due g.now.now entry.old ≡ true }
-    requires now { g.now.now ≤ last_moment }
+fn fire(entry: &mut Entry, globals: &Globals, s: u16, out: &mut Outbox)
+    requires due { is_due globals.now.now entry.old ≡ true }
+    requires now { globals.now.now ≤ last_moment }
     requires row { 0 < out.old.row_room }
     requires bytes { PD_TELEGRAM_MAX ≤ out.old.byte_room }
-    ensures entry { entry.new ≡ entry_after_moment g.entry.now entry.old }
-    ensures records { out.new.records ≡ out.old.records ++ labelled s (records_firing g.entry.now entry.old) }
+    ensures entry { entry.new ≡ entry_after_moment globals.entry.now entry.old }
+    ensures records { out.new.records ≡ out.old.records ++ labelled s (records_firing globals.entry.now entry.old) }
     ensures row_room { out.old.row_room ≤ out.new.row_room + 1 }
     ensures byte_room { out.old.byte_room ≤ out.new.byte_room + PD_TELEGRAM_MAX }
 {
     let handle = entry.handle;
     match &mut entry.object {
         AnyObject::Publisher(publisher) => {
-            if let Fired::Data(head) = publisher.fire(g) {
+            if let Fired::Data(head) = publisher.fire(globals) {
                 if let Some(value) = publisher.value() {
                     out.push_pd(s, publisher.to(), &head, value);
                 }
             }
         }
         AnyObject::Subscription(subscription) => {
-            let _ = subscription.fire(g);
+            let _ = subscription.fire(globals);
             out.push_indication(s, Indication::Silent(handle));
         }
         // A requester is never due.
@@ -90,35 +90,35 @@ fn fire(entry: &mut Entry, g: &Globals, s: u16, out: &mut Outbox)
     }
 }
 
-/// Fires the object at the place.
-fn fire_at(objects: &mut Vec<Entry>, at: usize, g: &Globals, s: u16, out: &mut Outbox)
+/// Fires the object of that index.
+fn fire_at(objects: &mut Vec<Entry>, at: usize, globals: &Globals, s: u16, out: &mut Outbox)
     requires within { at < length objects.old.items }
-    requires due { IfSome (slice_get objects.old.items at) (λ entry. is_due g.now.now entry ≡ true) }
-    requires now { g.now.now ≤ last_moment }
+    requires due { IfSome (slice_get objects.old.items at) (λ entry. is_due globals.now.now entry ≡ true) }
+    requires now { globals.now.now ≤ last_moment }
     requires row { 0 < out.old.row_room }
     requires bytes { PD_TELEGRAM_MAX ≤ out.old.byte_room }
-    ensures items { IfSome (slice_get objects.old.items at) (λ entry. objects.new.items ≡ slice_set objects.old.items at (entry_after_moment g.entry.now entry)) }
-    ensures records { IfSome (slice_get objects.old.items at) (λ entry. out.new.records ≡ out.old.records ++ labelled s (records_firing g.entry.now entry)) }
+    ensures items { IfSome (slice_get objects.old.items at) (λ entry. objects.new.items ≡ slice_set objects.old.items at (entry_after_moment globals.entry.now entry)) }
+    ensures records { IfSome (slice_get objects.old.items at) (λ entry. out.new.records ≡ out.old.records ++ labelled s (records_firing globals.entry.now entry)) }
     ensures capacity { vec_capacity objects.new ≡ vec_capacity objects.old }
     ensures row_room { out.old.row_room ≤ out.new.row_room + 1 }
     ensures byte_room { out.old.byte_room ≤ out.new.byte_room + PD_TELEGRAM_MAX }
 {
     let entry = &mut objects[at];
-    fire(entry, g, s, out);
+    fire(entry, globals, s, out);
 }
 
 /// Fires the objects that are due, once each, in the order of their due moments and handles.
-pub fn fire_all(objects: &mut Vec<Entry>, g: &Globals, s: u16, out: &mut Outbox)
+pub fn fire_all(objects: &mut Vec<Entry>, globals: &Globals, s: u16, out: &mut Outbox)
     requires rising { IsRising objects.old.items }
-    requires now { g.now.now ≤ last_moment }
-    requires rows { length (filter (is_due g.now.now) objects.old.items) ≤ out.old.row_room }
-    requires bytes { PD_TELEGRAM_MAX * length (filter (is_due g.now.now) objects.old.items) ≤ out.old.byte_room }
-    ensures items { objects.new.items ≡ map (entry_after_moment g.entry.now) objects.old.items }
-    ensures records { out.new.records ≡ out.old.records ++ labelled s (flat_map (records_firing g.entry.now) (in_order (filter (is_due g.entry.now.now) objects.old.items))) }
+    requires now { globals.now.now ≤ last_moment }
+    requires rows { length (filter (is_due globals.now.now) objects.old.items) ≤ out.old.row_room }
+    requires bytes { PD_TELEGRAM_MAX * length (filter (is_due globals.now.now) objects.old.items) ≤ out.old.byte_room }
+    ensures items { objects.new.items ≡ map (entry_after_moment globals.entry.now) objects.old.items }
+    ensures records { out.new.records ≡ out.old.records ++ labelled s (flat_map (records_firing globals.entry.now) (in_order (filter (is_due globals.entry.now.now) objects.old.items))) }
     ensures capacity { vec_capacity objects.new ≡ vec_capacity objects.old }
 {
-    while let Some(at) = first_due(objects, g.now) {
-        fire_at(objects, at, g, s, out);
+    while let Some(at) = first_due(objects, globals.now) {
+        fire_at(objects, at, globals, s, out);
     }
 }
 

@@ -48,7 +48,7 @@ impl Model for Node {
 
     ghost Value = { NodeState };
 
-    ghost view = { λ n. record { setup = n.config; globals = n.globals; slots = n.slot ∷ [] } };
+    ghost view = { λ n. record { config = n.config; globals = n.globals; slots = n.slot ∷ [] } };
 
     ghost invariant = { λ n. (n.globals.now ≤ last_moment) × IsRegistry n.config.registry × AllFit n.config n.slot.objects };
 }
@@ -95,7 +95,7 @@ impl Node {
         ensures kept { OnErr result (self.new ≡ self.old) }
         ensures unrecorded { OnErr result (out.new.records ≡ out.old.records) }
         ensures memory { result ≡ Err NodeFault.OutOfMemory → MayTakeMemory self.old (MomentIs t) }
-        ensures setup { self.new.setup ≡ self.old.setup }
+        ensures config { self.new.config ≡ self.old.config }
         ensures globals { OnOk result (self.new.globals ≡ globals_after self.old.globals (MomentIs t)) }
         ensures count { length self.new.slots ≡ length self.old.slots }
         ensures steps { OnOk result ((s : ℕ) (slot : SlotState) → slice_get self.old.slots s ≡ Some slot → StepsAsAlone self.old self.new out.old.records out.new.records (MomentIs t) s slot) }
@@ -122,7 +122,7 @@ impl Node {
     fn step_topology(&mut self, topo: Topo)
         ensures globals { self.new.globals ≡ globals_after self.old.globals (TopologyIs topo) }
         ensures slots { self.new.slots ≡ self.old.slots }
-        ensures setup { self.new.setup ≡ self.old.setup }
+        ensures config { self.new.config ≡ self.old.config }
     {
         self.globals.topo = topo;
     }
@@ -132,7 +132,7 @@ impl Node {
         ensures fault { FaultIs (refused_as (length self.old.slots) self.old.globals (RoleIs group leader)) result }
         ensures kept { OnErr result (self.new ≡ self.old) }
         ensures memory { result ≢ Err NodeFault.OutOfMemory }
-        ensures setup { self.new.setup ≡ self.old.setup }
+        ensures config { self.new.config ≡ self.old.config }
         ensures globals { OnOk result (self.new.globals ≡ globals_after self.old.globals (RoleIs group leader)) }
         ensures slots { self.new.slots ≡ self.old.slots }
         ensures group { OnOk result (0 < group) }
@@ -157,7 +157,7 @@ impl Node {
         ensures kept { OnErr result (self.new ≡ self.old) }
         ensures unrecorded { OnErr result (out.new.records ≡ out.old.records) }
         ensures memory { result ≡ Err NodeFault.OutOfMemory → MayTakeMemory self.old (DatagramIs protocol src dst bytes.now) }
-        ensures setup { self.new.setup ≡ self.old.setup }
+        ensures config { self.new.config ≡ self.old.config }
         ensures globals { OnOk result (self.new.globals ≡ globals_after self.old.globals (DatagramIs protocol src dst bytes.now)) }
         ensures count { length self.new.slots ≡ length self.old.slots }
         ensures steps { OnOk result ((s : ℕ) (slot : SlotState) → slice_get self.old.slots s ≡ Some slot → StepsAsAlone self.old self.new out.old.records out.new.records (DatagramIs protocol src dst bytes.now) s slot) }
@@ -183,7 +183,7 @@ impl Node {
         ensures fault { FaultIs (refused_as (length self.old.slots) self.old.globals (CallIs s (call_model call.now))) result }
         ensures kept { OnErr result (self.new ≡ self.old) }
         ensures unrecorded { OnErr result (out.new.records ≡ out.old.records) }
-        ensures setup { self.new.setup ≡ self.old.setup }
+        ensures config { self.new.config ≡ self.old.config }
         ensures globals { OnOk result (self.new.globals ≡ globals_after self.old.globals (CallIs s (call_model call.now))) }
         ensures count { length self.new.slots ≡ length self.old.slots }
         ensures steps { OnOk result ((r : ℕ) (slot : SlotState) → slice_get self.old.slots r ≡ Some slot → StepsAsAlone self.old self.new out.old.records out.new.records (CallIs s (call_model call.now)) r slot) }
@@ -209,7 +209,7 @@ impl Node {
         ensures unrecorded { OnErr result (out.new.records ≡ out.old.records) }
         ensures memory { result ≡ Err NodeFault.OutOfMemory → MayTakeMemory self.old (event_model event.now) }
 
-        ensures setup { self.new.setup ≡ self.old.setup }
+        ensures config { self.new.config ≡ self.old.config }
         ensures globals { OnOk result (self.new.globals ≡ globals_after self.old.globals (event_model event.now)) }
         ensures count { length self.new.slots ≡ length self.old.slots }
         ensures steps { OnOk result ((s : ℕ) (slot : SlotState) → slice_get self.old.slots s ≡ Some slot → StepsAsAlone self.old self.new out.old.records out.new.records (event_model event.now) s slot) }
@@ -249,10 +249,10 @@ impl Node {
         ensures kept { OnErr result (self.new ≡ self.old) }
         ensures unrecorded { OnErr result (out.new.records ≡ out.old.records) }
 
-        ensures setup { self.new.setup ≡ self.old.setup }
+        ensures config { self.new.config ≡ self.old.config }
         ensures globals { self.new.globals ≡ self.old.globals }
         ensures count { length self.new.slots ≡ length self.old.slots }
-        ensures values { OnOk result ((s : ℕ) (state : SlotState) → slice_get self.old.slots s ≡ Some state → GetsOutcome self.new out.old.records out.new.records s (valued_at self.old.setup slot s state handle (model_of item.now))) }
+        ensures values { OnOk result ((s : ℕ) (state : SlotState) → slice_get self.old.slots s ≡ Some state → GetsOutcome self.new out.old.records out.new.records s (valued_at self.old.config slot s state handle (model_of item.now))) }
         ensures appends { Appends self.old.slots out.old.records out.new.records }
     {
         if usize::from(slot) >= self.slots() {
@@ -284,7 +284,7 @@ impl Node {
     /// The first that applies of `NoSlot`, `NoHandle`, `WrongKind` (the object is no subscription), `NoDataset` (it is one of
     /// dataset 0), and last `OutOfMemory`.
     pub fn value_of(&self, alloc: Global, slot: u16, handle: u32) -> Result<Item, ValueFault>
-        ensures { ShowsItem self.now.setup (showing_in (slice_get self.now.slots slot) handle) result }
+        ensures { ShowsItem self.now.config (showing_in (slice_get self.now.slots slot) handle) result }
     {
         if usize::from(slot) >= self.slots() {
             return Err(ValueFault::NoSlot);
@@ -296,7 +296,7 @@ impl Node {
     /// lacks memory, and answers how many were taken.
     pub fn run(&mut self, events: &[Event<'_>], out: &mut Outbox) -> usize
         ensures within { result ≤ length events.now }
-        ensures setup { self.new.setup ≡ self.old.setup }
+        ensures config { self.new.config ≡ self.old.config }
         ensures count { length self.new.slots ≡ length self.old.slots }
         ensures alone { (s : ℕ) (slot : SlotState) → slice_get self.old.slots s ≡ Some slot → RunsAsAlone self.old self.new out.old.records out.new.records (map event_model (take result events.now)) s slot }
         ensures appends { Appends self.old.slots out.old.records out.new.records }
@@ -316,26 +316,26 @@ impl Node {
 /// What a datagram does to slot 0.
 fn hear(
     slot: &mut Slot,
-    setup: &NodeConfig,
+    config: &NodeConfig,
     protocol: Protocol,
     src: Place,
     dst: Place,
     bytes: &[u8],
-    g: &Globals,
+    globals: &Globals,
     out: &mut Outbox,
 ) -> Result<(), AllocError>
-    requires { g.now.now ≤ last_moment }
-    ensures slot { OnOk result (slot.new ≡ (received_if setup.now slot.old g.entry.now (telegram_of protocol src dst bytes.now)).slot) }
-    ensures records { OnOk result (out.new.records ≡ out.old.records ++ labelled 0 (received_if setup.now slot.old g.entry.now (telegram_of protocol src dst bytes.now)).records) }
+    requires { globals.now.now ≤ last_moment }
+    ensures slot { OnOk result (slot.new ≡ (received_if config.now slot.old globals.entry.now (telegram_of protocol src dst bytes.now)).slot) }
+    ensures records { OnOk result (out.new.records ≡ out.old.records ++ labelled 0 (received_if config.now slot.old globals.entry.now (telegram_of protocol src dst bytes.now)).records) }
     ensures kept { OnErr result (slot.new ≡ slot.old) }
     ensures unrecorded { OnErr result (out.new.records ≡ out.old.records) }
-    ensures memory { OnErr result (concerns g.entry.now (telegram_of protocol src dst bytes.now) slot.old ≡ true) }
+    ensures memory { OnErr result (concerns globals.entry.now (telegram_of protocol src dst bytes.now) slot.old ≡ true) }
 {
     match protocol {
         Protocol::Md => Ok(()),
         Protocol::Pd => match read_pd(bytes) {
             Err(_) => Ok(()),
-            Ok(view) => slot.receive(setup, &Telegram::Pd { src, dst, view }, g, 0, out),
+            Ok(view) => slot.receive(config, &Telegram::Pd { src, dst, view }, globals, 0, out),
         },
     }
 }

@@ -4,8 +4,8 @@ ghost use Rattle.std.specs.Prelude.{◌≡◌, ℕ, ◌+◌, ◌<◌, ◌≤◌,
 ghost use Rattle.trdp_head.specs.PdBytes.{pd_bytes, pd_length_of};
 ghost use Rattle.trdp_engine.specs.declared.record.Protocol.TheVariants.{Pd};
 ghost use Rattle.trdp_pd.specs.Peeks.{peek_model};
-ghost use Rattle.trdp_engine.specs.Records.{Answers, ValueIs, Indicates, Sends, RecordModel, answer_model, content_model, record_model};
-ghost use Rattle.trdp_engine.specs.Outboxes.{reply_model, row_content};
+ghost use Rattle.trdp_engine.specs.Records.{Answers, ValueIs, Indicates, Sends, RecordModel, answer_model, content_model, indication_model, record_model};
+ghost use Rattle.trdp_engine.specs.Outboxes.{plain_answer_model, row_content};
 
 use crate::fault::Refusal;
 use crate::record::{Answer, Indication, Protocol, Record, What};
@@ -17,7 +17,7 @@ use trdp_pd::{Peek, ValueState};
 
 /// An answer without bytes.
 #[derive(Clone, Copy)]
-pub enum Reply {
+pub enum PlainAnswer {
     Handle(u32),
     Done,
     Refused(Refusal),
@@ -26,13 +26,13 @@ pub enum Reply {
 /// What a row says, but for its bytes.
 #[derive(Clone, Copy)]
 pub enum Form {
-    Reply(Reply),
+    PlainAnswer(PlainAnswer),
     Value(ValueState, u32),
     Indication(Indication),
     Send(Protocol, Place),
 }
 
-/// A record whose bytes lie at a place of the outbox's list.
+/// A record whose bytes lie in the outbox's list.
 #[derive(Clone, Copy)]
 pub struct Row {
     slot: u16,
@@ -138,19 +138,19 @@ impl Outbox {
     }
 
     /// Adds an answer without bytes.
-    pub(crate) fn push_reply(&mut self, slot: u16, reply: Reply)
+    pub(crate) fn push_plain_answer(&mut self, slot: u16, answer: PlainAnswer)
         requires { 0 < self.old.row_room }
-        ensures records { self.new.records ≡ self.old.records ++ record { slot = slot; content = Answers (reply_model reply) } ∷ [] }
+        ensures records { self.new.records ≡ self.old.records ++ record { slot = slot; content = Answers (plain_answer_model answer) } ∷ [] }
         ensures row_room { self.old.row_room ≤ self.new.row_room + 1 }
         ensures byte_room { self.old.byte_room ≤ self.new.byte_room }
     {
-        self.push(slot, Form::Reply(reply));
+        self.push(slot, Form::PlainAnswer(answer));
     }
 
     /// Adds an indication.
     pub(crate) fn push_indication(&mut self, slot: u16, indication: Indication)
         requires { 0 < self.old.row_room }
-        ensures records { self.new.records ≡ self.old.records ++ record { slot = slot; content = Indicates indication } ∷ [] }
+        ensures records { self.new.records ≡ self.old.records ++ record { slot = slot; content = Indicates (indication_model indication) } ∷ [] }
         ensures row_room { self.old.row_room ≤ self.new.row_room + 1 }
         ensures byte_room { self.old.byte_room ≤ self.new.byte_room }
     {
@@ -178,7 +178,7 @@ impl Outbox {
         );
     }
 
-    /// Adds a process data telegram, which it writes in its place.
+    /// Adds a process data telegram, which it writes into its own bytes.
     pub(crate) fn push_pd(&mut self, slot: u16, to: Place, head: &PdHead, payload: &[u8])
         requires row { 0 < self.old.row_room }
         requires payload { length payload.now ≤ 1432 }
@@ -201,14 +201,14 @@ impl Outbox {
     }
 }
 
-/// The answer of a reply.
-fn answer<'a>(reply: Reply) -> Answer<'a>
-    ensures { answer_model result ≡ reply_model reply }
+/// A plain answer as an answer.
+fn answer<'a>(plain: PlainAnswer) -> Answer<'a>
+    ensures { answer_model result ≡ plain_answer_model plain }
 {
-    match reply {
-        Reply::Handle(handle) => Answer::Handle(handle),
-        Reply::Done => Answer::Done,
-        Reply::Refused(refusal) => Answer::Refused(refusal),
+    match plain {
+        PlainAnswer::Handle(handle) => Answer::Handle(handle),
+        PlainAnswer::Done => Answer::Done,
+        PlainAnswer::Refused(refusal) => Answer::Refused(refusal),
     }
 }
 
@@ -217,7 +217,7 @@ fn content(form: Form, bytes: &[u8]) -> What<'_>
     ensures { content_model result ≡ row_content form bytes.now }
 {
     match form {
-        Form::Reply(reply) => What::Answer(answer(reply)),
+        Form::PlainAnswer(plain) => What::Answer(answer(plain)),
         Form::Value(state, counter) => What::Answer(Answer::Value(Peek {
             state,
             counter,

@@ -9,7 +9,7 @@ ghost use Rattle.trdp_engine.specs.Records.{Sends, labelled};
 ghost use Rattle.trdp_engine.specs.Slots.{entry_of, changed};
 ghost use Rattle.trdp_engine.specs.Pulls.{object_pull_refusal, pull_refusal, after_pull, pull_request, pull_request_of, answer_place, pull_answer};
 
-use crate::entries::place;
+use crate::entries::index_of;
 use crate::fault::Refusal;
 use crate::object::Entry;
 use crate::outbox::Outbox;
@@ -27,16 +27,16 @@ pub struct PullRequest {
 }
 
 /// Lets the object pull: it counts its pull request. Or says why it doesn't.
-fn pull(object: &mut AnyObject, g: &Globals) -> Result<PullRequest, Refusal>
-    ensures refused { IfErr result (λ refusal. object_pull_refusal g.entry.now object.old ≡ Some refusal) }
-    ensures granted { IfOk result (λ _. object_pull_refusal g.entry.now object.old ≡ None) }
+fn pull(object: &mut AnyObject, globals: &Globals) -> Result<PullRequest, Refusal>
+    ensures refused { IfErr result (λ refusal. object_pull_refusal globals.entry.now object.old ≡ Some refusal) }
+    ensures granted { IfOk result (λ _. object_pull_refusal globals.entry.now object.old ≡ None) }
     ensures request { IfOk result (λ request. pull_request object.old ≡ Sends Pd request.to (pd_bytes request.head []) ∷ []) }
     ensures object { object.new ≡ (if is_ok result then after_pull object.old else object.old) }
 {
     match object {
         AnyObject::Publisher(_) | AnyObject::Subscription(_) => Err(Refusal::WrongKind),
         AnyObject::Requester(requester) => {
-            if !topo_valid(requester.topo(), g.topo) {
+            if !topo_valid(requester.topo(), globals.topo) {
                 return Err(Refusal::State);
             }
             let to = requester.to();
@@ -47,18 +47,22 @@ fn pull(object: &mut AnyObject, g: &Globals) -> Result<PullRequest, Refusal>
 }
 
 /// Lets the requester of that handle pull, or says why not.
-pub fn pull_in(objects: &mut Vec<Entry>, handle: u32, g: &Globals) -> Result<PullRequest, Refusal>
-    ensures refused { IfErr result (λ refusal. pull_refusal g.entry.now (entry_of handle objects.old.items) ≡ Some refusal) }
-    ensures granted { IfOk result (λ _. pull_refusal g.entry.now (entry_of handle objects.old.items) ≡ None) }
+pub fn pull_in(
+    objects: &mut Vec<Entry>,
+    handle: u32,
+    globals: &Globals,
+) -> Result<PullRequest, Refusal>
+    ensures refused { IfErr result (λ refusal. pull_refusal globals.entry.now (entry_of handle objects.old.items) ≡ Some refusal) }
+    ensures granted { IfOk result (λ _. pull_refusal globals.entry.now (entry_of handle objects.old.items) ≡ None) }
     ensures request { IfOk result (λ request. pull_request_of (entry_of handle objects.old.items) ≡ Sends Pd request.to (pd_bytes request.head []) ∷ []) }
     ensures items { objects.new.items ≡ (if is_ok result then changed handle after_pull objects.old.items else objects.old.items) }
     ensures capacity { vec_capacity objects.new ≡ vec_capacity objects.old }
 {
-    match place(objects, handle) {
+    match index_of(objects, handle) {
         None => Err(Refusal::NoHandle),
-        Some(at) => {
-            let entry = &mut objects[at];
-            pull(&mut entry.object, g)
+        Some(index) => {
+            let entry = &mut objects[index];
+            pull(&mut entry.object, globals)
         }
     }
 }
@@ -66,8 +70,8 @@ pub fn pull_in(objects: &mut Vec<Entry>, handle: u32, g: &Globals) -> Result<Pul
 /// Where a pull request is answered: at its reply address, at the node's own process data port, or where it has no
 /// such address at the place that it came from (profile).
 #[tactic(auto, unfolding(crate::specs::Pulls::answer_place))]
-pub fn answer_place(setup: &NodeConfig, telegram: &Telegram<'_>) -> Place
-    ensures { result ≡ answer_place setup.now (telegram_model telegram.now) }
+pub fn answer_place(config: &NodeConfig, telegram: &Telegram<'_>) -> Place
+    ensures { result ≡ answer_place config.now (telegram_model telegram.now) }
 {
     match *telegram {
         Telegram::Pd { src, view, .. } => {
@@ -76,7 +80,7 @@ pub fn answer_place(setup: &NodeConfig, telegram: &Telegram<'_>) -> Place
             } else {
                 Place {
                     ip: view.head.reply_ip,
-                    port: setup.pd_port(),
+                    port: config.pd_port(),
                 }
             }
         }

@@ -34,14 +34,14 @@ pub enum ValueFault {
 /// are in the way.
 fn item_shown(
     alloc: Global,
-    setup: &NodeConfig,
+    config: &NodeConfig,
     subscription: &Subscription,
 ) -> Result<Item, ValueFault>
-    requires { ShowsFitting setup.now subscription.now }
-    ensures { ShowsItem setup.now (showing (AnyObject.Subscription subscription.now)) result }
+    requires { ShowsFitting config.now subscription.now }
+    ensures { ShowsItem config.now (showing (AnyObject.Subscription subscription.now)) result }
 {
     let dataset = subscription.dataset();
-    match decode(alloc, setup.registry(), dataset, subscription.peek().bytes) {
+    match decode(alloc, config.registry(), dataset, subscription.peek().bytes) {
         Ok(item) => Ok(item),
         Err(MarshalFault::NoDataset) => Err(ValueFault::NoDataset),
         Err(MarshalFault::OutOfMemory) => Err(ValueFault::OutOfMemory),
@@ -51,12 +51,12 @@ fn item_shown(
 }
 
 /// The item that the object shows, or why it shows none.
-pub fn item_of(alloc: Global, setup: &NodeConfig, object: &AnyObject) -> Result<Item, ValueFault>
-    requires { IsFit setup.now object.now }
-    ensures { ShowsItem setup.now (showing object.now) result }
+pub fn item_of(alloc: Global, config: &NodeConfig, object: &AnyObject) -> Result<Item, ValueFault>
+    requires { IsFit config.now object.now }
+    ensures { ShowsItem config.now (showing object.now) result }
 {
     match object {
         AnyObject::Publisher(_) | AnyObject::Requester(_) => Err(ValueFault::WrongKind),
-        AnyObject::Subscription(subscription) => item_shown(alloc, setup, subscription),
+        AnyObject::Subscription(subscription) => item_shown(alloc, config, subscription),
     }
 }

@@ -16,7 +16,7 @@ ghost use Rattle.trdp_engine.specs.Pulls.{pull_refusal};
 ghost use Rattle.trdp_pd.specs.Requesters.{opened};
 ghost use Rattle.trdp_engine.specs.Datagrams.{is_for_entry, received_if, concerns};
 ghost use Rattle.trdp_engine.specs.Moments.{is_due, moved_to};
-ghost use Rattle.trdp_engine.specs.Outboxes.{reply_model};
+ghost use Rattle.trdp_engine.specs.Outboxes.{plain_answer_model};
 ghost use Rattle.trdp_engine.specs.Peeks.{peeked, peek_of};
 ghost use Rattle.trdp_engine.specs.Fitting.{AllFit};
 ghost use Rattle.trdp_engine.specs.ShownItems.{showing_at, ShowsItem};
@@ -29,7 +29,7 @@ use crate::event::Call;
 use crate::fault::Refusal;
 use crate::moment::{count_due, fire_all};
 use crate::object::Entry;
-use crate::outbox::{Outbox, Reply};
+use crate::outbox::{Outbox, PlainAnswer};
 use crate::peek::PeekFault;
 use crate::pull::pull_in;
 use crate::shown::{ValueFault, item_of};
@@ -42,7 +42,8 @@ use trdp_filter::{Globals, Telegram};
 use trdp_head::{PD_PAYLOAD_MAX, PD_TELEGRAM_MAX};
 use trdp_marshal::Item;
 use trdp_pd::{
-    AnyObject, RequesterTerms, Peek, PublisherTerms, Publisher, Requester, Subscription, SubscriptionTerms,
+    AnyObject, Peek, Publisher, PublisherTerms, Requester, RequesterTerms, Subscription,
+    SubscriptionTerms,
 };
 
 /// The shortest cycle or supervision time but 0, in microseconds (profile).
@@ -51,7 +52,7 @@ const SPAN_MIN: u32 = 1_000;
 /// The last handle of a slot (profile).
 const HANDLE_MAX: u64 = 4_294_967_295;
 
-/// The places of the kinds in the order of the quotas.
+/// The index of each kind in the quotas.
 const PUBLISHERS: usize = 0;
 
 const SUBSCRIPTIONS: usize = 1;
@@ -96,7 +97,7 @@ impl Slot {
         })
     }
 
-    /// Why the slot takes no new object of the kind at that place of the quotas.
+    /// Why the slot takes no new object of the kind with that index in the quotas.
     fn opening_refusal(&self, kind: usize) -> Option<Refusal>
         requires { kind ≤ 2 }
         ensures { result ≡ opening_refusal self.now kind }
@@ -123,13 +124,13 @@ impl Slot {
     }
 
     /// Why the slot refuses the terms.
-    fn publish_refusal(&self, setup: &NodeConfig, terms: &PublisherTerms) -> Option<Refusal>
-        ensures { result ≡ publish_refusal setup.now self.now terms.now }
+    fn publish_refusal(&self, config: &NodeConfig, terms: &PublisherTerms) -> Option<Refusal>
+        ensures { result ≡ publish_refusal config.now self.now terms.now }
     {
         if !is_span(terms.cycle) {
             return Some(Refusal::Cycle);
         }
-        match value_size(setup, terms.dataset) {
+        match value_size(config, terms.dataset) {
             Err(refusal) => Some(refusal),
             Ok(_) => self.opening_refusal(PUBLISHERS),
         }
@@ -138,13 +139,13 @@ impl Slot {
     /// How many bytes the zero value of the subscription takes, or why the slot refuses it.
     fn subscribed_size(
         &self,
-        setup: &NodeConfig,
+        config: &NodeConfig,
         terms: &SubscriptionTerms,
     ) -> Result<usize, Refusal>
-        ensures refused { IfErr result (λ refusal. subscribe_refusal setup.now self.now terms.now ≡ Some refusal) }
-        ensures accepted { IfOk result (λ size. subscribe_refusal setup.now self.now terms.now ≡ None) }
+        ensures refused { IfErr result (λ refusal. subscribe_refusal config.now self.now terms.now ≡ Some refusal) }
+        ensures accepted { IfOk result (λ size. subscribe_refusal config.now self.now terms.now ≡ None) }
         ensures opens { IfOk result (λ size. opening_refusal self.now 1 ≡ None) }
-        ensures size { IfOk result (λ size. size ≡ zero_size_of setup.now terms.now.dataset) }
+        ensures size { IfOk result (λ size. size ≡ zero_size_of config.now terms.now.dataset) }
         ensures within { IfOk result (λ size. size ≤ 1432) }
     {
         if !is_span(terms.supervision) {
@@ -153,7 +154,7 @@ impl Slot {
         if terms.filter.low > terms.filter.high {
             return Err(Refusal::Range);
         }
-        match value_size(setup, terms.dataset) {
+        match value_size(config, terms.dataset) {
             Err(refusal) => Err(refusal),
             Ok(size) => match self.opening_refusal(SUBSCRIPTIONS) {
                 Some(refusal) => Err(refusal),
@@ -166,75 +167,75 @@ impl Slot {
     fn publish(
         &mut self,
         alloc: Global,
-        setup: &NodeConfig,
+        config: &NodeConfig,
         terms: &PublisherTerms,
-        g: &Globals,
-    ) -> Result<Reply, AllocError>
-        requires { g.now.now ≤ last_moment }
-        ensures outcome { IfOk result (λ reply. called setup.now self.old g.entry.now (PublishCall terms.now) ≡ answered self.new (reply_model reply)) }
+        globals: &Globals,
+    ) -> Result<PlainAnswer, AllocError>
+        requires { globals.now.now ≤ last_moment }
+        ensures outcome { IfOk result (λ answer. called config.now self.old globals.entry.now (PublishCall terms.now) ≡ answered self.new (plain_answer_model answer)) }
         ensures kept { OnErr result (self.new ≡ self.old) }
     {
-        if let Some(refusal) = self.publish_refusal(setup, terms) {
-            return Ok(Reply::Refused(refusal));
+        if let Some(refusal) = self.publish_refusal(config, terms) {
+            return Ok(PlainAnswer::Refused(refusal));
         }
-        let publisher = Publisher::new(alloc, terms, g.now)?;
-        Ok(Reply::Handle(self.add(AnyObject::Publisher(publisher))))
+        let publisher = Publisher::new(alloc, terms, globals.now)?;
+        Ok(PlainAnswer::Handle(self.add(AnyObject::Publisher(publisher))))
     }
 
     /// Makes a subscription, in the same order.
     fn subscribe(
         &mut self,
         alloc: Global,
-        setup: &NodeConfig,
+        config: &NodeConfig,
         terms: &SubscriptionTerms,
-        g: &Globals,
-    ) -> Result<Reply, AllocError>
-        requires { g.now.now ≤ last_moment }
-        ensures outcome { IfOk result (λ reply. called setup.now self.old g.entry.now (SubscribeCall terms.now) ≡ answered self.new (reply_model reply)) }
+        globals: &Globals,
+    ) -> Result<PlainAnswer, AllocError>
+        requires { globals.now.now ≤ last_moment }
+        ensures outcome { IfOk result (λ answer. called config.now self.old globals.entry.now (SubscribeCall terms.now) ≡ answered self.new (plain_answer_model answer)) }
         ensures kept { OnErr result (self.new ≡ self.old) }
     {
-        match self.subscribed_size(setup, terms) {
-            Err(refusal) => Ok(Reply::Refused(refusal)),
+        match self.subscribed_size(config, terms) {
+            Err(refusal) => Ok(PlainAnswer::Refused(refusal)),
             Ok(size) => {
-                let subscription = Subscription::new(alloc, terms, size, g.now)?;
-                Ok(Reply::Handle(self.add(AnyObject::Subscription(subscription))))
+                let subscription = Subscription::new(alloc, terms, size, globals.now)?;
+                Ok(PlainAnswer::Handle(self.add(AnyObject::Subscription(subscription))))
             }
         }
     }
 
     /// Makes a requester. It needs no memory.
-    fn open_pull(&mut self, terms: &RequesterTerms) -> Reply
-        ensures { opened_unless (opening_refusal self.old 2) self.old (AnyObject.Requester (opened terms.now)) ≡ answered self.new (reply_model result) }
+    fn open_pull(&mut self, terms: &RequesterTerms) -> PlainAnswer
+        ensures { opened_unless (opening_refusal self.old 2) self.old (AnyObject.Requester (opened terms.now)) ≡ answered self.new (plain_answer_model result) }
     {
         match self.opening_refusal(REQUESTERS) {
-            Some(refusal) => Reply::Refused(refusal),
-            None => Reply::Handle(self.add(AnyObject::Requester(Requester::new(terms)))),
+            Some(refusal) => PlainAnswer::Refused(refusal),
+            None => PlainAnswer::Handle(self.add(AnyObject::Requester(Requester::new(terms)))),
         }
     }
 
     /// Lets the requester of that handle pull, and records the answer and the pull request.
-    fn pull(&mut self, handle: u32, g: &Globals, s: u16, out: &mut Outbox)
+    fn pull(&mut self, handle: u32, globals: &Globals, s: u16, out: &mut Outbox)
         requires rows { 2 ≤ out.old.row_room }
         requires bytes { 40 ≤ out.old.byte_room }
-        ensures slot { self.new ≡ (pulled_unless (pull_refusal g.entry.now (entry_of handle self.old.objects)) self.old handle).slot }
-        ensures records { out.new.records ≡ out.old.records ++ labelled s (pulled_unless (pull_refusal g.entry.now (entry_of handle self.old.objects)) self.old handle).records }
+        ensures slot { self.new ≡ (pulled_unless (pull_refusal globals.entry.now (entry_of handle self.old.objects)) self.old handle).slot }
+        ensures records { out.new.records ≡ out.old.records ++ labelled s (pulled_unless (pull_refusal globals.entry.now (entry_of handle self.old.objects)) self.old handle).records }
     {
-        match pull_in(&mut self.objects, handle, g) {
-            Err(refusal) => out.push_reply(s, Reply::Refused(refusal)),
+        match pull_in(&mut self.objects, handle, globals) {
+            Err(refusal) => out.push_plain_answer(s, PlainAnswer::Refused(refusal)),
             Ok(request) => {
-                out.push_reply(s, Reply::Done);
+                out.push_plain_answer(s, PlainAnswer::Done);
                 out.push_pd(s, request.to, &request.head, b"");
             }
         }
     }
 
     /// Gives the publisher of that handle a new value.
-    fn put(&mut self, setup: &NodeConfig, handle: u32, bytes: &[u8]) -> Reply
-        ensures { put_unless (put_refusal setup.now bytes.now (entry_of handle self.old.objects)) self.old handle bytes.now ≡ answered self.new (reply_model result) }
+    fn put(&mut self, config: &NodeConfig, handle: u32, bytes: &[u8]) -> PlainAnswer
+        ensures { put_unless (put_refusal config.now bytes.now (entry_of handle self.old.objects)) self.old handle bytes.now ≡ answered self.new (plain_answer_model result) }
     {
-        match put_in(&mut self.objects, setup, handle, bytes) {
-            Some(refusal) => Reply::Refused(refusal),
-            None => Reply::Done,
+        match put_in(&mut self.objects, config, handle, bytes) {
+            Some(refusal) => PlainAnswer::Refused(refusal),
+            None => PlainAnswer::Done,
         }
     }
 
@@ -242,17 +243,17 @@ impl Slot {
     fn spelled(
         &self,
         alloc: Global,
-        setup: &NodeConfig,
+        config: &NodeConfig,
         handle: u32,
         item: &Item,
     ) -> Result<Vec<u8>, SpellFault>
-        ensures bytes { IfOk result (λ bytes. bytes.items ≡ item_bytes setup.now (model_of item.now) (entry_of handle self.now.objects)) }
-        ensures spelled { IfOk result (λ bytes. item_refusal setup.now (model_of item.now) (entry_of handle self.now.objects) ≡ None) }
-        ensures refused { IfErr result (IsRefusedAs (item_refusal setup.now (model_of item.now) (entry_of handle self.now.objects))) }
+        ensures bytes { IfOk result (λ bytes. bytes.items ≡ item_bytes config.now (model_of item.now) (entry_of handle self.now.objects)) }
+        ensures spelled { IfOk result (λ bytes. item_refusal config.now (model_of item.now) (entry_of handle self.now.objects) ≡ None) }
+        ensures refused { IfErr result (IsRefusedAs (item_refusal config.now (model_of item.now) (entry_of handle self.now.objects))) }
     {
         match entry_at(&self.objects, handle) {
             None => Err(SpellFault::Refused(Refusal::NoHandle)),
-            Some(entry) => spell(alloc, setup, &entry.object, item),
+            Some(entry) => spell(alloc, config, &entry.object, item),
         }
     }
 
@@ -260,39 +261,39 @@ impl Slot {
     pub fn put_value(
         &mut self,
         alloc: Global,
-        setup: &NodeConfig,
+        config: &NodeConfig,
         handle: u32,
         item: &Item,
         s: u16,
         out: &mut Outbox,
     ) -> Result<(), AllocError>
-        ensures slot { OnOk result (self.new ≡ (valued setup.now self.old handle (model_of item.now)).slot) }
-        ensures records { OnOk result (out.new.records ≡ out.old.records ++ labelled s (valued setup.now self.old handle (model_of item.now)).records) }
+        ensures slot { OnOk result (self.new ≡ (valued config.now self.old handle (model_of item.now)).slot) }
+        ensures records { OnOk result (out.new.records ≡ out.old.records ++ labelled s (valued config.now self.old handle (model_of item.now)).records) }
         ensures kept { OnErr result (self.new ≡ self.old) }
         ensures unrecorded { OnErr result (out.new.records ≡ out.old.records) }
     {
         out.reserve(1, 0)?;
-        match self.spelled(alloc, setup, handle, item) {
+        match self.spelled(alloc, config, handle, item) {
             Err(SpellFault::NoMemory) => Err(AllocError),
             Err(SpellFault::Refused(refusal)) => {
-                out.push_reply(s, Reply::Refused(refusal));
+                out.push_plain_answer(s, PlainAnswer::Refused(refusal));
                 Ok(())
             }
             Ok(bytes) => {
-                let reply = self.put(setup, handle, &bytes);
-                out.push_reply(s, reply);
+                let answer = self.put(config, handle, &bytes);
+                out.push_plain_answer(s, answer);
                 Ok(())
             }
         }
     }
 
-    /// Ends the object of that handle and of the kind at that place of the quotas.
-    fn close(&mut self, kind: usize, handle: u32) -> Reply
-        ensures { closed_unless (close_refusal kind (entry_of handle self.old.objects)) self.old handle ≡ answered self.new (reply_model result) }
+    /// Ends the object of that handle and of the kind with that index in the quotas.
+    fn close(&mut self, kind: usize, handle: u32) -> PlainAnswer
+        ensures { closed_unless (close_refusal kind (entry_of handle self.old.objects)) self.old handle ≡ answered self.new (plain_answer_model result) }
     {
         match close_in(&mut self.objects, kind, handle) {
-            Some(refusal) => Reply::Refused(refusal),
-            None => Reply::Done,
+            Some(refusal) => PlainAnswer::Refused(refusal),
+            None => PlainAnswer::Done,
         }
     }
 
@@ -328,15 +329,15 @@ impl Slot {
     pub fn item_of(
         &self,
         alloc: Global,
-        setup: &NodeConfig,
+        config: &NodeConfig,
         handle: u32,
     ) -> Result<Item, ValueFault>
-        requires { AllFit setup.now self.now.objects }
-        ensures { ShowsItem setup.now (showing_at (entry_of handle self.now.objects)) result }
+        requires { AllFit config.now self.now.objects }
+        ensures { ShowsItem config.now (showing_at (entry_of handle self.now.objects)) result }
     {
         match entry_at(&self.objects, handle) {
             None => Err(ValueFault::NoHandle),
-            Some(entry) => item_of(alloc, setup, &entry.object),
+            Some(entry) => item_of(alloc, config, &entry.object),
         }
     }
 
@@ -347,7 +348,7 @@ impl Slot {
         ensures { out.new.records ≡ out.old.records ++ labelled s (answered self.now (get_answer (entry_of handle self.now.objects))).records }
     {
         match self.peek(handle) {
-            Err(refusal) => out.push_reply(s, Reply::Refused(refusal)),
+            Err(refusal) => out.push_plain_answer(s, PlainAnswer::Refused(refusal)),
             Ok(peek) => out.push_value(s, peek),
         }
     }
@@ -356,24 +357,24 @@ impl Slot {
     pub fn serve(
         &mut self,
         alloc: Global,
-        setup: &NodeConfig,
+        config: &NodeConfig,
         call: &Call<'_>,
-        g: &Globals,
+        globals: &Globals,
         s: u16,
         out: &mut Outbox,
     ) -> Result<(), AllocError>
-        requires now { g.now.now ≤ last_moment }
-        ensures slot { OnOk result (self.new ≡ (called setup.now self.old g.entry.now (call_model call.now)).slot) }
-        ensures records { OnOk result (out.new.records ≡ out.old.records ++ labelled s (called setup.now self.old g.entry.now (call_model call.now)).records) }
+        requires now { globals.now.now ≤ last_moment }
+        ensures slot { OnOk result (self.new ≡ (called config.now self.old globals.entry.now (call_model call.now)).slot) }
+        ensures records { OnOk result (out.new.records ≡ out.old.records ++ labelled s (called config.now self.old globals.entry.now (call_model call.now)).records) }
         ensures kept { OnErr result (self.new ≡ self.old) }
         ensures unrecorded { OnErr result (out.new.records ≡ out.old.records) }
     {
         // A pull has two records, and the longest value is longer than a pull request.
         out.reserve(2, PD_PAYLOAD_MAX)?;
-        let reply = match *call {
-            Call::Publish(terms) => self.publish(alloc, setup, &terms, g)?,
-            Call::Subscribe(terms) => self.subscribe(alloc, setup, &terms, g)?,
-            Call::Put { handle, bytes } => self.put(setup, handle, bytes),
+        let answer = match *call {
+            Call::Publish(terms) => self.publish(alloc, config, &terms, globals)?,
+            Call::Subscribe(terms) => self.subscribe(alloc, config, &terms, globals)?,
+            Call::Put { handle, bytes } => self.put(config, handle, bytes),
             Call::Unpublish { handle } => self.close(PUBLISHERS, handle),
             Call::Unsubscribe { handle } => self.close(SUBSCRIPTIONS, handle),
             Call::OpenPull(terms) => self.open_pull(&terms),
@@ -383,11 +384,11 @@ impl Slot {
                 return Ok(());
             }
             Call::Pull { handle } => {
-                self.pull(handle, g, s, out);
+                self.pull(handle, globals, s, out);
                 return Ok(());
             }
         };
-        out.push_reply(s, reply);
+        out.push_plain_answer(s, answer);
         Ok(())
     }
 
@@ -400,50 +401,50 @@ impl Slot {
     }
 
     /// Fires each object that is due, once, in order.
-    pub fn move_to(&mut self, g: &Globals, s: u16, out: &mut Outbox)
-        requires now { g.now.now ≤ last_moment }
-        requires rows { length (filter (is_due g.now.now) self.old.objects) ≤ out.old.row_room }
-        requires bytes { PD_TELEGRAM_MAX * length (filter (is_due g.now.now) self.old.objects) ≤ out.old.byte_room }
-        ensures slot { self.new ≡ (moved_to self.old g.entry.now).slot }
-        ensures records { out.new.records ≡ out.old.records ++ labelled s (moved_to self.old g.entry.now).records }
+    pub fn move_to(&mut self, globals: &Globals, s: u16, out: &mut Outbox)
+        requires now { globals.now.now ≤ last_moment }
+        requires rows { length (filter (is_due globals.now.now) self.old.objects) ≤ out.old.row_room }
+        requires bytes { PD_TELEGRAM_MAX * length (filter (is_due globals.now.now) self.old.objects) ≤ out.old.byte_room }
+        ensures slot { self.new ≡ (moved_to self.old globals.entry.now).slot }
+        ensures records { out.new.records ≡ out.old.records ++ labelled s (moved_to self.old globals.entry.now).records }
     {
-        fire_all(&mut self.objects, g, s, out);
+        fire_all(&mut self.objects, globals, s, out);
     }
 
     /// How many of its objects the telegram is for.
-    fn addressed(&self, telegram: &Telegram<'_>, g: &Globals) -> usize
-        ensures count { result ≡ length (filter (is_for_entry (telegram_model telegram.now) g.entry.now) self.now.objects) }
+    fn addressed(&self, telegram: &Telegram<'_>, globals: &Globals) -> usize
+        ensures count { result ≡ length (filter (is_for_entry (telegram_model telegram.now) globals.entry.now) self.now.objects) }
         ensures within { result ≤ 768 }
     {
-        count_addressed(&self.objects, telegram, g)
+        count_addressed(&self.objects, telegram, globals)
     }
 
     /// Takes a telegram: each object that it is for is handed it, in the order of their handles. One whose topology counts
     /// don't match the node's changes nothing. Room for the records comes first.
     pub fn receive(
         &mut self,
-        setup: &NodeConfig,
+        config: &NodeConfig,
         telegram: &Telegram<'_>,
-        g: &Globals,
+        globals: &Globals,
         s: u16,
         out: &mut Outbox,
     ) -> Result<(), AllocError>
-        requires now { g.now.now ≤ last_moment }
+        requires now { globals.now.now ≤ last_moment }
         requires limit { IsWithinLimit (telegram_model telegram.now) }
-        ensures slot { OnOk result (self.new ≡ (received_if setup.now self.old g.entry.now (Some (telegram_model telegram.now))).slot) }
-        ensures records { OnOk result (out.new.records ≡ out.old.records ++ labelled s (received_if setup.now self.old g.entry.now (Some (telegram_model telegram.now))).records) }
+        ensures slot { OnOk result (self.new ≡ (received_if config.now self.old globals.entry.now (Some (telegram_model telegram.now))).slot) }
+        ensures records { OnOk result (out.new.records ≡ out.old.records ++ labelled s (received_if config.now self.old globals.entry.now (Some (telegram_model telegram.now))).records) }
         ensures kept { OnErr result (self.new ≡ self.old) }
         ensures unrecorded { OnErr result (out.new.records ≡ out.old.records) }
-        ensures memory { OnErr result (concerns g.entry.now (Some (telegram_model telegram.now)) self.old ≡ true) }
+        ensures memory { OnErr result (concerns globals.entry.now (Some (telegram_model telegram.now)) self.old ≡ true) }
     {
-        if !is_valid_at(telegram, g) {
+        if !is_valid_at(telegram, globals) {
             return Ok(());
         }
-        let addressed = self.addressed(telegram, g);
+        let addressed = self.addressed(telegram, globals);
         match out.reserve(addressed, PD_TELEGRAM_MAX * addressed) {
             Err(error) => Err(error),
             Ok(()) => {
-                take_all(&mut self.objects, setup, telegram, g, s, out);
+                take_all(&mut self.objects, config, telegram, globals, s, out);
                 Ok(())
             }
         }
@@ -458,16 +459,16 @@ fn is_span(span: u32) -> bool
 }
 
 /// How many bytes the zero value of a dataset takes, or why no object can be of it.
-fn value_size(setup: &NodeConfig, dataset: u32) -> Result<usize, Refusal>
-    ensures refused { IfErr result (λ refusal. (later : Option Refusal) → dataset_refusal setup.now dataset later ≡ Some refusal) }
-    ensures accepted { IfOk result (λ size. (later : Option Refusal) → dataset_refusal setup.now dataset later ≡ later) }
-    ensures size { IfOk result (λ size. size ≡ zero_size_of setup.now dataset) }
+fn value_size(config: &NodeConfig, dataset: u32) -> Result<usize, Refusal>
+    ensures refused { IfErr result (λ refusal. (later : Option Refusal) → dataset_refusal config.now dataset later ≡ Some refusal) }
+    ensures accepted { IfOk result (λ size. (later : Option Refusal) → dataset_refusal config.now dataset later ≡ later) }
+    ensures size { IfOk result (λ size. size ≡ zero_size_of config.now dataset) }
     ensures within { IfOk result (λ size. size ≤ 1432) }
 {
     if dataset == 0 {
         return Ok(0);
     }
-    match setup.registry().zero_size(dataset) {
+    match config.registry().zero_size(dataset) {
         None => Err(Refusal::NoDataset),
         Some(size) => {
             if size > PD_PAYLOAD_MAX {
