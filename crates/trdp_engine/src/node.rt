@@ -1,6 +1,6 @@
 //! The node: one event after another.
 
-ghost use Rattle.std.specs.Prelude.{nat_le, if◌then◌else◌, None, ◌≡◌, ◌≢◌, ℕ, ◌<◌, ◌≤◌, ◌++◌, ◌∷◌, [], length, OnOk, OnErr, IfOk, IfErr, Err, Some, true, false, slice_get, map, filter, take, replicate};
+ghost use Rattle.std.specs.Prelude.{nat_le, if◌then◌else◌, None, ◌≡◌, ◌≢◌, ℕ, ◌<◌, ◌≤◌, ◌++◌, ◌∷◌, [], length, OnOk, OnErr, IfOk, IfErr, IfSome, Err, Some, true, false, slice_get, map, filter, take, replicate};
 ghost use Rattle.trdp_base.specs.Moments.{last_moment};
 ghost use Rattle.trdp_engine.specs.Records.{Answers, RecordModel, labelled};
 ghost use Rattle.trdp_engine.specs.Events.{MomentIs, TopologyIs, RoleIs, DatagramIs, CallIs, call_model, event_model};
@@ -292,10 +292,13 @@ impl Node {
         self.slot.item_of(alloc, &self.config, handle)
     }
 
-    /// Takes events in turn. It goes on after an event that is refused for a cause of its own, stops before the first that
-    /// lacks memory, and answers how many were taken.
+    /// Takes events in turn, and answers how many were taken. It goes on after an event that is refused for a cause of its
+    /// own, and stops before the first that lacks memory: only before a call, a moment by which something is due, or a
+    /// datagram that concerns a slot.
     pub fn run(&mut self, events: &[Event<'_>], out: &mut Outbox) -> usize
         ensures within { result ≤ length events.now }
+        ensures stops { IfSome (slice_get events.now result)
+            (λ event. MayTakeMemory self.new (event_model event)) }
         ensures config { self.new.config ≡ self.old.config }
         ensures count { length self.new.slots ≡ length self.old.slots }
         ensures alone { (s : ℕ) (slot : SlotState) → slice_get self.old.slots s ≡ Some slot → RunsAsAlone self.old self.new out.old.records out.new.records (map event_model (take result events.now)) s slot }

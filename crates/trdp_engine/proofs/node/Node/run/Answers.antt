@@ -1,4 +1,5 @@
 use Rattle.std.proofs.Common.{arith, refl, ◌∙◌}
+use Rattle.std.proofs.lemmas.Option.{slice_get-get_or, slice_get_past}
 use Rattle.trdp_engine.specs.declared.event.Event.TheVariants.{Moment}
 use Rattle.trdp_engine.proofs.Runs.{one_event, so_far, one_more, at_start}
 use Rattle.trdp_engine.proofs.Steps.{appends_none, appends_more}
@@ -33,3 +34,12 @@ returns-then-is_out_of_memory-clause-alone c = λ s slot is.
 
 pub returns-clause-alone : goal.returns-clause-alone
 returns-clause-alone c = λ s slot is. rw c.loop-event.invariant.taken (so_far _ _ _ _ _ s slot (c.loop-event.invariant.runs s slot is))
+
+pub returns-then-is_out_of_memory-clause-stops : goal.returns-then-is_out_of_memory-clause-stops
+returns-then-is_out_of_memory-clause-stops c =
+    let memory = c.is_out_of_memory.ensures.yes c.if-is_out_of_memory.true in
+    let kept = rw memory at c.step-result.ensures.kept in
+    rw (c.loop-event.invariant.taken, kept, slice_get-get_or c.args.events.now c.loop-event.event-index (Moment 0) c.loop-event-test.true) (c.step-result.ensures.memory memory)
+
+pub returns-clause-stops : goal.returns-clause-stops
+returns-clause-stops c = rw (c.loop-event.invariant.taken, slice_get_past c.args.events.now c.loop-event.event-index (omega arith)) tt
