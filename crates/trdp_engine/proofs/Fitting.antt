@@ -1,5 +1,5 @@
 -- What keeps the value of each subscription one of its dataset: the first value, a time-out, and what is taken.
-use Rattle.std.proofs.Common.{◌≡◌, ℕ, List, [], ◌∷◌, ◌++◌, length, map, Some, None, Option, Bool, true, false, refl}
+use Rattle.std.proofs.Common.{◌≡◌, ℕ, List, [], ◌∷◌, ◌++◌, length, map, Some, None, Option, Ok, Bool, true, false, refl}
 use Rattle.std.specs.Prelude.{replicate, not, nat_lt, ◌==◌, ◌&&◌, if◌then◌else◌}
 use Rattle.trdp_dataset.specs.Configs.{ConfigModel}
 use Rattle.trdp_dataset.specs.Datasets.{is_known}
@@ -32,6 +32,7 @@ use Rattle.trdp_engine.specs.Datagrams.{fits_object, is_for_entry, entry_after_t
 use Rattle.trdp_engine.specs.Moments.{is_due, entry_after_moment, moved_to}
 use Rattle.trdp_marshal.specs.Items.{ItemModel}
 use Rattle.trdp_engine.specs.Values.{item_refusal, item_bytes, valued_unless, valued}
+use Rattle.trdp_engine.specs.Looks.{as_subscription, subscription_of, subscription_at}
 use Rattle.trdp_engine.specs.Fitting.{ShowsFitting, IsFit, AllFit}
 
 -- the zero value of a dataset is a value of it
@@ -222,7 +223,7 @@ valued_fits config slot handle item all = either (item_refusal config item (entr
     either None bytes = put_fits config (put_refusal config bytes (entry_of handle slot.objects)) slot handle bytes all
 
 -- the object of a handle is one of them
-pub found_fits : (config : ConfigModel) (handle : ℕ) (objects : List Entry) (entry : Entry) → AllFit config objects → entry_of handle objects ≡ Some entry → IsFit config entry.object
+found_fits : (config : ConfigModel) (handle : ℕ) (objects : List Entry) (entry : Entry) → AllFit config objects → entry_of handle objects ≡ Some entry → IsFit config entry.object
 found_fits config handle [] entry all is = absurd (cc)
 found_fits config handle (e ∷ objects) entry all is = either config handle e objects entry (e.handle == handle) refl all is (found_fits config handle objects entry all.1)
   where
@@ -232,3 +233,16 @@ found_fits config handle (e ∷ objects) entry all is = either config handle e o
         let one : e ≡ entry = cc in
         rw (← one) all.0
     either config handle e objects entry false same all is rest = rest (rw same at is)
+
+as_subscription_fits : (config : ConfigModel) (object : AnyObject) (s : SubscriptionState) → IsFit config object → as_subscription object ≡ Ok s → ShowsFitting config s
+as_subscription_fits config (Publisher p) s fit is = absurd (cc)
+as_subscription_fits config (Subscription t) s fit is = let same : t ≡ s = cc in rw (← same) fit
+as_subscription_fits config (Requester r) s fit is = absurd (cc)
+
+-- the subscription of a handle shows a value of its dataset
+pub subscription_fits : (config : ConfigModel) (handle : ℕ) (objects : List Entry) (s : SubscriptionState) → AllFit config objects → subscription_at handle objects ≡ Ok s → ShowsFitting config s
+subscription_fits config handle objects s all is = either config handle objects s (entry_of handle objects) refl all is
+  where
+    either : (config : ConfigModel) (handle : ℕ) (objects : List Entry) (s : SubscriptionState) (entry : Option Entry) → entry_of handle objects ≡ entry → AllFit config objects → subscription_of entry ≡ Ok s → ShowsFitting config s
+    either config handle objects s None found all is = absurd (cc)
+    either config handle objects s (Some entry) found all is = as_subscription_fits config entry.object s (found_fits config handle objects entry all found) is

@@ -1,5 +1,5 @@
 -- One object takes a telegram, and the rest are left; a telegram that concerns no object changes nothing.
-use Rattle.std.proofs.Common.{◌≡◌, ℕ, ◌+◌, ◌<◌, List, [], ◌∷◌, ◌++◌, length, get_or, take, drop, map, filter, Bool, true, false, Option, Some, None, refl, ◌∙◌, ap, arith, append_assoc}
+use Rattle.std.proofs.Common.{◌≡◌, ℕ, ◌+◌, ◌<◌, List, [], ◌∷◌, ◌++◌, length, get_or, take, drop, map, filter, Bool, true, false, Option, Some, None, Result, Ok, Err, OnErr, refl, ◌∙◌, ap, arith, append_assoc}
 use Rattle.std.specs.Prelude.{slice_set, ◌||◌}
 use Rattle.std.specs.List.{flat_map, list_any}
 use Rattle.std.proofs.lemmas.List.{map-append, length-append}
@@ -73,6 +73,11 @@ unconcerned_records config telegram globals (e ∷ objects) none =
     let head : is_for_entry telegram globals e ≡ false = or_left (is_for_entry telegram globals e) (list_any (is_for_entry telegram globals) objects) none in
     let rest : list_any (is_for_entry telegram globals) objects ≡ false = or_right (is_for_entry telegram globals e) (list_any (is_for_entry telegram globals) objects) none in
     rw (head, unconcerned_records config telegram globals objects rest) refl
+
+-- what is true is true of an error
+pub of_an_error : {T E : Type 0} (result : Result T E) (P : Type 0) → P → OnErr result P
+of_an_error (Ok x) P holds = tt
+of_an_error (Err e) P holds = holds
 
 -- where an object is counted, one is concerned
 pub counted_concerns : (telegram : TelegramModel) (globals : Globals) (objects : List Entry) → 0 < length (filter (is_for_entry telegram globals) objects) → list_any (is_for_entry telegram globals) objects ≡ true

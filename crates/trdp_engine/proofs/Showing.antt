@@ -10,7 +10,6 @@ use Rattle.trdp_marshal.specs.Items.{model_of}
 use Rattle.trdp_marshal.specs.Faults.{decode_fault}
 use Rattle.trdp_marshal.specs.Reading.{reading}
 use Rattle.trdp_marshal.specs.Spells.{Spells}
-use Rattle.trdp_pd.specs.declared.any_object.AnyObject.TheVariants.{Subscription}
 use Rattle.trdp_pd.specs.Subscriptions.{SubscriptionState}
 use Rattle.trdp_engine.specs.declared.shown.ValueFault.TheVariants.{NoDataset, OutOfMemory}
 use Rattle.trdp_engine.specs.Fitting.{ShowsFitting}
@@ -60,15 +59,15 @@ is_not_zero true found is same = absurd (cc)
 is_not_zero false found is same = refl
 
 -- without a dataset there is no item
-pub shows_none : (config : ConfigModel) (s : SubscriptionState) (registry : List DatasetModel) (dataset : ℕ) (bytes : List ℕ) → ShowsFitting config s → IsGiven config s registry dataset bytes → decode_fault registry dataset bytes ≡ Some UnknownDataset → ShowsItem config (showing (Subscription s)) (Err NoDataset)
+pub shows_none : (config : ConfigModel) (s : SubscriptionState) (registry : List DatasetModel) (dataset : ℕ) (bytes : List ℕ) → ShowsFitting config s → IsGiven config s registry dataset bytes → decode_fault registry dataset bytes ≡ Some UnknownDataset → ShowsItem config (showing s) (Err NoDataset)
 shows_none config s registry dataset bytes fit given is = rw (is_zero (s.terms.dataset == 0) _ (given_fault config s registry dataset bytes fit given) is) refl
 
 -- memory may be wanting for the item
-pub lacks_memory : (config : ConfigModel) (s : SubscriptionState) (registry : List DatasetModel) (dataset : ℕ) (bytes : List ℕ) → ShowsFitting config s → IsGiven config s registry dataset bytes → decode_fault registry dataset bytes ≡ None → ShowsItem config (showing (Subscription s)) (Err OutOfMemory)
+pub lacks_memory : (config : ConfigModel) (s : SubscriptionState) (registry : List DatasetModel) (dataset : ℕ) (bytes : List ℕ) → ShowsFitting config s → IsGiven config s registry dataset bytes → decode_fault registry dataset bytes ≡ None → ShowsItem config (showing s) (Err OutOfMemory)
 lacks_memory config s registry dataset bytes fit given is = rw (is_not_zero (s.terms.dataset == 0) _ (given_fault config s registry dataset bytes fit given) is) refl
 
 -- the item is the one that the bytes spell
-pub shows_item : (config : ConfigModel) (s : SubscriptionState) (registry : List DatasetModel) (dataset : ℕ) (bytes : List ℕ) (item : Item) → ShowsFitting config s → IsGiven config s registry dataset bytes → decode_fault registry dataset bytes ≡ None → Spells registry dataset (model_of item) bytes → ShowsItem config (showing (Subscription s)) (Ok item)
+pub shows_item : (config : ConfigModel) (s : SubscriptionState) (registry : List DatasetModel) (dataset : ℕ) (bytes : List ℕ) (item : Item) → ShowsFitting config s → IsGiven config s registry dataset bytes → decode_fault registry dataset bytes ≡ None → Spells registry dataset (model_of item) bytes → ShowsItem config (showing s) (Ok item)
 shows_item config s registry dataset bytes item fit given is spells =
     rw (is_not_zero (s.terms.dataset == 0) _ (given_fault config s registry dataset bytes fit given) is)
     (rw (given.registry_is, given.dataset_is, given.bytes_are) at spells)

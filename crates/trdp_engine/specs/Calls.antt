@@ -1,12 +1,12 @@
 -- What a call does to the slot that makes it.
-use Rattle.std.specs.Prelude.{ℕ, List, [], ◌∷◌, length, Option, Some, None, Bool, not, slice_index, ◌==◌, ◌||◌, nat_lt, nat_le, if◌then◌else◌}
+use Rattle.std.specs.Prelude.{ℕ, List, [], ◌∷◌, length, Option, Some, None, Result, Ok, Err, Bool, not, slice_index, ◌==◌, ◌||◌, nat_lt, nat_le, if◌then◌else◌}
 use Rattle.trdp_filter.specs.declared.globals.Globals.{Globals}
 use Rattle.trdp_pd.specs.declared.terms.PublisherTerms.{PublisherTerms}
 use Rattle.trdp_pd.specs.declared.terms.SubscriptionTerms.{SubscriptionTerms}
 use Rattle.trdp_pd.specs.declared.any_object.AnyObject.{AnyObject}
 use Rattle.trdp_pd.specs.declared.any_object.AnyObject.TheVariants.{Publisher, Subscription, Requester}
 use Rattle.trdp_pd.specs.Publishers.{published}
-use Rattle.trdp_pd.specs.Subscriptions.{subscribed}
+use Rattle.trdp_pd.specs.Subscriptions.{SubscriptionState, subscribed}
 use Rattle.trdp_pd.specs.Requesters.{opened}
 use Rattle.trdp_pd.specs.Peeks.{shown}
 use Rattle.trdp_pd.specs.Objects.{kind_of}
@@ -14,6 +14,9 @@ use Rattle.trdp_dataset.specs.Configs.{ConfigModel}
 use Rattle.trdp_engine.specs.declared.object.Entry.{Entry}
 use Rattle.trdp_engine.specs.declared.fault.Refusal.{Refusal}
 use Rattle.trdp_engine.specs.declared.fault.Refusal.TheVariants.{NoHandle, WrongKind, Cycle, Timeout, Range, NoDataset, TooLong, Shape, Quota, Exhausted}
+use Rattle.trdp_engine.specs.declared.look.LookFault.{LookFault}
+use Rattle.trdp_engine.specs.declared.look.LookFault.TheVariants.{NoHandle as NoSuchHandle, WrongKind as NoSubscription}
+use Rattle.trdp_engine.specs.Looks.{subscription_at}
 use Rattle.trdp_engine.specs.Configs.{is_dataset, zero_size_of, is_fitting}
 use Rattle.trdp_engine.specs.Records.{AnswerModel, HandleIs, DoneIs, ValueIs, RefusedIs, Answers}
 use Rattle.trdp_engine.specs.Slots.{SlotState, Outcome, count_of, entry_of, with_object, changed, without}
@@ -99,16 +102,15 @@ abbrev pub closed_unless : Option Refusal → SlotState → ℕ → Outcome
 closed_unless (Some refusal) slot handle = refused slot refusal
 closed_unless None slot handle = answered (record slot { objects = without handle slot.objects }) DoneIs
 
--- what an object shows
-abbrev pub shown_of : AnyObject → AnswerModel
-shown_of (Publisher p) = RefusedIs WrongKind
-shown_of (Subscription s) = ValueIs (shown s)
-shown_of (Requester r) = RefusedIs WrongKind
+-- the refusal of a look at what is no subscription
+abbrev pub look_refusal : LookFault → Refusal
+look_refusal NoSuchHandle = NoHandle
+look_refusal NoSubscription = WrongKind
 
--- the answer to a look at the object of a handle
-abbrev pub get_answer : Option Entry → AnswerModel
-get_answer None = RefusedIs NoHandle
-get_answer (Some entry) = shown_of entry.object
+-- the answer to a look at a subscription: what it shows, or why there is none
+abbrev pub get_answer : Result SubscriptionState LookFault → AnswerModel
+get_answer (Ok s) = ValueIs (shown s)
+get_answer (Err fault) = RefusedIs (look_refusal fault)
 
 -- a pull that isn't refused is answered, and then its pull request is sent
 abbrev pub pulled_unless : Option Refusal → SlotState → ℕ → Outcome
@@ -127,7 +129,7 @@ called config slot globals (UnpublishCall handle) = closed_unless (close_refusal
 called config slot globals (SubscribeCall terms) =
     opened_unless (subscribe_refusal config slot terms) slot
     (Subscription (subscribed terms (zero_size_of config terms.dataset) globals.now))
-called config slot globals (GetCall handle) = answered slot (get_answer (entry_of handle slot.objects))
+called config slot globals (GetCall handle) = answered slot (get_answer (subscription_at handle slot.objects))
 called config slot globals (UnsubscribeCall handle) = closed_unless (close_refusal 1 (entry_of handle slot.objects)) slot handle
 called config slot globals (OpenPullCall terms) = opened_unless (opening_refusal slot 2) slot (Requester (opened terms))
 called config slot globals (PullCall handle) = pulled_unless (pull_refusal globals (entry_of handle slot.objects)) slot handle

@@ -2,7 +2,6 @@
 use Rattle.std.specs.Prelude.{ℕ, List, [], ◌∷◌, Bool, ◌==◌, ◌&&◌, ◌||◌, nat_lt, map, filter, if◌then◌else◌, unwrap_or}
 use Rattle.std.specs.List.{flat_map}
 use Rattle.trdp_head.specs.declared.pd.PdHead.{PdHead}
-use Rattle.trdp_head.specs.PdBytes.{pd_bytes}
 use Rattle.trdp_filter.specs.declared.globals.Globals.{Globals}
 use Rattle.trdp_pd.specs.declared.any_object.AnyObject.{AnyObject}
 use Rattle.trdp_pd.specs.declared.any_object.AnyObject.TheVariants.{Publisher, Subscription, Requester}
@@ -11,8 +10,7 @@ use Rattle.trdp_pd.specs.declared.object.Fired.TheVariants.{Nothing, Data, Silen
 use Rattle.trdp_pd.specs.Due.{is_due_by}
 use Rattle.trdp_pd.specs.Objects.{due_of, after_firing, fired}
 use Rattle.trdp_engine.specs.declared.object.Entry.{Entry}
-use Rattle.trdp_engine.specs.declared.record.Protocol.TheVariants.{Pd}
-use Rattle.trdp_engine.specs.Records.{Content, Indicates, SilentIs, Sends}
+use Rattle.trdp_engine.specs.Records.{Content, Indicates, SilentIs, value_sent}
 use Rattle.trdp_engine.specs.Slots.{SlotState, Outcome}
 
 -- the object is due by t
@@ -37,7 +35,7 @@ in_order (entry ∷ entries) = inserted entry (in_order entries)
 
 -- a publisher's data goes to its destination with its value
 abbrev pub sends_data : AnyObject → PdHead → List Content
-sends_data (Publisher p) head = Sends Pd p.terms.to (pd_bytes head (unwrap_or p.value [])) ∷ []
+sends_data (Publisher p) head = value_sent p.terms.to head p.value
 sends_data (Subscription s) head = []
 sends_data (Requester r) head = []
 

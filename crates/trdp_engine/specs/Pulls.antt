@@ -14,7 +14,7 @@ use Rattle.trdp_engine.specs.declared.object.Entry.{Entry}
 use Rattle.trdp_engine.specs.declared.fault.Refusal.{Refusal}
 use Rattle.trdp_engine.specs.declared.fault.Refusal.TheVariants.{NoHandle, WrongKind, State}
 use Rattle.trdp_engine.specs.declared.record.Protocol.TheVariants.{Pd}
-use Rattle.trdp_engine.specs.Records.{Content, Sends}
+use Rattle.trdp_engine.specs.Records.{Content, Sends, value_sent}
 
 -- why an object doesn't pull: it is no requester, or its topology counts don't match the node's
 abbrev pub object_pull_refusal : Globals → AnyObject → Option Refusal
@@ -49,11 +49,6 @@ pull_request_of (Some entry) = pull_request entry.object
 unfoldable pub answer_place : ConfigModel → TelegramModel → Place
 answer_place config (PdIs src dst telegram) =
     if telegram.head.reply_ip.0 == 0 then src else record { ip = telegram.head.reply_ip; port = config.pd_port }
-
--- a value that is sent to that place under this header; without a value nothing is sent
-abbrev pub value_sent : Place → PdHead → Option (List ℕ) → List Content
-value_sent to head None = []
-value_sent to head (Some bytes) = Sends Pd to (pd_bytes head bytes) ∷ []
 
 -- the answer of a publisher to a pull request carries its value
 abbrev pub pull_answer : AnyObject → Place → PdHead → List Content

@@ -1,6 +1,8 @@
 -- What a node gives its slots: answers, indications and telegrams.
-use Rattle.std.specs.Prelude.{ℕ, List, map, filter, ◌==◌}
+use Rattle.std.specs.Prelude.{ℕ, List, [], ◌∷◌, Option, Some, None, map, filter, ◌==◌}
 use Rattle.trdp_base.specs.declared.place.Place.{Place}
+use Rattle.trdp_head.specs.declared.pd.PdHead.{PdHead}
+use Rattle.trdp_head.specs.PdBytes.{pd_bytes}
 use Rattle.trdp_pd.specs.Peeks.{PeekModel, peek_model}
 use Rattle.trdp_engine.specs.declared.fault.Refusal.{Refusal}
 use Rattle.trdp_engine.specs.declared.record.Answer.{Answer as AnyAnswer}
@@ -8,6 +10,7 @@ use Rattle.trdp_engine.specs.declared.record.Answer.TheVariants.{Handle, Done, V
 use Rattle.trdp_engine.specs.declared.record.Indication.{Indication as AnyIndication}
 use Rattle.trdp_engine.specs.declared.record.Indication.TheVariants.{Silent, Alive}
 use Rattle.trdp_engine.specs.declared.record.Protocol.{Protocol}
+use Rattle.trdp_engine.specs.declared.record.Protocol.TheVariants.{Pd}
 use Rattle.trdp_engine.specs.declared.record.What.{What}
 use Rattle.trdp_engine.specs.declared.record.What.TheVariants.{Answer, Indication, Send}
 use Rattle.trdp_engine.specs.declared.record.Record.{Record}
@@ -64,3 +67,8 @@ records_of s records = map (λ r. r.content) (filter (λ r. r.slot == s) records
 -- these as records of slot s
 abbrev pub labelled : ℕ → List Content → List RecordModel
 labelled s contents = map (λ c. let r : RecordModel = record { slot = s; content = c } in r) contents
+
+-- a value that is sent to that place under this header; without a value nothing is sent
+abbrev pub value_sent : Place → PdHead → Option (List ℕ) → List Content
+value_sent to head None = []
+value_sent to head (Some bytes) = Sends Pd to (pd_bytes head bytes) ∷ []

@@ -102,7 +102,7 @@ pub fn close_in(objects: &mut Vec<Entry>, kind: usize, handle: u32) -> Option<Re
             if held != kind {
                 return Some(Refusal::WrongKind);
             }
-            let _ = objects.remove(index);
+            objects.remove(index);
             None
         }
     }

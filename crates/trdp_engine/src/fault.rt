@@ -1,5 +1,7 @@
 //! Why an event isn't taken, and why a call is refused.
 
+use crate::look::LookFault;
+use std::alloc::AllocError;
 use thiserror::Error;
 
 /// Why an event is not admitted: the first of these that applies (profile). Node and outbox stay as they were.
@@ -20,6 +22,17 @@ pub enum NodeFault {
     /// Memory that the event needs was refused.
     #[error("OutOfMemory")]
     OutOfMemory = 5,
+}
+
+impl From<AllocError> for NodeFault {
+    ghost use Rattle.std.specs.Prelude.{◌≡◌};
+    ghost use Rattle.trdp_engine.specs.declared.fault.NodeFault.TheVariants.{OutOfMemory};
+
+    ghost from_gives = { λ _ fault. fault ≡ OutOfMemory };
+
+    fn from(_: AllocError) -> NodeFault {
+        NodeFault::OutOfMemory
+    }
 }
 
 /// Why a call is refused: the first of these that applies (profile). It is the one record of the call, and nothing else changes.
@@ -67,4 +80,18 @@ pub enum Refusal {
     /// The slot has given out its last handle.
     #[error("Exhausted")]
     Exhausted = 14,
+}
+
+impl From<LookFault> for Refusal {
+    ghost use Rattle.std.specs.Prelude.{◌≡◌};
+    ghost use Rattle.trdp_engine.specs.Calls.{look_refusal};
+
+    ghost from_gives = { λ fault refusal. refusal ≡ look_refusal fault };
+
+    fn from(fault: LookFault) -> Refusal {
+        match fault {
+            LookFault::NoHandle => Refusal::NoHandle,
+            LookFault::WrongKind => Refusal::WrongKind,
+        }
+    }
 }

@@ -11,6 +11,7 @@ mod entries;
 mod event;
 mod fault;
 mod laws;
+mod look;
 mod moment;
 mod node;
 mod object;

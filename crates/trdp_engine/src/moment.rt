@@ -7,14 +7,14 @@ ghost use Rattle.trdp_head.specs.declared.pd.TheConstants.{PD_TELEGRAM_MAX};
 ghost use Rattle.trdp_engine.specs.Handles.{IsRising};
 ghost use Rattle.trdp_pd.specs.Objects.{due_of};
 ghost use Rattle.trdp_engine.specs.Records.{labelled};
-ghost use Rattle.trdp_engine.specs.Moments.{is_due, in_order, records_firing, entry_after_moment};
+ghost use Rattle.trdp_engine.specs.Moments.{is_due, in_order, sends_data, records_firing, entry_after_moment};
 ghost use Rattle.trdp_engine.specs.Firing.{due_time, sooner, IsFirst};
 
 use crate::object::Entry;
 use crate::outbox::Outbox;
 use crate::record::Indication;
 use trdp_filter::Globals;
-use trdp_head::PD_TELEGRAM_MAX;
+use trdp_head::{PD_TELEGRAM_MAX, PdHead};
 use trdp_pd::{AnyObject, Fired, Object};
 
 /// The object's due moment, if it has come by `t`.
@@ -61,6 +61,21 @@ fn first_due(objects: &[Entry], t: u64) -> Option<usize>
     }
 }
 
+/// Records the data of a publisher, with its value, under this header.
+fn push_data(object: &AnyObject, head: &PdHead, s: u16, out: &mut Outbox)
+    requires row { 0 < out.old.row_room }
+    requires bytes { PD_TELEGRAM_MAX ≤ out.old.byte_room }
+    ensures records { out.new.records ≡ out.old.records ++ labelled s (sends_data object.now head.now) }
+    ensures row_room { out.old.row_room ≤ out.new.row_room + 1 }
+    ensures byte_room { out.old.byte_room ≤ out.new.byte_room + PD_TELEGRAM_MAX }
+{
+    if let AnyObject::Publisher(publisher) = object {
+        if let Some(value) = publisher.value() {
+            out.push_pd(s, publisher.to(), head, value);
+        }
+    }
+}
+
 /// Fires one object that is due.
 fn fire(entry: &mut Entry, globals: &Globals, s: u16, out: &mut Outbox)
     requires due { is_due globals.now.now entry.old ≡ true }
@@ -72,21 +87,10 @@ fn fire(entry: &mut Entry, globals: &Globals, s: u16, out: &mut Outbox)
     ensures row_room { out.old.row_room ≤ out.new.row_room + 1 }
     ensures byte_room { out.old.byte_room ≤ out.new.byte_room + PD_TELEGRAM_MAX }
 {
-    let handle = entry.handle;
-    match &mut entry.object {
-        AnyObject::Publisher(publisher) => {
-            if let Fired::Data(head) = publisher.fire(globals) {
-                if let Some(value) = publisher.value() {
-                    out.push_pd(s, publisher.to(), &head, value);
-                }
-            }
-        }
-        AnyObject::Subscription(subscription) => {
-            let _ = subscription.fire(globals);
-            out.push_indication(s, Indication::Silent(handle));
-        }
-        // A requester is never due.
-        AnyObject::Requester(_) => {}
+    match entry.object.fire(globals) {
+        Fired::Nothing => {}
+        Fired::Data(head) => push_data(&entry.object, &head, s, out),
+        Fired::Silent => out.push_indication(s, Indication::Silent(entry.handle)),
     }
 }
 

@@ -18,7 +18,7 @@ use crate::fault::NodeFault;
 use crate::outbox::Outbox;
 use crate::peek::PeekFault;
 use crate::record::Protocol;
-use crate::shown::ValueFault;
+use crate::shown::{ValueFault, item_shown};
 use crate::slot::Slot;
 use std::alloc::{AllocError, Global};
 use std::marker::Model;
@@ -108,14 +108,10 @@ impl Node {
             return Err(NodeFault::TooLate);
         }
         let due = self.slot.due(t);
-        match out.reserve(due, PD_TELEGRAM_MAX * due) {
-            Err(_) => Err(NodeFault::OutOfMemory),
-            Ok(()) => {
-                self.globals.now = t;
-                self.slot.move_to(&self.globals, 0, out);
-                Ok(())
-            }
-        }
+        out.reserve(due, PD_TELEGRAM_MAX * due)?;
+        self.globals.now = t;
+        self.slot.move_to(&self.globals, 0, out);
+        Ok(())
     }
 
     /// Takes new topology counts.
@@ -163,7 +159,7 @@ impl Node {
         ensures steps { OnOk result ((s : ℕ) (slot : SlotState) → slice_get self.old.slots s ≡ Some slot → StepsAsAlone self.old self.new out.old.records out.new.records (DatagramIs protocol src dst bytes.now) s slot) }
         ensures appends { Appends self.old.slots out.old.records out.new.records }
     {
-        match hear(
+        hear(
             &mut self.slot,
             &self.config,
             protocol,
@@ -172,10 +168,8 @@ impl Node {
             bytes,
             &self.globals,
             out,
-        ) {
-            Err(_) => Err(NodeFault::OutOfMemory),
-            Ok(()) => Ok(()),
-        }
+        )?;
+        Ok(())
     }
 
     /// Takes a call: room for its answer comes first.
@@ -192,13 +186,9 @@ impl Node {
         if usize::from(s) >= self.slots() {
             return Err(NodeFault::NoSlot);
         }
-        match self
-            .slot
-            .serve(self.alloc, &self.config, call, &self.globals, 0, out)
-        {
-            Err(_) => Err(NodeFault::OutOfMemory),
-            Ok(()) => Ok(()),
-        }
+        self.slot
+            .serve(self.alloc, &self.config, call, &self.globals, 0, out)?;
+        Ok(())
     }
 
     /// Takes one event, and appends its records to the outbox. After a fault node and outbox are as before; want of memory
@@ -258,13 +248,9 @@ impl Node {
         if usize::from(slot) >= self.slots() {
             return Err(NodeFault::NoSlot);
         }
-        match self
-            .slot
-            .put_value(alloc, &self.config, handle, item, 0, out)
-        {
-            Err(_) => Err(NodeFault::OutOfMemory),
-            Ok(()) => Ok(()),
-        }
+        self.slot
+            .put_value(alloc, &self.config, handle, item, 0, out)?;
+        Ok(())
     }
 
     /// What the subscription of that handle shows, in every state of it. It takes no memory.
@@ -274,7 +260,7 @@ impl Node {
         if usize::from(slot) >= self.slots() {
             return Err(PeekFault::NoSlot);
         }
-        self.slot.look(handle)
+        Ok(self.slot.subscription(handle)?.peek())
     }
 
     /// The item that the subscription of that handle shows, in every state of it: the one whose bytes, as a value of the
@@ -289,7 +275,8 @@ impl Node {
         if usize::from(slot) >= self.slots() {
             return Err(ValueFault::NoSlot);
         }
-        self.slot.item_of(alloc, &self.config, handle)
+        let subscription = self.slot.subscription(handle)?;
+        item_shown(alloc, &self.config, subscription)
     }
 
     /// Takes events in turn, and answers how many were taken. It goes on after an event that is refused for a cause of its

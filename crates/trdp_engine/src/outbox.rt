@@ -263,7 +263,7 @@ fn append(bytes: &mut Vec<u8>, more: &[u8]) -> usize
     ensures len { vec_len bytes.new ≡ vec_len bytes.old + length more.now }
     ensures capacity { vec_capacity bytes.old ≤ vec_capacity bytes.new }
 {
-    let _ = bytes.extend_from_slice(more);
+    bytes.extend_from_slice(more).unwrap();
     more.len()
 }
 
@@ -278,7 +278,7 @@ fn append_pd(bytes: &mut Vec<u8>, head: &PdHead, payload: &[u8]) -> usize
 {
     let at = bytes.len();
     let len = pd_length(payload.len());
-    let _ = bytes.resize(at + len, 0);
+    bytes.resize(at + len, 0).unwrap();
     write_pd(head, payload, &mut bytes[at..])
 }
 

@@ -1,5 +1,6 @@
 //! A look at a subscription from outside.
 
+use crate::look::LookFault;
 use thiserror::Error;
 
 /// Why there is nothing to see: the first of these that applies (profile).
@@ -14,4 +15,18 @@ pub enum PeekFault {
     /// The object of that handle is no subscription.
     #[error("WrongKind")]
     WrongKind = 3,
+}
+
+impl From<LookFault> for PeekFault {
+    ghost use Rattle.std.specs.Prelude.{◌≡◌};
+    ghost use Rattle.trdp_engine.specs.Peeks.{peek_fault};
+
+    ghost from_gives = { λ fault result. result ≡ peek_fault fault };
+
+    fn from(fault: LookFault) -> PeekFault {
+        match fault {
+            LookFault::NoHandle => PeekFault::NoHandle,
+            LookFault::WrongKind => PeekFault::WrongKind,
+        }
+    }
 }

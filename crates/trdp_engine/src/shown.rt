@@ -1,14 +1,15 @@
 //! The item that a subscription shows.
 
 ghost use Rattle.std.specs.Prelude.{◌≡◌};
-ghost use Rattle.trdp_engine.specs.Fitting.{ShowsFitting, IsFit};
+ghost use Rattle.trdp_engine.specs.Fitting.{ShowsFitting};
 ghost use Rattle.trdp_engine.specs.ShownItems.{showing, ShowsItem};
 
+use crate::look::LookFault;
 use std::alloc::Global;
 use thiserror::Error;
 use trdp_dataset::NodeConfig;
 use trdp_marshal::{Item, MarshalFault, decode};
-use trdp_pd::{AnyObject, Subscription};
+use trdp_pd::Subscription;
 
 /// Why no item is shown: the first of these that applies (profile).
 #[derive(Clone, Copy, Debug, PartialEq, Eq, Error)]
@@ -30,15 +31,29 @@ pub enum ValueFault {
     OutOfMemory = 5,
 }
 
+impl From<LookFault> for ValueFault {
+    ghost use Rattle.std.specs.Prelude.{◌≡◌};
+    ghost use Rattle.trdp_engine.specs.ShownItems.{value_fault};
+
+    ghost from_gives = { λ fault result. result ≡ value_fault fault };
+
+    fn from(fault: LookFault) -> ValueFault {
+        match fault {
+            LookFault::NoHandle => ValueFault::NoHandle,
+            LookFault::WrongKind => ValueFault::WrongKind,
+        }
+    }
+}
+
 /// The item that the subscription shows. Its bytes are always a value of its dataset, so that only dataset 0 and want of memory
 /// are in the way.
-fn item_shown(
+pub fn item_shown(
     alloc: Global,
     config: &NodeConfig,
     subscription: &Subscription,
 ) -> Result<Item, ValueFault>
     requires { ShowsFitting config.now subscription.now }
-    ensures { ShowsItem config.now (showing (AnyObject.Subscription subscription.now)) result }
+    ensures { ShowsItem config.now (showing subscription.now) result }
 {
     let dataset = subscription.dataset();
     match decode(alloc, config.registry(), dataset, subscription.peek().bytes) {
@@ -47,16 +62,5 @@ fn item_shown(
         Err(MarshalFault::OutOfMemory) => Err(ValueFault::OutOfMemory),
         Err(MarshalFault::Shape) => unreachable!(),
         Err(MarshalFault::TooLong) => unreachable!(),
-    }
-}
-
-/// The item that the object shows, or why it shows none.
-pub fn item_of(alloc: Global, config: &NodeConfig, object: &AnyObject) -> Result<Item, ValueFault>
-    requires { IsFit config.now object.now }
-    ensures { ShowsItem config.now (showing object.now) result }
-{
-    match object {
-        AnyObject::Publisher(_) | AnyObject::Requester(_) => Err(ValueFault::WrongKind),
-        AnyObject::Subscription(subscription) => item_shown(alloc, config, subscription),
     }
 }

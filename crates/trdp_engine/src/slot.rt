@@ -1,14 +1,13 @@
 //! The objects of one application, under handles of its own.
 
-ghost use Rattle.std.specs.Prelude.{true, ◌≡◌, ℕ, ◌+◌, ◌*◌, ◌<◌, ◌≤◌, ◌++◌, ◌∷◌, length, [], Option, OnOk, OnErr, IfOk, IfErr, is_some, if◌then◌else◌, None, Some, slice_index, filter, vec_len, vec_capacity};
+ghost use Rattle.std.specs.Prelude.{true, ◌≡◌, ℕ, ◌+◌, ◌*◌, ◌<◌, ◌≤◌, ◌++◌, ◌∷◌, length, [], Option, OnOk, OnErr, IfOk, IfErr, Ok, Err, is_some, if◌then◌else◌, None, Some, slice_index, filter, vec_len, vec_capacity};
 ghost use Rattle.trdp_base.specs.Moments.{last_moment};
 ghost use Rattle.trdp_head.specs.declared.pd.TheConstants.{PD_TELEGRAM_MAX};
 ghost use Rattle.trdp_filter.specs.Telegrams.{telegram_model, IsWithinLimit};
-ghost use Rattle.trdp_pd.specs.Peeks.{peek_model};
 ghost use Rattle.trdp_pd.specs.Objects.{kind_of};
 ghost use Rattle.trdp_engine.specs.declared.fault.Refusal.{Refusal};
 ghost use Rattle.trdp_engine.specs.Configs.{zero_size_of};
-ghost use Rattle.trdp_engine.specs.Records.{labelled, ValueIs, RefusedIs};
+ghost use Rattle.trdp_engine.specs.Records.{labelled};
 ghost use Rattle.trdp_engine.specs.Events.{PublishCall, SubscribeCall, call_model};
 ghost use Rattle.trdp_engine.specs.Slots.{opened_slot, entry_of, with_object};
 ghost use Rattle.trdp_engine.specs.Calls.{is_span, opening_refusal, dataset_refusal, publish_refusal, subscribe_refusal, put_refusal, put_unless, close_refusal, closed_unless, opened_unless, pulled_unless, get_answer, answered, called};
@@ -17,9 +16,7 @@ ghost use Rattle.trdp_pd.specs.Requesters.{opened};
 ghost use Rattle.trdp_engine.specs.Datagrams.{is_for_entry, received_if, concerns};
 ghost use Rattle.trdp_engine.specs.Moments.{is_due, moved_to};
 ghost use Rattle.trdp_engine.specs.Outboxes.{plain_answer_model};
-ghost use Rattle.trdp_engine.specs.Peeks.{peeked, peek_of};
-ghost use Rattle.trdp_engine.specs.Fitting.{AllFit};
-ghost use Rattle.trdp_engine.specs.ShownItems.{showing_at, ShowsItem};
+ghost use Rattle.trdp_engine.specs.Looks.{subscription_at};
 ghost use Rattle.trdp_marshal.specs.Items.{model_of};
 ghost use Rattle.trdp_engine.specs.Values.{item_bytes, item_refusal, IsRefusedAs, valued};
 
@@ -27,12 +24,11 @@ use crate::datagram::{count_addressed, is_valid_at, take_all};
 use crate::entries::{append, close_in, count_of_kind, entry_at, put_in};
 use crate::event::Call;
 use crate::fault::Refusal;
+use crate::look::{LookFault, subscription_at};
 use crate::moment::{count_due, fire_all};
 use crate::object::Entry;
 use crate::outbox::{Outbox, PlainAnswer};
-use crate::peek::PeekFault;
 use crate::pull::pull_in;
-use crate::shown::{ValueFault, item_of};
 use crate::value::{SpellFault, spell};
 use std::alloc::{AllocError, Global};
 use std::marker::Model;
@@ -297,59 +293,27 @@ impl Slot {
         }
     }
 
-    /// What the subscription of that handle shows, or why it shows nothing.
-    fn peek(&self, handle: u32) -> Result<Peek<'_>, Refusal>
-        ensures shown { IfOk result (λ peek. get_answer (entry_of handle self.now.objects) ≡ ValueIs (peek_model peek)) }
-        ensures refused { IfErr result (λ refusal. get_answer (entry_of handle self.now.objects) ≡ RefusedIs refusal) }
-        ensures within { IfOk result (λ peek. length peek.bytes.now ≤ 1432) }
+    /// The subscription of that handle.
+    ///
+    /// # Errors
+    /// The first that applies of `NoHandle` and `WrongKind`.
+    pub fn subscription(&self, handle: u32) -> Result<&Subscription, LookFault>
+        ensures found { IfOk result (λ s. subscription_at handle self.now.objects ≡ Ok s.now) }
+        ensures fault { IfErr result
+            (λ fault. subscription_at handle self.now.objects ≡ Err fault) }
     {
-        match entry_at(&self.objects, handle) {
-            None => Err(Refusal::NoHandle),
-            Some(entry) => match &entry.object {
-                AnyObject::Publisher(_) | AnyObject::Requester(_) => Err(Refusal::WrongKind),
-                AnyObject::Subscription(subscription) => Ok(subscription.peek()),
-            },
-        }
-    }
-
-    /// What the subscription of that handle shows to a look from outside.
-    pub fn look(&self, handle: u32) -> Result<Peek<'_>, PeekFault>
-        ensures { peeked result ≡ peek_of (entry_of handle self.now.objects) }
-    {
-        match entry_at(&self.objects, handle) {
-            None => Err(PeekFault::NoHandle),
-            Some(entry) => match &entry.object {
-                AnyObject::Publisher(_) | AnyObject::Requester(_) => Err(PeekFault::WrongKind),
-                AnyObject::Subscription(subscription) => Ok(subscription.peek()),
-            },
-        }
-    }
-
-    /// The item that the subscription of that handle shows, or why it shows none.
-    pub fn item_of(
-        &self,
-        alloc: Global,
-        config: &NodeConfig,
-        handle: u32,
-    ) -> Result<Item, ValueFault>
-        requires { AllFit config.now self.now.objects }
-        ensures { ShowsItem config.now (showing_at (entry_of handle self.now.objects)) result }
-    {
-        match entry_at(&self.objects, handle) {
-            None => Err(ValueFault::NoHandle),
-            Some(entry) => item_of(alloc, config, &entry.object),
-        }
+        subscription_at(&self.objects, handle)
     }
 
     /// Records the answer to a look at the object of that handle.
     fn get(&self, handle: u32, s: u16, out: &mut Outbox)
         requires row { 0 < out.old.row_room }
         requires bytes { 1432 ≤ out.old.byte_room }
-        ensures { out.new.records ≡ out.old.records ++ labelled s (answered self.now (get_answer (entry_of handle self.now.objects))).records }
+        ensures { out.new.records ≡ out.old.records ++ labelled s (answered self.now (get_answer (subscription_at handle self.now.objects))).records }
     {
-        match self.peek(handle) {
-            Err(refusal) => out.push_plain_answer(s, PlainAnswer::Refused(refusal)),
-            Ok(peek) => out.push_value(s, peek),
+        match self.subscription(handle) {
+            Err(fault) => out.push_plain_answer(s, PlainAnswer::Refused(Refusal::from(fault))),
+            Ok(subscription) => out.push_value(s, subscription.peek()),
         }
     }
 
@@ -441,13 +405,9 @@ impl Slot {
             return Ok(());
         }
         let addressed = self.addressed(telegram, globals);
-        match out.reserve(addressed, PD_TELEGRAM_MAX * addressed) {
-            Err(error) => Err(error),
-            Ok(()) => {
-                take_all(&mut self.objects, config, telegram, globals, s, out);
-                Ok(())
-            }
-        }
+        out.reserve(addressed, PD_TELEGRAM_MAX * addressed)?;
+        take_all(&mut self.objects, config, telegram, globals, s, out);
+        Ok(())
     }
 }
 
