@@ -89,7 +89,8 @@ pub fn put_in(
     }
 }
 
-/// Ends the object of that handle, if it is of the kind with that index in the quotas, or says why not.
+/// Ends the object of that handle, if it is of the kind with that index in the quotas, or says why
+/// not.
 pub fn close_in(objects: &mut Vec<Entry>, kind: usize, handle: u32) -> Option<Refusal>
     ensures refusal { result ≡ close_refusal kind (entry_of handle objects.old.items) }
     ensures items { objects.new.items ≡ (if is_none result then without handle objects.old.items else objects.old.items) }

@@ -33,9 +33,13 @@ use trdp_pd::Peek;
 /// The communication node of one end device. It serves slot 0.
 #[derive(Drop)]
 pub struct Node {
+    /// Where new objects take their memory from.
     alloc: Global,
+    /// The node's address and ports, its datasets, and the quotas of its slots.
     config: NodeConfig,
+    /// Its latest moment in microseconds, its topology counts, and the groups that it leads.
     globals: Globals,
+    /// Slot 0, the only one that is served.
     slot: Slot,
 }
 
@@ -57,7 +61,10 @@ impl Node {
     ghost use Rattle.trdp_engine.specs.NodeStates.{NodeState, GetsOutcome, StepsAsAlone, RunsAsAlone, Appends, MayTakeMemory, opened_node};
     ghost use Rattle.trdp_engine.specs.Alone.{FaultIs, refused_as, globals_after};
 
-    /// A node at moment 0 that leads no group, with empty slots. For want of memory the configuration comes back.
+    /// A node at moment 0 that leads no group, with empty slots.
+    ///
+    /// # Errors
+    /// The configuration comes back for want of memory.
     pub fn new(alloc: Global, config: NodeConfig) -> Result<Node, NodeConfig>
         ensures opened { IfOk result (λ node. node ≡ opened_node config) }
         ensures returned { IfErr result (λ back. back ≡ config) }
@@ -89,7 +96,11 @@ impl Node {
         slice::from_ref(&self.slot).len()
     }
 
-    /// Takes the moment `t`: room for the records of all that is due comes first, and then each due object fires.
+    /// Takes the moment `t`, in microseconds: room for the records of all that is due comes first,
+    /// and then each due object fires.
+    ///
+    /// # Errors
+    /// The first that applies of `Past`, `TooLate` and `OutOfMemory`.
     fn step_moment(&mut self, t: u64, out: &mut Outbox) -> Result<(), NodeFault>
         ensures fault { FaultIs (refused_as (length self.old.slots) self.old.globals (MomentIs t)) result }
         ensures kept { OnErr result (self.new ≡ self.old) }
@@ -123,7 +134,10 @@ impl Node {
         self.globals.topo = topo;
     }
 
-    /// Takes the node's role in a redundancy group; there is no group 0.
+    /// Takes the node's role in a redundancy group.
+    ///
+    /// # Errors
+    /// `NoGroup` for group 0.
     fn step_role(&mut self, group: u8, leader: bool) -> Result<(), NodeFault>
         ensures fault { FaultIs (refused_as (length self.old.slots) self.old.globals (RoleIs group leader)) result }
         ensures kept { OnErr result (self.new ≡ self.old) }
@@ -140,7 +154,11 @@ impl Node {
         Ok(())
     }
 
-    /// Takes a datagram. One that is no telegram, or of a protocol that isn't served yet, changes nothing.
+    /// Takes a datagram. One that is no telegram, or of a protocol that isn't served yet, changes
+    /// nothing.
+    ///
+    /// # Errors
+    /// `OutOfMemory`, where it concerns a slot.
     fn step_datagram(
         &mut self,
         protocol: Protocol,
@@ -173,6 +191,9 @@ impl Node {
     }
 
     /// Takes a call: room for its answer comes first.
+    ///
+    /// # Errors
+    /// The first that applies of `NoSlot` and `OutOfMemory`.
     fn step_call(&mut self, s: u16, call: &Call<'_>, out: &mut Outbox) -> Result<(), NodeFault>
         ensures fault { FaultIs (refused_as (length self.old.slots) self.old.globals (CallIs s (call_model call.now))) result }
         ensures kept { OnErr result (self.new ≡ self.old) }
@@ -191,8 +212,12 @@ impl Node {
         Ok(())
     }
 
-    /// Takes one event, and appends its records to the outbox. After a fault node and outbox are as before; want of memory
-    /// comes last, and only at a call, at a moment by which something is due, or at a datagram that concerns a slot.
+    /// Takes one event, and appends its records to the outbox.
+    ///
+    /// # Errors
+    /// The event's own fault, as [`Event`] lists it. `OutOfMemory` comes last, and only at a call, at
+    /// a moment by which something is due, or at a datagram that concerns a slot. Node and outbox
+    /// are as before.
     pub fn step(&mut self, event: &Event<'_>, out: &mut Outbox) -> Result<(), NodeFault>
         ensures fault { FaultIs (refused_as (length self.old.slots) self.old.globals (event_model event.now)) result }
         ensures kept { OnErr result (self.new ≡ self.old) }
@@ -222,11 +247,13 @@ impl Node {
         }
     }
 
-    /// Gives the publisher of that handle in slot `slot` a value that is handed over as an item: the call Put with the
-    /// bytes that the item is spelled by as a value of the publisher's dataset. An item without such bytes is the one record
-    /// Refused: NoHandle, WrongKind, NoDataset (dataset 0), Shape, TooLong, in this order.
+    /// Gives the publisher of that handle in slot `slot` a value that is handed over as an item: the
+    /// call Put with the bytes that the item is spelled by as a value of the publisher's dataset. An
+    /// item without such bytes is the one record Refused.
     ///
-    /// Its faults are `NoSlot`, and last `OutOfMemory`; after a fault node and outbox are as before.
+    /// # Errors
+    /// `NoSlot`, and last `OutOfMemory`; node and outbox are as before. Refused: the first that
+    /// applies of `NoHandle`, `WrongKind`, `NoDataset` (dataset 0), `Shape` and `TooLong`.
     pub fn put_value(
         &mut self,
         alloc: Global,
@@ -254,6 +281,10 @@ impl Node {
     }
 
     /// What the subscription of that handle shows, in every state of it. It takes no memory.
+    ///
+    /// # Errors
+    /// The first that applies of `NoSlot`, `NoHandle`, and `WrongKind` (the object is no
+    /// subscription).
     pub fn peek(&self, slot: u16, handle: u32) -> Result<Peek<'_>, PeekFault>
         ensures { peeked result ≡ peek_in (slice_get self.now.slots slot) handle }
     {
@@ -263,12 +294,12 @@ impl Node {
         Ok(self.slot.subscription(handle)?.peek())
     }
 
-    /// The item that the subscription of that handle shows, in every state of it: the one whose bytes, as a value of the
-    /// subscription's dataset, are those that `peek` shows.
+    /// The item that the subscription of that handle shows, in every state of it: the one whose
+    /// bytes, as a value of the subscription's dataset, are those that `peek` shows.
     ///
     /// # Errors
-    /// The first that applies of `NoSlot`, `NoHandle`, `WrongKind` (the object is no subscription), `NoDataset` (it is one of
-    /// dataset 0), and last `OutOfMemory`.
+    /// The first that applies of `NoSlot`, `NoHandle`, `WrongKind` (the object is no subscription),
+    /// `NoDataset` (it is one of dataset 0), and last `OutOfMemory`.
     pub fn value_of(&self, alloc: Global, slot: u16, handle: u32) -> Result<Item, ValueFault>
         ensures { ShowsItem self.now.config (showing_in (slice_get self.now.slots slot) handle) result }
     {
@@ -279,9 +310,9 @@ impl Node {
         item_shown(alloc, &self.config, subscription)
     }
 
-    /// Takes events in turn, and answers how many were taken. It goes on after an event that is refused for a cause of its
-    /// own, and stops before the first that lacks memory: only before a call, a moment by which something is due, or a
-    /// datagram that concerns a slot.
+    /// Takes events in turn, and answers how many were taken. It goes on after an event that is
+    /// refused for a cause of its own, and stops before the first that lacks memory: only before a
+    /// call, a moment by which something is due, or a datagram that concerns a slot.
     pub fn run(&mut self, events: &[Event<'_>], out: &mut Outbox) -> usize
         ensures within { result ≤ length events.now }
         ensures stops { IfSome (slice_get events.now result)
@@ -304,6 +335,9 @@ impl Node {
 }
 
 /// What a datagram does to slot 0.
+///
+/// # Errors
+/// Want of memory, where the datagram concerns the slot.
 fn hear(
     slot: &mut Slot,
     config: &NodeConfig,
@@ -337,6 +371,7 @@ fn no_quotas() -> Quotas
     Quotas::new([0; 6]).unwrap()
 }
 
+/// Whether the answer is want of memory.
 fn is_out_of_memory(answer: &Result<(), NodeFault>) -> bool
     ensures yes { result ≡ true → answer.now ≡ Err NodeFault.OutOfMemory }
     ensures no { result ≡ false → answer.now ≢ Err NodeFault.OutOfMemory }

@@ -18,33 +18,47 @@ use trdp_pd::{Peek, ValueState};
 /// An answer without bytes.
 #[derive(Clone, Copy)]
 pub enum PlainAnswer {
+    /// A new object has this handle.
     Handle(u32),
+    /// The call took effect.
     Done,
+    /// The call was refused so.
     Refused(Refusal),
 }
 
 /// What a row says, but for its bytes.
 #[derive(Clone, Copy)]
 pub enum Form {
+    /// An answer without bytes.
     PlainAnswer(PlainAnswer),
+    /// What a subscription shows: how good its value is and the counter that came with it.
     Value(ValueState, u32),
+    /// What happened to an object.
     Indication(Indication),
+    /// A telegram of the protocol, to be sent to that place.
     Send(Protocol, Place),
 }
 
 /// A record whose bytes lie in the outbox's list.
 #[derive(Clone, Copy)]
 pub struct Row {
+    /// The number of the slot that it is for, from 0.
     slot: u16,
+    /// What it says, but for its bytes.
     form: Form,
+    /// The index of its first byte in the outbox's list.
     at: usize,
+    /// How many bytes it has; 0 where it has none.
     len: usize,
 }
 
-/// The records of a node's events, in order, with the bytes of their telegrams. It keeps its memory when it is cleared.
+/// The records of a node's events, in order, with the bytes of their telegrams and values. It keeps
+/// its memory when it is cleared.
 #[derive(Drop)]
 pub struct Outbox {
+    /// The records, in the order in which they came.
     rows: Vec<Row>,
+    /// The bytes of all records, one after the other.
     bytes: Vec<u8>,
 }
 
@@ -107,6 +121,9 @@ impl Outbox {
     }
 
     /// Makes room for so many more records and so many bytes of theirs.
+    ///
+    /// # Errors
+    /// Want of memory for that room.
     pub(crate) fn reserve(&mut self, rows: usize, bytes: usize) -> Result<(), AllocError>
         ensures records { self.new.records ≡ self.old.records }
         ensures rows { OnOk result (rows ≤ self.new.row_room) }

@@ -7,13 +7,13 @@ use thiserror::Error;
 #[derive(Clone, Copy, Debug, PartialEq, Eq, Error)]
 pub enum PeekFault {
     /// The node has no slot of that number.
-    #[error("NoSlot")]
+    #[error("the node has no slot of that number")]
     NoSlot = 1,
     /// The slot has no object of that handle.
-    #[error("NoHandle")]
+    #[error("the slot has no object of that handle")]
     NoHandle = 2,
     /// The object of that handle is no subscription.
-    #[error("WrongKind")]
+    #[error("the object of that handle is no subscription")]
     WrongKind = 3,
 }
 

@@ -22,11 +22,17 @@ use trdp_pd::AnyObject;
 /// A pull request that is to be sent, without payload.
 #[derive(Clone, Copy)]
 pub struct PullRequest {
+    /// The address and port that it goes to.
     pub to: Place,
+    /// Its header.
     pub head: PdHead,
 }
 
-/// Lets the object pull: it counts its pull request. Or says why it doesn't.
+/// Lets the object pull: it counts its pull request.
+///
+/// # Errors
+/// The first that applies of `WrongKind`, and `State` where the requester's topology counts don't
+/// match the node's.
 fn pull(object: &mut AnyObject, globals: &Globals) -> Result<PullRequest, Refusal>
     ensures refused { IfErr result (λ refusal. object_pull_refusal globals.entry.now object.old ≡ Some refusal) }
     ensures granted { IfOk result (λ _. object_pull_refusal globals.entry.now object.old ≡ None) }
@@ -46,7 +52,11 @@ fn pull(object: &mut AnyObject, globals: &Globals) -> Result<PullRequest, Refusa
     }
 }
 
-/// Lets the requester of that handle pull, or says why not.
+/// Lets the requester of that handle pull.
+///
+/// # Errors
+/// The first that applies of `NoHandle`, `WrongKind`, and `State` where its topology counts don't
+/// match the node's.
 pub fn pull_in(
     objects: &mut Vec<Entry>,
     handle: u32,
@@ -67,8 +77,8 @@ pub fn pull_in(
     }
 }
 
-/// Where a pull request is answered: at its reply address, at the node's own process data port, or where it has no
-/// such address at the place that it came from (profile).
+/// Where a pull request is answered: at its reply address, at the node's own process data port, or
+/// where it has no such address at the place that it came from (profile).
 #[tactic(auto, unfolding(crate::specs::Pulls::answer_place))]
 pub fn answer_place(config: &NodeConfig, telegram: &Telegram<'_>) -> Place
     ensures { result ≡ answer_place config.now (telegram_model telegram.now) }

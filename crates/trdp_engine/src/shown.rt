@@ -15,19 +15,19 @@ use trdp_pd::Subscription;
 #[derive(Clone, Copy, Debug, PartialEq, Eq, Error)]
 pub enum ValueFault {
     /// The node has no slot of that number.
-    #[error("NoSlot")]
+    #[error("the node has no slot of that number")]
     NoSlot = 1,
     /// The slot has no object of that handle.
-    #[error("NoHandle")]
+    #[error("the slot has no object of that handle")]
     NoHandle = 2,
     /// The object of that handle is no subscription.
-    #[error("WrongKind")]
+    #[error("the object of that handle is no subscription")]
     WrongKind = 3,
     /// The subscription is of dataset 0, whose bytes are no item.
-    #[error("NoDataset")]
+    #[error("the subscription is of dataset 0, whose bytes are no item")]
     NoDataset = 4,
-    /// Memory for the item was refused.
-    #[error("OutOfMemory")]
+    /// There is no memory for the item.
+    #[error("there is no memory for the item")]
     OutOfMemory = 5,
 }
 
@@ -45,8 +45,10 @@ impl From<LookFault> for ValueFault {
     }
 }
 
-/// The item that the subscription shows. Its bytes are always a value of its dataset, so that only dataset 0 and want of memory
-/// are in the way.
+/// The item that the subscription shows. Its bytes are always a value of its dataset.
+///
+/// # Errors
+/// `NoDataset` where that is dataset 0, and last `OutOfMemory`.
 pub fn item_shown(
     alloc: Global,
     config: &NodeConfig,

@@ -48,18 +48,24 @@ const SPAN_MIN: u32 = 1_000;
 /// The last handle of a slot (profile).
 const HANDLE_MAX: u64 = 4_294_967_295;
 
-/// The index of each kind in the quotas.
+/// The index of publishers in the quotas.
 const PUBLISHERS: usize = 0;
 
+/// The index of subscriptions in the quotas.
 const SUBSCRIPTIONS: usize = 1;
 
+/// The index of requesters in the quotas.
 const REQUESTERS: usize = 2;
 
-/// A slot: its quotas, its next handle, and its objects by rising handle, in a list that never grows.
+/// The objects of one application, each under a handle of its own.
 #[derive(Drop)]
 pub struct Slot {
+    /// How many objects of each kind it may hold.
     quotas: Quotas,
+    /// The handle of its next new object, from 1; 2^32 once all handles are given out.
     next: u64,
+    /// Its objects by rising handle, in a list that has room for all that the quotas allow and never
+    /// grows.
     objects: Vec<Entry>,
 }
 
@@ -78,7 +84,10 @@ impl Model for Slot {
 impl Slot {
     ghost use Rattle.trdp_engine.specs.Slots.{SlotState};
 
-    /// An empty slot. It may lack memory for its list.
+    /// An empty slot.
+    ///
+    /// # Errors
+    /// Want of memory for its list.
     pub fn new(alloc: Global, quotas: Quotas) -> Result<Slot, AllocError>
         ensures { IfOk result (λ slot. slot ≡ opened_slot quotas) }
     {
@@ -132,7 +141,11 @@ impl Slot {
         }
     }
 
-    /// How many bytes the zero value of the subscription takes, or why the slot refuses it.
+    /// How many bytes the zero value of the subscription takes.
+    ///
+    /// # Errors
+    /// Why the slot refuses it: the first that applies of `Timeout`, `Range`, `NoDataset`, `TooLong`,
+    /// `Quota` and `Exhausted`.
     fn subscribed_size(
         &self,
         config: &NodeConfig,
@@ -159,7 +172,11 @@ impl Slot {
         }
     }
 
-    /// Makes a publisher. Every refusal is found first, then memory is taken, and then the slot changes.
+    /// Makes a publisher. Every refusal is found first, then memory is taken, and then the slot
+    /// changes.
+    ///
+    /// # Errors
+    /// Want of memory for the publisher.
     fn publish(
         &mut self,
         alloc: Global,
@@ -179,6 +196,9 @@ impl Slot {
     }
 
     /// Makes a subscription, in the same order.
+    ///
+    /// # Errors
+    /// Want of memory for the subscription.
     fn subscribe(
         &mut self,
         alloc: Global,
@@ -235,7 +255,11 @@ impl Slot {
         }
     }
 
-    /// The bytes of an item as a value of the object of that handle, or why there are none.
+    /// The bytes of an item as a value of the object of that handle.
+    ///
+    /// # Errors
+    /// Refused: the first that applies of `NoHandle`, `WrongKind`, `NoDataset` (dataset 0), `Shape`
+    /// and `TooLong`. `NoMemory` comes last.
     fn spelled(
         &self,
         alloc: Global,
@@ -253,7 +277,11 @@ impl Slot {
         }
     }
 
-    /// Puts an item in the publisher of that handle and records the answer; an item without bytes there is refused.
+    /// Puts an item in the publisher of that handle and records the answer; an item without bytes
+    /// there is refused.
+    ///
+    /// # Errors
+    /// Want of memory for the item's bytes or the answer; nothing has changed.
     pub fn put_value(
         &mut self,
         alloc: Global,
@@ -283,7 +311,7 @@ impl Slot {
         }
     }
 
-    /// Ends the object of that handle and of the kind with that index in the quotas.
+    /// Ends the object of that handle, if it is of the kind with that index in the quotas.
     fn close(&mut self, kind: usize, handle: u32) -> PlainAnswer
         ensures { closed_unless (close_refusal kind (entry_of handle self.old.objects)) self.old handle ≡ answered self.new (plain_answer_model result) }
     {
@@ -317,7 +345,10 @@ impl Slot {
         }
     }
 
-    /// Serves a call and records its answer. A refused call changes nothing, and neither does one that lacks memory.
+    /// Serves a call and records its answer. A refused call changes nothing.
+    ///
+    /// # Errors
+    /// Want of memory for the answer or a new object; nothing has changed.
     pub fn serve(
         &mut self,
         alloc: Global,
@@ -383,8 +414,12 @@ impl Slot {
         count_addressed(&self.objects, telegram, globals)
     }
 
-    /// Takes a telegram: each object that it is for is handed it, in the order of their handles. One whose topology counts
-    /// don't match the node's changes nothing. Room for the records comes first.
+    /// Takes a telegram: each object that it is for is handed it, in the order of their handles. One
+    /// whose topology counts don't match the node's changes nothing. Room for the records comes
+    /// first.
+    ///
+    /// # Errors
+    /// Want of memory for the records, where the telegram concerns the slot; nothing has changed.
     pub fn receive(
         &mut self,
         config: &NodeConfig,
@@ -418,7 +453,10 @@ fn is_span(span: u32) -> bool
     span == 0 || span >= SPAN_MIN
 }
 
-/// How many bytes the zero value of a dataset takes, or why no object can be of it.
+/// How many bytes the zero value of a dataset takes.
+///
+/// # Errors
+/// Why no object can be of it: the first that applies of `NoDataset` and `TooLong` (above 1,432).
 fn value_size(config: &NodeConfig, dataset: u32) -> Result<usize, Refusal>
     ensures refused { IfErr result (λ refusal. (later : Option Refusal) → dataset_refusal config.now dataset later ≡ Some refusal) }
     ensures accepted { IfOk result (λ size. (later : Option Refusal) → dataset_refusal config.now dataset later ≡ later) }

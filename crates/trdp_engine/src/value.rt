@@ -19,7 +19,11 @@ pub enum SpellFault {
     NoMemory,
 }
 
-/// The bytes of an item as a value of the object, or why there are none.
+/// The bytes of an item as a value of the object.
+///
+/// # Errors
+/// Refused: the first that applies of `WrongKind`, `NoDataset` (dataset 0), `Shape` and `TooLong`.
+/// `NoMemory` comes last.
 pub fn spell(
     alloc: Global,
     config: &NodeConfig,
