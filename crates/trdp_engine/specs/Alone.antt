@@ -1,10 +1,12 @@
 -- A slot run by itself, and what a slot sees of a node's events.
-use Rattle.std.specs.Prelude.{◌≡◌, ℕ, List, [], ◌∷◌, ◌++◌, Option, Some, None, Bool, true, not, ◌==◌, ◌&&◌, nat_le, nat_lt, if◌then◌else◌, Result, Ok, Err}
+use Rattle.std.specs.Prelude.{◌≡◌, ℕ, List, [], ◌∷◌, ◌++◌, Option, Some, None, Bool, true, not}
+use Rattle.std.specs.Prelude.{◌==◌, ◌&&◌, nat_le, nat_lt, if◌then◌else◌, Result, Ok, Err}
 use Rattle.trdp_base.specs.Moments.{last_moment}
 use Rattle.trdp_filter.specs.declared.globals.Globals.{Globals}
 use Rattle.trdp_filter.specs.Globals.{with_role}
 use Rattle.trdp_engine.specs.declared.fault.NodeFault.{NodeFault}
-use Rattle.trdp_engine.specs.declared.fault.NodeFault.TheVariants.{NoSlot, Past, TooLate, NoGroup, OutOfMemory}
+use Rattle.trdp_engine.specs.declared.fault.NodeFault.TheVariants.{NoSlot, Past, TooLate, NoGroup}
+use Rattle.trdp_engine.specs.declared.fault.NodeFault.TheVariants.{OutOfMemory}
 use Rattle.trdp_dataset.specs.Configs.{ConfigModel}
 use Rattle.trdp_engine.specs.Records.{Content}
 use Rattle.trdp_engine.specs.Events.{EventModel, MomentIs, TopologyIs, RoleIs, DatagramIs, CallIs}
@@ -13,9 +15,12 @@ use Rattle.trdp_engine.specs.Calls.{called}
 use Rattle.trdp_engine.specs.Datagrams.{telegram_of, received_if, concerns}
 use Rattle.trdp_engine.specs.Moments.{moved_to}
 
--- the fault of an event in a node of so many slots, but for want of memory; an event without one is admitted
+-- the fault of an event in a node of so many slots, but for want of memory; an event without one
+-- is admitted
 abbrev pub refused_as : ℕ → Globals → EventModel → Option NodeFault
-refused_as slots globals (MomentIs t) = if nat_lt t globals.now then Some Past else if nat_lt last_moment t then Some TooLate else None
+refused_as slots globals (MomentIs t) =
+    if nat_lt t globals.now then Some Past else
+    if nat_lt last_moment t then Some TooLate else None
 refused_as slots globals (TopologyIs topo) = None
 refused_as slots globals (RoleIs group leader) = if group == 0 then Some NoGroup else None
 refused_as slots globals (DatagramIs protocol src dst bytes) = None
@@ -32,16 +37,19 @@ FaultIs (Some fault) (Err other) = other ≡ fault
 abbrev pub globals_after : Globals → EventModel → Globals
 globals_after globals (MomentIs t) = record globals { now = t }
 globals_after globals (TopologyIs topo) = record globals { topo = topo }
-globals_after globals (RoleIs group leader) = record globals { led = with_role globals.led group leader }
+globals_after globals (RoleIs group leader) =
+    record globals { led = with_role globals.led group leader }
 globals_after globals (DatagramIs protocol src dst bytes) = globals
 globals_after globals (CallIs slot call) = globals
 
--- an event that slot s sees: each admitted moment, topology counts, each admitted role, the datagrams that concern it, and its own calls
+-- an event that slot s sees: each admitted moment, topology counts, each admitted role, the
+-- datagrams that concern it, and its own calls
 abbrev pub is_in_view : ℕ → SlotState → Globals → EventModel → Bool
 is_in_view s slot globals (MomentIs t) = nat_le globals.now t && nat_le t last_moment
 is_in_view s slot globals (TopologyIs topo) = true
 is_in_view s slot globals (RoleIs group leader) = not (group == 0)
-is_in_view s slot globals (DatagramIs protocol src dst bytes) = concerns globals (telegram_of protocol src dst bytes) slot
+is_in_view s slot globals (DatagramIs protocol src dst bytes) =
+    concerns globals (telegram_of protocol src dst bytes) slot
 is_in_view s slot globals (CallIs r call) = r == s
 
 -- effect of an event on a slot that sees it
@@ -49,7 +57,8 @@ abbrev pub event_effect : ConfigModel → SlotState → Globals → EventModel �
 event_effect config slot globals (MomentIs t) = moved_to slot (record globals { now = t })
 event_effect config slot globals (TopologyIs topo) = unchanged slot
 event_effect config slot globals (RoleIs group leader) = unchanged slot
-event_effect config slot globals (DatagramIs protocol src dst bytes) = received_if config slot globals (telegram_of protocol src dst bytes)
+event_effect config slot globals (DatagramIs protocol src dst bytes) =
+    received_if config slot globals (telegram_of protocol src dst bytes)
 event_effect config slot globals (CallIs s call) = called config slot globals call
 
 -- a slot after a list of events, the globals then, and all its records in order
@@ -67,32 +76,44 @@ abbrev pub alone : ConfigModel → SlotState → Globals → List EventModel →
 alone config slot globals [] = record { slot = slot; globals = globals; records = [] }
 alone config slot globals (event ∷ events) =
     prepend (event_effect config slot globals event).records
-    (alone config (event_effect config slot globals event).slot (globals_after globals event) events)
+    (alone config (event_effect config slot globals event).slot
+    (globals_after globals event) events)
 
 -- the events that slot s sees
 abbrev pub view : ConfigModel → ℕ → SlotState → Globals → List EventModel → List EventModel
 view config s slot globals [] = []
 view config s slot globals (event ∷ events) =
     if is_in_view s slot globals event
-    then event ∷ view config s (event_effect config slot globals event).slot (globals_after globals event) events
+    then event ∷ view config s (event_effect config slot globals event).slot
+    (globals_after globals event) events
     else view config s slot globals events
 
 -- slot s run by itself over the events that it sees
 abbrev pub alone_in_view : ConfigModel → ℕ → SlotState → Globals → List EventModel → Run
-alone_in_view config s slot globals events = alone config slot globals (view config s slot globals events)
+alone_in_view config s slot globals events =
+    alone config slot globals (view config s slot globals events)
 
 -- slot s after any one event of the node
 abbrev pub slot_after : ConfigModel → ℕ → SlotState → Globals → EventModel → SlotState
-slot_after config s slot globals event = if is_in_view s slot globals event then (event_effect config slot globals event).slot else slot
+slot_after config s slot globals event =
+    if is_in_view s slot globals event
+    then (event_effect config slot globals event).slot
+    else slot
 
 -- the records that slot s gets at any one event of the node
 abbrev pub records_after : ConfigModel → ℕ → SlotState → Globals → EventModel → List Content
-records_after config s slot globals event = if is_in_view s slot globals event then (event_effect config slot globals event).records else []
+records_after config s slot globals event =
+    if is_in_view s slot globals event
+    then (event_effect config slot globals event).records
+    else []
 
--- effect of any event on slot s, whether the slot sees it or not: the calls of other slots are none of its own
+-- effect of any event on slot s, whether the slot sees it or not: the calls of other slots are
+-- none of its own
 abbrev pub plain_effect : ConfigModel → ℕ → SlotState → Globals → EventModel → Outcome
 plain_effect config s slot globals (MomentIs t) = moved_to slot (record globals { now = t })
 plain_effect config s slot globals (TopologyIs topo) = unchanged slot
 plain_effect config s slot globals (RoleIs group leader) = unchanged slot
-plain_effect config s slot globals (DatagramIs protocol src dst bytes) = received_if config slot globals (telegram_of protocol src dst bytes)
-plain_effect config s slot globals (CallIs r call) = if r == s then called config slot globals call else unchanged slot
+plain_effect config s slot globals (DatagramIs protocol src dst bytes) =
+    received_if config slot globals (telegram_of protocol src dst bytes)
+plain_effect config s slot globals (CallIs r call) =
+    if r == s then called config slot globals call else unchanged slot

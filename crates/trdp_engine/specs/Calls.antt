@@ -1,10 +1,12 @@
 -- What a call does to the slot that makes it.
-use Rattle.std.specs.Prelude.{ℕ, List, [], ◌∷◌, length, Option, Some, None, Result, Ok, Err, Bool, not, slice_index, ◌==◌, ◌||◌, nat_lt, nat_le, if◌then◌else◌}
+use Rattle.std.specs.Prelude.{ℕ, List, [], ◌∷◌, length, Option, Some, None, Result, Ok, Err, Bool}
+use Rattle.std.specs.Prelude.{not, slice_index, ◌==◌, ◌||◌, nat_lt, nat_le, if◌then◌else◌}
 use Rattle.trdp_filter.specs.declared.globals.Globals.{Globals}
 use Rattle.trdp_pd.specs.declared.terms.PublisherTerms.{PublisherTerms}
 use Rattle.trdp_pd.specs.declared.terms.SubscriptionTerms.{SubscriptionTerms}
 use Rattle.trdp_pd.specs.declared.any_object.AnyObject.{AnyObject}
-use Rattle.trdp_pd.specs.declared.any_object.AnyObject.TheVariants.{Publisher, Subscription, Requester}
+use Rattle.trdp_pd.specs.declared.any_object.AnyObject.TheVariants.{Publisher, Subscription}
+use Rattle.trdp_pd.specs.declared.any_object.AnyObject.TheVariants.{Requester}
 use Rattle.trdp_pd.specs.Publishers.{published}
 use Rattle.trdp_pd.specs.Subscriptions.{SubscriptionState, subscribed}
 use Rattle.trdp_pd.specs.Requesters.{opened}
@@ -13,14 +15,20 @@ use Rattle.trdp_pd.specs.Objects.{kind_of}
 use Rattle.trdp_dataset.specs.Configs.{ConfigModel}
 use Rattle.trdp_engine.specs.declared.object.Entry.{Entry}
 use Rattle.trdp_engine.specs.declared.fault.Refusal.{Refusal}
-use Rattle.trdp_engine.specs.declared.fault.Refusal.TheVariants.{NoHandle, WrongKind, Cycle, Timeout, Range, NoDataset, TooLong, Shape, Quota, Exhausted}
+use Rattle.trdp_engine.specs.declared.fault.Refusal.TheVariants.{NoHandle, WrongKind, Cycle}
+use Rattle.trdp_engine.specs.declared.fault.Refusal.TheVariants.{Timeout, Range, NoDataset}
+use Rattle.trdp_engine.specs.declared.fault.Refusal.TheVariants.{TooLong, Shape, Quota, Exhausted}
 use Rattle.trdp_engine.specs.declared.look.LookFault.{LookFault}
-use Rattle.trdp_engine.specs.declared.look.LookFault.TheVariants.{NoHandle as NoSuchHandle, WrongKind as NoSubscription}
+use Rattle.trdp_engine.specs.declared.look.LookFault.TheVariants.{NoHandle as NoSuchHandle}
+use Rattle.trdp_engine.specs.declared.look.LookFault.TheVariants.{WrongKind as NoSubscription}
 use Rattle.trdp_engine.specs.Looks.{subscription_at}
 use Rattle.trdp_engine.specs.Configs.{is_dataset, zero_size_of, is_fitting}
 use Rattle.trdp_engine.specs.Records.{AnswerModel, HandleIs, DoneIs, ValueIs, RefusedIs, Answers}
-use Rattle.trdp_engine.specs.Slots.{SlotState, Outcome, count_of, entry_of, with_object, changed, without}
-use Rattle.trdp_engine.specs.Events.{CallModel, PublishCall, PutCall, UnpublishCall, SubscribeCall, GetCall, UnsubscribeCall, OpenPullCall, PullCall, ClosePullCall}
+use Rattle.trdp_engine.specs.Slots.{SlotState, Outcome, count_of, entry_of, with_object, changed}
+use Rattle.trdp_engine.specs.Slots.{without}
+use Rattle.trdp_engine.specs.Events.{CallModel, PublishCall, PutCall, UnpublishCall, SubscribeCall}
+use Rattle.trdp_engine.specs.Events.{GetCall, UnsubscribeCall, OpenPullCall, PullCall}
+use Rattle.trdp_engine.specs.Events.{ClosePullCall}
 use Rattle.trdp_engine.specs.Pulls.{pull_refusal, after_pull, pull_request_of}
 
 -- a slot with that one answer
@@ -35,7 +43,8 @@ refused slot refusal = answered slot (RefusedIs refusal)
 abbrev pub is_span : ℕ → Bool
 is_span span = span == 0 || nat_le 1000 span
 
--- a slot takes no new object of a kind whose quota is used up, and none once the handles up to 2^32 - 1 are given out
+-- a slot takes no new object of a kind whose quota is used up, and none once the handles up to
+-- 2^32 - 1 are given out
 abbrev pub opening_refusal : SlotState → ℕ → Option Refusal
 opening_refusal slot kind =
     if nat_le (slice_index slot.quotas kind) (count_of kind slot.objects) then Some Quota else
@@ -55,9 +64,11 @@ dataset_refusal config dataset later =
 -- first refusal of a publishing: the cycle, the dataset, the quota, the handles
 abbrev pub publish_refusal : ConfigModel → SlotState → PublisherTerms → Option Refusal
 publish_refusal config slot terms =
-    if not (is_span terms.cycle) then Some Cycle else dataset_refusal config terms.dataset (opening_refusal slot 0)
+    if not (is_span terms.cycle) then Some Cycle else
+    dataset_refusal config terms.dataset (opening_refusal slot 0)
 
--- first refusal of a subscription: the supervision time, the source range, the dataset, the quota, the handles
+-- first refusal of a subscription: the supervision time, the source range, the dataset, the
+-- quota, the handles
 abbrev pub subscribe_refusal : ConfigModel → SlotState → SubscriptionTerms → Option Refusal
 subscribe_refusal config slot terms =
     if not (is_span terms.supervision) then Some Timeout else
@@ -90,7 +101,8 @@ with_value bytes (Requester r) = Requester r
 -- a value that isn't refused is the publisher's from now on
 abbrev pub put_unless : Option Refusal → SlotState → ℕ → List ℕ → Outcome
 put_unless (Some refusal) slot handle bytes = refused slot refusal
-put_unless None slot handle bytes = answered (record slot { objects = changed handle (with_value bytes) slot.objects }) DoneIs
+put_unless None slot handle bytes =
+    answered (record slot { objects = changed handle (with_value bytes) slot.objects }) DoneIs
 
 -- first refusal of the end of an object of that kind: no such handle; an object of another kind
 abbrev pub close_refusal : ℕ → Option Entry → Option Refusal
@@ -100,7 +112,8 @@ close_refusal kind (Some entry) = if kind_of entry.object == kind then None else
 -- an object whose end isn't refused is gone, and its handle is never given again
 abbrev pub closed_unless : Option Refusal → SlotState → ℕ → Outcome
 closed_unless (Some refusal) slot handle = refused slot refusal
-closed_unless None slot handle = answered (record slot { objects = without handle slot.objects }) DoneIs
+closed_unless None slot handle =
+    answered (record slot { objects = without handle slot.objects }) DoneIs
 
 -- the refusal of a look at what is no subscription
 abbrev pub look_refusal : LookFault → Refusal
@@ -123,14 +136,22 @@ pulled_unless None slot handle = record {
 -- effect of a call on the slot that makes it
 abbrev pub called : ConfigModel → SlotState → Globals → CallModel → Outcome
 called config slot globals (PublishCall terms) =
-    opened_unless (publish_refusal config slot terms) slot (Publisher (published terms globals.now))
-called config slot globals (PutCall handle bytes) = put_unless (put_refusal config bytes (entry_of handle slot.objects)) slot handle bytes
-called config slot globals (UnpublishCall handle) = closed_unless (close_refusal 0 (entry_of handle slot.objects)) slot handle
+    opened_unless (publish_refusal config slot terms) slot
+    (Publisher (published terms globals.now))
+called config slot globals (PutCall handle bytes) =
+    put_unless (put_refusal config bytes (entry_of handle slot.objects)) slot handle bytes
+called config slot globals (UnpublishCall handle) =
+    closed_unless (close_refusal 0 (entry_of handle slot.objects)) slot handle
 called config slot globals (SubscribeCall terms) =
     opened_unless (subscribe_refusal config slot terms) slot
     (Subscription (subscribed terms (zero_size_of config terms.dataset) globals.now))
-called config slot globals (GetCall handle) = answered slot (get_answer (subscription_at handle slot.objects))
-called config slot globals (UnsubscribeCall handle) = closed_unless (close_refusal 1 (entry_of handle slot.objects)) slot handle
-called config slot globals (OpenPullCall terms) = opened_unless (opening_refusal slot 2) slot (Requester (opened terms))
-called config slot globals (PullCall handle) = pulled_unless (pull_refusal globals (entry_of handle slot.objects)) slot handle
-called config slot globals (ClosePullCall handle) = closed_unless (close_refusal 2 (entry_of handle slot.objects)) slot handle
+called config slot globals (GetCall handle) =
+    answered slot (get_answer (subscription_at handle slot.objects))
+called config slot globals (UnsubscribeCall handle) =
+    closed_unless (close_refusal 1 (entry_of handle slot.objects)) slot handle
+called config slot globals (OpenPullCall terms) =
+    opened_unless (opening_refusal slot 2) slot (Requester (opened terms))
+called config slot globals (PullCall handle) =
+    pulled_unless (pull_refusal globals (entry_of handle slot.objects)) slot handle
+called config slot globals (ClosePullCall handle) =
+    closed_unless (close_refusal 2 (entry_of handle slot.objects)) slot handle

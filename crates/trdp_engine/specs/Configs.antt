@@ -1,5 +1,6 @@
 -- What objects and values ask of the configuration.
-use Rattle.std.specs.Prelude.{ℕ, List, Option, Some, None, Bool, replicate, ◌==◌, ◌||◌, if◌then◌else◌}
+use Rattle.std.specs.Prelude.{ℕ, List, Option, Some, None, Bool, replicate, ◌==◌, ◌||◌}
+use Rattle.std.specs.Prelude.{if◌then◌else◌}
 use Rattle.trdp_dataset.specs.Datasets.{is_known}
 use Rattle.trdp_dataset.specs.ZeroSizes.{zero_size}
 use Rattle.trdp_dataset.specs.Configs.{ConfigModel, SlotModel}

@@ -1,5 +1,6 @@
 -- What a datagram does to a slot.
-use Rattle.std.specs.Prelude.{ℕ, List, [], ◌∷◌, Option, Some, None, Bool, false, option_map, map, ◌&&◌, if◌then◌else◌}
+use Rattle.std.specs.Prelude.{ℕ, List, [], ◌∷◌, Option, Some, None, Bool, false, option_map, map}
+use Rattle.std.specs.Prelude.{◌&&◌, if◌then◌else◌}
 use Rattle.std.specs.List.{flat_map, list_any}
 use Rattle.trdp_base.specs.declared.place.Place.{Place}
 use Rattle.trdp_base.specs.declared.topo.Topo.{Topo}
@@ -8,7 +9,8 @@ use Rattle.trdp_filter.specs.declared.globals.Globals.{Globals}
 use Rattle.trdp_filter.specs.Counts.{topo_valid}
 use Rattle.trdp_filter.specs.Telegrams.{TelegramModel, PdIs, payload_of}
 use Rattle.trdp_pd.specs.declared.any_object.AnyObject.{AnyObject}
-use Rattle.trdp_pd.specs.declared.any_object.AnyObject.TheVariants.{Publisher, Subscription, Requester}
+use Rattle.trdp_pd.specs.declared.any_object.AnyObject.TheVariants.{Publisher, Subscription}
+use Rattle.trdp_pd.specs.declared.any_object.AnyObject.TheVariants.{Requester}
 use Rattle.trdp_pd.specs.declared.object.Taken.{Taken}
 use Rattle.trdp_pd.specs.declared.object.Taken.TheVariants.{Nothing, Stored, Alive, Pulled}
 use Rattle.trdp_pd.specs.Objects.{is_addressed, after_taking, taken}
@@ -23,7 +25,8 @@ use Rattle.trdp_engine.specs.Slots.{SlotState, Outcome, unchanged}
 
 -- the telegram of a datagram, if it is one that the node serves; message data comes later
 abbrev pub telegram_of : Protocol → Place → Place → List ℕ → Option TelegramModel
-telegram_of Pd src dst bytes = option_map (λ telegram. PdIs src dst telegram) (pd_telegram_of bytes)
+telegram_of Pd src dst bytes =
+    option_map (λ telegram. PdIs src dst telegram) (pd_telegram_of bytes)
 telegram_of Md src dst bytes = None
 
 -- the topology counts of a telegram
@@ -44,7 +47,8 @@ fits_object config telegram object = is_fitting config (dataset_of object) (payl
 abbrev pub is_for_entry : TelegramModel → Globals → Entry → Bool
 is_for_entry telegram globals entry = is_addressed entry.object telegram globals
 
--- the records of an object that did this with a telegram; what answers a pull request goes to that place
+-- the records of an object that did this with a telegram; what answers a pull request goes to
+-- that place
 abbrev pub taken_records : Place → Entry → Taken → List Content
 taken_records answer_to entry Nothing = []
 taken_records answer_to entry Stored = []
@@ -55,14 +59,19 @@ taken_records answer_to entry (Pulled head) = pull_answer entry.object answer_to
 abbrev pub entry_after_telegram : ConfigModel → TelegramModel → Globals → Entry → Entry
 entry_after_telegram config telegram globals entry =
     if is_for_entry telegram globals entry
-    then record { handle = entry.handle; object = after_taking entry.object telegram globals (fits_object config telegram entry.object) }
+    then record {
+      handle = entry.handle;
+      object = after_taking entry.object telegram globals
+          (fits_object config telegram entry.object);
+    }
     else entry
 
 -- the records of an object at a telegram
 abbrev pub records_taking : ConfigModel → TelegramModel → Globals → Entry → List Content
 records_taking config telegram globals entry =
     if is_for_entry telegram globals entry
-    then taken_records (answer_place config telegram) entry (taken entry.object telegram globals (fits_object config telegram entry.object))
+    then taken_records (answer_place config telegram) entry
+    (taken entry.object telegram globals (fits_object config telegram entry.object))
     else []
 
 -- effect of a telegram on a slot: the objects that it is for act in the order of their handles
@@ -76,12 +85,16 @@ received config slot globals telegram = record {
 abbrev pub is_valid_at : Globals → TelegramModel → Bool
 is_valid_at globals telegram = topo_valid (counts_of telegram) globals.topo
 
--- effect of a datagram on a slot: none where it is no telegram or its counts don't match the node's
+-- effect of a datagram on a slot: none where it is no telegram or its counts don't match the
+-- node's
 abbrev pub received_if : ConfigModel → SlotState → Globals → Option TelegramModel → Outcome
 received_if config slot globals None = unchanged slot
-received_if config slot globals (Some telegram) = if is_valid_at globals telegram then received config slot globals telegram else unchanged slot
+received_if config slot globals (Some telegram) =
+    if is_valid_at globals telegram then received config slot globals telegram else unchanged slot
 
--- the datagram concerns the slot: it is a telegram whose counts match the node's, and it is for one of the slot's objects
+-- the datagram concerns the slot: it is a telegram whose counts match the node's, and it is for
+-- one of the slot's objects
 abbrev pub concerns : Globals → Option TelegramModel → SlotState → Bool
 concerns globals None slot = false
-concerns globals (Some telegram) slot = is_valid_at globals telegram && list_any (is_for_entry telegram globals) slot.objects
+concerns globals (Some telegram) slot =
+    is_valid_at globals telegram && list_any (is_for_entry telegram globals) slot.objects

@@ -1,5 +1,7 @@
--- Words of the loop that fires what is due: the object that comes first, and what one firing leaves of the moment.
-use Rattle.std.specs.Prelude.{◌≡◌, ℕ, ◌+◌, ◌++◌, List, [], ◌∷◌, length, Option, Some, None, true, nat_le, filter, if◌then◌else◌}
+-- Words of the loop that fires what is due: the object that comes first, and what one firing
+-- leaves of the moment.
+use Rattle.std.specs.Prelude.{◌≡◌, ℕ, ◌+◌, ◌++◌, List, [], ◌∷◌, length, Option, Some, None, true}
+use Rattle.std.specs.Prelude.{nat_le, filter, if◌then◌else◌}
 use Rattle.trdp_engine.specs.declared.object.Entry.{Entry}
 use Rattle.trdp_pd.specs.Objects.{due_of}
 use Rattle.trdp_engine.specs.Moments.{is_due, is_before}
@@ -15,10 +17,12 @@ sooner first at None = first
 sooner None at (Some due) = Some (at, due)
 sooner (Some first) at (Some due) = if nat_le due first.1 then Some (at, due) else Some first
 
--- of these objects, counted from that index on, the index and due moment of the one that comes first
+-- of these objects, counted from that index on, the index and due moment of the one that comes
+-- first
 abbrev pub first_from : ℕ → ℕ → List Entry → Option (ℕ × ℕ)
 first_from t at [] = None
-first_from t at (entry ∷ entries) = sooner (first_from t (at + 1) entries) at (due_time t (due_of entry.object))
+first_from t at (entry ∷ entries) =
+    sooner (first_from t (at + 1) entries) at (due_time t (due_of entry.object))
 
 -- it fires before all of these
 abbrev pub AllAfter : Entry → List Entry → Type 0

@@ -1,10 +1,12 @@
 -- What a moment does to a slot.
-use Rattle.std.specs.Prelude.{ℕ, List, [], ◌∷◌, Bool, ◌==◌, ◌&&◌, ◌||◌, nat_lt, map, filter, if◌then◌else◌, unwrap_or}
+use Rattle.std.specs.Prelude.{ℕ, List, [], ◌∷◌, Bool, ◌==◌, ◌&&◌, ◌||◌, nat_lt, map, filter}
+use Rattle.std.specs.Prelude.{if◌then◌else◌, unwrap_or}
 use Rattle.std.specs.List.{flat_map}
 use Rattle.trdp_head.specs.declared.pd.PdHead.{PdHead}
 use Rattle.trdp_filter.specs.declared.globals.Globals.{Globals}
 use Rattle.trdp_pd.specs.declared.any_object.AnyObject.{AnyObject}
-use Rattle.trdp_pd.specs.declared.any_object.AnyObject.TheVariants.{Publisher, Subscription, Requester}
+use Rattle.trdp_pd.specs.declared.any_object.AnyObject.TheVariants.{Publisher, Subscription}
+use Rattle.trdp_pd.specs.declared.any_object.AnyObject.TheVariants.{Requester}
 use Rattle.trdp_pd.specs.declared.object.Fired.{Fired}
 use Rattle.trdp_pd.specs.declared.object.Fired.TheVariants.{Nothing, Data, Silent}
 use Rattle.trdp_pd.specs.Due.{is_due_by}
@@ -26,7 +28,8 @@ is_before a b =
 -- an object inserted among others that are in order
 abbrev pub inserted : Entry → List Entry → List Entry
 inserted entry [] = entry ∷ []
-inserted entry (first ∷ entries) = if is_before first entry then first ∷ inserted entry entries else entry ∷ first ∷ entries
+inserted entry (first ∷ entries) =
+    if is_before first entry then first ∷ inserted entry entries else entry ∷ first ∷ entries
 
 -- objects in the order of firing
 abbrev pub in_order : List Entry → List Entry
@@ -47,16 +50,21 @@ firing_records handle object Silent = Indicates (SilentIs handle) ∷ []
 
 -- the records of an object that fires
 abbrev pub records_firing : Globals → Entry → List Content
-records_firing globals entry = firing_records entry.handle entry.object (fired entry.object globals)
+records_firing globals entry =
+    firing_records entry.handle entry.object (fired entry.object globals)
 
 -- an object after the moment: it fired if it was due
 abbrev pub entry_after_moment : Globals → Entry → Entry
 entry_after_moment globals entry =
-    if is_due globals.now entry then record { handle = entry.handle; object = after_firing entry.object globals } else entry
+    if is_due globals.now entry
+    then record { handle = entry.handle; object = after_firing entry.object globals }
+    else entry
 
--- effect of the moment that the globals show: each object that is due fires once, in the order of firing
+-- effect of the moment that the globals show: each object that is due fires once, in the order of
+-- firing
 abbrev pub moved_to : SlotState → Globals → Outcome
 moved_to slot globals = record {
   slot = record slot { objects = map (entry_after_moment globals) slot.objects };
-  records = flat_map (records_firing globals) (in_order (filter (is_due globals.now) slot.objects));
+  records =
+      flat_map (records_firing globals) (in_order (filter (is_due globals.now) slot.objects));
 }

@@ -4,8 +4,10 @@ use Rattle.trdp_engine.specs.declared.outbox.Row.{Row}
 use Rattle.trdp_engine.specs.declared.outbox.PlainAnswer.{PlainAnswer as AnyPlainAnswer}
 use Rattle.trdp_engine.specs.declared.outbox.PlainAnswer.TheVariants.{Handle, Done, Refused}
 use Rattle.trdp_engine.specs.declared.outbox.Form.{Form}
-use Rattle.trdp_engine.specs.declared.outbox.Form.TheVariants.{PlainAnswer, Value, Indication, Send}
-use Rattle.trdp_engine.specs.Records.{AnswerModel, HandleIs, DoneIs, ValueIs, RefusedIs, Content, Answers, Indicates, Sends, RecordModel, indication_model}
+use Rattle.trdp_engine.specs.declared.outbox.Form.TheVariants.{PlainAnswer, Value, Indication}
+use Rattle.trdp_engine.specs.declared.outbox.Form.TheVariants.{Send}
+use Rattle.trdp_engine.specs.Records.{AnswerModel, HandleIs, DoneIs, ValueIs, RefusedIs, Content}
+use Rattle.trdp_engine.specs.Records.{Answers, Indicates, Sends, RecordModel, indication_model}
 
 -- the records, how many bytes they hold, and how many more records and bytes of theirs find room
 pub record OutboxState : Type 0 where
@@ -23,13 +25,15 @@ plain_answer_model (Refused refusal) = RefusedIs refusal
 -- what a row says with these bytes
 abbrev pub row_content : Form → List ℕ → Content
 row_content (PlainAnswer answer) bytes = Answers (plain_answer_model answer)
-row_content (Value state counter) bytes = Answers (ValueIs (record { state = state; counter = counter; bytes = bytes }))
+row_content (Value state counter) bytes =
+    Answers (ValueIs (record { state = state; counter = counter; bytes = bytes }))
 row_content (Indication indication) bytes = Indicates (indication_model indication)
 row_content (Send protocol to) bytes = Sends protocol to bytes
 
 -- the record of a row
 abbrev pub row_model : List ℕ → Row → RecordModel
-row_model bytes row = record { slot = row.slot; content = row_content row.form (take row.len (drop row.at bytes)) }
+row_model bytes row =
+    record { slot = row.slot; content = row_content row.form (take row.len (drop row.at bytes)) }
 
 -- each row's bytes lie within the list
 abbrev pub AllWithin : ℕ → List Row → Type 0

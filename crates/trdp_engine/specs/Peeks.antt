@@ -6,7 +6,9 @@ use Rattle.trdp_pd.specs.Subscriptions.{SubscriptionState}
 use Rattle.trdp_engine.specs.declared.look.LookFault.{LookFault}
 use Rattle.trdp_engine.specs.declared.look.LookFault.TheVariants.{NoHandle, WrongKind}
 use Rattle.trdp_engine.specs.declared.peek.PeekFault.{PeekFault}
-use Rattle.trdp_engine.specs.declared.peek.PeekFault.TheVariants.{NoSlot, NoHandle as NoHandleToPeek, WrongKind as WrongKindToPeek}
+use Rattle.trdp_engine.specs.declared.peek.PeekFault.TheVariants.{NoSlot}
+use Rattle.trdp_engine.specs.declared.peek.PeekFault.TheVariants.{NoHandle as NoHandleToPeek}
+use Rattle.trdp_engine.specs.declared.peek.PeekFault.TheVariants.{WrongKind as WrongKindToPeek}
 use Rattle.trdp_engine.specs.Looks.{subscription_at}
 use Rattle.trdp_engine.specs.Slots.{SlotState}
 

@@ -22,12 +22,14 @@ pub data AnswerModel : Type 0 where
   ValueIs : (peek : PeekModel) → AnswerModel
   RefusedIs : (refusal : Refusal) → AnswerModel
 
--- what a node tells a slot of its own accord: the subscription of that handle fell silent, or is alive again
+-- what a node tells a slot of its own accord: the subscription of that handle fell silent, or is
+-- alive again
 pub data IndicationModel : Type 0 where
   SilentIs : (handle : ℕ) → IndicationModel
   AliveIs : (handle : ℕ) → IndicationModel
 
--- what a record says: an answer, an indication, or a telegram with its protocol, its destination and every byte
+-- what a record says: an answer, an indication, or a telegram with its protocol, its destination
+-- and every byte
 pub data Content : Type 0 where
   Answers : (answer : AnswerModel) → Content
   Indicates : (indication : IndicationModel) → Content
@@ -66,7 +68,8 @@ records_of s records = map (λ r. r.content) (filter (λ r. r.slot == s) records
 
 -- these as records of slot s
 abbrev pub labelled : ℕ → List Content → List RecordModel
-labelled s contents = map (λ c. let r : RecordModel = record { slot = s; content = c } in r) contents
+labelled s contents =
+    map (λ c. let r : RecordModel = record { slot = s; content = c } in r) contents
 
 -- a value that is sent to that place under this header; without a value nothing is sent
 abbrev pub value_sent : Place → PdHead → Option (List ℕ) → List Content

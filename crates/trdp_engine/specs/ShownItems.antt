@@ -8,7 +8,10 @@ use Rattle.trdp_pd.specs.Subscriptions.{SubscriptionState}
 use Rattle.trdp_engine.specs.declared.look.LookFault.{LookFault}
 use Rattle.trdp_engine.specs.declared.look.LookFault.TheVariants.{NoHandle, WrongKind}
 use Rattle.trdp_engine.specs.declared.shown.ValueFault.{ValueFault}
-use Rattle.trdp_engine.specs.declared.shown.ValueFault.TheVariants.{NoSlot, NoHandle as NoHandleToShow, WrongKind as WrongKindToShow, NoDataset, OutOfMemory}
+use Rattle.trdp_engine.specs.declared.shown.ValueFault.TheVariants.{NoSlot}
+use Rattle.trdp_engine.specs.declared.shown.ValueFault.TheVariants.{NoHandle as NoHandleToShow}
+use Rattle.trdp_engine.specs.declared.shown.ValueFault.TheVariants.{WrongKind as WrongKindToShow}
+use Rattle.trdp_engine.specs.declared.shown.ValueFault.TheVariants.{NoDataset, OutOfMemory}
 use Rattle.trdp_engine.specs.Looks.{subscription_at}
 use Rattle.trdp_engine.specs.Slots.{SlotState}
 
@@ -31,9 +34,10 @@ abbrev pub showing_in : Option SlotState → ℕ → Result SubscriptionState Va
 showing_in None handle = Err NoSlot
 showing_in (Some slot) handle = showing_of (subscription_at handle slot.objects)
 
--- the answer to a look at that subscription: the item whose bytes it shows, or want of memory for it; without such a
--- subscription the reason
-abbrev pub ShowsItem : ConfigModel → Result SubscriptionState ValueFault → Result Item ValueFault → Type 0
+-- the answer to a look at that subscription: the item whose bytes it shows, or want of memory for
+-- it; without such a subscription the reason
+abbrev pub ShowsItem : ConfigModel → Result SubscriptionState ValueFault → Result Item ValueFault
+    → Type 0
 ShowsItem config (Ok s) (Ok item) = Spells config.registry s.terms.dataset (model_of item) s.value
 ShowsItem config (Ok s) (Err fault) = fault ≡ OutOfMemory
 ShowsItem config (Err fault) (Ok item) = ⊥

@@ -1,12 +1,14 @@
 //! What a datagram does to the objects of a slot.
 
-ghost use Rattle.std.specs.Prelude.{◌≡◌, ℕ, ◌+◌, ◌*◌, ◌≤◌, ◌++◌, ◌∷◌, length, [], vec_capacity, map, filter};
+ghost use Rattle.std.specs.Prelude.{◌≡◌, ℕ, ◌+◌, ◌*◌, ◌≤◌, ◌++◌, ◌∷◌, length, [], vec_capacity};
+ghost use Rattle.std.specs.Prelude.{map, filter};
 ghost use Rattle.std.specs.List.{flat_map};
 ghost use Rattle.trdp_base.specs.Moments.{last_moment};
 ghost use Rattle.trdp_head.specs.declared.pd.TheConstants.{PD_TELEGRAM_MAX};
 ghost use Rattle.trdp_filter.specs.Telegrams.{telegram_model, IsWithinLimit};
 ghost use Rattle.trdp_engine.specs.Records.{labelled};
-ghost use Rattle.trdp_engine.specs.Datagrams.{is_valid_at, fits_object, is_for_entry, entry_after_telegram, records_taking};
+ghost use Rattle.trdp_engine.specs.Datagrams.{is_valid_at, fits_object, is_for_entry};
+ghost use Rattle.trdp_engine.specs.Datagrams.{entry_after_telegram, records_taking};
 
 use crate::object::Entry;
 use crate::outbox::Outbox;
@@ -52,12 +54,28 @@ fn take(
 )
     requires now { globals.now.now ≤ last_moment }
     requires limit { IsWithinLimit (telegram_model telegram.now) }
-    requires rows { length (filter (is_for_entry (telegram_model telegram.now) globals.now) (entry.old ∷ [])) ≤ out.old.row_room }
-    requires bytes { PD_TELEGRAM_MAX * length (filter (is_for_entry (telegram_model telegram.now) globals.now) (entry.old ∷ [])) ≤ out.old.byte_room }
-    ensures entry { entry.new ≡ entry_after_telegram config.now (telegram_model telegram.now) globals.entry.now entry.old }
-    ensures records { out.new.records ≡ out.old.records ++ labelled s (records_taking config.now (telegram_model telegram.now) globals.entry.now entry.old) }
-    ensures row_room { out.old.row_room ≤ out.new.row_room + length (filter (is_for_entry (telegram_model telegram.now) globals.entry.now) (entry.old ∷ [])) }
-    ensures byte_room { out.old.byte_room ≤ out.new.byte_room + PD_TELEGRAM_MAX * length (filter (is_for_entry (telegram_model telegram.now) globals.entry.now) (entry.old ∷ [])) }
+    requires rows { length
+        (filter (is_for_entry (telegram_model telegram.now) globals.now) (entry.old ∷ []))
+        ≤ out.old.row_room }
+    requires bytes { PD_TELEGRAM_MAX
+        * length (filter (is_for_entry (telegram_model telegram.now) globals.now) (entry.old ∷ []))
+        ≤ out.old.byte_room }
+    ensures entry { entry.new
+        ≡ entry_after_telegram config.now (telegram_model telegram.now) globals.entry.now
+        entry.old }
+    ensures records { out.new.records
+        ≡ out.old.records
+        ++ labelled s
+        (records_taking config.now (telegram_model telegram.now) globals.entry.now
+        entry.old) }
+    ensures row_room { out.old.row_room
+        ≤ out.new.row_room
+        + length (filter (is_for_entry (telegram_model telegram.now) globals.entry.now)
+        (entry.old ∷ [])) }
+    ensures byte_room { out.old.byte_room
+        ≤ out.new.byte_room + PD_TELEGRAM_MAX
+        * length (filter (is_for_entry (telegram_model telegram.now) globals.entry.now)
+        (entry.old ∷ [])) }
 {
     if !entry.object.addressed(telegram, globals) {
         return;
@@ -84,10 +102,21 @@ pub fn take_all(
 )
     requires now { globals.now.now ≤ last_moment }
     requires limit { IsWithinLimit (telegram_model telegram.now) }
-    requires rows { length (filter (is_for_entry (telegram_model telegram.now) globals.now) objects.old.items) ≤ out.old.row_room }
-    requires bytes { PD_TELEGRAM_MAX * length (filter (is_for_entry (telegram_model telegram.now) globals.now) objects.old.items) ≤ out.old.byte_room }
-    ensures items { objects.new.items ≡ map (entry_after_telegram config.now (telegram_model telegram.now) globals.entry.now) objects.old.items }
-    ensures records { out.new.records ≡ out.old.records ++ labelled s (flat_map (records_taking config.now (telegram_model telegram.now) globals.entry.now) objects.old.items) }
+    requires rows { length
+        (filter (is_for_entry (telegram_model telegram.now) globals.now) objects.old.items)
+        ≤ out.old.row_room }
+    requires bytes { PD_TELEGRAM_MAX
+        * length (filter (is_for_entry (telegram_model telegram.now) globals.now)
+        objects.old.items) ≤ out.old.byte_room }
+    ensures items { objects.new.items
+        ≡ map (entry_after_telegram config.now (telegram_model telegram.now) globals.entry.now)
+        objects.old.items }
+    ensures records { out.new.records
+        ≡ out.old.records
+        ++ labelled s
+        (flat_map
+        (records_taking config.now (telegram_model telegram.now) globals.entry.now)
+        objects.old.items) }
     ensures capacity { vec_capacity objects.new ≡ vec_capacity objects.old }
 {
     for entry in objects.iter_mut() {
@@ -97,7 +126,9 @@ pub fn take_all(
 
 /// How many of the objects the telegram is for.
 pub fn count_addressed(objects: &[Entry], telegram: &Telegram<'_>, globals: &Globals) -> usize
-    ensures count { result ≡ length (filter (is_for_entry (telegram_model telegram.now) globals.entry.now) objects.now) }
+    ensures count { result
+        ≡ length (filter (is_for_entry (telegram_model telegram.now) globals.entry.now)
+        objects.now) }
     ensures within { result ≤ length objects.now }
 {
     objects

@@ -1,8 +1,11 @@
 //! A slot's list of objects, looked up by handle and by kind.
 
-ghost use Rattle.std.specs.Prelude.{◌≡◌, ℕ, ◌+◌, ◌<◌, ◌≤◌, ◌++◌, ◌∷◌, length, [], Option, None, Some, position, option_copied, is_none, if◌then◌else◌, ◌==◌, vec_len, vec_capacity};
+ghost use Rattle.std.specs.Prelude.{◌≡◌, ℕ, ◌+◌, ◌<◌, ◌≤◌, ◌++◌, ◌∷◌, length, [], Option, None};
+ghost use Rattle.std.specs.Prelude.{Some, position, option_copied, is_none, if◌then◌else◌, ◌==◌};
+ghost use Rattle.std.specs.Prelude.{vec_len, vec_capacity};
 ghost use Rattle.trdp_engine.specs.Slots.{count_of, entry_of, changed, without};
-ghost use Rattle.trdp_engine.specs.Calls.{put_refusal, object_refusal, value_refusal, close_refusal, with_value};
+ghost use Rattle.trdp_engine.specs.Calls.{put_refusal, object_refusal, value_refusal};
+ghost use Rattle.trdp_engine.specs.Calls.{close_refusal, with_value};
 
 use crate::fault::Refusal;
 use crate::object::Entry;
@@ -72,8 +75,11 @@ pub fn put_in(
     handle: u32,
     bytes: &[u8],
 ) -> Option<Refusal>
-    ensures refusal { result ≡ put_refusal config.now bytes.now (entry_of handle objects.old.items) }
-    ensures items { objects.new.items ≡ (if is_none result then changed handle (with_value bytes.now) objects.old.items else objects.old.items) }
+    ensures refusal { result
+        ≡ put_refusal config.now bytes.now (entry_of handle objects.old.items) }
+    ensures items { objects.new.items
+        ≡ (if is_none result then changed handle (with_value bytes.now) objects.old.items
+        else objects.old.items) }
     ensures capacity { vec_capacity objects.new ≡ vec_capacity objects.old }
 {
     match index_of(objects, handle) {
@@ -93,7 +99,8 @@ pub fn put_in(
 /// not.
 pub fn close_in(objects: &mut Vec<Entry>, kind: usize, handle: u32) -> Option<Refusal>
     ensures refusal { result ≡ close_refusal kind (entry_of handle objects.old.items) }
-    ensures items { objects.new.items ≡ (if is_none result then without handle objects.old.items else objects.old.items) }
+    ensures items { objects.new.items
+        ≡ (if is_none result then without handle objects.old.items else objects.old.items) }
     ensures capacity { vec_capacity objects.new ≡ vec_capacity objects.old }
 {
     match index_of(objects, handle) {

@@ -10,14 +10,14 @@ pub enum Call<'a> {
     /// Makes a publisher, and answers its handle.
     ///
     /// # Errors
-    /// Refused: the first that applies of `Cycle`, `NoDataset`, `TooLong` (the dataset's zero value
-    /// is more than 1,432 bytes), `Quota` and `Exhausted`.
+    /// Refused: the first that applies of `Cycle`, `NoDataset`, `TooLong` (the dataset's zero
+    /// value is more than 1,432 bytes), `Quota` and `Exhausted`.
     Publish(PublisherTerms),
     /// Gives the publisher of that handle a new value.
     ///
     /// # Errors
-    /// Refused: the first that applies of `NoHandle`, `WrongKind`, `TooLong` (above 1,432 bytes) and
-    /// `Shape`.
+    /// Refused: the first that applies of `NoHandle`, `WrongKind`, `TooLong` (above 1,432 bytes)
+    /// and `Shape`.
     Put { handle: u32, bytes: &'a [u8] },
     /// Ends the publisher of that handle.
     ///
@@ -69,7 +69,8 @@ pub enum Event<'a> {
     Moment(u64),
     /// The train's network has these topology counts.
     Topology(Topo),
-    /// The node is the leader of that redundancy group, 1 to 255, from now on, or a follower in it.
+    /// The node is the leader of that redundancy group, 1 to 255, from now on, or a follower in
+    /// it.
     ///
     /// # Errors
     /// `NoGroup` for group 0.

@@ -4,8 +4,8 @@ use crate::look::LookFault;
 use std::alloc::AllocError;
 use thiserror::Error;
 
-/// Why an event is not admitted: the first of these that applies (profile). Node and outbox stay as
-/// they were.
+/// Why an event is not admitted: the first of these that applies (profile). Node and outbox stay
+/// as they were.
 #[derive(Clone, Copy, Debug, PartialEq, Eq, Error)]
 pub enum NodeFault {
     /// The node has no slot of that number.

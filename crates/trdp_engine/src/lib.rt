@@ -1,10 +1,10 @@
 //! The node: events come in, and each slot gets its answers and telegrams.
 //!
-//! What no contract can say is that memory is there. A `run` that stops before the first event that
-//! may take memory (a call, a moment by which something is due, a datagram that concerns a slot), a
-//! `run_both` of two such runs, and a `value_of` that answers want of memory wherever it could show
-//! an item meet their contracts, since memory may be lacking; the tests show that with ample memory
-//! every event is taken and every item shown.
+//! What no contract can say is that memory is there. A `run` that stops before the first event
+//! that may take memory (a call, a moment by which something is due, a datagram that concerns a
+//! slot), a `run_both` of two such runs, and a `value_of` that answers want of memory wherever it
+//! could show an item meet their contracts, since memory may be lacking; the tests show that with
+//! ample memory every event is taken and every item shown.
 #![tactic(auto)]
 
 mod datagram;

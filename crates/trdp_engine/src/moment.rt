@@ -1,13 +1,15 @@
 //! What a moment does to the objects of a slot.
 
-ghost use Rattle.std.specs.Prelude.{◌≡◌, ℕ, ◌+◌, ◌*◌, ◌<◌, ◌≤◌, ◌++◌, length, Option, IfSome, true, slice_get, slice_set, vec_capacity, map, filter};
+ghost use Rattle.std.specs.Prelude.{◌≡◌, ℕ, ◌+◌, ◌*◌, ◌<◌, ◌≤◌, ◌++◌, length, Option, IfSome};
+ghost use Rattle.std.specs.Prelude.{true, slice_get, slice_set, vec_capacity, map, filter};
 ghost use Rattle.std.specs.List.{flat_map};
 ghost use Rattle.trdp_base.specs.Moments.{last_moment};
 ghost use Rattle.trdp_head.specs.declared.pd.TheConstants.{PD_TELEGRAM_MAX};
 ghost use Rattle.trdp_engine.specs.Handles.{IsRising};
 ghost use Rattle.trdp_pd.specs.Objects.{due_of};
 ghost use Rattle.trdp_engine.specs.Records.{labelled};
-ghost use Rattle.trdp_engine.specs.Moments.{is_due, in_order, sends_data, records_firing, entry_after_moment};
+ghost use Rattle.trdp_engine.specs.Moments.{is_due, in_order, sends_data, records_firing};
+ghost use Rattle.trdp_engine.specs.Moments.{entry_after_moment};
 ghost use Rattle.trdp_engine.specs.Firing.{due_time, sooner, IsFirst};
 
 use crate::object::Entry;
@@ -65,7 +67,8 @@ fn first_due(objects: &[Entry], t: u64) -> Option<usize>
 fn push_data(object: &AnyObject, head: &PdHead, s: u16, out: &mut Outbox)
     requires row { 0 < out.old.row_room }
     requires bytes { PD_TELEGRAM_MAX ≤ out.old.byte_room }
-    ensures records { out.new.records ≡ out.old.records ++ labelled s (sends_data object.now head.now) }
+    ensures records { out.new.records
+        ≡ out.old.records ++ labelled s (sends_data object.now head.now) }
     ensures row_room { out.old.row_room ≤ out.new.row_room + 1 }
     ensures byte_room { out.old.byte_room ≤ out.new.byte_room + PD_TELEGRAM_MAX }
 {
@@ -83,7 +86,8 @@ fn fire(entry: &mut Entry, globals: &Globals, s: u16, out: &mut Outbox)
     requires row { 0 < out.old.row_room }
     requires bytes { PD_TELEGRAM_MAX ≤ out.old.byte_room }
     ensures entry { entry.new ≡ entry_after_moment globals.entry.now entry.old }
-    ensures records { out.new.records ≡ out.old.records ++ labelled s (records_firing globals.entry.now entry.old) }
+    ensures records { out.new.records
+        ≡ out.old.records ++ labelled s (records_firing globals.entry.now entry.old) }
     ensures row_room { out.old.row_room ≤ out.new.row_room + 1 }
     ensures byte_room { out.old.byte_room ≤ out.new.byte_room + PD_TELEGRAM_MAX }
 {
@@ -97,12 +101,19 @@ fn fire(entry: &mut Entry, globals: &Globals, s: u16, out: &mut Outbox)
 /// Fires the object of that index.
 fn fire_at(objects: &mut Vec<Entry>, at: usize, globals: &Globals, s: u16, out: &mut Outbox)
     requires within { at < length objects.old.items }
-    requires due { IfSome (slice_get objects.old.items at) (λ entry. is_due globals.now.now entry ≡ true) }
+    requires due { IfSome (slice_get objects.old.items at)
+        (λ entry. is_due globals.now.now entry ≡ true) }
     requires now { globals.now.now ≤ last_moment }
     requires row { 0 < out.old.row_room }
     requires bytes { PD_TELEGRAM_MAX ≤ out.old.byte_room }
-    ensures items { IfSome (slice_get objects.old.items at) (λ entry. objects.new.items ≡ slice_set objects.old.items at (entry_after_moment globals.entry.now entry)) }
-    ensures records { IfSome (slice_get objects.old.items at) (λ entry. out.new.records ≡ out.old.records ++ labelled s (records_firing globals.entry.now entry)) }
+    ensures items { IfSome (slice_get objects.old.items at)
+        (λ entry.
+        objects.new.items ≡ slice_set objects.old.items at (entry_after_moment
+        globals.entry.now entry)) }
+    ensures records { IfSome (slice_get objects.old.items at)
+        (λ entry.
+        out.new.records ≡ out.old.records ++ labelled s (records_firing globals.entry.now
+        entry)) }
     ensures capacity { vec_capacity objects.new ≡ vec_capacity objects.old }
     ensures row_room { out.old.row_room ≤ out.new.row_room + 1 }
     ensures byte_room { out.old.byte_room ≤ out.new.byte_room + PD_TELEGRAM_MAX }
@@ -116,9 +127,15 @@ pub fn fire_all(objects: &mut Vec<Entry>, globals: &Globals, s: u16, out: &mut O
     requires rising { IsRising objects.old.items }
     requires now { globals.now.now ≤ last_moment }
     requires rows { length (filter (is_due globals.now.now) objects.old.items) ≤ out.old.row_room }
-    requires bytes { PD_TELEGRAM_MAX * length (filter (is_due globals.now.now) objects.old.items) ≤ out.old.byte_room }
-    ensures items { objects.new.items ≡ map (entry_after_moment globals.entry.now) objects.old.items }
-    ensures records { out.new.records ≡ out.old.records ++ labelled s (flat_map (records_firing globals.entry.now) (in_order (filter (is_due globals.entry.now.now) objects.old.items))) }
+    requires bytes { PD_TELEGRAM_MAX * length (filter (is_due globals.now.now) objects.old.items)
+        ≤ out.old.byte_room }
+    ensures items { objects.new.items
+        ≡ map (entry_after_moment globals.entry.now) objects.old.items }
+    ensures records { out.new.records
+        ≡ out.old.records
+        ++ labelled s
+        (flat_map (records_firing globals.entry.now)
+        (in_order (filter (is_due globals.entry.now.now) objects.old.items))) }
     ensures capacity { vec_capacity objects.new ≡ vec_capacity objects.old }
 {
     while let Some(at) = first_due(objects, globals.now) {

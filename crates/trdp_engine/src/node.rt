@@ -1,9 +1,12 @@
 //! The node: one event after another.
 
-ghost use Rattle.std.specs.Prelude.{nat_le, if◌then◌else◌, None, ◌≡◌, ◌≢◌, ℕ, ◌<◌, ◌≤◌, ◌++◌, ◌∷◌, [], length, OnOk, OnErr, IfOk, IfErr, IfSome, Err, Some, true, false, slice_get, map, filter, take, replicate};
+ghost use Rattle.std.specs.Prelude.{nat_le, if◌then◌else◌, None, ◌≡◌, ◌≢◌, ℕ, ◌<◌, ◌≤◌, ◌++◌, ◌∷◌};
+ghost use Rattle.std.specs.Prelude.{[], length, OnOk, OnErr, IfOk, IfErr, IfSome, Err, Some, true};
+ghost use Rattle.std.specs.Prelude.{false, slice_get, map, filter, take, replicate};
 ghost use Rattle.trdp_base.specs.Moments.{last_moment};
 ghost use Rattle.trdp_engine.specs.Records.{Answers, RecordModel, labelled};
-ghost use Rattle.trdp_engine.specs.Events.{MomentIs, TopologyIs, RoleIs, DatagramIs, CallIs, call_model, event_model};
+ghost use Rattle.trdp_engine.specs.Events.{MomentIs, TopologyIs, RoleIs, DatagramIs, CallIs};
+ghost use Rattle.trdp_engine.specs.Events.{call_model, event_model};
 ghost use Rattle.trdp_engine.specs.Slots.{SlotState};
 ghost use Rattle.trdp_engine.specs.Calls.{called};
 ghost use Rattle.trdp_engine.specs.Datagrams.{telegram_of, received_if, concerns};
@@ -54,11 +57,14 @@ impl Model for Node {
 
     ghost view = { λ n. record { config = n.config; globals = n.globals; slots = n.slot ∷ [] } };
 
-    ghost invariant = { λ n. (n.globals.now ≤ last_moment) × IsRegistry n.config.registry × AllFit n.config n.slot.objects };
+    ghost invariant = { λ n. (n.globals.now ≤ last_moment) × IsRegistry n.config.registry
+        × AllFit n.config n.slot.objects };
 }
 
 impl Node {
-    ghost use Rattle.trdp_engine.specs.NodeStates.{NodeState, GetsOutcome, StepsAsAlone, RunsAsAlone, Appends, MayTakeMemory, opened_node};
+    ghost use Rattle.trdp_engine.specs.NodeStates.{NodeState, GetsOutcome, StepsAsAlone};
+    ghost use Rattle.trdp_engine.specs.NodeStates.{RunsAsAlone, Appends, MayTakeMemory};
+    ghost use Rattle.trdp_engine.specs.NodeStates.{opened_node};
     ghost use Rattle.trdp_engine.specs.Alone.{FaultIs, refused_as, globals_after};
 
     /// A node at moment 0 that leads no group, with empty slots.
@@ -102,14 +108,18 @@ impl Node {
     /// # Errors
     /// The first that applies of `Past`, `TooLate` and `OutOfMemory`.
     fn step_moment(&mut self, t: u64, out: &mut Outbox) -> Result<(), NodeFault>
-        ensures fault { FaultIs (refused_as (length self.old.slots) self.old.globals (MomentIs t)) result }
+        ensures fault { FaultIs (refused_as (length self.old.slots) self.old.globals (MomentIs t))
+            result }
         ensures kept { OnErr result (self.new ≡ self.old) }
         ensures unrecorded { OnErr result (out.new.records ≡ out.old.records) }
         ensures memory { result ≡ Err NodeFault.OutOfMemory → MayTakeMemory self.old (MomentIs t) }
         ensures config { self.new.config ≡ self.old.config }
-        ensures globals { OnOk result (self.new.globals ≡ globals_after self.old.globals (MomentIs t)) }
+        ensures globals { OnOk result (self.new.globals
+            ≡ globals_after self.old.globals (MomentIs t)) }
         ensures count { length self.new.slots ≡ length self.old.slots }
-        ensures steps { OnOk result ((s : ℕ) (slot : SlotState) → slice_get self.old.slots s ≡ Some slot → StepsAsAlone self.old self.new out.old.records out.new.records (MomentIs t) s slot) }
+        ensures steps { OnOk result ((s : ℕ) (slot : SlotState)
+            → slice_get self.old.slots s ≡ Some slot
+            → StepsAsAlone self.old self.new out.old.records out.new.records (MomentIs t) s slot) }
         ensures appends { Appends self.old.slots out.old.records out.new.records }
     {
         if t < self.globals.now {
@@ -139,11 +149,13 @@ impl Node {
     /// # Errors
     /// `NoGroup` for group 0.
     fn step_role(&mut self, group: u8, leader: bool) -> Result<(), NodeFault>
-        ensures fault { FaultIs (refused_as (length self.old.slots) self.old.globals (RoleIs group leader)) result }
+        ensures fault { FaultIs
+            (refused_as (length self.old.slots) self.old.globals (RoleIs group leader)) result }
         ensures kept { OnErr result (self.new ≡ self.old) }
         ensures memory { result ≢ Err NodeFault.OutOfMemory }
         ensures config { self.new.config ≡ self.old.config }
-        ensures globals { OnOk result (self.new.globals ≡ globals_after self.old.globals (RoleIs group leader)) }
+        ensures globals { OnOk result (self.new.globals
+            ≡ globals_after self.old.globals (RoleIs group leader)) }
         ensures slots { self.new.slots ≡ self.old.slots }
         ensures group { OnOk result (0 < group) }
     {
@@ -167,14 +179,21 @@ impl Node {
         bytes: &[u8],
         out: &mut Outbox,
     ) -> Result<(), NodeFault>
-        ensures fault { FaultIs (refused_as (length self.old.slots) self.old.globals (DatagramIs protocol src dst bytes.now)) result }
+        ensures fault { FaultIs
+            (refused_as (length self.old.slots) self.old.globals
+            (DatagramIs protocol src dst bytes.now)) result }
         ensures kept { OnErr result (self.new ≡ self.old) }
         ensures unrecorded { OnErr result (out.new.records ≡ out.old.records) }
-        ensures memory { result ≡ Err NodeFault.OutOfMemory → MayTakeMemory self.old (DatagramIs protocol src dst bytes.now) }
+        ensures memory { result ≡ Err NodeFault.OutOfMemory
+            → MayTakeMemory self.old (DatagramIs protocol src dst bytes.now) }
         ensures config { self.new.config ≡ self.old.config }
-        ensures globals { OnOk result (self.new.globals ≡ globals_after self.old.globals (DatagramIs protocol src dst bytes.now)) }
+        ensures globals { OnOk result (self.new.globals
+            ≡ globals_after self.old.globals (DatagramIs protocol src dst bytes.now)) }
         ensures count { length self.new.slots ≡ length self.old.slots }
-        ensures steps { OnOk result ((s : ℕ) (slot : SlotState) → slice_get self.old.slots s ≡ Some slot → StepsAsAlone self.old self.new out.old.records out.new.records (DatagramIs protocol src dst bytes.now) s slot) }
+        ensures steps { OnOk result ((s : ℕ) (slot : SlotState)
+            → slice_get self.old.slots s ≡ Some slot
+            → StepsAsAlone self.old self.new out.old.records out.new.records
+            (DatagramIs protocol src dst bytes.now) s slot) }
         ensures appends { Appends self.old.slots out.old.records out.new.records }
     {
         hear(
@@ -195,13 +214,19 @@ impl Node {
     /// # Errors
     /// The first that applies of `NoSlot` and `OutOfMemory`.
     fn step_call(&mut self, s: u16, call: &Call<'_>, out: &mut Outbox) -> Result<(), NodeFault>
-        ensures fault { FaultIs (refused_as (length self.old.slots) self.old.globals (CallIs s (call_model call.now))) result }
+        ensures fault { FaultIs
+            (refused_as (length self.old.slots) self.old.globals (CallIs s (call_model call.now)))
+            result }
         ensures kept { OnErr result (self.new ≡ self.old) }
         ensures unrecorded { OnErr result (out.new.records ≡ out.old.records) }
         ensures config { self.new.config ≡ self.old.config }
-        ensures globals { OnOk result (self.new.globals ≡ globals_after self.old.globals (CallIs s (call_model call.now))) }
+        ensures globals { OnOk result (self.new.globals
+            ≡ globals_after self.old.globals (CallIs s (call_model call.now))) }
         ensures count { length self.new.slots ≡ length self.old.slots }
-        ensures steps { OnOk result ((r : ℕ) (slot : SlotState) → slice_get self.old.slots r ≡ Some slot → StepsAsAlone self.old self.new out.old.records out.new.records (CallIs s (call_model call.now)) r slot) }
+        ensures steps { OnOk result ((r : ℕ) (slot : SlotState)
+            → slice_get self.old.slots r ≡ Some slot
+            → StepsAsAlone self.old self.new out.old.records out.new.records
+            (CallIs s (call_model call.now)) r slot) }
         ensures appends { Appends self.old.slots out.old.records out.new.records }
     {
         if usize::from(s) >= self.slots() {
@@ -215,19 +240,25 @@ impl Node {
     /// Takes one event, and appends its records to the outbox.
     ///
     /// # Errors
-    /// The event's own fault, as [`Event`] lists it. `OutOfMemory` comes last, and only at a call, at
-    /// a moment by which something is due, or at a datagram that concerns a slot. Node and outbox
-    /// are as before.
+    /// The event's own fault, as [`Event`] lists it. `OutOfMemory` comes last, and only at a
+    /// call, at a moment by which something is due, or at a datagram that concerns a slot. Node
+    /// and outbox are as before.
     pub fn step(&mut self, event: &Event<'_>, out: &mut Outbox) -> Result<(), NodeFault>
-        ensures fault { FaultIs (refused_as (length self.old.slots) self.old.globals (event_model event.now)) result }
+        ensures fault { FaultIs
+            (refused_as (length self.old.slots) self.old.globals (event_model event.now)) result }
         ensures kept { OnErr result (self.new ≡ self.old) }
         ensures unrecorded { OnErr result (out.new.records ≡ out.old.records) }
-        ensures memory { result ≡ Err NodeFault.OutOfMemory → MayTakeMemory self.old (event_model event.now) }
+        ensures memory { result ≡ Err NodeFault.OutOfMemory
+            → MayTakeMemory self.old (event_model event.now) }
 
         ensures config { self.new.config ≡ self.old.config }
-        ensures globals { OnOk result (self.new.globals ≡ globals_after self.old.globals (event_model event.now)) }
+        ensures globals { OnOk result (self.new.globals
+            ≡ globals_after self.old.globals (event_model event.now)) }
         ensures count { length self.new.slots ≡ length self.old.slots }
-        ensures steps { OnOk result ((s : ℕ) (slot : SlotState) → slice_get self.old.slots s ≡ Some slot → StepsAsAlone self.old self.new out.old.records out.new.records (event_model event.now) s slot) }
+        ensures steps { OnOk result ((s : ℕ) (slot : SlotState)
+            → slice_get self.old.slots s ≡ Some slot
+            → StepsAsAlone self.old self.new out.old.records out.new.records
+            (event_model event.now) s slot) }
         ensures appends { Appends self.old.slots out.old.records out.new.records }
     {
         match *event {
@@ -247,9 +278,9 @@ impl Node {
         }
     }
 
-    /// Gives the publisher of that handle in slot `slot` a value that is handed over as an item: the
-    /// call Put with the bytes that the item is spelled by as a value of the publisher's dataset. An
-    /// item without such bytes is the one record Refused.
+    /// Gives the publisher of that handle in slot `slot` a value that is handed over as an item:
+    /// the call Put with the bytes that the item is spelled by as a value of the publisher's
+    /// dataset. An item without such bytes is the one record Refused.
     ///
     /// # Errors
     /// `NoSlot`, and last `OutOfMemory`; node and outbox are as before. Refused: the first that
@@ -262,14 +293,18 @@ impl Node {
         item: &Item,
         out: &mut Outbox,
     ) -> Result<(), NodeFault>
-        ensures fault { FaultIs (if nat_le (length self.old.slots) slot then Some NodeFault.NoSlot else None) result }
+        ensures fault { FaultIs (if nat_le (length self.old.slots) slot then Some NodeFault.NoSlot
+            else None) result }
         ensures kept { OnErr result (self.new ≡ self.old) }
         ensures unrecorded { OnErr result (out.new.records ≡ out.old.records) }
 
         ensures config { self.new.config ≡ self.old.config }
         ensures globals { self.new.globals ≡ self.old.globals }
         ensures count { length self.new.slots ≡ length self.old.slots }
-        ensures values { OnOk result ((s : ℕ) (state : SlotState) → slice_get self.old.slots s ≡ Some state → GetsOutcome self.new out.old.records out.new.records s (valued_at self.old.config slot s state handle (model_of item.now))) }
+        ensures values { OnOk result ((s : ℕ) (state : SlotState)
+            → slice_get self.old.slots s ≡ Some state
+            → GetsOutcome self.new out.old.records out.new.records s
+            (valued_at self.old.config slot s state handle (model_of item.now))) }
         ensures appends { Appends self.old.slots out.old.records out.new.records }
     {
         if usize::from(slot) >= self.slots() {
@@ -298,10 +333,11 @@ impl Node {
     /// bytes, as a value of the subscription's dataset, are those that `peek` shows.
     ///
     /// # Errors
-    /// The first that applies of `NoSlot`, `NoHandle`, `WrongKind` (the object is no subscription),
-    /// `NoDataset` (it is one of dataset 0), and last `OutOfMemory`.
+    /// The first that applies of `NoSlot`, `NoHandle`, `WrongKind` (the object is no
+    /// subscription), `NoDataset` (it is one of dataset 0), and last `OutOfMemory`.
     pub fn value_of(&self, alloc: Global, slot: u16, handle: u32) -> Result<Item, ValueFault>
-        ensures { ShowsItem self.now.config (showing_in (slice_get self.now.slots slot) handle) result }
+        ensures { ShowsItem self.now.config (showing_in (slice_get self.now.slots slot) handle)
+            result }
     {
         if usize::from(slot) >= self.slots() {
             return Err(ValueFault::NoSlot);
@@ -319,7 +355,9 @@ impl Node {
             (λ event. MayTakeMemory self.new (event_model event)) }
         ensures config { self.new.config ≡ self.old.config }
         ensures count { length self.new.slots ≡ length self.old.slots }
-        ensures alone { (s : ℕ) (slot : SlotState) → slice_get self.old.slots s ≡ Some slot → RunsAsAlone self.old self.new out.old.records out.new.records (map event_model (take result events.now)) s slot }
+        ensures alone { (s : ℕ) (slot : SlotState) → slice_get self.old.slots s ≡ Some slot
+            → RunsAsAlone self.old self.new out.old.records out.new.records
+            (map event_model (take result events.now)) s slot }
         ensures appends { Appends self.old.slots out.old.records out.new.records }
     {
         let mut taken = 0;
@@ -349,11 +387,18 @@ fn hear(
     out: &mut Outbox,
 ) -> Result<(), AllocError>
     requires { globals.now.now ≤ last_moment }
-    ensures slot { OnOk result (slot.new ≡ (received_if config.now slot.old globals.entry.now (telegram_of protocol src dst bytes.now)).slot) }
-    ensures records { OnOk result (out.new.records ≡ out.old.records ++ labelled 0 (received_if config.now slot.old globals.entry.now (telegram_of protocol src dst bytes.now)).records) }
+    ensures slot { OnOk result (slot.new
+        ≡ (received_if config.now slot.old globals.entry.now
+        (telegram_of protocol src dst bytes.now)).slot) }
+    ensures records { OnOk result (out.new.records
+        ≡ out.old.records
+        ++ labelled 0
+        (received_if config.now slot.old globals.entry.now
+        (telegram_of protocol src dst bytes.now)).records) }
     ensures kept { OnErr result (slot.new ≡ slot.old) }
     ensures unrecorded { OnErr result (out.new.records ≡ out.old.records) }
-    ensures memory { OnErr result (concerns globals.entry.now (telegram_of protocol src dst bytes.now) slot.old ≡ true) }
+    ensures memory { OnErr result
+        (concerns globals.entry.now (telegram_of protocol src dst bytes.now) slot.old ≡ true) }
 {
     match protocol {
         Protocol::Md => Ok(()),

@@ -1,10 +1,14 @@
 //! What a node gives its slots, in order.
 
-ghost use Rattle.std.specs.Prelude.{◌≡◌, ℕ, ◌+◌, ◌<◌, ◌≤◌, ◌↔◌, ◌++◌, ◌∷◌, length, List, [], Option, OnOk, OnErr, IsTrue, ◌⊎◌, slice_get, option_map, take, drop, vec_len, vec_capacity};
+ghost use Rattle.std.specs.Prelude.{◌≡◌, ℕ, ◌+◌, ◌<◌, ◌≤◌, ◌↔◌, ◌++◌, ◌∷◌, length, List, []};
+ghost use Rattle.std.specs.Prelude.{Option, OnOk, OnErr, IsTrue, ◌⊎◌, slice_get, option_map, take};
+ghost use Rattle.std.specs.Prelude.{drop, vec_len, vec_capacity};
 ghost use Rattle.trdp_head.specs.PdBytes.{pd_bytes, pd_length_of};
 ghost use Rattle.trdp_engine.specs.declared.record.Protocol.TheVariants.{Pd};
 ghost use Rattle.trdp_pd.specs.Peeks.{peek_model};
-ghost use Rattle.trdp_engine.specs.Records.{Answers, ValueIs, Indicates, Sends, RecordModel, answer_model, content_model, indication_model, record_model};
+ghost use Rattle.trdp_engine.specs.Records.{Answers, ValueIs, Indicates, Sends, RecordModel};
+ghost use Rattle.trdp_engine.specs.Records.{answer_model, content_model, indication_model};
+ghost use Rattle.trdp_engine.specs.Records.{record_model};
 ghost use Rattle.trdp_engine.specs.Outboxes.{plain_answer_model, row_content};
 
 use crate::fault::Refusal;
@@ -52,8 +56,8 @@ pub struct Row {
     len: usize,
 }
 
-/// The records of a node's events, in order, with the bytes of their telegrams and values. It keeps
-/// its memory when it is cleared.
+/// The records of a node's events, in order, with the bytes of their telegrams and values. It
+/// keeps its memory when it is cleared.
 #[derive(Drop)]
 pub struct Outbox {
     /// The records, in the order in which they came.
@@ -68,7 +72,12 @@ impl Model for Outbox {
 
     ghost Value = { OutboxState };
 
-    ghost view = { λ o. record { records = map (row_model o.bytes.items) o.rows.items; held = vec_len o.bytes; row_room = vec_capacity o.rows - vec_len o.rows; byte_room = vec_capacity o.bytes - vec_len o.bytes } };
+    ghost view = { λ o. record {
+      records = map (row_model o.bytes.items) o.rows.items;
+      held = vec_len o.bytes;
+      row_room = vec_capacity o.rows - vec_len o.rows;
+      byte_room = vec_capacity o.bytes - vec_len o.bytes;
+    } };
 
     ghost invariant = { λ o. AllWithin (length o.bytes.items) o.rows.items };
 }
@@ -138,7 +147,8 @@ impl Outbox {
     /// Adds a record without bytes.
     fn push(&mut self, slot: u16, form: Form)
         requires { 0 < self.old.row_room }
-        ensures records { self.new.records ≡ self.old.records ++ record { slot = slot; content = row_content form [] } ∷ [] }
+        ensures records { self.new.records
+            ≡ self.old.records ++ record { slot = slot; content = row_content form [] } ∷ [] }
         ensures row_room { self.old.row_room ≤ self.new.row_room + 1 }
         ensures byte_room { self.old.byte_room ≤ self.new.byte_room }
     {
@@ -157,7 +167,9 @@ impl Outbox {
     /// Adds an answer without bytes.
     pub(crate) fn push_plain_answer(&mut self, slot: u16, answer: PlainAnswer)
         requires { 0 < self.old.row_room }
-        ensures records { self.new.records ≡ self.old.records ++ record { slot = slot; content = Answers (plain_answer_model answer) } ∷ [] }
+        ensures records { self.new.records
+            ≡ self.old.records
+            ++ record { slot = slot; content = Answers (plain_answer_model answer) } ∷ [] }
         ensures row_room { self.old.row_room ≤ self.new.row_room + 1 }
         ensures byte_room { self.old.byte_room ≤ self.new.byte_room }
     {
@@ -167,7 +179,9 @@ impl Outbox {
     /// Adds an indication.
     pub(crate) fn push_indication(&mut self, slot: u16, indication: Indication)
         requires { 0 < self.old.row_room }
-        ensures records { self.new.records ≡ self.old.records ++ record { slot = slot; content = Indicates (indication_model indication) } ∷ [] }
+        ensures records { self.new.records
+            ≡ self.old.records
+            ++ record { slot = slot; content = Indicates (indication_model indication) } ∷ [] }
         ensures row_room { self.old.row_room ≤ self.new.row_room + 1 }
         ensures byte_room { self.old.byte_room ≤ self.new.byte_room }
     {
@@ -178,7 +192,10 @@ impl Outbox {
     pub(crate) fn push_value(&mut self, slot: u16, peek: Peek<'_>)
         requires row { 0 < self.old.row_room }
         requires bytes { length peek.bytes.now ≤ self.old.byte_room }
-        ensures records { self.new.records ≡ self.old.records ++ record { slot = slot; content = Answers (ValueIs (peek_model peek.entry)) } ∷ [] }
+        ensures records { self.new.records
+            ≡ self.old.records
+            ++ record { slot = slot; content = Answers (ValueIs (peek_model peek.entry)) }
+            ∷ [] }
         ensures row_room { self.old.row_room ≤ self.new.row_room + 1 }
         ensures byte_room { self.old.byte_room ≤ self.new.byte_room + length peek.entry.bytes.now }
     {
@@ -200,9 +217,13 @@ impl Outbox {
         requires row { 0 < self.old.row_room }
         requires payload { length payload.now ≤ 1432 }
         requires bytes { pd_length_of (length payload.now) ≤ self.old.byte_room }
-        ensures records { self.new.records ≡ self.old.records ++ record { slot = slot; content = Sends Pd to (pd_bytes head.now payload.now) } ∷ [] }
+        ensures records { self.new.records
+            ≡ self.old.records
+            ++ record { slot = slot; content = Sends Pd to (pd_bytes head.now payload.now) }
+            ∷ [] }
         ensures row_room { self.old.row_room ≤ self.new.row_room + 1 }
-        ensures byte_room { self.old.byte_room ≤ self.new.byte_room + pd_length_of (length payload.now) }
+        ensures byte_room { self.old.byte_room
+            ≤ self.new.byte_room + pd_length_of (length payload.now) }
     {
         let at = self.bytes.len();
         let len = append_pd(&mut self.bytes, head, payload);
@@ -251,7 +272,8 @@ fn content(form: Form, bytes: &[u8]) -> What<'_>
 
 /// The record of a row with its bytes.
 fn record(row: Row, bytes: &[u8]) -> Record<'_>
-    ensures { record_model result ≡ record { slot = row.slot; content = row_content row.form bytes.now } }
+    ensures { record_model result
+        ≡ record { slot = row.slot; content = row_content row.form bytes.now } }
 {
     Record {
         slot: row.slot,
@@ -287,7 +309,8 @@ fn append(bytes: &mut Vec<u8>, more: &[u8]) -> usize
 /// Writes a telegram at the end of the bytes, within their room, and answers its length.
 fn append_pd(bytes: &mut Vec<u8>, head: &PdHead, payload: &[u8]) -> usize
     requires payload { length payload.now ≤ 1432 }
-    requires room { vec_len bytes.old + pd_length_of (length payload.now) ≤ vec_capacity bytes.old }
+    requires room { vec_len bytes.old + pd_length_of (length payload.now)
+        ≤ vec_capacity bytes.old }
     ensures items { bytes.new.items ≡ bytes.old.items ++ pd_bytes head.now payload.now }
     ensures length { result ≡ pd_length_of (length payload.now) }
     ensures len { vec_len bytes.new ≡ vec_len bytes.old + pd_length_of (length payload.now) }

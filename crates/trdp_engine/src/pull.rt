@@ -1,13 +1,16 @@
 //! Pull requests that requesters send, and the answers of publishers to them.
 
-ghost use Rattle.std.specs.Prelude.{◌≡◌, ◌+◌, ◌<◌, ◌≤◌, ◌++◌, ◌∷◌, [], Some, None, IfOk, IfErr, is_ok, if◌then◌else◌, vec_capacity};
+ghost use Rattle.std.specs.Prelude.{◌≡◌, ◌+◌, ◌<◌, ◌≤◌, ◌++◌, ◌∷◌, [], Some, None, IfOk, IfErr};
+ghost use Rattle.std.specs.Prelude.{is_ok, if◌then◌else◌, vec_capacity};
 ghost use Rattle.trdp_head.specs.declared.pd.TheConstants.{PD_TELEGRAM_MAX};
 ghost use Rattle.trdp_head.specs.PdBytes.{pd_bytes};
 ghost use Rattle.trdp_filter.specs.Telegrams.{telegram_model};
 ghost use Rattle.trdp_engine.specs.declared.record.Protocol.TheVariants.{Pd};
 ghost use Rattle.trdp_engine.specs.Records.{Sends, labelled};
 ghost use Rattle.trdp_engine.specs.Slots.{entry_of, changed};
-ghost use Rattle.trdp_engine.specs.Pulls.{object_pull_refusal, pull_refusal, after_pull, pull_request, pull_request_of, answer_place, pull_answer};
+ghost use Rattle.trdp_engine.specs.Pulls.{object_pull_refusal, pull_refusal, after_pull};
+ghost use Rattle.trdp_engine.specs.Pulls.{pull_request, pull_request_of, answer_place};
+ghost use Rattle.trdp_engine.specs.Pulls.{pull_answer};
 
 use crate::entries::index_of;
 use crate::fault::Refusal;
@@ -34,9 +37,12 @@ pub struct PullRequest {
 /// The first that applies of `WrongKind`, and `State` where the requester's topology counts don't
 /// match the node's.
 fn pull(object: &mut AnyObject, globals: &Globals) -> Result<PullRequest, Refusal>
-    ensures refused { IfErr result (λ refusal. object_pull_refusal globals.entry.now object.old ≡ Some refusal) }
+    ensures refused { IfErr result
+        (λ refusal. object_pull_refusal globals.entry.now object.old ≡ Some refusal) }
     ensures granted { IfOk result (λ _. object_pull_refusal globals.entry.now object.old ≡ None) }
-    ensures request { IfOk result (λ request. pull_request object.old ≡ Sends Pd request.to (pd_bytes request.head []) ∷ []) }
+    ensures request { IfOk result
+        (λ request. pull_request object.old ≡ Sends Pd request.to (pd_bytes request.head [])
+        ∷ []) }
     ensures object { object.new ≡ (if is_ok result then after_pull object.old else object.old) }
 {
     match object {
@@ -62,10 +68,16 @@ pub fn pull_in(
     handle: u32,
     globals: &Globals,
 ) -> Result<PullRequest, Refusal>
-    ensures refused { IfErr result (λ refusal. pull_refusal globals.entry.now (entry_of handle objects.old.items) ≡ Some refusal) }
-    ensures granted { IfOk result (λ _. pull_refusal globals.entry.now (entry_of handle objects.old.items) ≡ None) }
-    ensures request { IfOk result (λ request. pull_request_of (entry_of handle objects.old.items) ≡ Sends Pd request.to (pd_bytes request.head []) ∷ []) }
-    ensures items { objects.new.items ≡ (if is_ok result then changed handle after_pull objects.old.items else objects.old.items) }
+    ensures refused { IfErr result
+        (λ refusal. pull_refusal globals.entry.now (entry_of handle objects.old.items)
+        ≡ Some refusal) }
+    ensures granted { IfOk result
+        (λ _. pull_refusal globals.entry.now (entry_of handle objects.old.items) ≡ None) }
+    ensures request { IfOk result (λ request. pull_request_of (entry_of handle objects.old.items)
+        ≡ Sends Pd request.to (pd_bytes request.head []) ∷ []) }
+    ensures items { objects.new.items
+        ≡ (if is_ok result then changed handle after_pull objects.old.items
+        else objects.old.items) }
     ensures capacity { vec_capacity objects.new ≡ vec_capacity objects.old }
 {
     match index_of(objects, handle) {
@@ -101,7 +113,8 @@ pub fn answer_place(config: &NodeConfig, telegram: &Telegram<'_>) -> Place
 pub fn push_answer(object: &AnyObject, to: Place, head: &PdHead, s: u16, out: &mut Outbox)
     requires row { 0 < out.old.row_room }
     requires bytes { PD_TELEGRAM_MAX ≤ out.old.byte_room }
-    ensures records { out.new.records ≡ out.old.records ++ labelled s (pull_answer object.now to head.now) }
+    ensures records { out.new.records
+        ≡ out.old.records ++ labelled s (pull_answer object.now to head.now) }
     ensures row_room { out.old.row_room ≤ out.new.row_room + 1 }
     ensures byte_room { out.old.byte_room ≤ out.new.byte_room + PD_TELEGRAM_MAX }
 {

@@ -1,6 +1,9 @@
 //! The objects of one application, under handles of its own.
 
-ghost use Rattle.std.specs.Prelude.{true, ◌≡◌, ℕ, ◌+◌, ◌*◌, ◌<◌, ◌≤◌, ◌++◌, ◌∷◌, length, [], Option, OnOk, OnErr, IfOk, IfErr, Ok, Err, is_some, if◌then◌else◌, None, Some, slice_index, filter, vec_len, vec_capacity};
+ghost use Rattle.std.specs.Prelude.{true, ◌≡◌, ℕ, ◌+◌, ◌*◌, ◌<◌, ◌≤◌, ◌++◌, ◌∷◌, length, []};
+ghost use Rattle.std.specs.Prelude.{Option, OnOk, OnErr, IfOk, IfErr, Ok, Err, is_some};
+ghost use Rattle.std.specs.Prelude.{if◌then◌else◌, None, Some, slice_index, filter, vec_len};
+ghost use Rattle.std.specs.Prelude.{vec_capacity};
 ghost use Rattle.trdp_base.specs.Moments.{last_moment};
 ghost use Rattle.trdp_head.specs.declared.pd.TheConstants.{PD_TELEGRAM_MAX};
 ghost use Rattle.trdp_filter.specs.Telegrams.{telegram_model, IsWithinLimit};
@@ -10,7 +13,10 @@ ghost use Rattle.trdp_engine.specs.Configs.{zero_size_of};
 ghost use Rattle.trdp_engine.specs.Records.{labelled};
 ghost use Rattle.trdp_engine.specs.Events.{PublishCall, SubscribeCall, call_model};
 ghost use Rattle.trdp_engine.specs.Slots.{opened_slot, entry_of, with_object};
-ghost use Rattle.trdp_engine.specs.Calls.{is_span, opening_refusal, dataset_refusal, publish_refusal, subscribe_refusal, put_refusal, put_unless, close_refusal, closed_unless, opened_unless, pulled_unless, get_answer, answered, called};
+ghost use Rattle.trdp_engine.specs.Calls.{is_span, opening_refusal, dataset_refusal};
+ghost use Rattle.trdp_engine.specs.Calls.{publish_refusal, subscribe_refusal, put_refusal};
+ghost use Rattle.trdp_engine.specs.Calls.{put_unless, close_refusal, closed_unless, opened_unless};
+ghost use Rattle.trdp_engine.specs.Calls.{pulled_unless, get_answer, answered, called};
 ghost use Rattle.trdp_engine.specs.Pulls.{pull_refusal};
 ghost use Rattle.trdp_pd.specs.Requesters.{opened};
 ghost use Rattle.trdp_engine.specs.Datagrams.{is_for_entry, received_if, concerns};
@@ -64,8 +70,8 @@ pub struct Slot {
     quotas: Quotas,
     /// The handle of its next new object, from 1; 2^32 once all handles are given out.
     next: u64,
-    /// Its objects by rising handle, in a list that has room for all that the quotas allow and never
-    /// grows.
+    /// Its objects by rising handle, in a list that has room for all that the quotas allow and
+    /// never grows.
     objects: Vec<Entry>,
 }
 
@@ -144,15 +150,17 @@ impl Slot {
     /// How many bytes the zero value of the subscription takes.
     ///
     /// # Errors
-    /// Why the slot refuses it: the first that applies of `Timeout`, `Range`, `NoDataset`, `TooLong`,
-    /// `Quota` and `Exhausted`.
+    /// Why the slot refuses it: the first that applies of `Timeout`, `Range`, `NoDataset`,
+    /// `TooLong`, `Quota` and `Exhausted`.
     fn subscribed_size(
         &self,
         config: &NodeConfig,
         terms: &SubscriptionTerms,
     ) -> Result<usize, Refusal>
-        ensures refused { IfErr result (λ refusal. subscribe_refusal config.now self.now terms.now ≡ Some refusal) }
-        ensures accepted { IfOk result (λ size. subscribe_refusal config.now self.now terms.now ≡ None) }
+        ensures refused { IfErr result
+            (λ refusal. subscribe_refusal config.now self.now terms.now ≡ Some refusal) }
+        ensures accepted { IfOk result
+            (λ size. subscribe_refusal config.now self.now terms.now ≡ None) }
         ensures opens { IfOk result (λ size. opening_refusal self.now 1 ≡ None) }
         ensures size { IfOk result (λ size. size ≡ zero_size_of config.now terms.now.dataset) }
         ensures within { IfOk result (λ size. size ≤ 1432) }
@@ -185,7 +193,9 @@ impl Slot {
         globals: &Globals,
     ) -> Result<PlainAnswer, AllocError>
         requires { globals.now.now ≤ last_moment }
-        ensures outcome { IfOk result (λ answer. called config.now self.old globals.entry.now (PublishCall terms.now) ≡ answered self.new (plain_answer_model answer)) }
+        ensures outcome { IfOk result
+            (λ answer. called config.now self.old globals.entry.now (PublishCall terms.now)
+            ≡ answered self.new (plain_answer_model answer)) }
         ensures kept { OnErr result (self.new ≡ self.old) }
     {
         if let Some(refusal) = self.publish_refusal(config, terms) {
@@ -207,7 +217,9 @@ impl Slot {
         globals: &Globals,
     ) -> Result<PlainAnswer, AllocError>
         requires { globals.now.now ≤ last_moment }
-        ensures outcome { IfOk result (λ answer. called config.now self.old globals.entry.now (SubscribeCall terms.now) ≡ answered self.new (plain_answer_model answer)) }
+        ensures outcome { IfOk result
+            (λ answer. called config.now self.old globals.entry.now (SubscribeCall terms.now)
+            ≡ answered self.new (plain_answer_model answer)) }
         ensures kept { OnErr result (self.new ≡ self.old) }
     {
         match self.subscribed_size(config, terms) {
@@ -221,7 +233,9 @@ impl Slot {
 
     /// Makes a requester. It needs no memory.
     fn open_pull(&mut self, terms: &RequesterTerms) -> PlainAnswer
-        ensures { opened_unless (opening_refusal self.old 2) self.old (AnyObject.Requester (opened terms.now)) ≡ answered self.new (plain_answer_model result) }
+        ensures { opened_unless (opening_refusal self.old 2) self.old
+            (AnyObject.Requester (opened terms.now))
+            ≡ answered self.new (plain_answer_model result) }
     {
         match self.opening_refusal(REQUESTERS) {
             Some(refusal) => PlainAnswer::Refused(refusal),
@@ -233,8 +247,15 @@ impl Slot {
     fn pull(&mut self, handle: u32, globals: &Globals, s: u16, out: &mut Outbox)
         requires rows { 2 ≤ out.old.row_room }
         requires bytes { 40 ≤ out.old.byte_room }
-        ensures slot { self.new ≡ (pulled_unless (pull_refusal globals.entry.now (entry_of handle self.old.objects)) self.old handle).slot }
-        ensures records { out.new.records ≡ out.old.records ++ labelled s (pulled_unless (pull_refusal globals.entry.now (entry_of handle self.old.objects)) self.old handle).records }
+        ensures slot { self.new
+            ≡ (pulled_unless (pull_refusal globals.entry.now (entry_of handle self.old.objects))
+            self.old handle).slot }
+        ensures records { out.new.records
+            ≡ out.old.records
+            ++ labelled s
+            (pulled_unless
+            (pull_refusal globals.entry.now (entry_of handle self.old.objects))
+            self.old handle).records }
     {
         match pull_in(&mut self.objects, handle, globals) {
             Err(refusal) => out.push_plain_answer(s, PlainAnswer::Refused(refusal)),
@@ -247,7 +268,8 @@ impl Slot {
 
     /// Gives the publisher of that handle a new value.
     fn put(&mut self, config: &NodeConfig, handle: u32, bytes: &[u8]) -> PlainAnswer
-        ensures { put_unless (put_refusal config.now bytes.now (entry_of handle self.old.objects)) self.old handle bytes.now ≡ answered self.new (plain_answer_model result) }
+        ensures { put_unless (put_refusal config.now bytes.now (entry_of handle self.old.objects))
+            self.old handle bytes.now ≡ answered self.new (plain_answer_model result) }
     {
         match put_in(&mut self.objects, config, handle, bytes) {
             Some(refusal) => PlainAnswer::Refused(refusal),
@@ -258,8 +280,8 @@ impl Slot {
     /// The bytes of an item as a value of the object of that handle.
     ///
     /// # Errors
-    /// Refused: the first that applies of `NoHandle`, `WrongKind`, `NoDataset` (dataset 0), `Shape`
-    /// and `TooLong`. `NoMemory` comes last.
+    /// Refused: the first that applies of `NoHandle`, `WrongKind`, `NoDataset` (dataset 0),
+    /// `Shape` and `TooLong`. `NoMemory` comes last.
     fn spelled(
         &self,
         alloc: Global,
@@ -267,9 +289,16 @@ impl Slot {
         handle: u32,
         item: &Item,
     ) -> Result<Vec<u8>, SpellFault>
-        ensures bytes { IfOk result (λ bytes. bytes.items ≡ item_bytes config.now (model_of item.now) (entry_of handle self.now.objects)) }
-        ensures spelled { IfOk result (λ bytes. item_refusal config.now (model_of item.now) (entry_of handle self.now.objects) ≡ None) }
-        ensures refused { IfErr result (IsRefusedAs (item_refusal config.now (model_of item.now) (entry_of handle self.now.objects))) }
+        ensures bytes { IfOk result
+            (λ bytes. bytes.items ≡ item_bytes config.now (model_of item.now)
+            (entry_of handle self.now.objects)) }
+        ensures spelled { IfOk result
+            (λ bytes.
+            item_refusal config.now (model_of item.now) (entry_of handle self.now.objects)
+            ≡ None) }
+        ensures refused { IfErr result
+            (IsRefusedAs
+            (item_refusal config.now (model_of item.now) (entry_of handle self.now.objects))) }
     {
         match entry_at(&self.objects, handle) {
             None => Err(SpellFault::Refused(Refusal::NoHandle)),
@@ -291,8 +320,11 @@ impl Slot {
         s: u16,
         out: &mut Outbox,
     ) -> Result<(), AllocError>
-        ensures slot { OnOk result (self.new ≡ (valued config.now self.old handle (model_of item.now)).slot) }
-        ensures records { OnOk result (out.new.records ≡ out.old.records ++ labelled s (valued config.now self.old handle (model_of item.now)).records) }
+        ensures slot { OnOk result (self.new
+            ≡ (valued config.now self.old handle (model_of item.now)).slot) }
+        ensures records { OnOk result (out.new.records
+            ≡ out.old.records
+            ++ labelled s (valued config.now self.old handle (model_of item.now)).records) }
         ensures kept { OnErr result (self.new ≡ self.old) }
         ensures unrecorded { OnErr result (out.new.records ≡ out.old.records) }
     {
@@ -313,7 +345,8 @@ impl Slot {
 
     /// Ends the object of that handle, if it is of the kind with that index in the quotas.
     fn close(&mut self, kind: usize, handle: u32) -> PlainAnswer
-        ensures { closed_unless (close_refusal kind (entry_of handle self.old.objects)) self.old handle ≡ answered self.new (plain_answer_model result) }
+        ensures { closed_unless (close_refusal kind (entry_of handle self.old.objects)) self.old
+            handle ≡ answered self.new (plain_answer_model result) }
     {
         match close_in(&mut self.objects, kind, handle) {
             Some(refusal) => PlainAnswer::Refused(refusal),
@@ -337,7 +370,11 @@ impl Slot {
     fn get(&self, handle: u32, s: u16, out: &mut Outbox)
         requires row { 0 < out.old.row_room }
         requires bytes { 1432 ≤ out.old.byte_room }
-        ensures { out.new.records ≡ out.old.records ++ labelled s (answered self.now (get_answer (subscription_at handle self.now.objects))).records }
+        ensures { out.new.records
+            ≡ out.old.records
+            ++ labelled s
+            (answered self.now
+            (get_answer (subscription_at handle self.now.objects))).records }
     {
         match self.subscription(handle) {
             Err(fault) => out.push_plain_answer(s, PlainAnswer::Refused(Refusal::from(fault))),
@@ -359,8 +396,12 @@ impl Slot {
         out: &mut Outbox,
     ) -> Result<(), AllocError>
         requires now { globals.now.now ≤ last_moment }
-        ensures slot { OnOk result (self.new ≡ (called config.now self.old globals.entry.now (call_model call.now)).slot) }
-        ensures records { OnOk result (out.new.records ≡ out.old.records ++ labelled s (called config.now self.old globals.entry.now (call_model call.now)).records) }
+        ensures slot { OnOk result (self.new
+            ≡ (called config.now self.old globals.entry.now (call_model call.now)).slot) }
+        ensures records { OnOk result (out.new.records
+            ≡ out.old.records
+            ++ labelled s
+            (called config.now self.old globals.entry.now (call_model call.now)).records) }
         ensures kept { OnErr result (self.new ≡ self.old) }
         ensures unrecorded { OnErr result (out.new.records ≡ out.old.records) }
     {
@@ -398,25 +439,30 @@ impl Slot {
     /// Fires each object that is due, once, in order.
     pub fn move_to(&mut self, globals: &Globals, s: u16, out: &mut Outbox)
         requires now { globals.now.now ≤ last_moment }
-        requires rows { length (filter (is_due globals.now.now) self.old.objects) ≤ out.old.row_room }
-        requires bytes { PD_TELEGRAM_MAX * length (filter (is_due globals.now.now) self.old.objects) ≤ out.old.byte_room }
+        requires rows { length (filter (is_due globals.now.now) self.old.objects)
+            ≤ out.old.row_room }
+        requires bytes { PD_TELEGRAM_MAX
+            * length (filter (is_due globals.now.now) self.old.objects) ≤ out.old.byte_room }
         ensures slot { self.new ≡ (moved_to self.old globals.entry.now).slot }
-        ensures records { out.new.records ≡ out.old.records ++ labelled s (moved_to self.old globals.entry.now).records }
+        ensures records { out.new.records
+            ≡ out.old.records ++ labelled s (moved_to self.old globals.entry.now).records }
     {
         fire_all(&mut self.objects, globals, s, out);
     }
 
     /// How many of its objects the telegram is for.
     fn addressed(&self, telegram: &Telegram<'_>, globals: &Globals) -> usize
-        ensures count { result ≡ length (filter (is_for_entry (telegram_model telegram.now) globals.entry.now) self.now.objects) }
+        ensures count { result
+            ≡ length (filter (is_for_entry (telegram_model telegram.now) globals.entry.now)
+            self.now.objects) }
         ensures within { result ≤ 768 }
     {
         count_addressed(&self.objects, telegram, globals)
     }
 
-    /// Takes a telegram: each object that it is for is handed it, in the order of their handles. One
-    /// whose topology counts don't match the node's changes nothing. Room for the records comes
-    /// first.
+    /// Takes a telegram: each object that it is for is handed it, in the order of their handles.
+    /// One whose topology counts don't match the node's changes nothing. Room for the records
+    /// comes first.
     ///
     /// # Errors
     /// Want of memory for the records, where the telegram concerns the slot; nothing has changed.
@@ -430,11 +476,18 @@ impl Slot {
     ) -> Result<(), AllocError>
         requires now { globals.now.now ≤ last_moment }
         requires limit { IsWithinLimit (telegram_model telegram.now) }
-        ensures slot { OnOk result (self.new ≡ (received_if config.now self.old globals.entry.now (Some (telegram_model telegram.now))).slot) }
-        ensures records { OnOk result (out.new.records ≡ out.old.records ++ labelled s (received_if config.now self.old globals.entry.now (Some (telegram_model telegram.now))).records) }
+        ensures slot { OnOk result (self.new
+            ≡ (received_if config.now self.old globals.entry.now
+            (Some (telegram_model telegram.now))).slot) }
+        ensures records { OnOk result (out.new.records
+            ≡ out.old.records
+            ++ labelled s
+            (received_if config.now self.old globals.entry.now
+            (Some (telegram_model telegram.now))).records) }
         ensures kept { OnErr result (self.new ≡ self.old) }
         ensures unrecorded { OnErr result (out.new.records ≡ out.old.records) }
-        ensures memory { OnErr result (concerns globals.entry.now (Some (telegram_model telegram.now)) self.old ≡ true) }
+        ensures memory { OnErr result
+            (concerns globals.entry.now (Some (telegram_model telegram.now)) self.old ≡ true) }
     {
         if !is_valid_at(telegram, globals) {
             return Ok(());
@@ -458,8 +511,10 @@ fn is_span(span: u32) -> bool
 /// # Errors
 /// Why no object can be of it: the first that applies of `NoDataset` and `TooLong` (above 1,432).
 fn value_size(config: &NodeConfig, dataset: u32) -> Result<usize, Refusal>
-    ensures refused { IfErr result (λ refusal. (later : Option Refusal) → dataset_refusal config.now dataset later ≡ Some refusal) }
-    ensures accepted { IfOk result (λ size. (later : Option Refusal) → dataset_refusal config.now dataset later ≡ later) }
+    ensures refused { IfErr result (λ refusal. (later : Option Refusal)
+        → dataset_refusal config.now dataset later ≡ Some refusal) }
+    ensures accepted { IfOk result (λ size. (later : Option Refusal)
+        → dataset_refusal config.now dataset later ≡ later) }
     ensures size { IfOk result (λ size. size ≡ zero_size_of config.now dataset) }
     ensures within { IfOk result (λ size. size ≤ 1432) }
 {

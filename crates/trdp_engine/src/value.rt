@@ -30,9 +30,12 @@ pub fn spell(
     object: &AnyObject,
     item: &Item,
 ) -> Result<Vec<u8>, SpellFault>
-    ensures bytes { IfOk result (λ bytes. bytes.items ≡ bytes_for config.now (model_of item.now) object.now) }
-    ensures spelled { IfOk result (λ bytes. item_refusal_of config.now (model_of item.now) object.now ≡ None) }
-    ensures refused { IfErr result (IsRefusedAs (item_refusal_of config.now (model_of item.now) object.now)) }
+    ensures bytes { IfOk result
+        (λ bytes. bytes.items ≡ bytes_for config.now (model_of item.now) object.now) }
+    ensures spelled { IfOk result
+        (λ bytes. item_refusal_of config.now (model_of item.now) object.now ≡ None) }
+    ensures refused { IfErr result
+        (IsRefusedAs (item_refusal_of config.now (model_of item.now) object.now)) }
 {
     match object {
         AnyObject::Subscription(_) | AnyObject::Requester(_) => {
