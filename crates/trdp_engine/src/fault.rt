@@ -1,5 +1,7 @@
 //! Why an event isn't taken, and why a call is refused.
 
+ghost use Rattle.std.specs.Prelude.{◌≡◌, ◌≢◌, Err, true, false};
+
 use crate::look::LookFault;
 use std::alloc::AllocError;
 use thiserror::Error;
@@ -33,6 +35,17 @@ impl From<AllocError> for NodeFault {
 
     fn from(_: AllocError) -> NodeFault {
         NodeFault::OutOfMemory
+    }
+}
+
+/// Whether the answer is want of memory.
+pub fn is_out_of_memory(answer: &Result<(), NodeFault>) -> bool
+    ensures yes { result ≡ true → answer.now ≡ Err NodeFault.OutOfMemory }
+    ensures no { result ≡ false → answer.now ≢ Err NodeFault.OutOfMemory }
+{
+    match answer {
+        Ok(()) => false,
+        Err(fault) => *fault == NodeFault::OutOfMemory,
     }
 }
 

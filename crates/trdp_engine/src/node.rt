@@ -1,35 +1,33 @@
 //! The node: one event after another.
 
-ghost use Rattle.std.specs.Prelude.{nat_le, if◌then◌else◌, None, ◌≡◌, ◌≢◌, ℕ, ◌<◌, ◌≤◌, ◌++◌, ◌∷◌};
-ghost use Rattle.std.specs.Prelude.{[], length, OnOk, OnErr, IfOk, IfErr, IfSome, Err, Some, true};
-ghost use Rattle.std.specs.Prelude.{false, slice_get, map, filter, take, replicate};
+ghost use Rattle.std.specs.Prelude.{nat_le, if◌then◌else◌, None, ◌≡◌, ◌≢◌, ℕ, ◌<◌, ◌≤◌, ◌∷◌};
+ghost use Rattle.std.specs.Prelude.{[], length, OnOk, OnErr, IfOk, IfErr, IfSome, Err, Some};
+ghost use Rattle.std.specs.Prelude.{slice_get, map, take, replicate};
 ghost use Rattle.trdp_base.specs.Moments.{last_moment};
-ghost use Rattle.trdp_engine.specs.Records.{Answers, RecordModel, labelled};
 ghost use Rattle.trdp_engine.specs.Events.{MomentIs, TopologyIs, RoleIs, DatagramIs, CallIs};
 ghost use Rattle.trdp_engine.specs.Events.{call_model, event_model};
 ghost use Rattle.trdp_engine.specs.Slots.{SlotState};
-ghost use Rattle.trdp_engine.specs.Calls.{called};
-ghost use Rattle.trdp_engine.specs.Datagrams.{telegram_of, received_if, concerns};
-ghost use Rattle.trdp_engine.specs.Moments.{is_due, moved_to};
+ghost use Rattle.trdp_engine.specs.Datagrams.{concerns};
 ghost use Rattle.trdp_engine.specs.Peeks.{peeked, peek_in};
 ghost use Rattle.trdp_engine.specs.ShownItems.{showing_in, ShowsItem};
 ghost use Rattle.trdp_marshal.specs.Items.{model_of};
 ghost use Rattle.trdp_engine.specs.Values.{valued_at};
 
 use crate::event::{Call, Event};
-use crate::fault::NodeFault;
+use crate::fault::{NodeFault, is_out_of_memory};
 use crate::outbox::Outbox;
 use crate::peek::PeekFault;
+use crate::reception::hear;
 use crate::record::Protocol;
 use crate::shown::{ValueFault, item_shown};
 use crate::slot::Slot;
-use std::alloc::{AllocError, Global};
+use std::alloc::Global;
 use std::marker::Model;
 use std::slice;
 use trdp_base::{MOMENT_MAX, Place, Quotas, Topo};
 use trdp_dataset::NodeConfig;
-use trdp_filter::{Globals, Groups, Telegram};
-use trdp_head::{PD_TELEGRAM_MAX, read_pd};
+use trdp_filter::{Globals, Groups};
+use trdp_head::PD_TELEGRAM_MAX;
 use trdp_marshal::Item;
 use trdp_pd::Peek;
 
@@ -372,57 +370,9 @@ impl Node {
     }
 }
 
-/// What a datagram does to slot 0.
-///
-/// # Errors
-/// Want of memory, where the datagram concerns the slot.
-fn hear(
-    slot: &mut Slot,
-    config: &NodeConfig,
-    protocol: Protocol,
-    src: Place,
-    dst: Place,
-    bytes: &[u8],
-    globals: &Globals,
-    out: &mut Outbox,
-) -> Result<(), AllocError>
-    requires { globals.now.now ≤ last_moment }
-    ensures slot { OnOk result (slot.new
-        ≡ (received_if config.now slot.old globals.entry.now
-        (telegram_of protocol src dst bytes.now)).slot) }
-    ensures records { OnOk result (out.new.records
-        ≡ out.old.records
-        ++ labelled 0
-        (received_if config.now slot.old globals.entry.now
-        (telegram_of protocol src dst bytes.now)).records) }
-    ensures kept { OnErr result (slot.new ≡ slot.old) }
-    ensures unrecorded { OnErr result (out.new.records ≡ out.old.records) }
-    ensures memory { OnErr result
-        (concerns globals.entry.now (telegram_of protocol src dst bytes.now) slot.old ≡ true) }
-{
-    match protocol {
-        Protocol::Md => Ok(()),
-        Protocol::Pd => match read_pd(bytes) {
-            Err(_) => Ok(()),
-            Ok(view) => slot.receive(config, &Telegram::Pd { src, dst, view }, globals, 0, out),
-        },
-    }
-}
-
 /// The quotas of a slot that may hold nothing.
 fn no_quotas() -> Quotas
     ensures { result ≡ replicate 6 0 }
 {
     Quotas::new([0; 6]).unwrap()
-}
-
-/// Whether the answer is want of memory.
-fn is_out_of_memory(answer: &Result<(), NodeFault>) -> bool
-    ensures yes { result ≡ true → answer.now ≡ Err NodeFault.OutOfMemory }
-    ensures no { result ≡ false → answer.now ≢ Err NodeFault.OutOfMemory }
-{
-    match answer {
-        Ok(()) => false,
-        Err(fault) => *fault == NodeFault::OutOfMemory,
-    }
 }
