@@ -13,7 +13,9 @@ fn moments_have_limits(rt: HostRuntime) -> Result<(), Fail> {
     let past = bench.node.step(&Event::Moment(4), &mut bench.out);
     assert_eq!(rt; past, Err(NodeFault::Past));
     bench.moment(MOMENT_MAX)?;
-    let late = bench.node.step(&Event::Moment(MOMENT_MAX + 1), &mut bench.out);
+    let late = bench
+        .node
+        .step(&Event::Moment(MOMENT_MAX + 1), &mut bench.out);
     assert_eq!(rt; late, Err(NodeFault::TooLate));
     Ok(())
 }

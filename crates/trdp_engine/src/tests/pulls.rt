@@ -1,10 +1,10 @@
 //! Pull requests and redundancy groups.
 
-use crate::tests::{Bench, HERE, Said, X, terms, record_said};
+use crate::tests::{Bench, HERE, Said, X, record_said, terms};
 use crate::{Call, Event, NodeFault, Protocol, Refusal, What};
 use std::test::Fail;
 use trdp_base::{Ip, Place, Topo};
-use trdp_pd::{RequesterTerms, PublisherTerms};
+use trdp_pd::{PublisherTerms, RequesterTerms};
 
 /// The place of a stranger.
 const STRANGER: Place = Place {
