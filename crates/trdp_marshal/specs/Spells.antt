@@ -1,5 +1,5 @@
 -- Which bytes an item of a dataset is sent as.
-use Rattle.std.specs.Prelude.{◌≡◌, ◌⊎◌, ◌≢◌, ◌++◌, ℕ, zero, suc, List, [], ◌∷◌, Option, Some}
+use Rattle.std.specs.Prelude.{◌≡◌, ◌⊎◌, ◌≢◌, ◌<◌, ◌++◌, ℕ, zero, suc, List, [], ◌∷◌, Option, Some, length}
 use Rattle.trdp_dataset.specs.declared.element.Form.{Form}
 use Rattle.trdp_dataset.specs.declared.element.Form.TheVariants.{Unsigned, Signed, Time48, Time64, Nested}
 use Rattle.trdp_dataset.specs.declared.element.Element.{Element}
@@ -91,3 +91,11 @@ IsSpelled registry id bytes = (item : ItemModel) × Spells registry id item byte
 -- a payload of the dataset: any bytes of dataset 0, else those of some item
 abbrev pub Fits : List DatasetModel → ℕ → List ℕ → Type 0
 Fits registry id bytes = (id ≡ 0) ⊎ IsSpelled registry id bytes
+
+-- some bytes are those of the item
+abbrev pub HasBytes : List DatasetModel → ℕ → ItemModel → Type 0
+HasBytes registry id item = (bytes : List ℕ) × Spells registry id item bytes
+
+-- the item has more bytes than one message carries
+abbrev pub IsTooLong : List DatasetModel → ℕ → ItemModel → Type 0
+IsTooLong registry id item = (bytes : List ℕ) × Spells registry id item bytes × (65388 < length bytes)
