@@ -1,5 +1,5 @@
 -- Values that are passed by their number, since all of them take as many bytes.
-use Rattle.std.proofs.Common.{◌≡◌, true, false, Bool, not, cond, inl, inr, ◌==◌, ◌<◌, ◌≤◌, ◌+◌, ◌-◌, ◌*◌, ℕ, zero, suc, List, [], ◌∷◌, Option, Some, None, length, drop, nat_lt, refl, sym, ap, ◌∙◌, arith, le-ltb, lt-ltb, ltb-true, ltb-false, eq-eqb, ne_eqb}
+use Rattle.std.proofs.Common.{◌≡◌, true, false, Bool, not, cond, inl, inr, ◌==◌, ◌<◌, ◌≤◌, ◌+◌, ◌-◌, ◌*◌, ℕ, zero, suc, List, [], ◌∷◌, Option, Some, None, length, drop, nat_lt, refl, sym, ap, ◌∙◌, arith, le-ltb, lt-ltb, ltb-true, ltb-false, eq-eqb, eqb-true, ne_eqb}
 use Rattle.std.specs.Prelude.{unwrap_or, is_some}
 use Rattle.std.proofs.lemmas.Bool.{cases_lt, and_parts, false≢true}
 use Rattle.std.proofs.lemmas.List.{length-drop, drop-drop}
@@ -19,6 +19,8 @@ use Rattle.trdp_marshal.specs.Numbers.{signed_number}
 use Rattle.trdp_marshal.specs.Spelling.{◌>>=◌}
 use Rattle.trdp_marshal.specs.Reading.{Reader, number_at, unsigned_at, signed_at, time48_at, time64_at, form_at, repeated_at, entry_at, entries_at, elements_at, dataset_at, skipped, whole, reading}
 use Rattle.trdp_marshal.specs.Lengths.{rest_after}
+use Rattle.trdp_marshal.specs.Laws.{FixedIsLength}
+use Rattle.trdp_marshal.proofs.Spellings.{reading_if_spelled}
 use Rattle.trdp_marshal.proofs.Steps.{skipped-made, entry_repeats, whole_taken, whole_nowhere}
 
 after-add : (m n : ℕ) (bytes : List ℕ) → (rest_after m bytes >>= λ rest. rest_after n rest) ≡ rest_after (m + n) bytes
@@ -152,10 +154,10 @@ entries_skip read size within fixed each (e ∷ es) deep one count bytes =
     let form = form_of e.kind in
     let own : items_in e.size count ≡ e.size = items_own e.size count here.0 in
     let values = λ (rest : List ℕ). entry_repeats (read form) e.size count rest
-        ∙ ap (λ (k : ℕ). skipped (repeated_at (read form) k rest)) own
-        ∙ repeated_skips (read form) (size form) (each form deeper.0 here.1) e.size rest in
+    ∙ ap (λ (k : ℕ). skipped (repeated_at (read form) k rest)) own
+    ∙ repeated_skips (read form) (size form) (each form deeper.0 here.1) e.size rest in
     skipped_then (entry_at (read form) e.size count bytes) (λ t rest. entries_at read es (count_of t) rest) (λ t ts. more t ts) (rest_after (entries_size size es))
-        (λ t rest. entries_skip read size within fixed each es deeper.1 ones.1 (count_of t) rest)
+    (λ t rest. entries_skip read size within fixed each es deeper.1 ones.1 (count_of t) rest)
     ∙ ap (λ (o : Option (List ℕ)). o >>= λ rest. rest_after (entries_size size es) rest) (values bytes)
     ∙ after-add (e.size * size form) (entries_size size es) bytes
 
@@ -223,3 +225,9 @@ unfolding reading rest_after
 whole_fixed registry id size bytes sound one =
     let deep = sound.deep id (fixed_known registry id size one) in
     sym (taken_by bytes size (nat_lt (length bytes) size) refl (dataset_at registry 5 id bytes) (dataset_skipped_whole registry 5 id size deep one bytes))
+
+pub fixed_is_length : FixedIsLength
+fixed_is_length registry id size bytes sound one fits =
+    let means = reading_if_spelled registry id bytes fits in
+    let test = whole_fixed registry id size bytes sound (sym one) in
+    (λ item. eqb-true _ _ (test ∙ means.1 item), λ same. means.0 (sym test ∙ eq-eqb _ _ same))

@@ -39,7 +39,7 @@ answer_tells {X} result expected fault other answers =
 
 -- what an item is refused for, by whether its dataset has items and what spells it
 refusal : Bool → Option (List ℕ) → Option MarshalFault
-refusal known spelled = cond known (length_fault spelled) (Some NoDataset)
+refusal known found = cond known (length_fault found) (Some NoDataset)
 
 length_known : (text : List ℕ) (b : Bool) (fault : MarshalFault) → cond b (Some TooLong) None ≡ Some fault → (b ≡ true) × (fault ≡ TooLong)
 length_known text true fault e = (refl, sym (same_Some _ _ e))
@@ -54,11 +54,11 @@ other_shape e = cc
 both : {A B C : Type 0} → A ↔ B → B ↔ C → A ↔ C
 both one two = (λ a. two.0 (one.0 a), λ c. one.1 (two.1 c))
 
-unknown_by : (known : Bool) (spelled : Option (List ℕ)) → (refusal known spelled ≡ Some NoDataset) ↔ (¬ IsTrue known)
+unknown_by : (known : Bool) (found : Option (List ℕ)) → (refusal known found ≡ Some NoDataset) ↔ (¬ IsTrue known)
 unfolding refusal
 unknown_by true None = (λ e. cc, λ not. absurd (not refl))
 unknown_by true (Some text) = (λ e. other_no_dataset (length_known text (nat_lt 65388 (length text)) NoDataset e).1, λ not. absurd (not refl))
-unknown_by false spelled = (λ e. λ held. false≢true held, λ not. refl)
+unknown_by false found = (λ e. λ held. false≢true held, λ not. refl)
 
 shape_by : (known : Bool) (found : Option (List ℕ)) (Spell : List ℕ → Type 0) → ((text : List ℕ) → Spell text ↔ (found ≡ Some text))
     → (refusal known found ≡ Some Shape) ↔ (IsTrue known × ¬ ((text : List ℕ) × Spell text))
@@ -72,12 +72,13 @@ long_by : (known : Bool) (found : Option (List ℕ)) (Spell : List ℕ → Type 
     → (refusal known found ≡ Some TooLong) ↔ (IsTrue known × ((text : List ℕ) × Spell text × (65388 < length text)))
 unfolding refusal
 long_by true None Spell means = (λ e. cc, λ long. absurd (none-some long.1.0 ((means long.1.0).0 long.1.1)))
-long_by true (Some text) Spell means =
-    (λ e. (refl, (text, (means text).1 refl, ltb-true _ _ (length_known text (nat_lt 65388 (length text)) TooLong e).0)),
-    λ long.
-        let same : text ≡ long.1.0 = same_Some _ _ ((means long.1.0).0 long.1.1) in
-        let test : nat_lt 65388 (length text) ≡ true = lt-ltb _ _ (subst (λ (t : List ℕ). 65388 < length t) (sym same) long.1.2) in
-        rw test refl)
+long_by true (Some text) Spell means = (
+  λ e. (refl, (text, (means text).1 refl, ltb-true _ _ (length_known text (nat_lt 65388 (length text)) TooLong e).0)),
+  λ long.
+      let same : text ≡ long.1.0 = same_Some _ _ ((means long.1.0).0 long.1.1) in
+      let test : nat_lt 65388 (length text) ≡ true = lt-ltb _ _ (subst (λ (t : List ℕ). 65388 < length t) (sym same) long.1.2) in
+      rw test refl,
+)
 long_by false found Spell means = (λ e. cc, λ long. absurd (false≢true long.0))
 
 module _ {X : Type 0} (registry : List DatasetModel) (id : ℕ) (item : ItemModel) (result : Result X MarshalFault) where

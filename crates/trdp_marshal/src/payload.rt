@@ -131,7 +131,8 @@ fn skip_elements<'a>(
     Some(rest)
 }
 
-/// Whether the payloads of a dataset are items: where the registry has it, and it is not dataset 0.
+/// Whether the payloads of a dataset are items: where the registry has it, and it is not dataset
+/// 0.
 pub(crate) fn has_items(registry: &Registry, id: u32) -> bool
     ensures { result ≡ has_items registry.now id }
 {

@@ -84,8 +84,8 @@ fn write_time64(item: &Item, out: &mut Vec<u8>) -> Result<(), AllocError>
     }
 }
 
-/// One value of a type. Like the functions below, it writes nothing of use where the item is no such value: its
-/// caller has measured the whole item first.
+/// One value of a type. Like the functions below, it writes nothing of use where the item is no
+/// such value: its caller has measured the whole item first.
 #[cycle(write)]
 #[tactic(auto, unfolding(crate::specs::Spelling::form_spelling))]
 fn write_form(
@@ -119,7 +119,8 @@ fn write_repeated(
     out: &mut Vec<u8>,
 ) -> Result<(), AllocError>
     ensures { OnOk result
-        (Appends (repeated_spelling (form_spelling (dataset_spelling registry.now depth) form) count (models_in items.now))
+        (Appends (repeated_spelling (form_spelling (dataset_spelling registry.now depth) form)
+        count (models_in items.now))
         out.old.items out.new.items) }
 {
     for item in items {
@@ -139,7 +140,9 @@ fn write_entry(
     out: &mut Vec<u8>,
 ) -> Result<(), AllocError>
     ensures { OnOk result
-        (Appends (entry_spelling (form_spelling (dataset_spelling registry.now depth) (form_of element.kind)) element.size count (model_of item.now))
+        (Appends (entry_spelling
+        (form_spelling (dataset_spelling registry.now depth) (form_of element.kind))
+        element.size count (model_of item.now))
         out.old.items out.new.items) }
 {
     let form = element.kind.form();
@@ -164,7 +167,8 @@ fn write_entries(
 ) -> Result<(), AllocError>
     requires { length elements.now ≡ length items.now }
     ensures { OnOk result
-        (Appends (entries_spelling (form_spelling (dataset_spelling registry.now depth)) elements.now 0 (models_in items.now))
+        (Appends (entries_spelling (form_spelling (dataset_spelling registry.now depth))
+        elements.now 0 (models_in items.now))
         out.old.items out.new.items) }
 {
     let mut count = 0;

@@ -1,10 +1,8 @@
-use Rattle.std.proofs.Common.{ℕ, List, Option, Some, sym, ap, ◌∙◌, arith}
+use Rattle.std.proofs.Common.{ℕ, Some, sym, ap, ◌∙◌, arith}
 use Rattle.std.specs.Prelude.{option_map}
-use Rattle.trdp_marshal.specs.Reading.{form_at, dataset_at, skipped, entries_at}
+use Rattle.trdp_marshal.specs.Reading.{form_at, dataset_at}
 use Rattle.trdp_dataset.specs.Depths.{is_within}
-use Rattle.trdp_dataset.specs.Elements.{form_of}
 use Rattle.trdp_dataset.specs.Datasets.{passes}
-use Rattle.trdp_dataset.specs.declared.element.Form.{Form}
 use Rattle.trdp_marshal.proofs.Steps.{repeated_turn, repeated_halt, repeated_done, entries_counted, entries_turn, entries_halt, entries_done, entry_skipped, pass_at, counts_at, dataset_skipped, within_some, within_known, within_below, skipped_none, nested_repeated, some_seen}
 use Rattle.trdp_marshal.proofs.Fixed.{basic_size, basic_repeated, repeated_skips, dataset_skipped_whole}
 use Rattle.trdp_marshal.proofs.payload.+skip.Goals as goal

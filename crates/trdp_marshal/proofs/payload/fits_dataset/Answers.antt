@@ -1,6 +1,5 @@
 use Rattle.std.proofs.Common.{sym, ap, ◌∙◌, arith}
 use Rattle.std.specs.Prelude.{is_some}
-use Rattle.trdp_dataset.specs.Datasets.{elements_of}
 use Rattle.trdp_marshal.specs.Reading.{dataset_at, reading}
 use Rattle.trdp_marshal.proofs.Steps.{dataset_skipped, within_below, read_unknown, whole_taken, whole_nowhere}
 use Rattle.trdp_marshal.proofs.Fixed.{whole_fixed}
