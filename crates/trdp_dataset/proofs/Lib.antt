@@ -9,6 +9,7 @@ pub mod Loading
 pub mod Sound
 pub mod Sizes
 pub mod Rows
+pub mod FixedRows
 pub mod Steps
 pub mod Twice
 pub mod Passes

@@ -2,6 +2,7 @@ pub mod Elements
 pub mod Datasets
 pub mod Depths
 pub mod ZeroSizes
+pub mod FixedSizes
 pub mod Registries
 pub mod Stored
 pub mod Keys

@@ -11,6 +11,7 @@ mod datasets;
 mod depth;
 mod element;
 mod fault;
+mod fixed;
 mod key;
 mod load;
 mod parse;

@@ -9,6 +9,7 @@ ghost use Rattle.trdp_dataset.specs.Configs.{datasets_in};
 
 use crate::check::fit_together;
 use crate::fault::ConfigFault;
+use crate::fixed::fixed_datasets;
 use crate::pass::{place_fault, too_many};
 use crate::place::Place;
 use crate::read::datasets_in;
@@ -36,5 +37,6 @@ pub(crate) fn load(
         Some(fault) => return Err(fault),
         None => {}
     }
-    Ok(Registry::new(datasets, zero_sizes))
+    let fixed = fixed_datasets(alloc, &datasets)?;
+    Ok(Registry::new(datasets, zero_sizes, fixed))
 }

@@ -12,22 +12,28 @@ use std::marker::Model;
 /// The datasets of a configuration, in the order of the file. An identifier is 31 to 4,294,967,295.
 #[derive(Drop)]
 pub struct Registry {
+    /// The datasets, in the order of the file.
     datasets: Datasets,
+    /// Of each dataset in order, how many bytes its zero value takes: at most 65,388.
     zero_sizes: Vec<u32>,
+    /// Of each dataset in order, whether all its values take as many bytes as the zero value.
+    fixed: Vec<bool>,
 }
 
 impl Model for Registry {
     ghost use Rattle.std.specs.Prelude.{◌≡◌, List};
     ghost use Rattle.trdp_dataset.specs.Datasets.{DatasetModel};
-    ghost use Rattle.trdp_dataset.specs.ZeroSizes.{zero_size};
     ghost use Rattle.trdp_dataset.specs.Registries.{IsRegistry};
     ghost use Rattle.trdp_dataset.specs.Stored.{zero_sizes_of};
+    ghost use Rattle.trdp_dataset.specs.FixedSizes.{fixed_row};
 
     ghost Value = { List DatasetModel };
 
     ghost view = { λ r. r.datasets };
 
-    ghost invariant = { λ r. IsRegistry r.datasets × (r.zero_sizes.items ≡ zero_sizes_of r.datasets) };
+    ghost invariant = { λ r. IsRegistry r.datasets
+        × (r.zero_sizes.items ≡ zero_sizes_of r.datasets)
+        × (r.fixed.items ≡ fixed_row r.datasets 5) };
 }
 
 impl Registry {
@@ -36,6 +42,7 @@ impl Registry {
     ghost use Rattle.trdp_dataset.specs.ZeroSizes.{zero_size};
     ghost use Rattle.trdp_dataset.specs.Registries.{IsRegistry};
     ghost use Rattle.trdp_dataset.specs.Stored.{zero_sizes_of};
+    ghost use Rattle.trdp_dataset.specs.FixedSizes.{fixed_size, fixed_row};
     ghost use Rattle.trdp_dataset.specs.Configs.{Reads, registry_of};
 
     /// The registry of a configuration file in TOML, of which the key `dataset` alone is looked at. Without that key
@@ -52,15 +59,18 @@ impl Registry {
         load(alloc, &top, &places)
     }
 
-    /// The registry of datasets that fit together, with the sizes of their zero values in order.
-    pub(crate) fn new(datasets: Datasets, zero_sizes: Vec<u32>) -> Self
+    /// The registry of datasets that fit together, with the sizes of their zero values in order,
+    /// and whether all values of each take as many bytes.
+    pub(crate) fn new(datasets: Datasets, zero_sizes: Vec<u32>, fixed: Vec<bool>) -> Self
         requires sound { IsRegistry datasets }
         requires sizes { zero_sizes.items ≡ zero_sizes_of datasets }
+        requires fixed { fixed.items ≡ fixed_row datasets 5 }
         ensures value { result ≡ datasets }
     {
         Registry {
             datasets,
             zero_sizes,
+            fixed,
         }
     }
 
@@ -120,6 +130,25 @@ impl Registry {
     {
         match self.datasets.index_of(id) {
             Some(i) => Some(self.zero_sizes[i] as usize),
+            None => None,
+        }
+    }
+
+    /// How many bytes each value of a dataset takes, at most 65,388: a dataset in which no array
+    /// of size 0 stands, nor in those that are nested in it, has values of one length. None of any
+    /// other dataset, and where no dataset has that identifier.
+    pub fn fixed_size(&self, id: u32) -> Option<usize>
+        ensures value { result ≡ fixed_size self.now id }
+        ensures bound { IfSome result (λ n. n ≤ 65388) }
+    {
+        match self.datasets.index_of(id) {
+            Some(i) => {
+                if self.fixed[i] {
+                    Some(self.zero_sizes[i] as usize)
+                } else {
+                    None
+                }
+            }
             None => None,
         }
     }

@@ -3,6 +3,7 @@
 mod altered;
 mod broken_datasets;
 mod broken_nodes;
+mod fixed;
 mod nesting;
 mod whole;
 

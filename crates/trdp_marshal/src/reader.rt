@@ -103,7 +103,8 @@ fn read_form<'a>(
     }
 }
 
-/// So many values of a type, one after the other. The list grows as they are read, not by the count.
+/// So many values of a type, one after the other. The list grows as they are read, not by the
+/// count.
 #[cycle(read)]
 fn read_repeated<'a>(
     alloc: Global,
@@ -137,7 +138,8 @@ fn read_entry<'a>(
     bytes: &'a [u8],
 ) -> Result<(Item, &'a [u8]), MarshalFault>
     ensures { Gives (λ x. (model_of x.0, x.1.now)) result
-        (entry_at (form_at (dataset_at registry.now depth) (form_of element.kind)) element.size count bytes.now) }
+        (entry_at (form_at (dataset_at registry.now depth) (form_of element.kind))
+        element.size count bytes.now) }
 {
     let form = element.kind.form();
     if element.size == 1 {
@@ -196,7 +198,8 @@ fn read_dataset<'a>(
     }
 }
 
-/// The item of a dataset that these bytes spell. Nothing is reserved by a count that stands in the bytes.
+/// The item of a dataset that these bytes spell. Nothing is reserved by a count that stands in
+/// the bytes.
 ///
 /// # Errors
 ///
