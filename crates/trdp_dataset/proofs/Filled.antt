@@ -1,4 +1,4 @@
--- What a file without a fault has at its places.
+-- What a file without a fault has at its positions.
 use Rattle.std.proofs.Common.{◌≡◌, ◌==◌, ◌&&◌, ◌||◌, ◌≤◌, ℕ, suc, Bool, true, false, not, nat_le, nat_lt, List, [], ◌∷◌, ◌++◌, length, Option, Some, None, option_map, option_and_then, is_some, if◌then◌else◌, refl, sym, ap, ◌∙◌, arith, subst, append_assoc}
 use Rattle.std.specs.Prelude.{find}
 use Rattle.std.specs.List.{list_all, list_any, filter_map, cons_option}
@@ -13,8 +13,8 @@ use Rattle.trdp_dataset.specs.declared.key.Key.TheVariants.{Slot, Dataset, Datas
 use Rattle.trdp_dataset.specs.Keys.{slot_keys, dataset_keys, element_keys}
 use Rattle.trdp_dataset.specs.Values.{items_list, items_in, is_table, is_tables, is_type, kind_in, identifier_in, in_range, natural_in}
 use Rattle.trdp_dataset.specs.Datasets.{DatasetModel}
-use Rattle.trdp_dataset.specs.Places.{PlaceModel, value_at, tables_in, tables_at, place_at, places_at, places_of_all, element_places, dataset_places, slot_places}
-use Rattle.trdp_dataset.specs.Faults.{is_missing, is_wrong, is_bad_place, is_excessive, has, missing_in, wrong_type_in, real_in, bad_id_in, place_fault}
+use Rattle.trdp_dataset.specs.Positions.{PositionModel, value_at, tables_in, tables_at, position_at, positions_at, positions_of_all, element_positions, dataset_positions, slot_positions}
+use Rattle.trdp_dataset.specs.Faults.{is_missing, is_wrong, is_bad_position, is_excessive, has, missing_in, wrong_type_in, real_in, bad_id_in, position_fault}
 use Rattle.trdp_dataset.specs.Configs.{element_of, element_in, elements_in, dataset_in, datasets_in, slots_in, slot_in}
 use Rattle.trdp_dataset.proofs.Answering.{none_first}
 
@@ -42,32 +42,32 @@ unchosen : {A : Type 0} → (b : Bool) (x : A) → (if b then Some x else None) 
 unchosen true x e = cc
 unchosen false x e = refl
 
--- nothing is missing, wrong or unknown at these places
-pub record AreGood (places : List PlaceModel) : Type 0 where
-  pub there : list_all (λ p. not (is_missing p)) places ≡ true
-  pub right : list_all (λ p. not (is_wrong p)) places ≡ true
-  pub known : list_all (λ p. not (is_bad_place p)) places ≡ true
+-- nothing is missing, wrong or unknown at these positions
+pub record AreGood (positions : List PositionModel) : Type 0 where
+  pub there : list_all (λ p. not (is_missing p)) positions ≡ true
+  pub right : list_all (λ p. not (is_wrong p)) positions ≡ true
+  pub known : list_all (λ p. not (is_bad_position p)) positions ≡ true
 
-pub good : (places : List PlaceModel) → place_fault places ≡ None → AreGood places
+pub good : (positions : List PositionModel) → position_fault positions ≡ None → AreGood positions
 unfolding missing_in wrong_type_in real_in bad_id_in
-good places e =
-    let a = none_first (missing_in places) _ e in
-    let b = none_first (wrong_type_in places) _ a.1 in
-    let c = none_first (real_in places) _ b.1 in
-    let d = none_first (bad_id_in places) _ c.1 in
+good positions e =
+    let a = none_first (missing_in positions) _ e in
+    let b = none_first (wrong_type_in positions) _ a.1 in
+    let c = none_first (real_in positions) _ b.1 in
+    let d = none_first (bad_id_in positions) _ c.1 in
     record {
-      there = none_passes is_missing places (unmapped (λ (p : PlaceModel). Missing p.key) _ a.0);
-      right = none_passes is_wrong places (unmapped (λ (p : PlaceModel). WrongType p.key) _ b.0);
-      known = any_passes is_bad_place places (unchosen _ BadId d.0);
+      there = none_passes is_missing positions (unmapped (λ (p : PositionModel). Missing p.key) _ a.0);
+      right = none_passes is_wrong positions (unmapped (λ (p : PositionModel). WrongType p.key) _ b.0);
+      known = any_passes is_bad_position positions (unchosen _ BadId d.0);
     }
 
 all_parts : {A : Type 0} → (test : A → Bool) (xs ys : List A) → list_all test (xs ++ ys) ≡ true → (list_all test xs ≡ true) × (list_all test ys ≡ true)
 all_parts test xs ys e = and_parts (list_all test xs) (list_all test ys) (sym (list_all-append test xs ys) ∙ e)
 
-pub good_front : (xs ys : List PlaceModel) → AreGood (xs ++ ys) → AreGood xs
+pub good_front : (xs ys : List PositionModel) → AreGood (xs ++ ys) → AreGood xs
 good_front xs ys g = record { there = (all_parts _ xs ys g.there).0; right = (all_parts _ xs ys g.right).0; known = (all_parts _ xs ys g.known).0 }
 
-pub good_back : (xs ys : List PlaceModel) → AreGood (xs ++ ys) → AreGood ys
+pub good_back : (xs ys : List PositionModel) → AreGood (xs ++ ys) → AreGood ys
 good_back xs ys g = record { there = (all_parts _ xs ys g.there).1; right = (all_parts _ xs ys g.right).1; known = (all_parts _ xs ys g.known).1 }
 
 turned : (b : Bool) → not b ≡ true → b ≡ false
@@ -116,7 +116,7 @@ first_table None there right = cc
 first_table (Some d) there right = first_by d (unturned (is_tables d) right) there
 
 made_by : (found : Option Data) → is_missing (record { key = ElementType; found = found }) ≡ false → is_wrong (record { key = ElementType; found = found }) ≡ false
-    → is_bad_place (record { key = ElementType; found = found }) ≡ false → is_some (option_and_then kind_in found) ≡ true
+    → is_bad_position (record { key = ElementType; found = found }) ≡ false → is_some (option_and_then kind_in found) ≡ true
 made_by None there right known = cc
 made_by (Some t) there right known =
     let named : is_type t ≡ true = unturned (is_type t) right in
@@ -126,9 +126,9 @@ some_made : {A B : Type 0} → (f : A → B) (o : Option A) → is_some o ≡ tr
 some_made f None e = cc
 some_made f (Some x) e = refl
 
--- a table with good places is an element
-element_made : (members : Members) → AreGood (places_at element_keys members) → is_some (element_in members) ≡ true
-unfolding element_in places_at
+-- a table with good positions is an element
+element_made : (members : Members) → AreGood (positions_at element_keys members) → is_some (element_in members) ≡ true
+unfolding element_in positions_at
 element_made members g =
     let there = turned _ (and_parts _ _ g.there).0 in
     let right = turned _ (and_parts _ _ g.right).0 in
@@ -139,15 +139,15 @@ length_made : {A : Type 0} → (o : Option A) (rest : List A) → is_some o ≡ 
 length_made None rest e = cc
 length_made (Some x) rest e = grind (arith, nat_tests)
 
--- a dataset with good places has an element
-dataset_filled : (members : Members) → AreGood (places_at dataset_keys members) → AreGood (places_of_all element_keys (tables_at Elements members)) → nat_lt 0 (length (elements_in members)) ≡ true
-unfolding elements_in places_at places_of_all tables_at
+-- a dataset with good positions has an element
+dataset_filled : (members : Members) → AreGood (positions_at dataset_keys members) → AreGood (positions_of_all element_keys (tables_at Elements members)) → nat_lt 0 (length (elements_in members)) ≡ true
+unfolding elements_in positions_at positions_of_all tables_at
 dataset_filled members g h =
     let there = turned _ (and_parts _ _ (and_parts _ _ g.there).1).0 in
     let right = turned _ (and_parts _ _ (and_parts _ _ g.right).1).0 in
     let f = first_table (value_at Elements members) there right in
-    let inner : AreGood (places_of_all element_keys (f.first ∷ f.rest)) = subst (λ (ts : List Members). AreGood (places_of_all element_keys ts)) f.tables h in
-    let made = element_made f.first (good_front (places_at element_keys f.first) (places_of_all element_keys f.rest) inner) in
+    let inner : AreGood (positions_of_all element_keys (f.first ∷ f.rest)) = subst (λ (ts : List Members). AreGood (positions_of_all element_keys ts)) f.tables h in
+    let made = element_made f.first (good_front (positions_at element_keys f.first) (positions_of_all element_keys f.rest) inner) in
     ap (λ ts. nat_lt 0 (length (filter_map element_in ts))) f.tables ∙ length_made (element_in f.first) (filter_map element_in f.rest) made
 
 filled_by : (d : Members) (id : Option ℕ) (rest : List DatasetModel) → nat_lt 0 (length (elements_in d)) ≡ true → list_all (λ (m : DatasetModel). nat_lt 0 (length m.elements)) rest ≡ true
@@ -155,21 +155,21 @@ filled_by : (d : Members) (id : Option ℕ) (rest : List DatasetModel) → nat_l
 filled_by d None rest here later = later
 filled_by d (Some n) rest here later = rw (here, later) refl
 
-tables_filled : (ts : List Members) → AreGood (places_of_all dataset_keys ts) → AreGood (element_places ts) → list_all (λ (m : DatasetModel). nat_lt 0 (length m.elements)) (filter_map dataset_in ts) ≡ true
-unfolding places_of_all element_places dataset_in
+tables_filled : (ts : List Members) → AreGood (positions_of_all dataset_keys ts) → AreGood (element_positions ts) → list_all (λ (m : DatasetModel). nat_lt 0 (length m.elements)) (filter_map dataset_in ts) ≡ true
+unfolding positions_of_all element_positions dataset_in
 tables_filled [] g h = refl
 tables_filled (t ∷ ts) g h =
-    let here = dataset_filled t (good_front (places_at dataset_keys t) (places_of_all dataset_keys ts) g) (good_front (places_of_all element_keys (tables_at Elements t)) (element_places ts) h) in
-    let later = tables_filled ts (good_back (places_at dataset_keys t) (places_of_all dataset_keys ts) g) (good_back (places_of_all element_keys (tables_at Elements t)) (element_places ts) h) in
+    let here = dataset_filled t (good_front (positions_at dataset_keys t) (positions_of_all dataset_keys ts) g) (good_front (positions_of_all element_keys (tables_at Elements t)) (element_positions ts) h) in
+    let later = tables_filled ts (good_back (positions_at dataset_keys t) (positions_of_all dataset_keys ts) g) (good_back (positions_of_all element_keys (tables_at Elements t)) (element_positions ts) h) in
     filled_by t (option_and_then identifier_in (value_at DatasetId t)) (filter_map dataset_in ts) here later
 
--- each dataset of a file with good places has an element
-pub all_filled : (top : Members) → AreGood (dataset_places top) → list_all (λ (m : DatasetModel). nat_lt 0 (length m.elements)) (datasets_in top) ≡ true
-unfolding datasets_in dataset_places
+-- each dataset of a file with good positions has an element
+pub all_filled : (top : Members) → AreGood (dataset_positions top) → list_all (λ (m : DatasetModel). nat_lt 0 (length m.elements)) (datasets_in top) ≡ true
+unfolding datasets_in dataset_positions
 all_filled top g =
     let ts = tables_at Dataset top in
-    let parts = good_back (places_at (Dataset ∷ []) top) (places_of_all dataset_keys ts ++ element_places ts) (subst AreGood (append_assoc (places_at (Dataset ∷ []) top) (places_of_all dataset_keys ts) (element_places ts)) g) in
-    tables_filled ts (good_front (places_of_all dataset_keys ts) (element_places ts) parts) (good_back (places_of_all dataset_keys ts) (element_places ts) parts)
+    let parts = good_back (positions_at (Dataset ∷ []) top) (positions_of_all dataset_keys ts ++ element_positions ts) (subst AreGood (append_assoc (positions_at (Dataset ∷ []) top) (positions_of_all dataset_keys ts) (element_positions ts)) g) in
+    tables_filled ts (good_front (positions_of_all dataset_keys ts) (element_positions ts) parts) (good_back (positions_of_all dataset_keys ts) (element_positions ts) parts)
 
 in_range_above : (low high n : ℕ) (b : Bool) (m : ℕ) → (nat_le low n && nat_le n high) ≡ b → (if b then Some n else None) ≡ Some m → nat_le low m ≡ true
 in_range_above low high n true m e found = let same : n ≡ m = cc in ap (nat_le low) (sym same) ∙ (and_parts _ _ e).0
@@ -199,8 +199,8 @@ unfolding datasets_in
 all_above top = tables_above (tables_at Dataset top)
 
 -- there is a slot
-pub some_slot : (top : Members) → AreGood (slot_places top) → 1 ≤ length (slots_in top)
-unfolding slots_in slot_places places_at tables_at
+pub some_slot : (top : Members) → AreGood (slot_positions top) → 1 ≤ length (slots_in top)
+unfolding slots_in slot_positions positions_at tables_at
 some_slot top g =
     let there = turned _ (and_parts _ _ g.there).0 in
     let right = turned _ (and_parts _ _ g.right).0 in
@@ -220,10 +220,10 @@ few_by None e = omega arith
 few_by (Some d) e = let a = kept as_table (items_in d) in let b : length (items_in d) ≤ 16 = ltb-false 16 (length (items_in d)) e in omega arith
 
 -- there are at most 16 slots
-pub few_slots : (top : Members) (others : List PlaceModel) → list_any is_excessive (slot_places top ++ others) ≡ false → length (slots_in top) ≤ 16
-unfolding slots_in slot_places places_at tables_at
+pub few_slots : (top : Members) (others : List PositionModel) → list_any is_excessive (slot_positions top ++ others) ≡ false → length (slots_in top) ≤ 16
+unfolding slots_in slot_positions positions_at tables_at
 few_slots top others e =
-    let all = any_passes is_excessive (slot_places top ++ others) e in
-    let first = turned (is_excessive (place_at top Slot)) (and_parts (not (is_excessive (place_at top Slot))) (list_all (λ p. not (is_excessive p)) (places_of_all slot_keys (tables_at Slot top) ++ others)) all).0 in
+    let all = any_passes is_excessive (slot_positions top ++ others) e in
+    let first = turned (is_excessive (position_at top Slot)) (and_parts (not (is_excessive (position_at top Slot))) (list_all (λ p. not (is_excessive p)) (positions_of_all slot_keys (tables_at Slot top) ++ others)) all).0 in
     let few = few_by (value_at Slot top) first in
     omega (arith, few, length-map (tables_in (value_at Slot top)) slot_in)

@@ -18,7 +18,7 @@ use Rattle.trdp_dataset.specs.declared.fault.ConfigFault.TheVariants.{Toml, OutO
 use Rattle.trdp_dataset.specs.Keys.{quota_keys}
 use Rattle.trdp_dataset.specs.Values.{number_in, address_in, identifier_in, kind_in}
 use Rattle.trdp_dataset.specs.Datasets.{DatasetModel}
-use Rattle.trdp_dataset.specs.Places.{value_at, tables_at, node_in, dataset_places, all_places}
+use Rattle.trdp_dataset.specs.Positions.{value_at, tables_at, node_in, dataset_positions, all_positions}
 use Rattle.trdp_dataset.specs.Faults.{fault_in}
 
 -- the number that a value is, or the default where it is none in the range
@@ -89,11 +89,11 @@ config_in top = record {
 
 -- the fault of the datasets of a file
 unfoldable pub registry_fault_of : Members → Option ConfigFault
-registry_fault_of top = fault_in (dataset_places top) (datasets_in top)
+registry_fault_of top = fault_in (dataset_positions top) (datasets_in top)
 
 -- the fault of a file
 unfoldable pub config_fault_of : Members → Option ConfigFault
-config_fault_of top = fault_in (all_places top) (datasets_in top)
+config_fault_of top = fault_in (all_positions top) (datasets_in top)
 
 abbrev pub unless : {A : Type 0} → Option ConfigFault → A → Result A ConfigFault
 unless None x = Ok x

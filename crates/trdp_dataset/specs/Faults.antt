@@ -15,9 +15,9 @@ use Rattle.trdp_dataset.specs.Depths.{is_within}
 use Rattle.trdp_dataset.specs.ZeroSizes.{zero_size}
 use Rattle.trdp_dataset.specs.Keys.{wanted_by, is_required}
 use Rattle.trdp_dataset.specs.Values.{items_in, is_of, is_real, identifier_in, kind_in, is_integer, is_type, natural_in}
-use Rattle.trdp_dataset.specs.Places.{PlaceModel}
+use Rattle.trdp_dataset.specs.Positions.{PositionModel}
 
--- whether what a place has passes a test; where it has nothing it doesn't
+-- whether what a position has passes a test; where it has nothing it doesn't
 abbrev pub has : (Data → Bool) → Option Data → Bool
 has test None = false
 has test (Some d) = test d
@@ -33,20 +33,20 @@ is_lacking key None = true
 is_lacking key (Some d) = is_empty (wanted_by key) d
 
 -- a required key isn't there, or the array under it is empty
-abbrev pub is_missing : PlaceModel → Bool
-is_missing place = is_required place.key && is_lacking place.key place.found
+abbrev pub is_missing : PositionModel → Bool
+is_missing position = is_required position.key && is_lacking position.key position.found
 
 -- a value isn't of the kind that its key wants
-abbrev pub is_wrong : PlaceModel → Bool
-is_wrong place = has (λ d. not (is_of (wanted_by place.key) d)) place.found
+abbrev pub is_wrong : PositionModel → Bool
+is_wrong position = has (λ d. not (is_of (wanted_by position.key) d)) position.found
 
 -- the type of an element is a real number
 abbrev pub is_real_at : Wanted → Data → Bool
 is_real_at wanted.Kind d = is_real d
 is_real_at _ d = false
 
-abbrev pub is_real_place : PlaceModel → Bool
-is_real_place place = has (is_real_at (wanted_by place.key)) place.found
+abbrev pub is_real_position : PositionModel → Bool
+is_real_position position = has (is_real_at (wanted_by position.key)) position.found
 
 -- an identifier is out of range, or a type isn't known
 abbrev pub is_bad_at : Wanted → Data → Bool
@@ -54,8 +54,8 @@ is_bad_at wanted.Identifier d = is_integer d && not (is_some (identifier_in d))
 is_bad_at wanted.Kind d = is_type d && not (is_some (kind_in d))
 is_bad_at _ d = false
 
-abbrev pub is_bad_place : PlaceModel → Bool
-is_bad_place place = has (is_bad_at (wanted_by place.key)) place.found
+abbrev pub is_bad_position : PositionModel → Bool
+is_bad_position position = has (is_bad_at (wanted_by position.key)) position.found
 
 -- the most members of an array
 abbrev pub most : Key → ℕ
@@ -73,20 +73,20 @@ exceeds key wanted.Tables d = nat_lt (most key) (length (items_in d))
 exceeds key wanted.Quota d = is_above 256 (natural_in d)
 exceeds key _ d = false
 
-abbrev pub is_excessive : PlaceModel → Bool
-is_excessive place = has (exceeds place.key (wanted_by place.key)) place.found
+abbrev pub is_excessive : PositionModel → Bool
+is_excessive position = has (exceeds position.key (wanted_by position.key)) position.found
 
-unfoldable pub missing_in : List PlaceModel → Option ConfigFault
-missing_in places = option_map (λ place. Missing place.key) (find is_missing places)
+unfoldable pub missing_in : List PositionModel → Option ConfigFault
+missing_in positions = option_map (λ position. Missing position.key) (find is_missing positions)
 
-unfoldable pub wrong_type_in : List PlaceModel → Option ConfigFault
-wrong_type_in places = option_map (λ place. WrongType place.key) (find is_wrong places)
+unfoldable pub wrong_type_in : List PositionModel → Option ConfigFault
+wrong_type_in positions = option_map (λ position. WrongType position.key) (find is_wrong positions)
 
-unfoldable pub real_in : List PlaceModel → Option ConfigFault
-real_in places = if list_any is_real_place places then Some Real else None
+unfoldable pub real_in : List PositionModel → Option ConfigFault
+real_in positions = if list_any is_real_position positions then Some Real else None
 
-unfoldable pub bad_id_in : List PlaceModel → Option ConfigFault
-bad_id_in places = if list_any is_bad_place places then Some BadId else None
+unfoldable pub bad_id_in : List PositionModel → Option ConfigFault
+bad_id_in positions = if list_any is_bad_position positions then Some BadId else None
 
 -- some dataset has the identifier of an earlier one
 abbrev pub has_twice : List DatasetModel → Bool
@@ -113,8 +113,8 @@ too_deep_in datasets = if list_all (λ d. is_within datasets 5 d.id) datasets th
 unfoldable pub too_big_in : List DatasetModel → Option ConfigFault
 too_big_in datasets = if list_all (λ d. nat_le (zero_size datasets d.id) 65388) datasets then None else Some TooBig
 
-unfoldable pub too_many_in : List PlaceModel → Option ConfigFault
-too_many_in places = if list_any is_excessive places then Some TooMany else None
+unfoldable pub too_many_in : List PositionModel → Option ConfigFault
+too_many_in positions = if list_any is_excessive positions then Some TooMany else None
 
 -- the first fault that there is
 abbrev pub first_fault : List (Option ConfigFault) → Option ConfigFault
@@ -122,19 +122,19 @@ first_fault [] = None
 first_fault (None ∷ later) = first_fault later
 first_fault (Some fault ∷ later) = Some fault
 
--- the fault of single places other than too large numbers
-abbrev pub place_fault : List PlaceModel → Option ConfigFault
-place_fault places = first_fault (missing_in places ∷ wrong_type_in places ∷ real_in places ∷ bad_id_in places ∷ [])
+-- the fault of single positions other than too large numbers
+abbrev pub position_fault : List PositionModel → Option ConfigFault
+position_fault positions = first_fault (missing_in positions ∷ wrong_type_in positions ∷ real_in positions ∷ bad_id_in positions ∷ [])
 
 -- the fault of datasets that don't fit together
 abbrev pub fit_fault : List DatasetModel → Option ConfigFault
 fit_fault datasets = first_fault (no_dataset_in datasets ∷ no_count_in datasets ∷ too_deep_in datasets ∷ too_big_in datasets ∷ [])
 
--- the fault of a file with these places and datasets: of the first kind that applies anywhere, the first place
-unfoldable pub fault_in : List PlaceModel → List DatasetModel → Option ConfigFault
-fault_in places datasets = first_fault
-    (missing_in places ∷ wrong_type_in places ∷ real_in places ∷ bad_id_in places ∷ twice_id_in datasets ∷ no_dataset_in datasets
-    ∷ no_count_in datasets ∷ too_deep_in datasets ∷ too_big_in datasets ∷ too_many_in places ∷ [])
+-- the fault of a file with these positions and datasets: of the first kind that applies anywhere, the first position
+unfoldable pub fault_in : List PositionModel → List DatasetModel → Option ConfigFault
+fault_in positions datasets = first_fault
+    (missing_in positions ∷ wrong_type_in positions ∷ real_in positions ∷ bad_id_in positions ∷ twice_id_in datasets ∷ no_dataset_in datasets
+    ∷ no_count_in datasets ∷ too_deep_in datasets ∷ too_big_in datasets ∷ too_many_in positions ∷ [])
 
 -- a fault that comes is the expected one, or memory ran out
 abbrev pub IsFaultOf : ConfigFault → Option ConfigFault → Type 0

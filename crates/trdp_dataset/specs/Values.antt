@@ -1,8 +1,7 @@
 -- What the values of a configuration file mean.
-use Rattle.std.specs.Prelude.{◌&&◌, ◌||◌, nat_le, ℕ, pos, Bool, false, List, [], ◌∷◌, Option, Some, None, option_map, option_and_then, is_some, if◌then◌else◌}
+use Rattle.std.specs.Prelude.{◌&&◌, ◌||◌, nat_le, bytes_eq, ℕ, zero, suc, ◌^◌, pos, Bool, false, List, [], ◌∷◌, Option, Some, None, option_map, option_and_then, is_some, if◌then◌else◌}
 use Rattle.std.specs.List.{list_all}
-use Rattle.std.specs.Int.{from_be_bytes, w32}
-use Rattle.std.specs.Net.Reader.{read_ipv4, whole_value}
+use Rattle.trdp_base.specs.AddressText.{text_of_ip}
 use Rattle.toml.specs.Data.{Data, string, integer, array, Items, no_items, item, as_str, as_integer, as_table}
 use Rattle.trdp_dataset.specs.declared.element.ElementKind.{ElementKind}
 use Rattle.trdp_dataset.specs.declared.key.Wanted.{Wanted}
@@ -19,9 +18,18 @@ abbrev pub items_in : Data → List Data
 items_in (array ds) = items_list ds
 items_in _ = []
 
--- the address of a text: four decimal numbers of 0 to 255 without leading zeros, joined by dots
+-- the number below a limit that passes a test, if there is one
+unfoldable pub found_below : (ℕ → Bool) → ℕ → Option ℕ
+found_below test zero = None
+found_below test (suc n) = if test n then Some n else found_below test n
+
+-- a text is the written form of the address of that number
+abbrev pub is_written_so : List ℕ → ℕ → Bool
+is_written_so text n = bytes_eq text (text_of_ip (record { 0 = n }))
+
+-- the address of a text: the one of 32 bits whose written form it is
 unfoldable pub address_of : List ℕ → Option ℕ
-address_of text = option_map (λ octets. from_be_bytes w32 octets) (whole_value (read_ipv4 text))
+address_of text = found_below (is_written_so text) (2 ^ 32)
 
 -- the address that a value gives
 abbrev pub address_in : Data → Option ℕ

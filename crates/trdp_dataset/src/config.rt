@@ -4,7 +4,7 @@ ghost use Rattle.std.specs.Prelude.{◌≡◌, ◌≤◌, length, unwrap_or, opt
 ghost use Rattle.toml.specs.Data.{as_table};
 ghost use Rattle.toml.specs.View.{view, table_view};
 ghost use Rattle.trdp_dataset.specs.Values.{address_in};
-ghost use Rattle.trdp_dataset.specs.Places.{value_at};
+ghost use Rattle.trdp_dataset.specs.Positions.{value_at};
 ghost use Rattle.trdp_dataset.specs.Seen.{tables_seen};
 ghost use Rattle.trdp_dataset.specs.Configs.{number_at, number_or, node_value, config_in, datasets_in, quotas_in, slot_in, slots_in};
 ghost use Rattle.trdp_dataset.specs.StoredSlots.{slot_seen, slots_of};
@@ -13,7 +13,7 @@ use crate::fault::ConfigFault;
 use crate::key::Key;
 use crate::load::load;
 use crate::parse::parse;
-use crate::place::{all_places, members_at, node_in, value_at};
+use crate::position::{all_positions, members_at, node_in, value_at};
 use crate::read::number_or;
 use crate::registry::Registry;
 use crate::value::address;
@@ -157,8 +157,8 @@ impl NodeConfig {
         ensures reads { Reads config_of bytes.now result }
     {
         let top = parse(alloc, bytes)?;
-        let places = all_places(alloc, &top)?;
-        let registry = load(alloc, &top, &places)?;
+        let positions = all_positions(alloc, &top)?;
+        let registry = load(alloc, &top, &positions)?;
         let slots = slots_in(alloc, &top)?;
         Ok(config_in(&top, registry, slots))
     }

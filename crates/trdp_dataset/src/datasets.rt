@@ -52,7 +52,7 @@ impl Datasets {
         Ok(true)
     }
 
-    /// The identifier and the elements of a dataset by its place.
+    /// The identifier and the elements of a dataset by its index.
     pub(crate) fn at(&self, i: usize) -> Option<(u32, &[Element])>
         ensures value { option_map (λ d. record { id = d.0; elements = d.1.now }) result ≡ slice_get self.now i }
     {
@@ -62,7 +62,7 @@ impl Datasets {
         }
     }
 
-    /// The identifier of a dataset by its place.
+    /// The identifier of a dataset by its index.
     pub(crate) fn id_at(&self, i: usize) -> u32
         requires { i < length self.now }
         ensures value { option_map (λ d. d.id) (slice_get self.now i) ≡ Some result }
@@ -71,7 +71,7 @@ impl Datasets {
         id
     }
 
-    /// The elements of a dataset by its place.
+    /// The elements of a dataset by its index.
     pub(crate) fn elements_at(&self, i: usize) -> &[Element]
         requires { i < length self.now }
         ensures value { option_map (λ d. d.elements) (slice_get self.now i) ≡ Some result.now }
@@ -97,10 +97,10 @@ impl Datasets {
         self.index_of(id).is_some()
     }
 
-    /// The place of the dataset of that identifier.
+    /// The index of the dataset of that identifier.
     pub(crate) fn index_of(&self, id: u32) -> Option<usize>
         ensures found { is_some result ≡ is_known self.now id }
-        ensures place { IfSome result (λ i. option_map (λ d. d.id) (slice_get self.now i) ≡ Some id) }
+        ensures index { IfSome result (λ i. option_map (λ d. d.id) (slice_get self.now i) ≡ Some id) }
         ensures within { IfSome result (λ i. i < length self.now) }
     {
         self.by_id.get_index_of(&id)

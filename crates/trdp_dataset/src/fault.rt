@@ -5,7 +5,7 @@ use std::alloc::AllocError;
 use thiserror::Error;
 
 /// Why a configuration isn't taken (profile). The faults stand in the order of their precedence: of several in
-/// one file the uppermost here counts, and of that one the first place in the file.
+/// one file the uppermost here counts, and of that one the first position in the file.
 #[derive(Clone, Copy, Debug, PartialEq, Eq, Error)]
 pub enum ConfigFault {
     /// The bytes aren't UTF-8 or not TOML.

@@ -15,7 +15,7 @@ mod key;
 mod load;
 mod parse;
 mod pass;
-mod place;
+mod position;
 mod read;
 mod registry;
 mod size;

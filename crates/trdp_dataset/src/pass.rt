@@ -1,13 +1,13 @@
-//! The faults that show at single places of a configuration file: one pass for each kind.
+//! The faults that show at single positions of a configuration file: one pass for each kind.
 
 ghost use Rattle.std.specs.Prelude.{◌≡◌, find, option_map};
 ghost use Rattle.std.specs.List.{list_any};
-ghost use Rattle.trdp_dataset.specs.Seen.{place_seen, places_seen};
-ghost use Rattle.trdp_dataset.specs.Faults.{is_missing, is_wrong, is_real_place, is_bad_place, is_excessive, most, missing_in, wrong_type_in, real_in, bad_id_in, too_many_in, first_fault, place_fault};
+ghost use Rattle.trdp_dataset.specs.Seen.{position_seen, positions_seen};
+ghost use Rattle.trdp_dataset.specs.Faults.{is_missing, is_wrong, is_real_position, is_bad_position, is_excessive, most, missing_in, wrong_type_in, real_in, bad_id_in, too_many_in, first_fault, position_fault};
 
 use crate::fault::ConfigFault;
 use crate::key::{Key, Wanted};
-use crate::place::Place;
+use crate::position::Position;
 use crate::value::{exceeds, identifier, is_real, items, kind};
 
 /// The most members of an array.
@@ -20,10 +20,10 @@ fn most(key: Key) -> usize
     }
 }
 
-impl Place<'_> {
+impl Position<'_> {
     /// Whether a required key isn't there, or the array under it is empty.
     fn is_missing(&self) -> bool
-        ensures value { result ≡ is_missing (place_seen self.now) }
+        ensures value { result ≡ is_missing (position_seen self.now) }
     {
         let wanted = self.key.wanted();
         self.key.is_required()
@@ -37,7 +37,7 @@ impl Place<'_> {
 
     /// Whether a value isn't of the kind that its key wants.
     fn is_wrong(&self) -> bool
-        ensures value { result ≡ is_wrong (place_seen self.now) }
+        ensures value { result ≡ is_wrong (position_seen self.now) }
     {
         match self.value {
             Some(value) => !self.key.wanted().accepts(value),
@@ -47,7 +47,7 @@ impl Place<'_> {
 
     /// Whether the type of an element is a real number.
     fn is_real(&self) -> bool
-        ensures value { result ≡ is_real_place (place_seen self.now) }
+        ensures value { result ≡ is_real_position (position_seen self.now) }
     {
         match self.value {
             Some(value) => self.key.wanted() == Wanted::Kind && is_real(value),
@@ -57,7 +57,7 @@ impl Place<'_> {
 
     /// Whether an identifier is out of range, or a type isn't known.
     fn is_bad(&self) -> bool
-        ensures value { result ≡ is_bad_place (place_seen self.now) }
+        ensures value { result ≡ is_bad_position (position_seen self.now) }
     {
         let Some(value) = self.value else {
             return false;
@@ -72,7 +72,7 @@ impl Place<'_> {
 
     /// Whether an array has too many members, or a quota is too large.
     fn is_excessive(&self) -> bool
-        ensures value { result ≡ is_excessive (place_seen self.now) }
+        ensures value { result ≡ is_excessive (position_seen self.now) }
     {
         let Some(value) = self.value else {
             return false;
@@ -85,86 +85,86 @@ impl Place<'_> {
     }
 }
 
-/// The key of the first place that is missing.
-fn missing_key(places: &[Place<'_>]) -> Option<Key>
-    ensures value { result ≡ option_map (λ place. place.key) (find (λ place. is_missing (place_seen place)) places.now) }
+/// The key of the first position that is missing.
+fn missing_key(positions: &[Position<'_>]) -> Option<Key>
+    ensures value { result ≡ option_map (λ position. position.key) (find (λ position. is_missing (position_seen position)) positions.now) }
 {
-    places
+    positions
         .iter()
-        .find(|place| place.is_missing())
-        .map(|place| place.key)
+        .find(|position| position.is_missing())
+        .map(|position| position.key)
 }
 
-/// The key of the first place that is wrong.
-fn wrong_key(places: &[Place<'_>]) -> Option<Key>
-    ensures value { result ≡ option_map (λ place. place.key) (find (λ place. is_wrong (place_seen place)) places.now) }
+/// The key of the first position that is wrong.
+fn wrong_key(positions: &[Position<'_>]) -> Option<Key>
+    ensures value { result ≡ option_map (λ position. position.key) (find (λ position. is_wrong (position_seen position)) positions.now) }
 {
-    places
+    positions
         .iter()
-        .find(|place| place.is_wrong())
-        .map(|place| place.key)
+        .find(|position| position.is_wrong())
+        .map(|position| position.key)
 }
 
 /// Whether a real number is anywhere.
-fn has_real(places: &[Place<'_>]) -> bool
-    ensures value { result ≡ list_any (λ place. is_real_place (place_seen place)) places.now }
+fn has_real(positions: &[Position<'_>]) -> bool
+    ensures value { result ≡ list_any (λ position. is_real_position (position_seen position)) positions.now }
 {
-    places.iter().any(|place| place.is_real())
+    positions.iter().any(|position| position.is_real())
 }
 
 /// Whether a bad identifier or type is anywhere.
-fn has_bad(places: &[Place<'_>]) -> bool
-    ensures value { result ≡ list_any (λ place. is_bad_place (place_seen place)) places.now }
+fn has_bad(positions: &[Position<'_>]) -> bool
+    ensures value { result ≡ list_any (λ position. is_bad_position (position_seen position)) positions.now }
 {
-    places.iter().any(|place| place.is_bad())
+    positions.iter().any(|position| position.is_bad())
 }
 
 /// Whether too many of something are anywhere.
-fn has_excess(places: &[Place<'_>]) -> bool
-    ensures value { result ≡ list_any (λ place. is_excessive (place_seen place)) places.now }
+fn has_excess(positions: &[Position<'_>]) -> bool
+    ensures value { result ≡ list_any (λ position. is_excessive (position_seen position)) positions.now }
 {
-    places.iter().any(|place| place.is_excessive())
+    positions.iter().any(|position| position.is_excessive())
 }
 
-/// The first place where a required key isn't there.
-pub(crate) fn missing(places: &[Place<'_>]) -> Option<ConfigFault>
-    ensures value { result ≡ missing_in (places_seen places.now) }
+/// The first position where a required key isn't there.
+pub(crate) fn missing(positions: &[Position<'_>]) -> Option<ConfigFault>
+    ensures value { result ≡ missing_in (positions_seen positions.now) }
 {
-    match missing_key(places) {
+    match missing_key(positions) {
         Some(key) => Some(ConfigFault::Missing(key)),
         None => None,
     }
 }
 
-/// The first place where a value isn't of the kind that is wanted.
-pub(crate) fn wrong_type(places: &[Place<'_>]) -> Option<ConfigFault>
-    ensures value { result ≡ wrong_type_in (places_seen places.now) }
+/// The first position where a value isn't of the kind that is wanted.
+pub(crate) fn wrong_type(positions: &[Position<'_>]) -> Option<ConfigFault>
+    ensures value { result ≡ wrong_type_in (positions_seen positions.now) }
 {
-    match wrong_key(places) {
+    match wrong_key(positions) {
         Some(key) => Some(ConfigFault::WrongType(key)),
         None => None,
     }
 }
 
 /// Whether an element is a real number.
-pub(crate) fn real(places: &[Place<'_>]) -> Option<ConfigFault>
-    ensures value { result ≡ real_in (places_seen places.now) }
+pub(crate) fn real(positions: &[Position<'_>]) -> Option<ConfigFault>
+    ensures value { result ≡ real_in (positions_seen positions.now) }
 {
-    has_real(places).then_some(ConfigFault::Real)
+    has_real(positions).then_some(ConfigFault::Real)
 }
 
 /// Whether an identifier is out of range, or a type isn't known.
-pub(crate) fn bad_id(places: &[Place<'_>]) -> Option<ConfigFault>
-    ensures value { result ≡ bad_id_in (places_seen places.now) }
+pub(crate) fn bad_id(positions: &[Position<'_>]) -> Option<ConfigFault>
+    ensures value { result ≡ bad_id_in (positions_seen positions.now) }
 {
-    has_bad(places).then_some(ConfigFault::BadId)
+    has_bad(positions).then_some(ConfigFault::BadId)
 }
 
 /// Whether there are too many slots, datasets or elements, or a quota is too large.
-pub(crate) fn too_many(places: &[Place<'_>]) -> Option<ConfigFault>
-    ensures value { result ≡ too_many_in (places_seen places.now) }
+pub(crate) fn too_many(positions: &[Position<'_>]) -> Option<ConfigFault>
+    ensures value { result ≡ too_many_in (positions_seen positions.now) }
 {
-    has_excess(places).then_some(ConfigFault::TooMany)
+    has_excess(positions).then_some(ConfigFault::TooMany)
 }
 
 /// The first fault that there is.
@@ -179,14 +179,14 @@ fn first_fault(faults: &[Option<ConfigFault>]) -> Option<ConfigFault>
     None
 }
 
-/// The fault of single places other than too large numbers.
-pub(crate) fn place_fault(places: &[Place<'_>]) -> Option<ConfigFault>
-    ensures value { result ≡ place_fault (places_seen places.now) }
+/// The fault of single positions other than too large numbers.
+pub(crate) fn position_fault(positions: &[Position<'_>]) -> Option<ConfigFault>
+    ensures value { result ≡ position_fault (positions_seen positions.now) }
 {
     first_fault(&[
-        missing(places),
-        wrong_type(places),
-        real(places),
-        bad_id(places),
+        missing(positions),
+        wrong_type(positions),
+        real(positions),
+        bad_id(positions),
     ])
 }

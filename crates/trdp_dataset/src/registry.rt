@@ -5,7 +5,7 @@ use crate::element::Element;
 use crate::fault::ConfigFault;
 use crate::load::load;
 use crate::parse::parse;
-use crate::place::dataset_places;
+use crate::position::dataset_positions;
 use std::alloc::Global;
 use std::marker::Model;
 
@@ -48,8 +48,8 @@ impl Registry {
         ensures reads { Reads registry_of bytes.now result }
     {
         let top = parse(alloc, bytes)?;
-        let places = dataset_places(alloc, &top)?;
-        load(alloc, &top, &places)
+        let positions = dataset_positions(alloc, &top)?;
+        load(alloc, &top, &positions)
     }
 
     /// The registry of datasets that fit together, with the sizes of their zero values in order.
@@ -78,7 +78,7 @@ impl Registry {
         self.len() == 0
     }
 
-    /// The identifier of a dataset by its place in the file, from 0; None from `len()` on.
+    /// The identifier of a dataset by its index in the file, from 0; None from `len()` on.
     pub fn id_at(&self, i: usize) -> Option<u32>
         ensures value { result ≡ option_map (λ d. d.id) (slice_get self.now i) }
     {
@@ -102,7 +102,7 @@ impl Registry {
         self.elements(id).is_some()
     }
 
-    /// One element of a dataset by its place, from 0; None where there is none.
+    /// One element of a dataset by its index, from 0; None where there is none.
     pub fn element(&self, id: u32, i: usize) -> Option<Element>
         ensures value { result ≡ option_and_then (λ es. slice_get es i) (elements_of self.now id) }
     {

@@ -9,9 +9,8 @@ ghost use Rattle.trdp_dataset.specs.Values.{items_in, address_of, address_in, na
 
 use crate::element::ElementKind;
 use crate::key::Wanted;
-use std::net::Ipv4Addr;
 use toml::Value;
-use trdp_base::Ip;
+use trdp_base::{Ip, read_ip};
 
 /// The members of an array; none of any other value.
 pub(crate) fn items(value: &Value) -> &[Value]
@@ -69,8 +68,8 @@ pub(crate) fn identifier(value: &Value) -> Option<u32>
 fn address_of(text: &str) -> Option<Ip>
     ensures value { option_map (λ ip. ip.0) result ≡ address_of text.now }
 {
-    match Ipv4Addr::parse_ascii(text.as_bytes()) {
-        Ok(address) => Some(Ip(address.to_bits())),
+    match read_ip(text.as_bytes()) {
+        Ok(ip) => Some(ip),
         Err(_) => None,
     }
 }

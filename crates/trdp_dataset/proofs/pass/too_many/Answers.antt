@@ -6,4 +6,4 @@ use Rattle.trdp_dataset.proofs.pass.too_many.Goals as goal
 
 pub returns : goal.returns
 unfolding too_many_in
-returns c = record { value = c.then_some.ensures ∙ fault_anywhere is_excessive c.args.places.now TooMany c.has_excess.result c.has_excess.ensures.value }
+returns c = record { value = c.then_some.ensures ∙ fault_anywhere is_excessive c.args.positions.now TooMany c.has_excess.result c.has_excess.ensures.value }

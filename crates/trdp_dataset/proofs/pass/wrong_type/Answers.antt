@@ -6,8 +6,8 @@ use Rattle.trdp_dataset.proofs.pass.wrong_type.Goals as goal
 
 pub returns-in-Some : goal.returns-in-Some
 unfolding wrong_type_in
-returns-in-Some c = record { value = fault_seen is_wrong c.args.places.now (λ key. WrongType key) (Some c.in-Some.key) c.in-Some.ensures.value }
+returns-in-Some c = record { value = fault_seen is_wrong c.args.positions.now (λ key. WrongType key) (Some c.in-Some.key) c.in-Some.ensures.value }
 
 pub returns-in-None : goal.returns-in-None
 unfolding wrong_type_in
-returns-in-None c = record { value = fault_seen is_wrong c.args.places.now (λ key. WrongType key) None c.in-None.ensures.value }
+returns-in-None c = record { value = fault_seen is_wrong c.args.positions.now (λ key. WrongType key) None c.in-None.ensures.value }

@@ -2,7 +2,7 @@ use Rattle.std.proofs.Common.{ap, ◌∙◌}
 use Rattle.toml.proofs.Views.{table_get}
 use Rattle.toml.specs.Data.{get_member}
 use Rattle.toml.specs.View.{table_view}
-use Rattle.trdp_dataset.proofs.place.value_at.Goals as goal
+use Rattle.trdp_dataset.proofs.position.value_at.Goals as goal
 
 pub returns : goal.returns
 returns c = record {
