@@ -11,4 +11,5 @@ pub mod Sizes
 pub mod Rows
 pub mod Steps
 pub mod Twice
-pub mod Passes
+pub mod Least
+pub mod Singles

@@ -15,23 +15,23 @@ use Rattle.trdp_dataset.specs.declared.key.Key.{Key}
 use Rattle.trdp_dataset.specs.declared.key.Key.TheVariants.{Address, PdPort, MdPort, OperatorPort, Slot, ControlPort, Dataset, DatasetId, Elements, ElementType, ElementSize}
 use Rattle.trdp_dataset.specs.declared.fault.ConfigFault.{ConfigFault}
 use Rattle.trdp_dataset.specs.declared.fault.ConfigFault.TheVariants.{Toml, OutOfMemory}
-use Rattle.trdp_dataset.specs.Keys.{quota_keys}
+use Rattle.trdp_dataset.specs.Keys.{wanted_by, default_of, quota_keys}
 use Rattle.trdp_dataset.specs.Values.{number_in, address_in, identifier_in, kind_in}
 use Rattle.trdp_dataset.specs.Datasets.{DatasetModel}
 use Rattle.trdp_dataset.specs.Positions.{value_at, tables_at, node_in, dataset_positions, all_positions}
 use Rattle.trdp_dataset.specs.Faults.{fault_in}
 
--- the number that a value is, or the default where it is none in the range
-unfoldable pub number_or : ℕ → ℕ → ℕ → Option Data → ℕ
-number_or low high default found = unwrap_or (option_and_then (number_in low high) found) default
+-- the number of a key whose value was looked for: the key's default where there is no number in the key's range
+unfoldable pub number_of : Key → Option Data → ℕ
+number_of key found = unwrap_or (option_and_then (number_in (wanted_by key)) found) (default_of key)
 
--- the number at a key
-abbrev pub number_at : ℕ → ℕ → ℕ → Key → Members → ℕ
-number_at low high default key members = number_or low high default (value_at key members)
+-- the number at a key of a table
+abbrev pub number_at : Key → Members → ℕ
+number_at key members = number_of key (value_at key members)
 
 -- an element of that type, of the size that the table gives, or 1
 abbrev pub element_of : Members → ElementKind → Element
-element_of members kind = record { kind = kind; size = number_at 0 65535 1 ElementSize members }
+element_of members kind = record { kind = kind; size = number_at ElementSize members }
 
 -- the element that a table is, if its type is known
 unfoldable pub element_in : Members → Option Element
@@ -55,10 +55,10 @@ pub record SlotModel : Type 0 where
   pub control_port : ℕ
 
 unfoldable pub quotas_in : Members → List ℕ
-quotas_in members = map (λ key. number_at 0 256 0 key members) quota_keys
+quotas_in members = map (λ key. number_at key members) quota_keys
 
 unfoldable pub slot_in : Members → SlotModel
-slot_in members = record { quotas = quotas_in members; control_port = number_at 0 65535 0 ControlPort members }
+slot_in members = record { quotas = quotas_in members; control_port = number_at ControlPort members }
 
 unfoldable pub slots_in : Members → List SlotModel
 slots_in top = map slot_in (tables_at Slot top)
@@ -81,9 +81,9 @@ unfoldable pub config_in : Members → ConfigModel
 config_in top = record {
   registry = datasets_in top;
   address = unwrap_or (option_and_then address_in (node_value Address top)) 0;
-  pd_port = number_or 1 65535 17224 (node_value PdPort top);
-  md_port = number_or 1 65535 17225 (node_value MdPort top);
-  operator_port = number_or 0 65535 0 (node_value OperatorPort top);
+  pd_port = number_of PdPort (node_value PdPort top);
+  md_port = number_of MdPort (node_value MdPort top);
+  operator_port = number_of OperatorPort (node_value OperatorPort top);
   slots = slots_in top;
 }
 

@@ -3,10 +3,11 @@
 ghost use Rattle.std.specs.Prelude.{◌≡◌, ◌≤◌, length, unwrap_or, option_map, option_and_then, IfOk};
 ghost use Rattle.toml.specs.Data.{as_table};
 ghost use Rattle.toml.specs.View.{view, table_view};
-ghost use Rattle.trdp_dataset.specs.Values.{address_in};
+ghost use Rattle.trdp_dataset.specs.Keys.{wanted_by, default_of};
+ghost use Rattle.trdp_dataset.specs.Values.{address_in, IsAllowed};
 ghost use Rattle.trdp_dataset.specs.Positions.{value_at};
 ghost use Rattle.trdp_dataset.specs.Seen.{tables_seen};
-ghost use Rattle.trdp_dataset.specs.Configs.{number_at, number_or, node_value, config_in, datasets_in, quotas_in, slot_in, slots_in};
+ghost use Rattle.trdp_dataset.specs.Configs.{number_of, node_value, config_in, datasets_in, quotas_in, slot_in, slots_in};
 ghost use Rattle.trdp_dataset.specs.StoredSlots.{slot_seen, slots_of};
 
 use crate::fault::ConfigFault;
@@ -14,7 +15,7 @@ use crate::key::Key;
 use crate::load::load;
 use crate::parse::parse;
 use crate::position::{all_positions, members_at, node_in, value_at};
-use crate::read::number_or;
+use crate::read::{number_at, number_of};
 use crate::registry::Registry;
 use crate::value::address;
 use std::alloc::{AllocError, Global};
@@ -52,26 +53,18 @@ impl Model for NodeConfig {
     ghost invariant = { λ c. (1 ≤ c.pd_port) × (1 ≤ c.md_port) × (1 ≤ length c.slots.items) × (length c.slots.items ≤ 16) };
 }
 
-/// The quota at a key of a slot; 0 where there is none.
-fn quota(slot: &Table, key: Key) -> u16
-    ensures value { result ≡ number_at 0 256 0 key (table_view slot.now) }
-    ensures within { result ≤ 256 }
-{
-    number_or(value_at(slot, key), 0, 256, 0)
-}
-
 /// The quotas of a slot.
 #[tactic(auto, unfolding(crate::specs::Configs::quotas_in))]
 fn quotas_in(slot: &Table) -> Quotas
     ensures value { result ≡ quotas_in (table_view slot.now) }
 {
     let counts = [
-        quota(slot, Key::Publishers),
-        quota(slot, Key::Subscriptions),
-        quota(slot, Key::Requesters),
-        quota(slot, Key::Listeners),
-        quota(slot, Key::Callers),
-        quota(slot, Key::Repliers),
+        number_at(slot, Key::Publishers),
+        number_at(slot, Key::Subscriptions),
+        number_at(slot, Key::Requesters),
+        number_at(slot, Key::Listeners),
+        number_at(slot, Key::Callers),
+        number_at(slot, Key::Repliers),
     ];
     Quotas::new(counts).unwrap()
 }
@@ -83,7 +76,7 @@ fn slot_in(slot: &Table) -> Slot
 {
     Slot {
         quotas: quotas_in(slot),
-        control_port: number_or(value_at(slot, Key::ControlPort), 0, 65535, 0),
+        control_port: number_at(slot, Key::ControlPort),
     }
 }
 
@@ -112,6 +105,14 @@ fn node_value(top: &Table, key: Key) -> Option<&Value>
     }
 }
 
+/// The number that the table of the node has at a key.
+fn node_number(top: &Table, key: Key) -> u16
+    ensures value { result ≡ number_of key (node_value key (table_view top.now)) }
+    ensures range { IsAllowed (wanted_by key) (default_of key) → IsAllowed (wanted_by key) result }
+{
+    number_of(key, node_value(top, key))
+}
+
 /// The address of the node; 0.0.0.0 where there is none.
 fn address_in(top: &Table) -> Ip
     ensures value { result.0 ≡ unwrap_or (option_and_then address_in (node_value Key.Address (table_view top.now))) 0 }
@@ -137,9 +138,9 @@ fn config_in(top: &Table, registry: Registry, slots: Vec<Slot>) -> NodeConfig
     NodeConfig {
         registry,
         address: address_in(top),
-        pd_port: number_or(node_value(top, Key::PdPort), 1, 65535, 17224),
-        md_port: number_or(node_value(top, Key::MdPort), 1, 65535, 17225),
-        operator_port: number_or(node_value(top, Key::OperatorPort), 0, 65535, 0),
+        pd_port: node_number(top, Key::PdPort),
+        md_port: node_number(top, Key::MdPort),
+        operator_port: node_number(top, Key::OperatorPort),
         slots,
     }
 }

@@ -1,5 +1,8 @@
 //! Why a configuration isn't taken.
 
+ghost use Rattle.std.specs.Prelude.{◌≡◌};
+ghost use Rattle.trdp_dataset.specs.Faults.{rank, least_of_two};
+
 use crate::key::Key;
 use std::alloc::AllocError;
 use thiserror::Error;
@@ -44,6 +47,44 @@ pub enum ConfigFault {
     /// Memory ran out.
     #[error("OutOfMemory")]
     OutOfMemory,
+}
+
+impl ConfigFault {
+    /// The number of the fault in the order of the faults, 1 to 12.
+    fn rank(self) -> u8
+        ensures value { result ≡ rank self }
+    {
+        match self {
+            ConfigFault::Toml => 1,
+            ConfigFault::Missing(_) => 2,
+            ConfigFault::WrongType(_) => 3,
+            ConfigFault::Real => 4,
+            ConfigFault::BadId => 5,
+            ConfigFault::TwiceId => 6,
+            ConfigFault::NoDataset(_) => 7,
+            ConfigFault::NoCount => 8,
+            ConfigFault::TooDeep => 9,
+            ConfigFault::TooBig => 10,
+            ConfigFault::TooMany => 11,
+            ConfigFault::OutOfMemory => 12,
+        }
+    }
+}
+
+/// Of two faults the one of the lower number, and of two of one number the former.
+pub(crate) fn least_of_two(
+    former: Option<ConfigFault>,
+    later: Option<ConfigFault>,
+) -> Option<ConfigFault>
+    ensures value { result ≡ least_of_two former later }
+{
+    let Some(fault) = former else {
+        return later;
+    };
+    match later {
+        Some(other) if other.rank() < fault.rank() => later,
+        _ => former,
+    }
 }
 
 impl From<AllocError> for ConfigFault {

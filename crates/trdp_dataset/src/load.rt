@@ -4,17 +4,27 @@ ghost use Rattle.std.specs.Prelude.{◌≡◌, ◌++◌, List, IfOk};
 ghost use Rattle.toml.specs.View.{table_view};
 ghost use Rattle.trdp_dataset.specs.Positions.{PositionModel, dataset_positions};
 ghost use Rattle.trdp_dataset.specs.Seen.{positions_seen};
-ghost use Rattle.trdp_dataset.specs.Faults.{fault_in, Answers};
+ghost use Rattle.trdp_dataset.specs.Faults.{before_datasets, fault_in, Answers};
 ghost use Rattle.trdp_dataset.specs.Configs.{datasets_in};
 
 use crate::check::fit_together;
 use crate::fault::ConfigFault;
-use crate::pass::{position_fault, too_many};
 use crate::position::Position;
+use crate::position_fault::least_fault;
 use crate::read::datasets_in;
 use crate::registry::Registry;
 use std::alloc::Global;
 use toml::Table;
+
+/// The least fault of positions, where it comes before those of datasets: each one but TooMany does.
+fn before_datasets(least: Option<ConfigFault>) -> Option<ConfigFault>
+    ensures value { result ≡ before_datasets least }
+{
+    match least {
+        Some(ConfigFault::TooMany) => None,
+        _ => least,
+    }
+}
 
 /// The registry of a file, unless there is a fault at one of the positions or among the datasets.
 pub(crate) fn load(
@@ -26,15 +36,15 @@ pub(crate) fn load(
     ensures value { IfOk result (λ registry. registry ≡ datasets_in (table_view top.now)) }
     ensures answers { Answers (fault_in (positions_seen positions.now) (datasets_in (table_view top.now))) result }
 {
-    match position_fault(positions) {
+    let least = least_fault(positions);
+    match before_datasets(least) {
         Some(fault) => return Err(fault),
         None => {}
     }
     let datasets = datasets_in(alloc, top)?;
     let zero_sizes = fit_together(alloc, &datasets)?;
-    match too_many(positions) {
-        Some(fault) => return Err(fault),
-        None => {}
+    match least {
+        None => Ok(Registry::new(datasets, zero_sizes)),
+        Some(fault) => Err(fault),
     }
-    Ok(Registry::new(datasets, zero_sizes))
 }
