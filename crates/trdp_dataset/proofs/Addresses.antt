@@ -13,7 +13,7 @@ found_here : (test : ℕ → Bool) (k n : ℕ) (b : Bool) → test k ≡ b → n
     → (n < k → found_below test k ≡ Some n) → (if b then Some k else found_below test k) ≡ Some n
 found_here test k n true e small passes only rest = ap (λ (m : ℕ). Some m) (only e)
 found_here test k n false e small passes only rest = elim (one_below n k small) [
-  inl same ↦ absurd (let x : false ≡ true = sym e ∙ (ap test (sym same) ∙ passes) in cc)
+  | inl same ↦ absurd (let x : false ≡ true = sym e ∙ (ap test (sym same) ∙ passes) in cc)
   | inr less ↦ rest less
 ]
 

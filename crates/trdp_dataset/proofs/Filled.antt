@@ -146,6 +146,9 @@ length_made (Some x) rest e = grind (arith, nat_tests)
 abbrev pub is_filled : List Element → Bool
 is_filled es = nat_lt 0 (length es) && nat_le (length es) 256
 
+short_by : (ts : List Members) → length ts ≤ 256 → nat_le (length (filter_map element_in ts)) 256 ≡ true
+short_by ts few = let fewer = kept element_in ts in le-leb (length (filter_map element_in ts)) 256 (omega (arith, fewer, few))
+
 -- a dataset with good positions is so
 dataset_filled : (members : Members) → AreGood (positions_at dataset_keys members) → AreGood (positions_of_all element_keys (tables_at Elements members)) → is_filled (elements_in members) ≡ true
 unfolding elements_in positions_at positions_of_all tables_at
@@ -156,9 +159,7 @@ dataset_filled members g h =
     let inner : AreGood (positions_of_all element_keys (f.first ∷ f.rest)) = subst (λ (ts : List Members). AreGood (positions_of_all element_keys ts)) f.tables h in
     let made = element_made f.first (good_front (positions_at element_keys f.first) (positions_of_all element_keys f.rest) inner) in
     let some = ap (λ ts. nat_lt 0 (length (filter_map element_in ts))) f.tables ∙ length_made (element_in f.first) (filter_map element_in f.rest) made in
-    let fewer = kept element_in (tables_in (value_at Elements members)) in
-    let few = le-leb (length (filter_map element_in (tables_in (value_at Elements members)))) 256 (omega (arith, fewer, all.few)) in
-    rw (some, few) refl
+    rw (some, short_by (tables_in (value_at Elements members)) all.few) refl
 
 filled_by : (d : Members) (id : Option ℕ) (rest : List DatasetModel) → is_filled (elements_in d) ≡ true → list_all (λ (m : DatasetModel). is_filled m.elements) rest ≡ true
     → list_all (λ (m : DatasetModel). is_filled m.elements) (cons_option (option_map (λ n. record { id = n; elements = elements_in d }) id) rest) ≡ true

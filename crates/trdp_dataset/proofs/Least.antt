@@ -65,7 +65,7 @@ pub walk_turn : (positions : List Position) (i : ℕ) (x : Position) (least faul
 walk_turn positions i x least fault next all inside item found chosen so_far =
     let rest = least_from positions (i + 1) in
     let opened = at_drop_more (λ ps. least_fault (map fault_at (positions_seen ps))) positions i x inside
-        ∙ (ap (λ p. least_of_two (fault_at (position_seen p)) rest) (sym item) ∙ ap (λ o. least_of_two o rest) (sym found)) in
+    ∙ (ap (λ p. least_of_two (fault_at (position_seen p)) rest) (sym item) ∙ ap (λ o. least_of_two o rest) (sym found)) in
     ap (λ o. least_of_two o rest) chosen ∙ (least_assoc least fault rest ∙ (ap (least_of_two least) (sym opened) ∙ so_far))
 
 -- where of two faults the least is none, there is neither

@@ -215,6 +215,7 @@ no_toml f h e = elim h [ inl p ↦ by f e p | inr d ↦ of f e d ]
     by TooBig s p = p
     by TooMany s p = cc
     by OutOfMemory s p = p
+
     of : (g : ConfigFault) → g ≡ Toml → IsOfDatasets g → ⊥
     of Toml s p = p
     of (Missing key) s p = p

@@ -21,13 +21,17 @@ abbrev pub wrong_unless : Key → Bool → Option ConfigFault
 wrong_unless key true = None
 wrong_unless key false = Some (WrongType key)
 
--- an array of so many tables, of which the key allows at most so many; without any it is as good as none
+-- an array of so many tables, of which the key allows at most so many; without any it is as good
+-- as none
 abbrev pub count_fault : Key → ℕ → ℕ → Option ConfigFault
 count_fault key most count =
-    if is_required key && (count == 0) then Some (Missing key) else if nat_lt most count then Some TooMany else None
+    if is_required key && (count == 0) then Some (Missing key)
+    else if nat_lt most count then Some TooMany
+    else None
 
 abbrev pub tables_fault : Key → ℕ → Data → Option ConfigFault
-tables_fault key most d = if is_tables d then count_fault key most (length (items_in d)) else Some (WrongType key)
+tables_fault key most d =
+    if is_tables d then count_fault key most (length (items_in d)) else Some (WrongType key)
 
 -- a quota, of which the key allows at most so many
 abbrev pub quota_fault : Key → ℕ → Option ℕ → Option ConfigFault
@@ -40,19 +44,22 @@ bad_unless false = Some BadId
 
 -- an identifier of a dataset
 abbrev pub identifier_fault : Key → Data → Option ConfigFault
-identifier_fault key d = if is_integer d then bad_unless (is_some (identifier_in d)) else Some (WrongType key)
+identifier_fault key d =
+    if is_integer d then bad_unless (is_some (identifier_in d)) else Some (WrongType key)
 
 -- the type of an element
 abbrev pub kind_fault : Key → Data → Option ConfigFault
 kind_fault key d =
-    if is_type d then (if is_real d then Some Real else bad_unless (is_some (kind_in d))) else Some (WrongType key)
+    if is_type d then (if is_real d then Some Real else bad_unless (is_some (kind_in d)))
+    else Some (WrongType key)
 
 -- the fault of a value at a key, by what the key wants
 abbrev pub value_fault : Key → Wanted → Data → Option ConfigFault
 value_fault key wanted.Table d = wrong_unless key (is_table d)
 value_fault key (wanted.Tables most) d = tables_fault key most d
 value_fault key wanted.Address d = wrong_unless key (is_some (address_in d))
-value_fault key (wanted.Number least most) d = wrong_unless key (is_some (natural_within least most d))
+value_fault key (wanted.Number least most) d =
+    wrong_unless key (is_some (natural_within least most d))
 value_fault key (wanted.Quota most) d = quota_fault key most (natural_in d)
 value_fault key (wanted.Identifier least most) d = identifier_fault key d
 value_fault key wanted.Kind d = kind_fault key d
@@ -84,7 +91,8 @@ rank OutOfMemory = 12
 abbrev pub least_of_two : Option ConfigFault → Option ConfigFault → Option ConfigFault
 least_of_two None later = later
 least_of_two (Some fault) None = Some fault
-least_of_two (Some fault) (Some later) = if nat_lt (rank later) (rank fault) then Some later else Some fault
+least_of_two (Some fault) (Some later) =
+    if nat_lt (rank later) (rank fault) then Some later else Some fault
 
 -- of all faults in order the one of the lowest number, and of several of that number the first
 abbrev pub least_fault : List (Option ConfigFault) → Option ConfigFault
@@ -110,16 +118,21 @@ nested_ids es = filter_map (λ e. nested_id (form_of e.kind)) es
 
 -- the first dataset that is nested somewhere and isn't there
 unfoldable pub no_dataset_in : List DatasetModel → Option ConfigFault
-no_dataset_in datasets = option_map (λ id. NoDataset id) (find (λ id. not (is_known datasets id)) (flat_map (λ d. nested_ids d.elements) datasets))
+no_dataset_in datasets =
+    option_map (λ id. NoDataset id)
+    (find (λ id. not (is_known datasets id)) (flat_map (λ d. nested_ids d.elements) datasets))
 
 unfoldable pub no_count_in : List DatasetModel → Option ConfigFault
-no_count_in datasets = if list_all (λ d. all_counted false d.elements) datasets then None else Some NoCount
+no_count_in datasets =
+    if list_all (λ d. all_counted false d.elements) datasets then None else Some NoCount
 
 unfoldable pub too_deep_in : List DatasetModel → Option ConfigFault
-too_deep_in datasets = if list_all (λ d. is_within datasets 5 d.id) datasets then None else Some TooDeep
+too_deep_in datasets =
+    if list_all (λ d. is_within datasets 5 d.id) datasets then None else Some TooDeep
 
 unfoldable pub too_big_in : List DatasetModel → Option ConfigFault
-too_big_in datasets = if list_all (λ d. nat_le (zero_size datasets d.id) 65388) datasets then None else Some TooBig
+too_big_in datasets =
+    if list_all (λ d. nat_le (zero_size datasets d.id) 65388) datasets then None else Some TooBig
 
 -- the first fault that there is
 abbrev pub first_fault : List (Option ConfigFault) → Option ConfigFault
@@ -129,17 +142,21 @@ first_fault (Some fault ∷ later) = Some fault
 
 -- the fault of datasets that don't fit together
 abbrev pub fit_fault : List DatasetModel → Option ConfigFault
-fit_fault datasets = first_fault (no_dataset_in datasets ∷ no_count_in datasets ∷ too_deep_in datasets ∷ too_big_in datasets ∷ [])
+fit_fault datasets = first_fault
+    (no_dataset_in datasets ∷ no_count_in datasets
+    ∷ too_deep_in datasets ∷ too_big_in datasets ∷ [])
 
 -- the fault of the datasets of a file; these faults follow one another in the order
 abbrev pub dataset_fault : List DatasetModel → Option ConfigFault
 dataset_fault datasets = first_fault
-    (twice_id_in datasets ∷ no_dataset_in datasets ∷ no_count_in datasets ∷ too_deep_in datasets ∷ too_big_in datasets ∷ [])
+    (twice_id_in datasets ∷ no_dataset_in datasets ∷ no_count_in datasets
+    ∷ too_deep_in datasets ∷ too_big_in datasets ∷ [])
 
--- the fault of a file with these positions and datasets: of all its faults the one of the lowest number, and of several
--- of that number the first
+-- the fault of a file with these positions and datasets: of all its faults the one of the lowest
+-- number, and of several of that number the first
 unfoldable pub fault_in : List PositionModel → List DatasetModel → Option ConfigFault
-fault_in positions datasets = least_of_two (least_fault (map fault_at positions)) (dataset_fault datasets)
+fault_in positions datasets =
+    least_of_two (least_fault (map fault_at positions)) (dataset_fault datasets)
 
 -- a fault that comes is the expected one, or memory ran out
 abbrev pub IsFaultOf : ConfigFault → Option ConfigFault → Type 0

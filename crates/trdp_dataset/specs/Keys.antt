@@ -7,7 +7,8 @@ use Rattle.trdp_dataset.specs.declared.key.Wanted.TheVariants as wanted
 use Rattle.trdp_dataset.specs.declared.key.Absent.{Absent}
 use Rattle.trdp_dataset.specs.declared.key.Absent.TheVariants as absent
 
--- a row of the table: the key as it stands in the file, what its value has to be, and what it means that it isn't there
+-- a row of the table: the key as it stands in the file, what its value has to be, and what it
+-- means that it isn't there
 pub record KeyRowModel : Type 0 where
   pub text : List ℕ
   pub wanted : Wanted
@@ -16,8 +17,8 @@ pub record KeyRowModel : Type 0 where
 abbrev pub row : List ℕ → Wanted → Absent → KeyRowModel
 row text wants lacks = record { text = text; wanted = wants; absent = lacks }
 
--- the table of keys: the root's `node`, the node's keys, the root's `slot`, a slot's keys, the root's `dataset`, the
--- keys of a dataset and those of an element
+-- the table of keys: the root's `node`, the node's keys, the root's `slot`, a slot's keys, the
+-- root's `dataset`, the keys of a dataset and those of an element
 abbrev pub key_row : Key → KeyRowModel
 key_row Node = row (codes "node") wanted.Table absent.Missing
 key_row Address = row (codes "address") wanted.Address absent.Missing
@@ -72,7 +73,8 @@ abbrev pub quota_keys : List Key
 quota_keys = Publishers ∷ Subscriptions ∷ Requesters ∷ Listeners ∷ Callers ∷ Repliers ∷ []
 
 abbrev pub slot_keys : List Key
-slot_keys = Publishers ∷ Subscriptions ∷ Requesters ∷ Listeners ∷ Callers ∷ Repliers ∷ ControlPort ∷ []
+slot_keys =
+    Publishers ∷ Subscriptions ∷ Requesters ∷ Listeners ∷ Callers ∷ Repliers ∷ ControlPort ∷ []
 
 abbrev pub dataset_keys : List Key
 dataset_keys = DatasetId ∷ Elements ∷ []

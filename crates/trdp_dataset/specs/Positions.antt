@@ -1,4 +1,5 @@
--- The positions of a configuration file where a key stands or is missing, in the order in which faults are looked for.
+-- The positions of a configuration file, where a key stands or is missing, in the order in which
+-- faults are looked for.
 use Rattle.std.specs.Prelude.{List, [], ◌∷◌, ◌++◌, Option, Some, None, map, option_and_then}
 use Rattle.std.specs.List.{filter_map, flat_map}
 use Rattle.toml.specs.Data.{Data, Members, get_member, as_table}
@@ -51,17 +52,20 @@ node_positions top = positions_at (Node ∷ []) top ++ positions_of_node (node_i
 
 -- the positions of the slots
 unfoldable pub slot_positions : Members → List PositionModel
-slot_positions top = positions_at (Slot ∷ []) top ++ positions_of_all slot_keys (tables_at Slot top)
+slot_positions top = positions_at (Slot ∷ []) top
+    ++ positions_of_all slot_keys (tables_at Slot top)
 
 -- the positions of elements, dataset by dataset
 unfoldable pub element_positions : List Members → List PositionModel
-element_positions datasets = flat_map (λ dataset. positions_of_all element_keys (tables_at Elements dataset)) datasets
+element_positions datasets =
+    flat_map (λ dataset. positions_of_all element_keys (tables_at Elements dataset)) datasets
 
 -- the positions of the datasets, and then those of all elements
 unfoldable pub dataset_positions : Members → List PositionModel
 dataset_positions top =
     let datasets = tables_at Dataset top in
-    positions_at (Dataset ∷ []) top ++ positions_of_all dataset_keys datasets ++ element_positions datasets
+    positions_at (Dataset ∷ []) top ++ positions_of_all dataset_keys datasets
+    ++ element_positions datasets
 
 -- all positions of a file
 unfoldable pub all_positions : Members → List PositionModel

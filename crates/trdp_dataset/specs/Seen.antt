@@ -9,7 +9,8 @@ use Rattle.trdp_dataset.specs.Positions.{PositionModel}
 
 -- a position with the data of its value
 abbrev pub position_seen : Position → PositionModel
-position_seen position = record { key = position.key; found = option_map (λ v. view v.now) position.value }
+position_seen position =
+    record { key = position.key; found = option_map (λ v. view v.now) position.value }
 
 abbrev pub positions_seen : List Position → List PositionModel
 positions_seen positions = map position_seen positions

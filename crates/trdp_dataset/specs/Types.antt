@@ -10,16 +10,19 @@ use Rattle.trdp_dataset.specs.declared.element.ElementKind.TheVariants.{Bool8, C
 -- the names of the basic types
 abbrev pub type_names : List (List ℕ × ElementKind)
 type_names =
-    (codes "BOOL8", Bool8) ∷ (codes "BITSET8", Bool8) ∷ (codes "CHAR8", Char8) ∷ (codes "UTF16", Utf16)
-    ∷ (codes "INT8", Int8) ∷ (codes "INT16", Int16) ∷ (codes "INT32", Int32) ∷ (codes "INT64", Int64)
-    ∷ (codes "UINT8", Uint8) ∷ (codes "UINT16", Uint16) ∷ (codes "UINT32", Uint32) ∷ (codes "UINT64", Uint64)
-    ∷ (codes "TIMEDATE32", Timedate32) ∷ (codes "TIMEDATE48", Timedate48) ∷ (codes "TIMEDATE64", Timedate64) ∷ []
+    (codes "BOOL8", Bool8) ∷ (codes "BITSET8", Bool8) ∷ (codes "CHAR8", Char8)
+    ∷ (codes "UTF16", Utf16) ∷ (codes "INT8", Int8) ∷ (codes "INT16", Int16)
+    ∷ (codes "INT32", Int32) ∷ (codes "INT64", Int64) ∷ (codes "UINT8", Uint8)
+    ∷ (codes "UINT16", Uint16) ∷ (codes "UINT32", Uint32) ∷ (codes "UINT64", Uint64)
+    ∷ (codes "TIMEDATE32", Timedate32) ∷ (codes "TIMEDATE48", Timedate48)
+    ∷ (codes "TIMEDATE64", Timedate64) ∷ []
 
 -- the numbers of the basic types
 abbrev pub type_numbers : List (ℕ × ElementKind)
 type_numbers =
-    (1, Bool8) ∷ (2, Char8) ∷ (3, Utf16) ∷ (4, Int8) ∷ (5, Int16) ∷ (6, Int32) ∷ (7, Int64) ∷ (8, Uint8) ∷ (9, Uint16)
-    ∷ (10, Uint32) ∷ (11, Uint64) ∷ (14, Timedate32) ∷ (15, Timedate48) ∷ (16, Timedate64) ∷ []
+    (1, Bool8) ∷ (2, Char8) ∷ (3, Utf16) ∷ (4, Int8) ∷ (5, Int16) ∷ (6, Int32) ∷ (7, Int64)
+    ∷ (8, Uint8) ∷ (9, Uint16) ∷ (10, Uint32) ∷ (11, Uint64) ∷ (14, Timedate32)
+    ∷ (15, Timedate48) ∷ (16, Timedate64) ∷ []
 
 -- the type of that name
 abbrev pub type_named : List ℕ → Option ElementKind
@@ -43,7 +46,8 @@ nested_or (Some id) basic = Some (Nested id)
 
 -- the type of that number: a basic one, or the dataset of that identifier
 abbrev pub type_numbered : ℕ → Option ElementKind
-type_numbered n = nested_or (identifier_of n) (option_map (λ row. row.1) (find (λ row. n == row.0) type_numbers))
+type_numbered n =
+    nested_or (identifier_of n) (option_map (λ row. row.1) (find (λ row. n == row.0) type_numbers))
 
 -- the names and numbers of the real numbers
 abbrev pub is_real_name : List ℕ → Bool

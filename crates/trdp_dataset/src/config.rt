@@ -26,18 +26,27 @@ use trdp_base::{Ip, Quotas};
 /// An application slot as a configuration has it.
 #[derive(Clone, Copy, Drop)]
 struct Slot {
+    /// How many objects of each kind the slot may hold, each 0 to 256.
     quotas: Quotas,
+    /// The UDP port for the slot's calls, in host order; 0 for none.
     control_port: u16,
 }
 
-/// The configuration of a node: its datasets, its address and ports, and the quotas and control port of each slot.
+/// The configuration of a node: its datasets, its address and ports, and the quotas and control
+/// port of each slot.
 #[derive(Drop)]
 pub struct NodeConfig {
+    /// The datasets.
     registry: Registry,
+    /// The node's IPv4 address, in host order.
     address: Ip,
+    /// The UDP port of process data, 1 to 65535.
     pd_port: u16,
+    /// The UDP port of message data, 1 to 65535.
     md_port: u16,
+    /// The UDP port of the operator, 1 to 65535; 0 for none.
     operator_port: u16,
+    /// The application slots in the order of the file, 1 to 16.
     slots: Vec<Slot>,
 }
 
@@ -48,9 +57,17 @@ impl Model for NodeConfig {
 
     ghost Value = { ConfigModel };
 
-    ghost view = { λ c. record { registry = c.registry; address = c.address.0; pd_port = c.pd_port; md_port = c.md_port; operator_port = c.operator_port; slots = slots_of c.slots.items } };
+    ghost view = { λ c. record {
+      registry = c.registry;
+      address = c.address.0;
+      pd_port = c.pd_port;
+      md_port = c.md_port;
+      operator_port = c.operator_port;
+      slots = slots_of c.slots.items;
+    } };
 
-    ghost invariant = { λ c. (1 ≤ c.pd_port) × (1 ≤ c.md_port) × (1 ≤ length c.slots.items) × (length c.slots.items ≤ 16) };
+    ghost invariant = { λ c. (1 ≤ c.pd_port) × (1 ≤ c.md_port) × (1 ≤ length c.slots.items)
+        × (length c.slots.items ≤ 16) };
 }
 
 /// The quotas of a slot.
@@ -115,7 +132,8 @@ fn node_number(top: &Table, key: Key) -> u16
 
 /// The address of the node; 0.0.0.0 where there is none.
 fn address_in(top: &Table) -> Ip
-    ensures value { result.0 ≡ unwrap_or (option_and_then address_in (node_value Key.Address (table_view top.now))) 0 }
+    ensures value { result.0
+        ≡ unwrap_or (option_and_then address_in (node_value Key.Address (table_view top.now))) 0 }
 {
     match node_value(top, Key::Address) {
         Some(value) => match address(value) {
@@ -152,8 +170,8 @@ impl NodeConfig {
     /// The configuration of a file in TOML.
     ///
     /// # Errors
-    /// The faults of [`ConfigFault`], of which `Toml` says that the bytes aren't UTF-8 or not TOML; `OutOfMemory` may
-    /// come in place of any of them.
+    /// The faults of [`ConfigFault`], of which `Toml` says that the bytes aren't UTF-8 or not
+    /// TOML; `OutOfMemory` may come in place of any of them.
     pub fn from_toml(alloc: Global, bytes: &[u8]) -> Result<Self, ConfigFault>
         ensures reads { Reads config_of bytes.now result }
     {

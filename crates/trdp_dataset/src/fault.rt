@@ -7,45 +7,47 @@ use crate::key::Key;
 use std::alloc::AllocError;
 use thiserror::Error;
 
-/// Why a configuration isn't taken (profile). The faults stand in the order of their precedence: of several in
-/// one file the uppermost here counts, and of that one the first position in the file.
+/// Why a configuration isn't taken (profile). The faults stand in the order of their precedence:
+/// of several in one file the uppermost here counts, and of that one the first position in the
+/// file.
 #[derive(Clone, Copy, Debug, PartialEq, Eq, Error)]
 pub enum ConfigFault {
     /// The bytes aren't UTF-8 or not TOML.
-    #[error("Toml")]
+    #[error("the bytes are not UTF-8 or not TOML")]
     Toml,
     /// A required key isn't there, or the array under it is empty.
-    #[error("Missing {0}")]
+    #[error("the key {0} is missing, or its array is empty")]
     Missing(Key),
     /// The value of a key isn't of the kind that the key wants, or is out of range.
-    #[error("WrongType {0}")]
+    #[error("the value of the key {0} is of the wrong kind or out of range")]
     WrongType(Key),
     /// An element is a real number, which this profile leaves out.
-    #[error("Real")]
+    #[error("an element is a real number")]
     Real,
     /// The identifier of a dataset is out of range, or a type is none of the known ones.
-    #[error("BadId")]
+    #[error("the identifier of a dataset is out of range, or a type is unknown")]
     BadId,
     /// Two datasets have one identifier.
-    #[error("TwiceId")]
+    #[error("two datasets have one identifier")]
     TwiceId,
     /// An element is of a dataset that isn't there.
-    #[error("NoDataset {0}")]
+    #[error("an element is of the dataset {0}, which is not there")]
     NoDataset(u32),
     /// An array of size 0 doesn't come after an element that counts its items.
-    #[error("NoCount")]
+    #[error("an array of size 0 does not come after an element that counts its items")]
     NoCount,
     /// Datasets nest deeper than 5.
-    #[error("TooDeep")]
+    #[error("datasets nest deeper than 5")]
     TooDeep,
     /// The zero value of a dataset is longer than 65,388 bytes.
-    #[error("TooBig")]
+    #[error("the zero value of a dataset is longer than 65388 bytes")]
     TooBig,
-    /// There are more than 16 slots, 256 datasets or 256 elements of a dataset, or a quota is above 256.
-    #[error("TooMany")]
+    /// There are more than 16 slots, 256 datasets or 256 elements of a dataset, or a quota is
+    /// above 256.
+    #[error("there are more than 16 slots, 256 datasets or 256 elements, or a quota above 256")]
     TooMany,
     /// Memory ran out.
-    #[error("OutOfMemory")]
+    #[error("memory ran out")]
     OutOfMemory,
 }
 

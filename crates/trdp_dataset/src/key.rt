@@ -1,4 +1,5 @@
-//! The keys of a configuration file, and the one table of what a file may and must have at each of them.
+//! The keys of a configuration file, and the one table of what a file may and must have at each of
+//! them.
 
 ghost use Rattle.std.specs.Prelude.{◌≡◌};
 ghost use Rattle.trdp_dataset.specs.Keys.{key_row, key_text, wanted_by, is_required, default_of};
@@ -57,10 +58,11 @@ pub enum Wanted {
     Address,
     /// A whole number from the first to the second, ends included.
     Number(u16, u16),
-    /// A whole number from 0 on; one above so many is [`ConfigFault::TooMany`](crate::ConfigFault).
+    /// A whole number from 0 on; one above so many is
+    /// [`ConfigFault::TooMany`](crate::ConfigFault).
     Quota(u16),
-    /// The identifier of a dataset, a whole number; one that isn't from the first to the second, ends included, is
-    /// [`ConfigFault::BadId`](crate::ConfigFault).
+    /// The identifier of a dataset, a whole number; one that isn't from the first to the second,
+    /// ends included, is [`ConfigFault::BadId`](crate::ConfigFault).
     Identifier(u32, u32),
     /// The type of an element, by its name or its number.
     Kind,
@@ -102,8 +104,8 @@ fn row(text: &'static str, wanted: Wanted, absent: Absent) -> KeyRow
 }
 
 impl Key {
-    /// The table of keys: the root's `node`, the node's keys, the root's `slot`, a slot's keys, the root's `dataset`,
-    /// the keys of a dataset and those of an element.
+    /// The table of keys: the root's `node`, the node's keys, the root's `slot`, a slot's keys,
+    /// the root's `dataset`, the keys of a dataset and those of an element.
     pub(crate) fn row(self) -> KeyRow
         ensures text { result.text.now ≡ (key_row self).text }
         ensures wanted { result.wanted ≡ (key_row self).wanted }
@@ -114,7 +116,11 @@ impl Key {
             Key::Address => row("address", Wanted::Address, Absent::Missing),
             Key::PdPort => row("pd_port", Wanted::Number(1, 65535), Absent::Default(17224)),
             Key::MdPort => row("md_port", Wanted::Number(1, 65535), Absent::Default(17225)),
-            Key::OperatorPort => row("operator_port", Wanted::Number(0, 65535), Absent::Default(0)),
+            Key::OperatorPort => row(
+                "operator_port",
+                Wanted::Number(0, 65535),
+                Absent::Default(0),
+            ),
             Key::Slot => row("slot", Wanted::Tables(16), Absent::Missing),
             Key::Publishers => row("publishers", Wanted::Quota(256), Absent::Default(0)),
             Key::Subscriptions => row("subscriptions", Wanted::Quota(256), Absent::Default(0)),

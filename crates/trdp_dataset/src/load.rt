@@ -16,7 +16,8 @@ use crate::registry::Registry;
 use std::alloc::Global;
 use toml::Table;
 
-/// The least fault of positions, where it comes before those of datasets: each one but TooMany does.
+/// The least fault of positions, where it comes before those of datasets: each one but TooMany
+/// does.
 fn before_datasets(least: Option<ConfigFault>) -> Option<ConfigFault>
     ensures value { result ≡ before_datasets least }
 {
@@ -32,9 +33,11 @@ pub(crate) fn load(
     top: &Table,
     positions: &[Position<'_>],
 ) -> Result<Registry, ConfigFault>
-    requires covers { (front : List PositionModel) × (positions_seen positions.now ≡ front ++ dataset_positions (table_view top.now)) }
+    requires covers { (front : List PositionModel)
+        × (positions_seen positions.now ≡ front ++ dataset_positions (table_view top.now)) }
     ensures value { IfOk result (λ registry. registry ≡ datasets_in (table_view top.now)) }
-    ensures answers { Answers (fault_in (positions_seen positions.now) (datasets_in (table_view top.now))) result }
+    ensures answers { Answers
+        (fault_in (positions_seen positions.now) (datasets_in (table_view top.now))) result }
 {
     let least = least_fault(positions);
     match before_datasets(least) {

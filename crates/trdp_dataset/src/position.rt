@@ -30,7 +30,9 @@ const ELEMENT_KEYS: [Key; 2] = [Key::ElementType, Key::ElementSize];
 /// A key, and what the file has there.
 #[derive(Clone, Copy)]
 pub(crate) struct Position<'a> {
+    /// The key.
     pub(crate) key: Key,
+    /// What the table has at the key; None where the key isn't there.
     pub(crate) value: Option<&'a Value>,
 }
 
@@ -59,7 +61,8 @@ fn push_positions<'a>(
     table: &'a Table,
     keys: &[Key],
 ) -> Result<(), AllocError>
-    ensures { OnOk result (positions_seen positions.new.items ≡ positions_seen positions.old.items ++ positions_at keys.now (table_view table.now)) }
+    ensures { OnOk result (positions_seen positions.new.items ≡ positions_seen positions.old.items
+        ++ positions_at keys.now (table_view table.now)) }
 {
     for key in keys {
         positions.push(Position {
@@ -77,7 +80,8 @@ fn push_all<'a>(
     members: &'a [Value],
     keys: &[Key],
 ) -> Result<(), AllocError>
-    ensures { OnOk result (positions_seen positions.new.items ≡ positions_seen positions.old.items ++ positions_of_all keys.now (tables_seen members.now)) }
+    ensures { OnOk result (positions_seen positions.new.items ≡ positions_seen positions.old.items
+        ++ positions_of_all keys.now (tables_seen members.now)) }
 {
     for member in members {
         if let Some(table) = member.as_table() {
@@ -89,8 +93,12 @@ fn push_all<'a>(
 
 /// Adds the positions of the elements of datasets.
 #[tactic(auto, unfolding(crate::specs::Positions::element_positions))]
-fn push_elements<'a>(positions: &mut Vec<Position<'a>>, datasets: &'a [Value]) -> Result<(), AllocError>
-    ensures { OnOk result (positions_seen positions.new.items ≡ positions_seen positions.old.items ++ element_positions (tables_seen datasets.now)) }
+fn push_elements<'a>(
+    positions: &mut Vec<Position<'a>>,
+    datasets: &'a [Value],
+) -> Result<(), AllocError>
+    ensures { OnOk result (positions_seen positions.new.items ≡ positions_seen positions.old.items
+        ++ element_positions (tables_seen datasets.now)) }
 {
     for dataset in datasets {
         if let Some(table) = dataset.as_table() {
@@ -103,7 +111,8 @@ fn push_elements<'a>(positions: &mut Vec<Position<'a>>, datasets: &'a [Value]) -
 /// Adds the positions of the datasets, and then those of all elements.
 #[tactic(auto, unfolding(crate::specs::Positions::dataset_positions))]
 fn push_datasets<'a>(positions: &mut Vec<Position<'a>>, top: &'a Table) -> Result<(), AllocError>
-    ensures { OnOk result (positions_seen positions.new.items ≡ positions_seen positions.old.items ++ dataset_positions (table_view top.now)) }
+    ensures { OnOk result (positions_seen positions.new.items ≡ positions_seen positions.old.items
+        ++ dataset_positions (table_view top.now)) }
 {
     push_positions(positions, top, &[Key::Dataset])?;
     let datasets = members_at(top, Key::Dataset);
@@ -114,7 +123,8 @@ fn push_datasets<'a>(positions: &mut Vec<Position<'a>>, top: &'a Table) -> Resul
 /// Adds the positions of the slots.
 #[tactic(auto, unfolding(crate::specs::Positions::slot_positions))]
 fn push_slots<'a>(positions: &mut Vec<Position<'a>>, top: &'a Table) -> Result<(), AllocError>
-    ensures { OnOk result (positions_seen positions.new.items ≡ positions_seen positions.old.items ++ slot_positions (table_view top.now)) }
+    ensures { OnOk result (positions_seen positions.new.items ≡ positions_seen positions.old.items
+        ++ slot_positions (table_view top.now)) }
 {
     push_positions(positions, top, &[Key::Slot])?;
     push_all(positions, members_at(top, Key::Slot), &SLOT_KEYS)
@@ -133,7 +143,8 @@ pub(crate) fn node_in(top: &Table) -> Option<&Table>
 /// Adds the positions of the node.
 #[tactic(auto, unfolding(crate::specs::Positions::node_positions))]
 fn push_node<'a>(positions: &mut Vec<Position<'a>>, top: &'a Table) -> Result<(), AllocError>
-    ensures { OnOk result (positions_seen positions.new.items ≡ positions_seen positions.old.items ++ node_positions (table_view top.now)) }
+    ensures { OnOk result (positions_seen positions.new.items ≡ positions_seen positions.old.items
+        ++ node_positions (table_view top.now)) }
 {
     push_positions(positions, top, &[Key::Node])?;
     match node_in(top) {
@@ -144,7 +155,8 @@ fn push_node<'a>(positions: &mut Vec<Position<'a>>, top: &'a Table) -> Result<()
 
 /// The positions of the datasets of a file, in the order in which faults are looked for.
 pub(crate) fn dataset_positions(alloc: Global, top: &Table) -> Result<Vec<Position<'_>>, AllocError>
-    ensures { IfOk result (λ positions. positions_seen positions.items ≡ dataset_positions (table_view top.now)) }
+    ensures { IfOk result (λ positions.
+        positions_seen positions.items ≡ dataset_positions (table_view top.now)) }
 {
     let mut positions = Vec::new(alloc);
     push_datasets(&mut positions, top)?;
@@ -154,7 +166,8 @@ pub(crate) fn dataset_positions(alloc: Global, top: &Table) -> Result<Vec<Positi
 /// All positions of a file, in the order in which faults are looked for.
 #[tactic(auto, unfolding(crate::specs::Positions::all_positions))]
 pub(crate) fn all_positions(alloc: Global, top: &Table) -> Result<Vec<Position<'_>>, AllocError>
-    ensures { IfOk result (λ positions. positions_seen positions.items ≡ all_positions (table_view top.now)) }
+    ensures { IfOk result (λ positions.
+        positions_seen positions.items ≡ all_positions (table_view top.now)) }
 {
     let mut positions = Vec::new(alloc);
     push_node(&mut positions, top)?;

@@ -63,7 +63,11 @@ fn quota_fault(key: Key, most: u16, value: &Value) -> Option<ConfigFault>
 fn bad_unless(is_good: bool) -> Option<ConfigFault>
     ensures value { result ≡ bad_unless is_good }
 {
-    if is_good { None } else { Some(ConfigFault::BadId) }
+    if is_good {
+        None
+    } else {
+        Some(ConfigFault::BadId)
+    }
 }
 
 /// The fault of what stands where the identifier of a dataset is wanted.
@@ -119,7 +123,8 @@ impl Position<'_> {
     }
 }
 
-/// Of the faults of all positions the one of the lowest number, and of several of that number the first.
+/// Of the faults of all positions the one of the lowest number, and of several of that number the
+/// first.
 pub(crate) fn least_fault(positions: &[Position<'_>]) -> Option<ConfigFault>
     ensures value { result ≡ least_fault (map fault_at (positions_seen positions.now)) }
 {

@@ -21,7 +21,8 @@ use crate::value::{identifier, kind};
 use std::alloc::{AllocError, Global};
 use toml::{Table, Value};
 
-/// The number of a key whose value was looked for: the key's default where there is no number in the key's range.
+/// The number of a key whose value was looked for: the key's default where there is no number in
+/// the key's range.
 #[tactic(auto, unfolding(crate::specs::Configs::number_of))]
 pub(crate) fn number_of(key: Key, found: Option<&Value>) -> u16
     ensures value { result ≡ number_of key (option_map (λ v. view v.now) found.entry) }
@@ -74,7 +75,8 @@ fn element_of(member: &Value) -> Option<Element>
 /// The elements of a dataset.
 #[tactic(auto, unfolding(crate::specs::Configs::elements_in))]
 fn elements_in(alloc: Global, dataset: &Table) -> Result<Vec<Element>, AllocError>
-    ensures value { IfOk result (λ elements. elements.items ≡ elements_in (table_view dataset.now)) }
+    ensures value { IfOk result (λ elements.
+        elements.items ≡ elements_in (table_view dataset.now)) }
 {
     let mut elements = Vec::new(alloc);
     for member in members_at(dataset, Key::Elements) {
@@ -87,7 +89,8 @@ fn elements_in(alloc: Global, dataset: &Table) -> Result<Vec<Element>, AllocErro
 
 /// The identifier of a dataset.
 fn identifier_of(dataset: &Table) -> Option<u32>
-    ensures value { result ≡ option_and_then identifier_in (value_at Key.DatasetId (table_view dataset.now)) }
+    ensures value { result
+        ≡ option_and_then identifier_in (value_at Key.DatasetId (table_view dataset.now)) }
 {
     match value_at(dataset, Key::DatasetId) {
         Some(value) => identifier(value),
@@ -98,8 +101,10 @@ fn identifier_of(dataset: &Table) -> Option<u32>
 /// Adds the dataset that a member of an array is, if it is a table with an identifier.
 #[tactic(auto, unfolding(crate::specs::Configs::dataset_in))]
 fn push_dataset(alloc: Global, datasets: &mut Datasets, member: &Value) -> Result<(), ConfigFault>
-    ensures added { OnOk result (Adds datasets.old datasets.new (option_and_then dataset_in (as_table (view member.now)))) }
-    ensures fault { IfErr result (λ fault. IsFaultOf fault (twice_fault datasets.old (option_and_then dataset_in (as_table (view member.now))))) }
+    ensures added { OnOk result (Adds datasets.old datasets.new
+        (option_and_then dataset_in (as_table (view member.now)))) }
+    ensures fault { IfErr result (λ fault. IsFaultOf fault
+        (twice_fault datasets.old (option_and_then dataset_in (as_table (view member.now))))) }
 {
     let Some(dataset) = member.as_table() else {
         return Ok(());
@@ -120,7 +125,8 @@ fn push_dataset(alloc: Global, datasets: &mut Datasets, member: &Value) -> Resul
 pub(crate) fn datasets_in(alloc: Global, top: &Table) -> Result<Datasets, ConfigFault>
     ensures value { IfOk result (λ datasets. datasets ≡ datasets_in (table_view top.now)) }
     ensures once { OnOk result (twice_id_in (datasets_in (table_view top.now)) ≡ None) }
-    ensures fault { IfErr result (λ fault. IsFaultOf fault (twice_id_in (datasets_in (table_view top.now)))) }
+    ensures fault { IfErr result (λ fault.
+        IsFaultOf fault (twice_id_in (datasets_in (table_view top.now)))) }
 {
     let mut datasets = Datasets::new(alloc);
     for member in members_at(top, Key::Dataset) {

@@ -9,10 +9,13 @@ use crate::position::dataset_positions;
 use std::alloc::Global;
 use std::marker::Model;
 
-/// The datasets of a configuration, in the order of the file. An identifier is 31 to 4,294,967,295.
+/// The datasets of a configuration, in the order of the file. An identifier is 31 to
+/// 4,294,967,295.
 #[derive(Drop)]
 pub struct Registry {
+    /// The datasets in the order of the file, 0 to 256, no two with one identifier.
     datasets: Datasets,
+    /// The length of each dataset's zero value in bytes, 0 to 65,388, in the same order.
     zero_sizes: Vec<u32>,
 }
 
@@ -38,12 +41,12 @@ impl Registry {
     ghost use Rattle.trdp_dataset.specs.Stored.{zero_sizes_of};
     ghost use Rattle.trdp_dataset.specs.Configs.{Reads, registry_of};
 
-    /// The registry of a configuration file in TOML, of which the key `dataset` alone is looked at. Without that key
-    /// there is no dataset.
+    /// The registry of a configuration file in TOML, of which the key `dataset` alone is looked
+    /// at. Without that key there is no dataset.
     ///
     /// # Errors
-    /// The faults of [`ConfigFault`], of which `Toml` says that the bytes aren't UTF-8 or not TOML; `OutOfMemory` may
-    /// come in place of any of them.
+    /// The faults of [`ConfigFault`], of which `Toml` says that the bytes aren't UTF-8 or not
+    /// TOML; `OutOfMemory` may come in place of any of them.
     pub fn from_toml(alloc: Global, bytes: &[u8]) -> Result<Self, ConfigFault>
         ensures reads { Reads registry_of bytes.now result }
     {
@@ -112,8 +115,8 @@ impl Registry {
         }
     }
 
-    /// How many bytes the zero value of a dataset takes, at most 65,388: every number in it is 0, and so each
-    /// array of size 0 is empty. None where no dataset has that identifier.
+    /// How many bytes the zero value of a dataset takes, at most 65,388: every number in it is 0,
+    /// and so each array of size 0 is empty. None where no dataset has that identifier.
     pub fn zero_size(&self, id: u32) -> Option<usize>
         ensures value { result ≡ (if is_known self.now id then Some (zero_size self.now id) else None) }
         ensures bound { IfSome result (λ n. n ≤ 65388) }

@@ -71,7 +71,8 @@ impl Wanted {
     }
 }
 
-/// The identifier of a dataset that a number is, if it is in the range that the table of keys says.
+/// The identifier of a dataset that a number is, if it is in the range that the table of keys
+/// says.
 fn identifier_of(number: u64) -> Option<u32>
     ensures value { result ≡ identifier_of number }
 {
