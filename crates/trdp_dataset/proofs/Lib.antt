@@ -12,4 +12,5 @@ pub mod Rows
 pub mod FixedRows
 pub mod Steps
 pub mod Twice
-pub mod Passes
+pub mod Least
+pub mod Singles

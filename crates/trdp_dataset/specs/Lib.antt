@@ -8,7 +8,7 @@ pub mod Stored
 pub mod Keys
 pub mod Types
 pub mod Values
-pub mod Places
+pub mod Positions
 pub mod Seen
 pub mod Faults
 pub mod Configs
