@@ -1,8 +1,8 @@
 -- The words of a line, and the values that words are the written forms of.
-use Rattle.std.specs.Prelude.{ℕ, ◌+◌, ◌*◌, ◌^◌, ◌<◌, ◌==◌, ◌&&◌, nat_lt, nat_le, List, [], ◌∷◌, map, Bool, true, false, Option, Some, None, if◌then◌else◌}
+use Rattle.std.specs.Prelude.{◌≡◌, ℕ, ◌+◌, ◌*◌, ◌^◌, ◌<◌, ◌==◌, ◌&&◌, nat_lt, nat_le, List, [], ◌∷◌, map, Bool, true, false, Option, Some, None, if◌then◌else◌}
 use Rattle.std.specs.Char.{digit_value}
 use Rattle.std.specs.Int.Digits.{number_from_digits}
-use Rattle.std.specs.List.{slice_split, list_all, before_first, after_first}
+use Rattle.std.specs.List.{slice_split, list_all}
 use Rattle.std.specs.Str.{bytes_eq}
 use Rattle.std.specs.Str.Parse.{digits_value}
 use Rattle.trdp_base.specs.AddressText.{text_of_ip, text_of_place}
@@ -10,6 +10,8 @@ use Rattle.trdp_base.specs.HexText.{text_of_hex}
 use Rattle.trdp_base.specs.NumberText.{text_of_number}
 use Rattle.trdp_base.specs.declared.place.Ip.{Ip}
 use Rattle.trdp_base.specs.declared.place.Place.{Place}
+use Rattle.trdp_script.specs.declared.fault.LineFault.{LineFault}
+use Rattle.trdp_script.specs.declared.fault.LineFault.TheVariants.{BadWord, OutOfMemory}
 
 -- the words of a line, which stand apart by exactly one space: between two spaces stands an empty word
 unfoldable pub words_of : List ℕ → List (List ℕ)
@@ -50,10 +52,11 @@ ip_of_word word =
 
 -- the place that an address, a colon and a number show
 unfoldable pub place_shown : List ℕ → Place
-place_shown word = record {
-  ip = ip_shown (before_first (λ byte. byte == 58) word);
-  port = digits_value 10 (after_first (λ byte. byte == 58) word);
-}
+place_shown word =
+    let parts = slice_split (λ byte. byte == 58) word in record {
+      ip = ip_shown (first_word parts);
+      port = digits_value 10 (first_word (other_words parts));
+    }
 
 -- the place whose written form the word is
 unfoldable pub place_of_word : List ℕ → Option Place
@@ -78,3 +81,8 @@ bytes_of_word word =
 unfoldable pub choice_of_word : List ℕ → List ℕ → List ℕ → Option Bool
 choice_of_word first second word =
     if bytes_eq word first then Some true else (if bytes_eq word second then Some false else None)
+
+-- why the bytes of a word weren't read: it isn't the written form of any, or else memory ran out
+abbrev pub IsBytesFault : Option (List ℕ) → LineFault → Type 0
+IsBytesFault None fault = fault ≡ BadWord
+IsBytesFault (Some bytes) fault = fault ≡ OutOfMemory

@@ -1,6 +1,6 @@
 //! The words of a line, which stand apart by exactly one space.
 
-ghost use Rattle.std.specs.Prelude.{◌≡◌, ◌∷◌, length};
+ghost use Rattle.std.specs.Prelude.{◌≡◌, ◌≢◌, ◌∷◌, ◌++◌, length, IfSome, IfNone, All};
 ghost use Rattle.trdp_script.specs.Words.{words_of, first_word, other_words};
 ghost use Rattle.trdp_script.specs.WordsLeft.{words_left};
 
@@ -30,18 +30,27 @@ impl<'a> Words<'a> {
     }
 
     /// The next word; an empty one past the last.
-    #[tactic(auto, unfolding(crate::specs::Words::first_word, crate::specs::Words::other_words))]
+    #[tactic(
+        auto,
+        using(crate::proofs::WordLemmas::split_word, crate::proofs::WordLemmas::last_word),
+        unfolding(crate::specs::Words::first_word, crate::specs::Words::other_words)
+    )]
     pub(crate) fn next_word(&mut self) -> &'a [u8]
         ensures word { result.now ≡ first_word (words_left self.old) }
         ensures rest { words_left self.new ≡ other_words (words_left self.old) }
     {
         match self.rest {
             None => &[],
-            Some(rest) => {
-                let (word, behind) = split_at_space(rest);
-                self.rest = behind;
-                word
-            }
+            Some(rest) => match split_at_space(rest) {
+                None => {
+                    self.rest = None;
+                    rest
+                }
+                Some((word, behind)) => {
+                    self.rest = Some(behind);
+                    word
+                }
+            },
         }
     }
 }
@@ -54,16 +63,13 @@ fn count_words(text: &[u8]) -> usize
     text.iter().filter(|byte| **byte == b' ').count() + 1
 }
 
-/// The first word, and what follows the space behind it; None where no space follows.
-#[tactic(auto, unfolding(crate::specs::Words::words_of))]
-fn split_at_space(text: &[u8]) -> (&[u8], Option<&[u8]>)
-    ensures { words_of text.now ≡ result.0.now ∷ words_left (record { rest = result.1 }) }
+/// The parts of a text before and behind its first space; None where it has none.
+fn split_at_space(text: &[u8]) -> Option<(&[u8], &[u8])>
+    ensures parts { IfSome result (λ parts. text.now ≡ parts.0.now ++ 32 ∷ parts.1.now) }
+    ensures first { IfSome result (λ parts. All (λ byte. byte ≢ 32) parts.0.now) }
+    ensures none { IfNone result (All (λ byte. byte ≢ 32) text.now) }
 {
-    match text.iter().position(|byte| *byte == b' ') {
-        None => (text, None),
-        Some(space) => {
-            let (word, behind) = text.split_at(space);
-            (word, Some(&behind[1..]))
-        }
-    }
+    let space = text.iter().position(|byte| *byte == b' ')?;
+    let (word, behind) = text.split_at(space);
+    Some((word, &behind[1..]))
 }
