@@ -1,6 +1,6 @@
 -- Facts on the values that words are the written forms of.
-use Rattle.std.proofs.Common.{◌≡◌, ℕ, ◌+◌, ◌-◌, ◌*◌, ◌/◌, ◌%◌, ◌^◌, ◌<◌, ◌≤◌, ◌==◌, nat_lt, nat_le, Bool, true, false, List, [], ◌∷◌, ◌++◌, ◌&&◌, map, Option, Some, None, Result, Ok, Err, refl, sym, ap, ◌∙◌, subst, inl, inr, arith, append_assoc, get_or}
-use Rattle.std.specs.Prelude.{All, is_some, unwrap_or, ◌≢◌, ◌⊎◌}
+use Rattle.std.proofs.Common.{◌≡◌, ℕ, ◌+◌, ◌*◌, ◌/◌, ◌%◌, ◌^◌, ◌<◌, ◌≤◌, ◌==◌, nat_lt, nat_le, Bool, true, false, List, [], ◌∷◌, ◌++◌, ◌&&◌, map, Option, Some, None, Result, Ok, Err, refl, sym, ap, ◌∙◌, subst, inl, inr, arith, append_assoc}
+use Rattle.std.specs.Prelude.{All, is_some, unwrap_or, ◌⊎◌}
 use Rattle.std.specs.List.{slice_split, list_all}
 use Rattle.std.specs.Char.{digit_value}
 use Rattle.std.specs.Int.Digits.{number_from_digits}
@@ -134,8 +134,8 @@ place_is_shown place small port =
     let no_colon = number_lacks_byte 58 place.port (omega (arith, port)) (inr (omega arith)) in
     let joined : text_of_place place ≡ text_of_ip place.ip ++ 58 ∷ text_of_number place.port = append_assoc (text_of_ip place.ip) (58 ∷ []) (text_of_number place.port) in
     let parts : slice_split colon (text_of_place place) ≡ text_of_ip place.ip ∷ text_of_number place.port ∷ [] =
-        ap (slice_split colon) joined ∙ slice_split_at colon (text_of_ip place.ip) 58 (text_of_number place.port) (address_lacks_colon place.ip) refl
-        ∙ ap (λ ps. text_of_ip place.ip ∷ ps) (slice_split_none colon (text_of_number place.port) no_colon) in
+    ap (slice_split colon) joined ∙ slice_split_at colon (text_of_ip place.ip) 58 (text_of_number place.port) (address_lacks_colon place.ip) refl
+    ∙ ap (λ ps. text_of_ip place.ip ∷ ps) (slice_split_none colon (text_of_number place.port) no_colon) in
     let ip = ap (λ ps. ip_shown (first_word ps)) parts ∙ address_shown place.ip small in
     let number = ap (λ ps. digits_value 10 (first_word (other_words ps))) parts ∙ number_shown place.port (omega (arith, port)) in
     λ i. record { ip = ip i; port = number i }

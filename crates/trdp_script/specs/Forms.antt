@@ -4,8 +4,10 @@ use Rattle.std.specs.Option.{option_and_then}
 use Rattle.std.specs.Str.{bytes_eq}
 use Rattle.trdp_base.specs.declared.place.Ip.{Ip}
 use Rattle.trdp_base.specs.declared.place.Place.{Place}
+use Rattle.trdp_pd.specs.declared.terms.Behaviour.{Behaviour}
 use Rattle.trdp_pd.specs.declared.terms.Behaviour.TheVariants.{Zero, Keep}
 use Rattle.trdp_engine.specs.Events.{CallModel, PublishCall, PutCall, UnpublishCall, SubscribeCall, GetCall, UnsubscribeCall, OpenPullCall, PullCall, ClosePullCall, EventModel, MomentIs, TopologyIs, RoleIs, DatagramIs, CallIs}
+use Rattle.trdp_engine.specs.declared.record.Protocol.{Protocol}
 use Rattle.trdp_engine.specs.declared.record.Protocol.TheVariants.{Pd, Md}
 use Rattle.trdp_script.specs.Words.{first_word, other_words, number_of_word, ip_of_word, place_of_word, bytes_of_word, choice_of_word}
 
@@ -68,19 +70,20 @@ role_form = record {
   event = λ group leader. RoleIs group leader;
 }
 
+-- the protocol's word, SRC, DST and HEX
+abbrev pub datagram_form : List ℕ → Protocol → LineForm
+datagram_form word protocol = record {
+  parts = Keyword word ∷ PlaceField ∷ PlaceField ∷ BytesField ∷ [];
+  event = λ src dst bytes. DatagramIs protocol src dst bytes;
+}
+
 -- pd SRC DST HEX
 unfoldable pub pd_form : LineForm
-pd_form = record {
-  parts = Keyword (codes "pd") ∷ PlaceField ∷ PlaceField ∷ BytesField ∷ [];
-  event = λ src dst bytes. DatagramIs Pd src dst bytes;
-}
+pd_form = datagram_form (codes "pd") Pd
 
 -- md SRC DST HEX
 unfoldable pub md_form : LineForm
-md_form = record {
-  parts = Keyword (codes "md") ∷ PlaceField ∷ PlaceField ∷ BytesField ∷ [];
-  event = λ src dst bytes. DatagramIs Md src dst bytes;
-}
+md_form = datagram_form (codes "md") Md
 
 -- call SLOT, the call's word and its fields
 abbrev pub call_form : List ℕ → (fields : List Part) → (ℕ → EventFrom fields) → LineForm
@@ -118,12 +121,16 @@ put_form =
 unfoldable pub unpublish_form : LineForm
 unpublish_form = handle_form (codes "unpublish") (λ handle. UnpublishCall handle)
 
+-- what a time-out does to the value
+abbrev pub behaviour_of : Bool → Behaviour
+behaviour_of zero = if zero then Zero else Keep
+
 -- call SLOT subscribe COMID DATASET LOW HIGH DEST ETB OPTRN TIME zero|keep
 unfoldable pub subscribe_form : LineForm
 subscribe_form =
     call_form (codes "subscribe")
     (number_32 ∷ number_32 ∷ AddressField ∷ AddressField ∷ AddressField ∷ number_32 ∷ number_32
-        ∷ number_32 ∷ ChoiceField (codes "zero") (codes "keep") ∷ [])
+    ∷ number_32 ∷ ChoiceField (codes "zero") (codes "keep") ∷ [])
     (λ slot com_id dataset low high dest etb op_trn supervision zero. CallIs slot (SubscribeCall (record {
       filter = record {
         com_id = com_id;
@@ -134,7 +141,7 @@ subscribe_form =
       };
       dataset = dataset;
       supervision = supervision;
-      behaviour = if zero then Zero else Keep;
+      behaviour = behaviour_of zero;
     })))
 
 -- call SLOT get HANDLE
@@ -200,3 +207,7 @@ event_of_words (BytesField ∷ parts) event words =
 event_of_words (ChoiceField first second ∷ parts) event words =
     option_and_then (λ choice. event_of_words parts (event choice) (other_words words))
     (choice_of_word first second (first_word words))
+
+-- the event that words say by a form; none where one of them is bad
+abbrev pub event_in : LineForm → List (List ℕ) → Option EventModel
+event_in form words = event_of_words form.parts form.event words

@@ -1,3 +1,4 @@
+pub mod FormNames
 pub mod Forms
 pub mod Lines
 pub mod Words

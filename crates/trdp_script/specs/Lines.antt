@@ -1,7 +1,7 @@
 -- What a line of a script says.
 use Rattle.std.specs.Prelude.{◌≡◌, ℕ, ◌==◌, List, [], ◌∷◌, length, nat_lt, nat_eq, Bool, true, Option, Some, None, Result, Ok, Err, if◌then◌else◌, find}
 use Rattle.trdp_engine.specs.Events.{EventModel, MomentIs, TopologyIs, RoleIs, DatagramIs, CallIs, PutCall, call_model}
-use Rattle.trdp_script.specs.Forms.{LineForm, forms, has_keywords, event_of_words}
+use Rattle.trdp_script.specs.Forms.{LineForm, forms, has_keywords, event_in}
 use Rattle.trdp_script.specs.Words.{words_of}
 use Rattle.trdp_script.specs.declared.fault.LineFault.{LineFault}
 use Rattle.trdp_script.specs.declared.fault.LineFault.TheVariants.{TooLong, Unknown, Count, BadWord, OutOfMemory}
@@ -23,7 +23,7 @@ unfoldable pub words_say : Option LineForm → List (List ℕ) → Result (Optio
 words_say None words = Err Unknown
 words_say (Some form) words =
     if nat_eq (length words) (length form.parts)
-    then event_or_fault (event_of_words form.parts form.event words)
+    then event_or_fault (event_in form words)
     else Err Count
 
 -- the form whose keywords the words have

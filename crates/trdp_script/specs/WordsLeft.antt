@@ -1,5 +1,5 @@
 -- What a reader of words has still to read.
-use Rattle.std.specs.Prelude.{ℕ, List, [], Option, Some, None}
+use Rattle.std.specs.Prelude.{ℕ, List, [], Some, None}
 use Rattle.trdp_script.specs.Words.{words_of}
 use Rattle.trdp_script.specs.declared.words.Words.{Words}
 

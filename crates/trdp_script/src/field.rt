@@ -63,7 +63,8 @@ impl Words<'_> {
 
     /// Whether the next word is the first of two, if it is one of them.
     pub(crate) fn next_choice(&mut self, first: &[u8], second: &[u8]) -> Option<bool>
-        ensures value { result ≡ choice_of_word first.now second.now (first_word (words_left self.old)) }
+        ensures value { result
+            ≡ choice_of_word first.now second.now (first_word (words_left self.old)) }
         ensures rest { words_left self.new ≡ other_words (words_left self.old) }
     {
         choice_of(self.next_word(), first, second)
@@ -72,8 +73,8 @@ impl Words<'_> {
     /// The bytes that the next word is.
     ///
     /// # Errors
-    /// `BadWord` where the word isn't the written form of bytes, which is found before memory is taken;
-    /// `OutOfMemory`.
+    /// `BadWord` where the word isn't the written form of bytes, which is found before memory is
+    /// taken; `OutOfMemory`.
     pub(crate) fn next_bytes(&mut self, alloc: Global) -> Result<Vec<u8>, LineFault>
         ensures value { IfOk result (λ bytes.
             bytes_of_word (first_word (words_left self.old)) ≡ Some bytes.items) }

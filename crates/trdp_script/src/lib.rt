@@ -3,8 +3,10 @@
 
 mod fault;
 mod field;
+mod form;
 mod line;
+mod read;
 mod words;
 
 pub use fault::LineFault;
-pub use line::{LINE_MAX, Line};
+pub use line::{LINE_MAX, Line, read_line};

@@ -2,8 +2,13 @@
 
 ghost use Rattle.std.specs.Prelude.{◌≡◌, option_map};
 ghost use Rattle.trdp_engine.specs.Events.{event_model};
-ghost use Rattle.trdp_script.specs.Lines.{event_of};
+ghost use Rattle.trdp_script.specs.Lines.{line_of, words_say, form_of, is_skipped as skipped, event_of, Reads};
+ghost use Rattle.trdp_script.specs.WordsLeft.{words_left};
 
+use crate::fault::LineFault;
+use crate::form::Form;
+use crate::words::Words;
+use std::alloc::Global;
 use trdp_base::{Place, Topo};
 use trdp_engine::{Call, Event, Protocol};
 
@@ -20,7 +25,10 @@ pub enum Line {
     /// The train's network has these topology counts.
     Topology(Topo),
     /// The node is the leader of that redundancy group, or a follower in it.
-    Role { group: u8, leader: bool },
+    Role {
+        group: u8,
+        leader: bool,
+    },
     /// These bytes came in over the protocol's port, from one place to another.
     Datagram {
         protocol: Protocol,
@@ -35,7 +43,10 @@ pub enum Line {
         bytes: Vec<u8>,
     },
     /// The application in the slot makes another call, which carries no bytes.
-    Call { slot: u16, call: Call<'static> },
+    Call {
+        slot: u16,
+        call: Call<'static>,
+    },
 }
 
 impl Line {
@@ -79,4 +90,43 @@ impl Line {
             }),
         }
     }
+}
+
+/// Reads a line, which comes without its end: what it says, or the first of its faults (profile).
+///
+/// A line that is empty or begins with `#` is skipped, unless it is too long. A line that carries bytes
+/// takes memory for them, once; no other line takes any.
+///
+/// # Errors
+/// Every [`LineFault`], in their order. Want of memory is found when nothing else is wrong.
+#[tactic(auto, unfolding(crate::specs::Lines::line_of))]
+pub fn read_line(alloc: Global, text: &[u8]) -> Result<Line, LineFault>
+    ensures meaning { Reads (line_of text.now) result }
+{
+    if text.len() > LINE_MAX {
+        return Err(LineFault::TooLong);
+    }
+    if is_skipped(text) {
+        return Ok(Line::Skipped);
+    }
+    read_words(alloc, Words::of(text))
+}
+
+/// Whether a line is empty or begins with `#`.
+fn is_skipped(text: &[u8]) -> bool
+    ensures { result ≡ skipped text.now }
+{
+    matches!(text, [] | [b'#', ..])
+}
+
+/// Reads the words of a line.
+#[tactic(auto, unfolding(crate::specs::Lines::words_say))]
+fn read_words(alloc: Global, words: Words<'_>) -> Result<Line, LineFault>
+    ensures { Reads (words_say (form_of (words_left words.entry)) (words_left words.entry)) result }
+{
+    let form = Form::of(words).ok_or(LineFault::Unknown)?;
+    if words.count() != form.word_count() {
+        return Err(LineFault::Count);
+    }
+    form.read(alloc, words)
 }

@@ -12,7 +12,7 @@ pub(crate) struct Words<'a> {
 }
 
 impl<'a> Words<'a> {
-    /// The words of a line. There is one more than spaces: between two spaces stands an empty word.
+    /// The words of a line, one more than it has spaces: between two spaces stands an empty word.
     pub(crate) fn of(line: &'a [u8]) -> Words<'a>
         ensures { words_left result ≡ words_of line.now }
     {
@@ -30,11 +30,7 @@ impl<'a> Words<'a> {
     }
 
     /// The next word; an empty one past the last.
-    #[tactic(
-        auto,
-        using(crate::proofs::WordLemmas::split_word, crate::proofs::WordLemmas::last_word),
-        unfolding(crate::specs::Words::first_word, crate::specs::Words::other_words)
-    )]
+    #[tactic(auto, using(crate::proofs::WordLemmas::split_word, crate::proofs::WordLemmas::last_word), unfolding(crate::specs::Words::first_word, crate::specs::Words::other_words))]
     pub(crate) fn next_word(&mut self) -> &'a [u8]
         ensures word { result.now ≡ first_word (words_left self.old) }
         ensures rest { words_left self.new ≡ other_words (words_left self.old) }

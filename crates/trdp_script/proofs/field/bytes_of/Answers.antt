@@ -1,5 +1,5 @@
 use Rattle.std.proofs.Common.{refl, rules}
-use Rattle.trdp_script.proofs.FieldLemmas.{bytes_read, word_is_bad, memory_ran_out, err_not_ok}
+use Rattle.trdp_script.proofs.FieldLemmas.{bytes_read, word_is_bad, memory_ran_out}
 use Rattle.trdp_script.proofs.field.bytes_of.Goals as goal
 
 pub returns-in-Ok-clause-value : goal.returns-in-Ok-clause-value

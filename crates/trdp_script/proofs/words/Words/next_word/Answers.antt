@@ -1,4 +1,4 @@
-use Rattle.std.proofs.Common.{◌≡◌, refl}
+use Rattle.std.proofs.Common.{refl}
 use Rattle.trdp_script.specs.Words.{first_word}
 use Rattle.trdp_script.proofs.WordLemmas.{split_word}
 use Rattle.trdp_script.proofs.words.Words.next_word.Goals as goal
