@@ -53,18 +53,18 @@ abbrev pub number_64 : Part
 number_64 = NumberField (2 ^ 64 - 1)
 
 -- moment T
-unfoldable pub moment_form : LineForm
+abbrev pub moment_form : LineForm
 moment_form = record { parts = Keyword (codes "moment") ∷ number_64 ∷ []; event = λ t. MomentIs t }
 
 -- topology ETB OPTRN
-unfoldable pub topology_form : LineForm
+abbrev pub topology_form : LineForm
 topology_form = record {
   parts = Keyword (codes "topology") ∷ number_32 ∷ number_32 ∷ [];
   event = λ etb op_trn. TopologyIs (record { etb = etb; op_trn = op_trn });
 }
 
 -- role GROUP leader|follower
-unfoldable pub role_form : LineForm
+abbrev pub role_form : LineForm
 role_form = record {
   parts = Keyword (codes "role") ∷ number_8 ∷ ChoiceField (codes "leader") (codes "follower") ∷ [];
   event = λ group leader. RoleIs group leader;
@@ -78,11 +78,11 @@ datagram_form word protocol = record {
 }
 
 -- pd SRC DST HEX
-unfoldable pub pd_form : LineForm
+abbrev pub pd_form : LineForm
 pd_form = datagram_form (codes "pd") Pd
 
 -- md SRC DST HEX
-unfoldable pub md_form : LineForm
+abbrev pub md_form : LineForm
 md_form = datagram_form (codes "md") Md
 
 -- call SLOT, the call's word and its fields
@@ -98,7 +98,7 @@ handle_form word call =
     call_form word (number_32 ∷ []) (λ slot handle. CallIs slot (call handle))
 
 -- call SLOT publish COMID DATASET CYCLE GROUP ETB OPTRN TO
-unfoldable pub publish_form : LineForm
+abbrev pub publish_form : LineForm
 publish_form =
     call_form (codes "publish")
     (number_32 ∷ number_32 ∷ number_32 ∷ number_8 ∷ number_32 ∷ number_32 ∷ PlaceField ∷ [])
@@ -112,13 +112,13 @@ publish_form =
     })))
 
 -- call SLOT put HANDLE HEX
-unfoldable pub put_form : LineForm
+abbrev pub put_form : LineForm
 put_form =
     call_form (codes "put") (number_32 ∷ BytesField ∷ [])
     (λ slot handle bytes. CallIs slot (PutCall handle bytes))
 
 -- call SLOT unpublish HANDLE
-unfoldable pub unpublish_form : LineForm
+abbrev pub unpublish_form : LineForm
 unpublish_form = handle_form (codes "unpublish") (λ handle. UnpublishCall handle)
 
 -- what a time-out does to the value
@@ -126,7 +126,7 @@ abbrev pub behaviour_of : Bool → Behaviour
 behaviour_of zero = if zero then Zero else Keep
 
 -- call SLOT subscribe COMID DATASET LOW HIGH DEST ETB OPTRN TIME zero|keep
-unfoldable pub subscribe_form : LineForm
+abbrev pub subscribe_form : LineForm
 subscribe_form =
     call_form (codes "subscribe")
     (number_32 ∷ number_32 ∷ AddressField ∷ AddressField ∷ AddressField ∷ number_32 ∷ number_32
@@ -145,15 +145,15 @@ subscribe_form =
     })))
 
 -- call SLOT get HANDLE
-unfoldable pub get_form : LineForm
+abbrev pub get_form : LineForm
 get_form = handle_form (codes "get") (λ handle. GetCall handle)
 
 -- call SLOT unsubscribe HANDLE
-unfoldable pub unsubscribe_form : LineForm
+abbrev pub unsubscribe_form : LineForm
 unsubscribe_form = handle_form (codes "unsubscribe") (λ handle. UnsubscribeCall handle)
 
 -- call SLOT openpull COMID REPLYCOMID REPLYIP ETB OPTRN TO
-unfoldable pub open_pull_form : LineForm
+abbrev pub open_pull_form : LineForm
 open_pull_form =
     call_form (codes "openpull")
     (number_32 ∷ number_32 ∷ AddressField ∷ number_32 ∷ number_32 ∷ PlaceField ∷ [])
@@ -166,11 +166,11 @@ open_pull_form =
     })))
 
 -- call SLOT pull HANDLE
-unfoldable pub pull_form : LineForm
+abbrev pub pull_form : LineForm
 pull_form = handle_form (codes "pull") (λ handle. PullCall handle)
 
 -- call SLOT closepull HANDLE
-unfoldable pub close_pull_form : LineForm
+abbrev pub close_pull_form : LineForm
 close_pull_form = handle_form (codes "closepull") (λ handle. ClosePullCall handle)
 
 -- all forms

@@ -64,7 +64,7 @@ impl Form {
     }
 
     /// Whether a line with this first and third word has this form. A missing word is empty.
-    #[tactic(auto, unfolding(crate::specs::Forms::has_keywords, crate::specs::Forms::moment_form, crate::specs::Forms::topology_form, crate::specs::Forms::role_form, crate::specs::Forms::pd_form, crate::specs::Forms::md_form, crate::specs::Forms::publish_form, crate::specs::Forms::put_form, crate::specs::Forms::unpublish_form, crate::specs::Forms::subscribe_form, crate::specs::Forms::get_form, crate::specs::Forms::unsubscribe_form, crate::specs::Forms::open_pull_form, crate::specs::Forms::pull_form, crate::specs::Forms::close_pull_form,))]
+    #[tactic(auto, unfolding(crate::specs::Forms::has_keywords))]
     fn is_told_by(self, first: &[u8], third: &[u8]) -> bool
         ensures { (words : List (List ℕ)) → first.now ≡ first_word words
             → third.now ≡ first_word (other_words (other_words words))
@@ -89,7 +89,6 @@ impl Form {
     }
 
     /// How many words a line of this form has.
-    #[tactic(auto, unfolding(crate::specs::Forms::moment_form, crate::specs::Forms::topology_form, crate::specs::Forms::role_form, crate::specs::Forms::pd_form, crate::specs::Forms::md_form, crate::specs::Forms::publish_form, crate::specs::Forms::put_form, crate::specs::Forms::unpublish_form, crate::specs::Forms::subscribe_form, crate::specs::Forms::get_form, crate::specs::Forms::unsubscribe_form, crate::specs::Forms::open_pull_form, crate::specs::Forms::pull_form, crate::specs::Forms::close_pull_form,))]
     pub(crate) fn word_count(self) -> usize
         ensures { result ≡ length (line_form self).parts }
     {

@@ -23,7 +23,6 @@ impl Form {
     /// # Errors
     /// `BadWord` where a word isn't the written form of a value in its range; `OutOfMemory` where
     /// all are good and there is no memory for the bytes of one.
-    #[tactic(auto, unfolding(crate::specs::Forms::pd_form, crate::specs::Forms::md_form))]
     pub(crate) fn read(self, alloc: Global, words: Words<'_>) -> Result<Line, LineFault>
         ensures { Reads (event_or_fault (event_in (line_form self) (words_left words.entry))) result }
     {
@@ -58,7 +57,7 @@ fn plain(line: Option<Line>) -> Result<Line, LineFault>
 }
 
 /// `moment T`
-#[tactic(auto, unfolding(crate::specs::Forms::event_of_words, crate::specs::Forms::moment_form))]
+#[tactic(auto, unfolding(crate::specs::Forms::event_of_words))]
 fn read_moment(mut words: Words<'_>) -> Option<Line>
     ensures { option_map event_of result
         ≡ option_map Some (event_in moment_form (words_left words.entry)) }
@@ -68,7 +67,7 @@ fn read_moment(mut words: Words<'_>) -> Option<Line>
 }
 
 /// `topology ETB OPTRN`
-#[tactic(auto, unfolding(crate::specs::Forms::event_of_words, crate::specs::Forms::topology_form))]
+#[tactic(auto, unfolding(crate::specs::Forms::event_of_words))]
 fn read_topology(mut words: Words<'_>) -> Option<Line>
     ensures { option_map event_of result
         ≡ option_map Some (event_in topology_form (words_left words.entry)) }
@@ -80,7 +79,7 @@ fn read_topology(mut words: Words<'_>) -> Option<Line>
 }
 
 /// `role GROUP leader|follower`
-#[tactic(auto, unfolding(crate::specs::Forms::event_of_words, crate::specs::Forms::role_form))]
+#[tactic(auto, unfolding(crate::specs::Forms::event_of_words))]
 fn read_role(mut words: Words<'_>) -> Option<Line>
     ensures { option_map event_of result
         ≡ option_map Some (event_in role_form (words_left words.entry)) }
@@ -92,7 +91,7 @@ fn read_role(mut words: Words<'_>) -> Option<Line>
 }
 
 /// `call SLOT publish COMID DATASET CYCLE GROUP ETB OPTRN TO`
-#[tactic(auto, unfolding(crate::specs::Forms::event_of_words, crate::specs::Forms::publish_form))]
+#[tactic(auto, unfolding(crate::specs::Forms::event_of_words))]
 fn read_publish(mut words: Words<'_>) -> Option<Line>
     ensures { option_map event_of result
         ≡ option_map Some (event_in publish_form (words_left words.entry)) }
@@ -122,7 +121,7 @@ fn read_publish(mut words: Words<'_>) -> Option<Line>
 }
 
 /// `call SLOT subscribe COMID DATASET LOW HIGH DEST ETB OPTRN TIME zero|keep`
-#[tactic(auto, unfolding(crate::specs::Forms::event_of_words, crate::specs::Forms::subscribe_form))]
+#[tactic(auto, unfolding(crate::specs::Forms::event_of_words))]
 fn read_subscribe(mut words: Words<'_>) -> Option<Line>
     ensures { option_map event_of result
         ≡ option_map Some (event_in subscribe_form (words_left words.entry)) }
@@ -170,7 +169,7 @@ fn behaviour(zero: bool) -> Behaviour
 }
 
 /// `call SLOT openpull COMID REPLYCOMID REPLYIP ETB OPTRN TO`
-#[tactic(auto, unfolding(crate::specs::Forms::event_of_words, crate::specs::Forms::open_pull_form))]
+#[tactic(auto, unfolding(crate::specs::Forms::event_of_words))]
 fn read_open_pull(mut words: Words<'_>) -> Option<Line>
     ensures { option_map event_of result
         ≡ option_map Some (event_in open_pull_form (words_left words.entry)) }
@@ -198,7 +197,6 @@ fn read_open_pull(mut words: Words<'_>) -> Option<Line>
 }
 
 /// `call SLOT unpublish HANDLE`
-#[tactic(auto, unfolding(crate::specs::Forms::unpublish_form))]
 fn read_unpublish(words: Words<'_>) -> Option<Line>
     ensures { option_map event_of result
         ≡ option_map Some (event_in unpublish_form (words_left words.entry)) }
@@ -209,7 +207,6 @@ fn read_unpublish(words: Words<'_>) -> Option<Line>
 }
 
 /// `call SLOT get HANDLE`
-#[tactic(auto, unfolding(crate::specs::Forms::get_form))]
 fn read_get(words: Words<'_>) -> Option<Line>
     ensures { option_map event_of result
         ≡ option_map Some (event_in get_form (words_left words.entry)) }
@@ -220,7 +217,6 @@ fn read_get(words: Words<'_>) -> Option<Line>
 }
 
 /// `call SLOT unsubscribe HANDLE`
-#[tactic(auto, unfolding(crate::specs::Forms::unsubscribe_form))]
 fn read_unsubscribe(words: Words<'_>) -> Option<Line>
     ensures { option_map event_of result
         ≡ option_map Some (event_in unsubscribe_form (words_left words.entry)) }
@@ -231,7 +227,6 @@ fn read_unsubscribe(words: Words<'_>) -> Option<Line>
 }
 
 /// `call SLOT pull HANDLE`
-#[tactic(auto, unfolding(crate::specs::Forms::pull_form))]
 fn read_pull(words: Words<'_>) -> Option<Line>
     ensures { option_map event_of result
         ≡ option_map Some (event_in pull_form (words_left words.entry)) }
@@ -242,7 +237,6 @@ fn read_pull(words: Words<'_>) -> Option<Line>
 }
 
 /// `call SLOT closepull HANDLE`
-#[tactic(auto, unfolding(crate::specs::Forms::close_pull_form))]
 fn read_close_pull(words: Words<'_>) -> Option<Line>
     ensures { option_map event_of result
         ≡ option_map Some (event_in close_pull_form (words_left words.entry)) }
@@ -267,7 +261,7 @@ fn slot_and_handle(mut words: Words<'_>) -> Option<(u16, u32)>
 }
 
 /// `call SLOT put HANDLE HEX`
-#[tactic(auto, unfolding(crate::specs::Forms::event_of_words, crate::specs::Forms::put_form))]
+#[tactic(auto, unfolding(crate::specs::Forms::event_of_words))]
 fn read_put(alloc: Global, mut words: Words<'_>) -> Result<Line, LineFault>
     ensures { Reads (event_or_fault (event_in put_form (words_left words.entry))) result }
 {
