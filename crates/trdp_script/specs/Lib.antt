@@ -1,0 +1,5 @@
+pub mod FormNames
+pub mod Forms
+pub mod Lines
+pub mod Words
+pub mod WordsLeft

@@ -1,0 +1,132 @@
+//! What one line of a script says.
+
+ghost use Rattle.std.specs.Prelude.{◌≡◌, option_map};
+ghost use Rattle.trdp_engine.specs.Events.{event_model};
+ghost use Rattle.trdp_script.specs.Lines.{line_of, words_say, form_of, is_skipped as skipped, event_of, Reads};
+ghost use Rattle.trdp_script.specs.WordsLeft.{words_left};
+
+use crate::fault::LineFault;
+use crate::form::Form;
+use crate::words::Words;
+use std::alloc::Global;
+use trdp_base::{Place, Topo};
+use trdp_engine::{Call, Event, Protocol};
+
+/// The longest line, in bytes without its end (profile).
+pub const LINE_MAX: usize = 140_000;
+
+/// What a good line says.
+#[derive(Debug, Drop)]
+pub enum Line {
+    /// Nothing: the line is empty or begins with `#`.
+    Skipped,
+    /// Time has come to that moment, in microseconds.
+    Moment(u64),
+    /// The train's network has these topology counts.
+    Topology(Topo),
+    /// The node is the leader of that redundancy group, or a follower in it.
+    Role {
+        group: u8,
+        leader: bool,
+    },
+    /// These bytes came in over the protocol's port, from one place to another.
+    Datagram {
+        protocol: Protocol,
+        src: Place,
+        dst: Place,
+        bytes: Vec<u8>,
+    },
+    /// The application in the slot gives the publisher of that handle a new value.
+    Put {
+        slot: u16,
+        handle: u32,
+        bytes: Vec<u8>,
+    },
+    /// The application in the slot makes another call, which carries no bytes.
+    Call {
+        slot: u16,
+        call: Call<'static>,
+    },
+}
+
+impl Line {
+    /// The event of the line; None where the line is skipped.
+    pub fn event(&self) -> Option<Event<'_>>
+        ensures { option_map event_model result ≡ event_of self.now }
+    {
+        match self {
+            Line::Skipped => None,
+            Line::Moment(moment) => Some(Event::Moment(*moment)),
+            Line::Topology(topo) => Some(Event::Topology(*topo)),
+            Line::Role { group, leader } => Some(Event::Role {
+                group: *group,
+                leader: *leader,
+            }),
+            Line::Datagram {
+                protocol,
+                src,
+                dst,
+                bytes,
+            } => Some(Event::Datagram {
+                protocol: *protocol,
+                src: *src,
+                dst: *dst,
+                bytes,
+            }),
+            Line::Put {
+                slot,
+                handle,
+                bytes,
+            } => Some(Event::Call {
+                slot: *slot,
+                call: Call::Put {
+                    handle: *handle,
+                    bytes,
+                },
+            }),
+            Line::Call { slot, call } => Some(Event::Call {
+                slot: *slot,
+                call: *call,
+            }),
+        }
+    }
+}
+
+/// Reads a line, which comes without its end: what it says, or the first of its faults (profile).
+///
+/// A line that is empty or begins with `#` is skipped, unless it is too long. A line that carries bytes
+/// takes memory for them, once; no other line takes any.
+///
+/// # Errors
+/// Every [`LineFault`], in their order. Want of memory is found when nothing else is wrong.
+#[tactic(auto, unfolding(crate::specs::Lines::line_of))]
+pub fn read_line(alloc: Global, text: &[u8]) -> Result<Line, LineFault>
+    ensures meaning { Reads (line_of text.now) result }
+{
+    if text.len() > LINE_MAX {
+        return Err(LineFault::TooLong);
+    }
+    if is_skipped(text) {
+        return Ok(Line::Skipped);
+    }
+    read_words(alloc, Words::of(text))
+}
+
+/// Whether a line is empty or begins with `#`.
+fn is_skipped(text: &[u8]) -> bool
+    ensures { result ≡ skipped text.now }
+{
+    matches!(text, [] | [b'#', ..])
+}
+
+/// Reads the words of a line.
+#[tactic(auto, unfolding(crate::specs::Lines::words_say))]
+fn read_words(alloc: Global, words: Words<'_>) -> Result<Line, LineFault>
+    ensures { Reads (words_say (form_of (words_left words.entry)) (words_left words.entry)) result }
+{
+    let form = Form::of(words).ok_or(LineFault::Unknown)?;
+    if words.count() != form.word_count() {
+        return Err(LineFault::Count);
+    }
+    form.read(alloc, words)
+}
