@@ -45,13 +45,13 @@ pub fn taken_stays_later()
 /// Neither a telegram nor a moment changes what a publisher is to send, or its value; and no
 /// telegram moves its due moment.
 pub fn publisher_keeps()
-    ensures taken_publication { (p : PublisherState) (telegram : TelegramModel) (globals : Globals)
+    ensures taken_terms { (p : PublisherState) (telegram : TelegramModel) (globals : Globals)
         (fits : Bool) → (publisher_taking p telegram globals fits).object.terms ≡ p.terms }
     ensures taken_value { (p : PublisherState) (telegram : TelegramModel) (globals : Globals)
         (fits : Bool) → (publisher_taking p telegram globals fits).object.value ≡ p.value }
     ensures taken_due { (p : PublisherState) (telegram : TelegramModel) (globals : Globals)
         (fits : Bool) → (publisher_taking p telegram globals fits).object.due ≡ p.due }
-    ensures fired_publication { (p : PublisherState) (globals : Globals)
+    ensures fired_terms { (p : PublisherState) (globals : Globals)
         → (publisher_firing p globals).object.terms ≡ p.terms }
     ensures fired_value { (p : PublisherState) (globals : Globals)
         → (publisher_firing p globals).object.value ≡ p.value }
