@@ -1,6 +1,6 @@
 //! Pull requests and redundancy groups.
 
-use crate::tests::{Bench, HERE, Said, X, record_said, terms};
+use crate::tests::{Bench, HERE, Said, X, publisher_terms, record_said};
 use crate::{Call, Event, NodeFault, Protocol, Refusal, What};
 use std::test::Fail;
 use trdp_base::{Ip, Place, Topo};
@@ -59,7 +59,7 @@ fn publish<'a>(com_id: u32, cycle: u32, group: u8) -> Event<'a> {
     let terms = PublisherTerms {
         com_id,
         group,
-        ..terms(0, cycle)
+        ..publisher_terms(0, cycle)
     };
     Event::Call {
         slot: 0,

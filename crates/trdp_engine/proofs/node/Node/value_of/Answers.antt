@@ -3,4 +3,4 @@ use Rattle.trdp_engine.proofs.node.Node.value_of.Goals as goal
 
 pub item_shown-requires : goal.item_shown-requires
 item_shown-requires c =
-    subscription_fits c.self.inside.config c.args.handle c.self.inside.slot.objects c.in_ok-subscription.subscription.now c.self.invariant.2 c.in_ok-subscription.ensures.found
+    subscription_fits c.self.inside.config _ c.self.inside.slot.objects c.in_ok-subscription.subscription.now c.self.invariant.2 c.in_ok-subscription.ensures.found
