@@ -85,7 +85,10 @@ static FILES: [(&str, ConfigFault); 36] = [
         "node = { address = '10.0.0.1' }\nslot = [{ callers = 257 }]\ndataset = [{ id = 31, element = [{ type = 8, size = 65389 }] }]",
         ConfigFault::TooBig,
     ),
-    ("node = { address = '10.0.0.1' }\nslot = [5]", ConfigFault::WrongType(Key::Slot)),
+    (
+        "node = { address = '10.0.0.1' }\nslot = [5]",
+        ConfigFault::WrongType(Key::Slot),
+    ),
     (
         "node = { address = '10.0.0.1' }\nslot = [{ publishers = -1 }]",
         ConfigFault::WrongType(Key::Publishers),
@@ -102,14 +105,38 @@ static FILES: [(&str, ConfigFault); 36] = [
         "node = { address = '10.0.0.1' }\nslot = [{ requesters = -1 }]",
         ConfigFault::WrongType(Key::Requesters),
     ),
-    ("node = { address = '10.0.0.1' }\nslot = [{ listeners = -1 }]", ConfigFault::WrongType(Key::Listeners)),
-    ("node = { address = '10.0.0.1' }\nslot = [{ repliers = -1 }]", ConfigFault::WrongType(Key::Repliers)),
-    ("node = { address = '10.0.0.1' }\nslot = [{ publishers = 257 }]", ConfigFault::TooMany),
-    ("node = { address = '10.0.0.1' }\nslot = [{ subscriptions = 257 }]", ConfigFault::TooMany),
-    ("node = { address = '10.0.0.1' }\nslot = [{ requesters = 257 }]", ConfigFault::TooMany),
-    ("node = { address = '10.0.0.1' }\nslot = [{ listeners = 257 }]", ConfigFault::TooMany),
-    ("node = { address = '10.0.0.1' }\nslot = [{ callers = 257 }]", ConfigFault::TooMany),
-    ("node = { address = '10.0.0.1' }\nslot = [{ repliers = 257 }]", ConfigFault::TooMany),
+    (
+        "node = { address = '10.0.0.1' }\nslot = [{ listeners = -1 }]",
+        ConfigFault::WrongType(Key::Listeners),
+    ),
+    (
+        "node = { address = '10.0.0.1' }\nslot = [{ repliers = -1 }]",
+        ConfigFault::WrongType(Key::Repliers),
+    ),
+    (
+        "node = { address = '10.0.0.1' }\nslot = [{ publishers = 257 }]",
+        ConfigFault::TooMany,
+    ),
+    (
+        "node = { address = '10.0.0.1' }\nslot = [{ subscriptions = 257 }]",
+        ConfigFault::TooMany,
+    ),
+    (
+        "node = { address = '10.0.0.1' }\nslot = [{ requesters = 257 }]",
+        ConfigFault::TooMany,
+    ),
+    (
+        "node = { address = '10.0.0.1' }\nslot = [{ listeners = 257 }]",
+        ConfigFault::TooMany,
+    ),
+    (
+        "node = { address = '10.0.0.1' }\nslot = [{ callers = 257 }]",
+        ConfigFault::TooMany,
+    ),
+    (
+        "node = { address = '10.0.0.1' }\nslot = [{ repliers = 257 }]",
+        ConfigFault::TooMany,
+    ),
     (
         "node = { address = '10.0.0.1' }\nslot = [{ control_port = 65536 }]",
         ConfigFault::WrongType(Key::ControlPort),
@@ -203,8 +230,14 @@ static DATASETS: [(&str, ConfigFault); 47] = [
         "dataset = [{ id = 40, element = [{ type = 8 }] }, { id = 40, element = [{ type = 99 }] }]",
         ConfigFault::TwiceId,
     ),
-    ("dataset = [{ id = 31, element = [{ type = true }] }]", ConfigFault::WrongType(Key::ElementType)),
-    ("dataset = [{ id = 31, element = [{ type = 8.5 }] }]", ConfigFault::WrongType(Key::ElementType)),
+    (
+        "dataset = [{ id = 31, element = [{ type = true }] }]",
+        ConfigFault::WrongType(Key::ElementType),
+    ),
+    (
+        "dataset = [{ id = 31, element = [{ type = 8.5 }] }]",
+        ConfigFault::WrongType(Key::ElementType),
+    ),
     (
         "dataset = [{ id = 31, element = [{ type = 8, size = 65536 }] }]",
         ConfigFault::WrongType(Key::ElementSize),
@@ -213,18 +246,54 @@ static DATASETS: [(&str, ConfigFault); 47] = [
         "dataset = [{ id = 31, element = [{ type = 8, size = '1' }] }]",
         ConfigFault::WrongType(Key::ElementSize),
     ),
-    ("dataset = [{ id = 31, element = [{ type = 'REAL32' }] }]", ConfigFault::Real),
-    ("dataset = [{ id = 31, element = [{ type = 'REAL64' }] }]", ConfigFault::Real),
-    ("dataset = [{ id = 31, element = [{ type = 12 }] }]", ConfigFault::Real),
-    ("dataset = [{ id = 31, element = [{ type = 13 }] }]", ConfigFault::Real),
-    ("dataset = [{ id = 31, element = [{ type = 0 }] }]", ConfigFault::BadId),
-    ("dataset = [{ id = 31, element = [{ type = 17 }] }]", ConfigFault::BadId),
-    ("dataset = [{ id = 31, element = [{ type = 30 }] }]", ConfigFault::BadId),
-    ("dataset = [{ id = 31, element = [{ type = -8 }] }]", ConfigFault::BadId),
-    ("dataset = [{ id = 31, element = [{ type = 4294967296 }] }]", ConfigFault::BadId),
-    ("dataset = [{ id = 31, element = [{ type = '8' }] }]", ConfigFault::BadId),
-    ("dataset = [{ id = 31, element = [{ type = 'uint8' }] }]", ConfigFault::BadId),
-    ("dataset = [{ id = 31, element = [{ type = 8, size = 0 }] }]", ConfigFault::NoCount),
+    (
+        "dataset = [{ id = 31, element = [{ type = 'REAL32' }] }]",
+        ConfigFault::Real,
+    ),
+    (
+        "dataset = [{ id = 31, element = [{ type = 'REAL64' }] }]",
+        ConfigFault::Real,
+    ),
+    (
+        "dataset = [{ id = 31, element = [{ type = 12 }] }]",
+        ConfigFault::Real,
+    ),
+    (
+        "dataset = [{ id = 31, element = [{ type = 13 }] }]",
+        ConfigFault::Real,
+    ),
+    (
+        "dataset = [{ id = 31, element = [{ type = 0 }] }]",
+        ConfigFault::BadId,
+    ),
+    (
+        "dataset = [{ id = 31, element = [{ type = 17 }] }]",
+        ConfigFault::BadId,
+    ),
+    (
+        "dataset = [{ id = 31, element = [{ type = 30 }] }]",
+        ConfigFault::BadId,
+    ),
+    (
+        "dataset = [{ id = 31, element = [{ type = -8 }] }]",
+        ConfigFault::BadId,
+    ),
+    (
+        "dataset = [{ id = 31, element = [{ type = 4294967296 }] }]",
+        ConfigFault::BadId,
+    ),
+    (
+        "dataset = [{ id = 31, element = [{ type = '8' }] }]",
+        ConfigFault::BadId,
+    ),
+    (
+        "dataset = [{ id = 31, element = [{ type = 'uint8' }] }]",
+        ConfigFault::BadId,
+    ),
+    (
+        "dataset = [{ id = 31, element = [{ type = 8, size = 0 }] }]",
+        ConfigFault::NoCount,
+    ),
     (
         "dataset = [{ id = 31, element = [{ type = 8 }, { type = 8, size = 0 }, { type = 8, size = 0 }] }]",
         ConfigFault::NoCount,
@@ -241,9 +310,18 @@ static DATASETS: [(&str, ConfigFault); 47] = [
         "dataset = [{ id = 31, element = [{ type = 'BOOL8' }, { type = 8, size = 0 }] }]",
         ConfigFault::NoCount,
     ),
-    ("dataset = [{ id = 31, element = [{ type = 32 }, { type = 33 }] }]", ConfigFault::NoDataset(32)),
-    ("dataset = [{ id = 31, element = [{ type = 31 }] }]", ConfigFault::TooDeep),
-    ("dataset = [{ id = 31, element = [{ type = 8, size = 65389 }] }]", ConfigFault::TooBig),
+    (
+        "dataset = [{ id = 31, element = [{ type = 32 }, { type = 33 }] }]",
+        ConfigFault::NoDataset(32),
+    ),
+    (
+        "dataset = [{ id = 31, element = [{ type = 31 }] }]",
+        ConfigFault::TooDeep,
+    ),
+    (
+        "dataset = [{ id = 31, element = [{ type = 8, size = 65389 }] }]",
+        ConfigFault::TooBig,
+    ),
     // Two faults.
     (
         "dataset = [{ id = 31, element = [{ type = 'REAL32', size = 1.0 }] }]",
@@ -266,7 +344,11 @@ static DATASETS: [(&str, ConfigFault); 47] = [
 #[test]
 fn faults_of_datasets(rt: HostRuntime) {
     for (text, fault) in &DATASETS {
-        assert_eq!(rt; dataset_fault(rt.alloc(), text.as_bytes()), Some(*fault), "at {text}");
+        assert_eq!(rt;
+            dataset_fault(rt.alloc(), text.as_bytes()),
+            Some(*fault),
+            "at {text}"
+        );
     }
     assert_eq!(rt; dataset_fault(rt.alloc(), &[0xff]), Some(ConfigFault::Toml));
     assert_eq!(rt; dataset_fault(rt.alloc(), b"node = 5\nslot = 5"), None);
