@@ -1,6 +1,6 @@
 //! Files at the limits, and one past each of them.
 
-use crate::broken::config_fault;
+use crate::broken_nodes::config_fault;
 use crate::good::{NodeNumbers, node_numbers};
 use std::alloc::{AllocError, Global};
 use std::test::Fail;
@@ -42,8 +42,8 @@ struct Size {
     fault: Option<ConfigFault>,
 }
 
-/// A file with 16 slots, 256 datasets, 256 elements in one, a depth of 5 and a zero value of 65,388 bytes, and files of
-/// which one of these numbers is larger.
+/// A file with 16 slots, 256 datasets, 256 elements in one, a depth of 5 and a zero value of
+/// 65,388 bytes, and files of which one of these numbers is larger.
 static SIZES: [Size; 6] = [
     Size {
         slots: 16,
@@ -113,7 +113,8 @@ fn push_datasets(alloc: Global, text: &mut String, count: u16) -> Result<(), All
     Ok(())
 }
 
-/// Appends datasets 101, 102 .. that hold one another, so many with the last one, of a UINT8, which is dataset 100.
+/// Appends datasets 101, 102 .. that hold one another, so many with the last one, of a UINT8,
+/// which is dataset 100.
 fn push_chain(alloc: Global, text: &mut String, depth: u16) -> Result<(), AllocError> {
     text.push_str("[[dataset]]\nid = 100\nelement = [{ type = 8 }]\n")?;
     for i in 1..depth {
