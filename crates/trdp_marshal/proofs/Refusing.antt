@@ -1,16 +1,18 @@
--- Which items an encoder refuses, told by what spells them.
+-- What is refused, told by what spells what.
 use Rattle.std.proofs.Common.{◌≡◌, ◌<◌, Bool, cond, true, false, ℕ, List, Option, Some, None, Result, Ok, Err, length, nat_lt, refl, sym, ap, ◌∙◌, subst, ltb-true, lt-ltb}
-use Rattle.std.specs.Prelude.{IsTrue, ◌↔◌}
+use Rattle.std.specs.Prelude.{IsTrue, ◌↔◌, is_some}
 use Rattle.std.proofs.lemmas.Bool.{false≢true}
 use Rattle.std.proofs.lemmas.Option.{none-some, same_Some}
 use Rattle.trdp_marshal.specs.declared.fault.MarshalFault.{MarshalFault}
 use Rattle.trdp_marshal.specs.declared.fault.MarshalFault.TheVariants.{NoDataset, Shape, TooLong, OutOfMemory}
 use Rattle.trdp_dataset.specs.Datasets.{DatasetModel}
 use Rattle.trdp_marshal.specs.Items.{ItemModel}
-use Rattle.trdp_marshal.specs.Spells.{Spells, HasBytes, IsTooLong}
+use Rattle.trdp_marshal.specs.Spells.{Spells, IsSpelled, HasBytes, IsTooLong}
+use Rattle.trdp_marshal.specs.Numbers.{IsBytes}
+use Rattle.trdp_marshal.specs.Reading.{reading}
 use Rattle.trdp_marshal.specs.Spelling.{spelling}
-use Rattle.trdp_marshal.specs.Faults.{has_items, length_fault, Answers, FaultIs, encode_fault}
-use Rattle.trdp_marshal.proofs.Spellings.{spelled, spells}
+use Rattle.trdp_marshal.specs.Faults.{has_items, length_fault, Answers, FaultIs, decode_fault, encode_fault}
+use Rattle.trdp_marshal.proofs.Spellings.{spelled, spells, reading_if_spelled}
 
 fault_expected : (fault : MarshalFault) (expected : Option MarshalFault) → (fault ≡ OutOfMemory → ⊥) → FaultIs fault expected
     → expected ≡ Some fault
@@ -103,3 +105,33 @@ module _ {X : Type 0} (registry : List DatasetModel) (id : ℕ) (item : ItemMode
   tells_long answers =
       both (answer_tells result (encode_fault registry id item) TooLong (λ e. cc) answers)
       (long_by (has_items registry id) (spelling registry id item) (Spells registry id item) means)
+
+-- the same of bytes that a decoder refuses
+unread : Bool → Bool → Option MarshalFault
+unread known read = cond known (cond read None (Some Shape)) (Some NoDataset)
+
+unread_unknown : (known read : Bool) → (unread known read ≡ Some NoDataset) ↔ (¬ IsTrue known)
+unfolding unread
+unread_unknown true true = (λ e. cc, λ not. absurd (not refl))
+unread_unknown true false = (λ e. cc, λ not. absurd (not refl))
+unread_unknown false read = (λ e. λ held. false≢true held, λ not. refl)
+
+unread_shape : (known read : Bool) (Spelled : Type 0) → IsTrue read ↔ Spelled → (unread known read ≡ Some Shape) ↔ (IsTrue known × ¬ Spelled)
+unfolding unread
+unread_shape true true Spelled means = (λ e. cc, λ none. absurd (none.1 (means.0 refl)))
+unread_shape true false Spelled means = (λ e. (refl, λ item. false≢true (means.1 item)), λ none. refl)
+unread_shape false read Spelled means = (λ e. cc, λ none. absurd (false≢true none.0))
+
+module _ {X : Type 0} (registry : List DatasetModel) (id : ℕ) (bytes : List ℕ) (result : Result X MarshalFault) where
+  pub tells_undecoded_unknown : Answers result (decode_fault registry id bytes) → (result ≡ Err NoDataset) ↔ (¬ IsTrue (has_items registry id))
+  unfolding decode_fault unread
+  tells_undecoded_unknown answers =
+      both (answer_tells result (decode_fault registry id bytes) NoDataset (λ e. cc) answers)
+      (unread_unknown (has_items registry id) (is_some (reading registry id bytes)))
+
+  pub tells_undecoded_shape : Answers result (decode_fault registry id bytes) → IsBytes bytes
+      → (result ≡ Err Shape) ↔ (IsTrue (has_items registry id) × ¬ IsSpelled registry id bytes)
+  unfolding decode_fault unread
+  tells_undecoded_shape answers fits =
+      both (answer_tells result (decode_fault registry id bytes) Shape (λ e. cc) answers)
+      (unread_shape (has_items registry id) (is_some (reading registry id bytes)) (IsSpelled registry id bytes) (reading_if_spelled registry id bytes fits))

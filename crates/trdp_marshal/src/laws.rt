@@ -1,5 +1,5 @@
-//! Laws of items and their bytes, which hold for every registry. The functions do nothing when they
-//! run: each contract is the law.
+//! Laws of items and their bytes, which hold for every registry. The functions do nothing when
+//! they run: each contract is the law.
 
 ghost use Rattle.trdp_marshal.specs.Laws.{OneSpelling, OneItem, SpelledIsComputed, ComputedIsSpelled};
 ghost use Rattle.trdp_marshal.specs.Laws.{SpelledIsRead, ReadIsSpelled, FittingIsFit, FixedIsLength, ZeroIsSpelled};
@@ -36,8 +36,8 @@ pub fn fitting_is_fit()
     ensures { FittingIsFit }
 {}
 
-/// Where a registry says how many bytes each value of a dataset takes, its values are spelled by the
-/// lists of so many bytes, and by no others.
+/// Where a registry says how many bytes each value of a dataset takes, its values are spelled by
+/// the lists of so many bytes, and by no others.
 #[tactic(auto, using(crate::proofs::Fixed::fixed_is_length))]
 pub fn fixed_size_is_length()
     ensures { FixedIsLength }
