@@ -10,3 +10,6 @@ mod words;
 
 pub use fault::LineFault;
 pub use line::{LINE_MAX, Line, read_line};
+
+#[cfg(test)]
+mod tests;

@@ -94,8 +94,8 @@ impl Line {
 
 /// Reads a line, which comes without its end: what it says, or the first of its faults (profile).
 ///
-/// A line that is empty or begins with `#` is skipped, unless it is too long. A line that carries bytes
-/// takes memory for them, once; no other line takes any.
+/// A line that is empty or begins with `#` is skipped, unless it is too long. A line that carries
+/// bytes takes memory for them, once; no other line takes any.
 ///
 /// # Errors
 /// Every [`LineFault`], in their order. Want of memory is found when nothing else is wrong.
