@@ -6,7 +6,9 @@ ghost use Rattle.trdp_base.specs.HexText.{text_of_hex};
 ghost use Rattle.trdp_base.specs.NumberText.{text_of_number};
 ghost use Rattle.trdp_base.specs.declared.place.Ip.{Ip};
 ghost use Rattle.trdp_base.specs.declared.place.Place.{Place};
-ghost use Rattle.trdp_script.specs.Words.{first_word, other_words, number_of_word, ip_of_word, place_of_word, bytes_of_word, choice_of_word, IsBytesFault};
+ghost use Rattle.trdp_script.specs.Words.{first_word, other_words, number_of_word, ip_of_word};
+ghost use Rattle.trdp_script.specs.Words.{place_of_word, bytes_of_word, choice_of_word};
+ghost use Rattle.trdp_script.specs.Words.{IsBytesFault};
 ghost use Rattle.trdp_script.specs.WordsLeft.{words_left};
 
 use crate::fault::LineFault;
