@@ -16,7 +16,7 @@ use trdp_engine::{Call, Event, Protocol};
 /// The longest line, in bytes without its end (profile).
 pub const LINE_MAX: usize = 140_000;
 
-/// What a good line says.
+/// What a good line says (profile).
 #[derive(Debug, Drop)]
 pub enum Line {
     /// Nothing: the line is empty or begins with `#`.
