@@ -3,5 +3,6 @@ pub mod Pieces
 pub mod RecordText
 pub mod ScriptText
 pub mod ScriptRuns
+pub mod ScriptSteps
 pub mod SlotOrder
 pub mod Writes

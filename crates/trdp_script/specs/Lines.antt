@@ -3,8 +3,8 @@ use Rattle.std.specs.Prelude.{◌≡◌, ℕ, List, Option, Some, None, Result, 
 use Rattle.trdp_engine.specs.Events.{EventModel, MomentIs, CallIs, PublishCall, PutCall}
 use Rattle.trdp_script.specs.declared.line.Line.{Line}
 use Rattle.trdp_script.specs.declared.line.Line.TheVariants.{Skipped, Moment, Publish, Put}
-use Rattle.trdp_script.specs.declared.line.LineFault.{LineFault}
-use Rattle.trdp_script.specs.declared.line.LineFault.TheVariants.{TooLong, Unknown, Count, BadWord, OutOfMemory}
+use Rattle.trdp_script.specs.declared.fault.LineFault.{LineFault}
+use Rattle.trdp_script.specs.declared.fault.LineFault.TheVariants.{TooLong, Unknown, Count, BadWord, OutOfMemory}
 
 -- the event of a line; none where it is skipped
 abbrev pub event_of : Line → Option EventModel

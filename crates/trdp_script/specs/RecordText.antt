@@ -12,8 +12,8 @@ use Rattle.trdp_engine.specs.declared.fault.NodeFault.{NodeFault}
 use Rattle.trdp_engine.specs.declared.fault.NodeFault.TheVariants.{NoSlot, Past, TooLate, NoGroup, OutOfMemory}
 use Rattle.trdp_engine.specs.declared.fault.Refusal.{Refusal}
 use Rattle.trdp_engine.specs.declared.fault.Refusal.TheVariants.{NoHandle, WrongKind, State, Cycle, Timeout, Expected, Status, Range, NoDataset, TooLong, Shape, SessionOpen, Quota, Exhausted}
-use Rattle.trdp_script.specs.declared.line.LineFault.{LineFault}
-use Rattle.trdp_script.specs.declared.line.LineFault.TheVariants.{TooLong as LineTooLong, Unknown, Count, BadWord, OutOfMemory as NoLineMemory}
+use Rattle.trdp_script.specs.declared.fault.LineFault.{LineFault}
+use Rattle.trdp_script.specs.declared.fault.LineFault.TheVariants.{TooLong as LineTooLong, Unknown, Count, BadWord, OutOfMemory as NoLineMemory}
 use Rattle.trdp_engine.specs.declared.record.Indication.{Indication}
 use Rattle.trdp_engine.specs.declared.record.Indication.TheVariants.{Silent as FellSilent, Alive}
 use Rattle.trdp_engine.specs.declared.record.Protocol.{Protocol}

@@ -1,6 +1,7 @@
 //! The text form of a node: lines that say events, and lines that tell of records.
 #![tactic(auto)]
 
+mod fault;
 mod input;
 mod line;
 mod names;
@@ -10,7 +11,8 @@ mod print;
 mod script;
 mod words;
 
-pub use line::{Line, LineFault, read_line};
+pub use fault::LineFault;
+pub use line::{LINE_MAX, Line, read_line};
 pub use names::{fault_name, line_fault_name, refusal_name, state_name};
 pub use print::print_record;
 pub use script::{ScriptFault, run_script};

@@ -4,35 +4,15 @@ ghost use Rattle.std.specs.Prelude.{◌≡◌, ◌<◌, ◌≤◌, ◌↔◌, �
 ghost use Rattle.trdp_engine.specs.Events.{event_model};
 ghost use Rattle.trdp_script.specs.Lines.{Reads, line_of, event_of};
 
+use crate::fault::LineFault;
 use crate::words::Words;
 use std::alloc::Global;
-use thiserror::Error;
 use trdp_base::{Place, TextFault, Topo, read_hex, read_number, read_place};
 use trdp_engine::{Call, Event};
 use trdp_pd::PublisherTerms;
 
 /// The longest line, in bytes without its end (profile).
 pub const LINE_MAX: usize = 140_000;
-
-/// Why a line says nothing that can be done: the first of these that applies (profile).
-#[derive(Clone, Copy, Debug, PartialEq, Eq, Error)]
-pub enum LineFault {
-    /// The line is longer than [`LINE_MAX`] bytes.
-    #[error("the line has more than 140,000 bytes")]
-    TooLong = 1,
-    /// The first word, or the third after `call`, is missing or isn't known.
-    #[error("the line begins with no words that are known")]
-    Unknown = 2,
-    /// The number of words isn't the one that the first and the third ask for.
-    #[error("the line has too many or too few words")]
-    Count = 3,
-    /// A word isn't the written form of a value in its range.
-    #[error("a word of the line is no value in its range")]
-    BadWord = 4,
-    /// The line is good, and there is no memory for its bytes.
-    #[error("there is no memory for the line")]
-    OutOfMemory = 5,
-}
 
 /// What a good line says.
 #[derive(Debug, Drop)]

@@ -29,12 +29,14 @@ const LINE_ROOM: usize = NUMBER_LENGTH + CONTENT_ROOM + 1;
 ///
 /// # Errors
 /// `AllocError` where that room is refused; the list's items are as before.
+#[tactic(auto, unfolding(crate::specs::RecordText::text_of_record))]
 pub fn print_record(text: &mut Vec<u8>, record: &Record<'_>) -> Result<(), AllocError>
     ensures ok { OnOk result (text.new.items
         ≡ text.old.items ++ text_of_record (record_model «record».now)) }
     ensures err { OnErr result (text.new.items ≡ text.old.items) }
 {
-    text.reserve(LINE_ROOM + 2 * bytes_in(&record.what).len())?;
+    let digits = 2 * bytes_in(&record.what).len();
+    text.reserve(digits.saturating_add(LINE_ROOM))?;
     put_number(text, u64::from(record.slot));
     put_content(text, &record.what);
     put_word(text, b"\n");
@@ -69,6 +71,7 @@ fn bytes_in<'a>(what: &What<'a>) -> &'a [u8]
 }
 
 /// Appends what a record says, with a space before it, to a list that has room for it.
+#[tactic(auto, unfolding(crate::specs::RecordText::text_of_content))]
 fn put_content(text: &mut Vec<u8>, what: &What<'_>)
     requires room { vec_len text.old + (CONTENT_ROOM + 2 * length (bytes_of (content_model what.now)))
         ≤ vec_capacity text.old }
@@ -93,9 +96,9 @@ fn put_content(text: &mut Vec<u8>, what: &What<'_>)
 fn put_answer(text: &mut Vec<u8>, answer: Answer<'_>)
     requires room { vec_len text.old + (CONTENT_ROOM + 2 * length (answer_bytes (answer_model answer)))
         ≤ vec_capacity text.old }
-    ensures items { text.new.items ≡ text.old.items ++ text_of_answer (answer_model answer) }
+    ensures items { text.new.items ≡ text.old.items ++ text_of_answer (answer_model answer.entry) }
     ensures len { vec_len text.new
-        ≤ vec_len text.old + (CONTENT_ROOM + 2 * length (answer_bytes (answer_model answer))) }
+        ≤ vec_len text.old + (CONTENT_ROOM + 2 * length (answer_bytes (answer_model answer.entry))) }
     ensures capacity { vec_capacity text.old ≤ vec_capacity text.new }
 {
     match answer {
@@ -117,9 +120,9 @@ fn put_answer(text: &mut Vec<u8>, answer: Answer<'_>)
 fn put_peek(text: &mut Vec<u8>, peek: Peek<'_>)
     requires room { vec_len text.old + (CONTENT_ROOM + 2 * length peek.bytes.now)
         ≤ vec_capacity text.old }
-    ensures items { text.new.items ≡ text.old.items ++ text_of_peek (peek_model peek) }
+    ensures items { text.new.items ≡ text.old.items ++ text_of_peek (peek_model peek.entry) }
     ensures len { vec_len text.new
-        ≤ vec_len text.old + (CONTENT_ROOM + 2 * length peek.bytes.now) }
+        ≤ vec_len text.old + (CONTENT_ROOM + 2 * length peek.entry.bytes.now) }
     ensures capacity { vec_capacity text.old ≤ vec_capacity text.new }
 {
     put_word(text, b" value ");
