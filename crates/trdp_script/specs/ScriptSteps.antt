@@ -2,7 +2,8 @@
 use Rattle.std.specs.Prelude.{◌≡◌, ℕ, List, [], ◌∷◌, ◌++◌, ◌≤◌, length, take, Option, Some, None, Result, Ok, Err}
 use Rattle.std.specs.Str.Lines.{lines}
 use Rattle.trdp_engine.specs.Events.{EventModel}
-use Rattle.trdp_engine.specs.NodeStates.{NodeState}
+use Rattle.trdp_dataset.specs.Configs.{ConfigModel}
+use Rattle.trdp_engine.specs.NodeStates.{NodeState, opened_node}
 use Rattle.trdp_script.specs.declared.fault.LineFault.{LineFault}
 use Rattle.trdp_script.specs.declared.script.Player.{Player}
 use Rattle.trdp_script.specs.declared.script.Script.{Script}
@@ -24,7 +25,7 @@ pub record PlaysLine (old new : Player) (written written_then : Option (List ℕ
   pub passed : PassesOn written written_then old.output.items new.output.items (events_text old.node events)
 
 -- what came of the line of that number, which has this meaning
-abbrev pub LineComesTo : Player → Player → Option (List ℕ) → Option (List ℕ) → ℕ → Result (Option EventModel) LineFault → Result (Unit {0}) ScriptFault → Type 0
+unfoldable pub LineComesTo : Player → Player → Option (List ℕ) → Option (List ℕ) → ℕ → Result (Option EventModel) LineFault → Result (Unit {0}) ScriptFault → Type 0
 LineComesTo old new written written_then number (Err bad) (Ok done) = ⊥
 LineComesTo old new written written_then number (Err bad) (Err (Line n fault)) = (n ≡ number) × (fault ≡ bad) × PassesOn written written_then old.output.items new.output.items []
 LineComesTo old new written written_then number (Err bad) (Err Read) = ⊥
@@ -81,7 +82,7 @@ pub record StopsAmong (old new : Script) (written written_then : Option (List �
   pub text_is : text ≡ events_text old.player.node (take count (events_of (lines (old.line.items ++ rest))))
 
 -- where a script with this rest of its input stops for a fault
-abbrev pub Stops : Script → Script → Option (List ℕ) → Option (List ℕ) → List ℕ → ScriptFault → Type 0
+unfoldable pub Stops : Script → Script → Option (List ℕ) → Option (List ℕ) → List ℕ → ScriptFault → Type 0
 Stops old new written written_then rest (Line n fault) = StopsAt old new written written_then rest n fault
 Stops old new written written_then rest Read = StopsAmong old new written written_then rest
 Stops old new written written_then rest Write = PassesSome written written_then old.player.output.items (events_text old.player.node (events_of (lines (old.line.items ++ rest))))
@@ -93,6 +94,13 @@ pub record IsSound (s : Script) : Type 0 where
   pub slots : length s.player.node.slots ≤ 16
 
 -- how the rest of a script is run, of which the reader has this left in the end
-abbrev pub ComesTo : Script → Script → Option (List ℕ) → Option (List ℕ) → List ℕ → Option (List ℕ) → Result (Unit {0}) ScriptFault → Type 0
+unfoldable pub ComesTo : Script → Script → Option (List ℕ) → Option (List ℕ) → List ℕ → Option (List ℕ) → Result (Unit {0}) ScriptFault → Type 0
 ComesTo old new written written_then rest left (Ok done) = Ends old new written written_then rest × (left ≡ Some [])
 ComesTo old new written written_then rest left (Err fault) = Stops old new written written_then rest fault
+
+-- a script over a node of the configuration that was just opened
+pub record Starts (config : ConfigModel) (s : Script) : Type 0 where
+  pub node : s.player.node ≡ opened_node config
+  pub line : s.line.items ≡ []
+  pub number : s.number ≡ 1
+  pub output : s.player.output.items ≡ []

@@ -6,7 +6,9 @@ ghost use Rattle.trdp_engine.specs.Events.{event_model};
 ghost use Rattle.trdp_script.specs.Lines.{line_of};
 ghost use Rattle.trdp_script.specs.Pieces.{IsBare};
 ghost use Rattle.trdp_script.specs.ScriptRuns.{RunsScript};
-ghost use Rattle.trdp_script.specs.ScriptSteps.{ComesTo, Ends, IsSound, LineComesTo, Plays, Stops};
+ghost use Rattle.trdp_script.specs.ScriptSteps.{ComesTo, Ends, IsSound, LineComesTo, Plays, Starts, Stops};
+ghost use Rattle.trdp_dataset.specs.Configs.{ConfigModel};
+ghost use Rattle.trdp_script.specs.declared.script.TheConstants.{PIECE_ROOM};
 
 use crate::fault::LineFault;
 use crate::input::{read_piece, split_at_newline, without_return};
@@ -73,13 +75,9 @@ pub fn run_script<R: Read, W: Write>(
     ensures script { (input : List ℕ) → R.remaining reader.old ≡ Some input → RunsScript config input
         (R.remaining reader.new) (W.contents writer.old) (W.contents writer.new) result }
 {
-    let mut script = Script::new(alloc, config)?;
-    match script.run(alloc, reader, writer) {
-        Err(ScriptFault::Write) => Err(ScriptFault::Write),
-        end => {
-            script.write_out(writer)?;
-            end
-        }
+    match Script::new(alloc, config) {
+        Ok((mut script, mut piece)) => script.run_whole(alloc, &mut piece, reader, writer),
+        Err(_) => Err(ScriptFault::OutOfMemory),
     }
 }
 
@@ -106,42 +104,75 @@ struct Player {
 }
 
 impl Script {
-    /// A script before its first byte.
-    fn new(alloc: Global, config: NodeConfig) -> Result<Script, AllocError>
-        ensures node { IfOk result (λ script. script.player.node ≡ opened_node config) }
-        ensures start { IfOk result (λ script. (script.line.items ≡ []) × (script.number ≡ 1)
-            × (script.player.output.items ≡ [])) }
+    /// A script before its first byte, and a list for the pieces of its input.
+    fn new(alloc: Global, config: NodeConfig) -> Result<(Script, Vec<u8>), AllocError>
+        ensures start { IfOk result (λ made. Starts config made.0) }
+        ensures piece { IfOk result (λ made. length made.1.items ≡ PIECE_ROOM) }
     {
+        let piece = zeros(alloc, PIECE_ROOM)?;
         let line = Vec::with_capacity(alloc, LINE_ROOM)?;
         let player = Player::new(alloc, config)?;
-        Ok(Script {
+        let script = Script {
             player,
             line,
             number: 1,
-        })
+        };
+        Ok((script, piece))
     }
 
-    /// Reads and plays to the end of the input. Output may be left to write, but for `Write`.
-    fn run<R: Read, W: Write>(
+    /// Runs a script from its start to its end, and writes all of its output.
+    fn run_whole<R: Read, W: Write>(
         &mut self,
         alloc: Global,
+        piece: &mut [u8],
         reader: &mut R,
         writer: &mut W,
     ) -> Result<(), ScriptFault>
         requires sound { IsSound self.old }
         requires number { self.old.number ≡ 1 }
+        requires room { (0 < length piece.old) × (length piece.old ≤ 65536) }
+        ensures script { (config : ConfigModel) (input : List ℕ) → Starts config self.old
+            → R.remaining reader.old ≡ Some input → RunsScript config input
+            (R.remaining reader.new) (W.contents writer.old) (W.contents writer.new) result }
+    {
+        let end = self.run(alloc, piece, reader, writer);
+        if end == Err(ScriptFault::Write) {
+            return end;
+        }
+        match self.write_out(writer) {
+            Ok(()) => end,
+            Err(fault) => Err(fault),
+        }
+    }
+
+    /// Reads and plays to the end of the input, by way of the piece. Output may be left to write, but for `Write`.
+    fn run<R: Read, W: Write>(
+        &mut self,
+        alloc: Global,
+        piece: &mut [u8],
+        reader: &mut R,
+        writer: &mut W,
+    ) -> Result<(), ScriptFault>
+        requires sound { IsSound self.old }
+        requires number { self.old.number ≡ 1 }
+        requires room { (0 < length piece.old) × (length piece.old ≤ 65536) }
         ensures run { (input : List ℕ) → R.remaining reader.old ≡ Some input → ComesTo self.old self.new
             (W.contents writer.old) (W.contents writer.new) input (R.remaining reader.new) result }
     {
-        let mut piece = vec![in alloc; 0; PIECE_ROOM]?;
-        for _ in 0..u32::MAX {
-            self.write_out(writer)?;
-            let count = read_piece(reader, &mut piece)?;
-            if count == 0 {
-                return self.end(alloc, writer);
+        for _read in 0..u32::MAX {
+            if let Err(fault) = self.write_out(writer) {
+                return Err(fault);
             }
-            let (front, _) = piece.split_at(count);
-            self.take_piece(alloc, front, writer)?;
+            match read_piece(reader, piece) {
+                Ok(0) => return self.end(alloc, writer),
+                Ok(count) => {
+                    let (front, _) = piece.split_at(count);
+                    if let Err(fault) = self.take_piece(alloc, front, writer) {
+                        return Err(fault);
+                    }
+                }
+                Err(fault) => return Err(fault),
+            }
         }
         Err(ScriptFault::Read)
     }
@@ -179,8 +210,10 @@ impl Script {
     {
         let mut rest = piece;
         while let Some((before, behind)) = split_at_newline(rest) {
-            self.take_to_newline(alloc, before, writer)?;
-            rest = behind;
+            match self.take_to_newline(alloc, before, writer) {
+                Ok(()) => rest = behind,
+                Err(fault) => return Err(fault),
+            }
         }
         self.gather(rest)
     }
@@ -239,10 +272,14 @@ impl Script {
             (W.contents writer.old) (W.contents writer.new) (10 ∷ later) fault) }
     {
         let line = without_return(&self.line);
-        self.player.take_line(alloc, line, self.number, writer)?;
-        self.line.clear();
-        self.number += 1;
-        Ok(())
+        match self.player.take_line(alloc, line, self.number, writer) {
+            Ok(()) => {
+                self.line.clear();
+                self.number += 1;
+                Ok(())
+            }
+            Err(fault) => Err(fault),
+        }
     }
 
     /// Plays the last line, which has no end, if there is one.
@@ -280,6 +317,7 @@ impl Player {
     }
 
     /// Plays the line of that number, which comes without its end.
+    #[tactic(auto, unfolding(crate::specs::ScriptSteps::LineComesTo))]
     fn take_line<W: Write>(
         &mut self,
         alloc: Global,
@@ -303,6 +341,7 @@ impl Player {
     }
 
     /// Plays an event.
+    #[tactic(auto, unfolding(crate::specs::ScriptSteps::LineComesTo))]
     fn take_event<W: Write>(&mut self, event: &Event<'_>, writer: &mut W) -> Result<(), ScriptFault>
         requires slots { length self.old.node.slots ≤ 16 }
         ensures count { length self.new.node.slots ≡ length self.old.node.slots }
@@ -314,4 +353,11 @@ impl Player {
             Err(_) => Err(ScriptFault::OutOfMemory),
         }
     }
+}
+
+/// So many zeros.
+fn zeros(alloc: Global, len: usize) -> Result<Vec<u8>, AllocError>
+    ensures { IfOk result (λ bytes. length bytes.items ≡ len) }
+{
+    vec![in alloc; 0; len]
 }

@@ -1,0 +1,26 @@
+use Rattle.std.proofs.Common.{rules, ◌≡◌, ◌≤◌, ◌+◌, ◌^◌, ◌<◌, ◌++◌, ◌∷◌, ℕ, List, [], Option, Some, Ok, length, IfOk, OnOk, IfErr, ◌-◌, ◌*◌, ◌/◌, ◌%◌, Bool, true, false, nat_eq, nat_lt, slice_index_or, slice_set, bit_and, bit_or, Fits, w8, w32, w64, Bor, MutBor}
+use Rattle.trdp_engine.specs.NodeStates.{opened_node}
+use Rattle.trdp_engine.specs.Events.{event_model}
+use Rattle.trdp_script.specs.Lines.{line_of}
+use Rattle.trdp_script.specs.Pieces.{IsBare}
+use Rattle.trdp_script.specs.ScriptRuns.{RunsScript}
+use Rattle.trdp_script.specs.ScriptSteps.{ComesTo, Ends, IsSound, LineComesTo, Plays, Starts, Stops}
+use Rattle.trdp_dataset.specs.Configs.{ConfigModel}
+use Rattle.trdp_script.specs.declared.script.TheConstants.{PIECE_ROOM}
+use Rattle.trdp_script.proofs.script.Script.take_piece.Goals as goal
+
+-- src/script.rt:212:9
+pub loop-before-preserved : goal.loop-before-preserved
+loop-before-preserved g c = ?
+
+-- src/script.rt:215:31
+pub returns-in-Err-clause-err : goal.returns-in-Err-clause-err
+returns-in-Err-clause-err g c = ?
+
+-- src/script.rt:196:5
+pub returns-clause-ok : goal.returns-clause-ok
+returns-clause-ok g c = ?
+
+-- src/script.rt:196:5
+pub returns-clause-err : goal.returns-clause-err
+returns-clause-err g c = ?
