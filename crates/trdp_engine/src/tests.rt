@@ -168,8 +168,8 @@ fn head(kind: PdKind, counter: u32, etb: u32) -> PdHead {
     }
 }
 
-/// A terms of comId 100 to X.
-fn terms(dataset: u32, cycle: u32) -> PublisherTerms {
+/// The terms of comId 100 to X.
+fn publisher_terms(dataset: u32, cycle: u32) -> PublisherTerms {
     PublisherTerms {
         com_id: 100,
         dataset,
@@ -181,11 +181,11 @@ fn terms(dataset: u32, cycle: u32) -> PublisherTerms {
 }
 
 fn publish<'a>(dataset: u32, cycle: u32) -> Call<'a> {
-    Call::Publish(terms(dataset, cycle))
+    Call::Publish(publisher_terms(dataset, cycle))
 }
 
 /// The terms of a subscription of comId 100, from any source.
-fn terms(dataset: u32, supervision: u32, behaviour: Behaviour) -> SubscriptionTerms {
+fn subscription_terms(dataset: u32, supervision: u32, behaviour: Behaviour) -> SubscriptionTerms {
     let any = Ip(0);
     let filter = PdFilter {
         com_id: 100,
@@ -203,7 +203,7 @@ fn terms(dataset: u32, supervision: u32, behaviour: Behaviour) -> SubscriptionTe
 }
 
 fn subscribe<'a>(dataset: u32, supervision: u32, behaviour: Behaviour) -> Call<'a> {
-    Call::Subscribe(terms(dataset, supervision, behaviour))
+    Call::Subscribe(subscription_terms(dataset, supervision, behaviour))
 }
 
 /// So many zero bytes.

@@ -87,15 +87,15 @@ no_fault (Some fault) is = absurd is
 
 -- the node after an event that it took
 pub node_played : (old new : NodeState) (records records_then : List RecordModel) (event : EventModel) → FaultIs (refused_as (length old.slots) old.globals event) (Ok tt)
-    → new.setup ≡ old.setup → new.globals ≡ globals_after old.globals event → length new.slots ≡ length old.slots
+    → new.config ≡ old.config → new.globals ≡ globals_after old.globals event → length new.slots ≡ length old.slots
     → ((s : ℕ) (slot : SlotState) → slice_get old.slots s ≡ Some slot → StepsAsAlone old new records records_then event s slot)
     → new ≡ node_after old event
 node_played old new records records_then event taken config globals len steps =
-    let slots : new.slots ≡ slots_after old.setup old.globals event 0 old.slots =
-    slots_same old.setup old.globals event 0 old.slots new.slots len (λ i s slot is there. let same : s ≡ i = omega (arith, is) in rw same (steps i slot there).slot_is) in
-    ap (λ c. let n : NodeState = record { setup = c; globals = new.globals; slots = new.slots } in n) config
-    ∙ ap (λ g. let n : NodeState = record { setup = old.setup; globals = g; slots = new.slots } in n) globals
-    ∙ ap (λ l. let n : NodeState = record { setup = old.setup; globals = globals_after old.globals event; slots = l } in n) slots
+    let slots : new.slots ≡ slots_after old.config old.globals event 0 old.slots =
+    slots_same old.config old.globals event 0 old.slots new.slots len (λ i s slot is there. let same : s ≡ i = omega (arith, is) in rw same (steps i slot there).slot_is) in
+    ap (λ c. let n : NodeState = record { config = c; globals = new.globals; slots = new.slots } in n) config
+    ∙ ap (λ g. let n : NodeState = record { config = old.config; globals = g; slots = new.slots } in n) globals
+    ∙ ap (λ l. let n : NodeState = record { config = old.config; globals = globals_after old.globals event; slots = l } in n) slots
     ∙ ap (λ fault. node_unless fault old event) (sym (no_fault (refused_as (length old.slots) old.globals event) taken))
 
 -- what is told of an event that the node took
@@ -108,11 +108,11 @@ pub text_played : (n : ℕ) (old new : NodeState) (records records_then : List R
 text_played n old new records records_then event text taken fits empty steps appends told =
     let room : n ≡ length old.slots + (n - length old.slots) = omega (arith, fits) in
     let none : (s : ℕ) → slice_get old.slots s ≡ None → records_of s records_then ≡ [] = λ s past. appends.none_else s past ∙ ap (records_of s) empty in
-    let each : (i s : ℕ) (slot : SlotState) → s ≡ 0 + i → slice_get old.slots i ≡ Some slot → records_of s records_then ≡ records_after old.setup s slot old.globals event =
-    λ i s slot is there. let same : s ≡ i = omega (arith, is) in rw same ((steps i slot there).records_are ∙ ap (λ l. records_of i l ++ records_after old.setup i slot old.globals event) empty) in
+    let each : (i s : ℕ) (slot : SlotState) → s ≡ 0 + i → slice_get old.slots i ≡ Some slot → records_of s records_then ≡ records_after old.config s slot old.globals event =
+    λ i s slot is there. let same : s ≡ i = omega (arith, is) in rw same ((steps i slot there).records_are ∙ ap (λ l. records_of i l ++ records_after old.config i slot old.globals event) empty) in
     let whole : 0 + length old.slots ≡ length old.slots = omega arith in
     told
     ∙ ap (flat_map text_of_record) (by_slot_past old.slots records_then none (n - length old.slots) n room)
-    ∙ sym (ap (λ l. flat_map text_of_record l ++ slots_text old.setup old.globals event 0 old.slots) (sym (by_slot_zero records_then))
-    ∙ slots_text_after old.setup old.globals event records_then old.slots 0 (length old.slots) (sym whole) each)
+    ∙ sym (ap (λ l. flat_map text_of_record l ++ slots_text old.config old.globals event 0 old.slots) (sym (by_slot_zero records_then))
+    ∙ slots_text_after old.config old.globals event records_then old.slots 0 (length old.slots) (sym whole) each)
     ∙ ap (λ fault. text_unless fault old event) (sym (no_fault (refused_as (length old.slots) old.globals event) taken))

@@ -1,6 +1,6 @@
 -- A script on its way, step after step.
 use Rattle.std.proofs.Common.{inl, inr, ◌≡◌, zero, suc, ◌+◌, ◌-◌, ◌<◌, ◌≤◌, ℕ, Bool, true, false, List, [], ◌∷◌, ◌++◌, length, take, Some, None, Ok, Err, Option, Result, refl, sym, ◌∙◌, ap, arith, append_assoc, append-nil, length-append, subst}
-use Rattle.std.specs.Prelude.{◌==◌, IfErr, OnErr, OnOk}
+use Rattle.std.specs.Prelude.{◌==◌, nat_eq, nat_lt, if◌then◌else◌, IfErr, OnErr, OnOk}
 use Rattle.std.proofs.KnownBytes.{Appends-nil, Consumes-nil, Consumes-trans}
 use Rattle.std.proofs.lemmas.List.Elements.{All-append}
 use Rattle.std.proofs.Math.Seq.{take-append_seam}
@@ -11,16 +11,19 @@ use Rattle.trdp_dataset.specs.Configs.{ConfigModel}
 use Rattle.trdp_engine.specs.NodeStates.{NodeState, opened_node}
 use Rattle.trdp_script.specs.ScriptRuns.{RunsScript, RunsToEnd, RunsToFault, WritesEvents, WritesFront}
 use Rattle.trdp_script.specs.declared.fault.LineFault.{LineFault}
-use Rattle.trdp_script.specs.declared.fault.LineFault.TheVariants.{TooLong}
+use Rattle.trdp_script.specs.declared.fault.LineFault.TheVariants.{TooLong, Count, OutOfMemory as NoMemory}
+use Rattle.trdp_script.specs.declared.script.Player.{Player}
 use Rattle.trdp_script.specs.declared.script.Script.{Script}
 use Rattle.trdp_script.specs.declared.script.ScriptFault.{ScriptFault}
 use Rattle.trdp_script.specs.declared.script.ScriptFault.TheVariants.{Line, Read, Write, OutOfMemory}
-use Rattle.trdp_script.specs.Lines.{line_of}
+use Rattle.trdp_script.specs.Forms.{LineForm, event_in}
+use Rattle.trdp_script.specs.Words.{words_of}
+use Rattle.trdp_script.specs.Lines.{Reads, event_or_fault, form_of, is_skipped, line_of, words_say}
 use Rattle.trdp_script.specs.Pieces.{IsBare, IsSplit}
 use Rattle.trdp_script.specs.ScriptText.{after_line, event_text, events_of, events_text, fault_from, fault_or, node_after, nodes_after, script_events, script_fault, script_text}
 use Rattle.trdp_script.specs.ScriptSteps.{ComesTo, Ends, Going, IsSound, LineComesTo, Plays, PlaysLine, Starts, Stops, StopsAmong, StopsAt, Takes, going, line_events}
 use Rattle.trdp_script.specs.Writes.{PassesOn, PassesSome}
-use Rattle.trdp_script.proofs.LineLists.{LongFirst, lines_first, long_line, too_long_events, too_long_fault}
+use Rattle.trdp_script.proofs.LineLists.{LongFirst, lines_first, lines_last, long_line, too_long_events, too_long_fault}
 use Rattle.trdp_script.proofs.Writing.{passes_both, passes_some_after, passes_some_of}
 
 nodes_append : (node : NodeState) (xs ys : List EventModel) → nodes_after node (xs ++ ys) ≡ nodes_after (nodes_after node xs) ys
@@ -238,7 +241,7 @@ midst_more {old} {here} there {u} {v} w {piece} {rest} before behind midst split
   whole = midst.whole ∙ ap (λ l. midst.front ++ l) (split.whole ∙ sym (append_assoc before (10 ∷ []) behind)) ∙ sym (append_assoc midst.front (before ++ 10 ∷ []) behind);
   plays = plays_both midst.plays plays;
   sound = sound;
-  number = let len : length rest ≡ length before + (1 + length behind) = ap length split.whole ∙ length-append before (10 ∷ behind) in omega (arith, len, midst.number, next);
+  number = omega (arith, ap length split.whole, length-append before (10 ∷ behind), midst.number, next);
 }
 
 -- a line of the piece stops the script
@@ -308,9 +311,9 @@ reading_stops {a} {b} c {u} {v} w {left} {left_then} fault reading stops input i
     subst (λ (l : List ℕ). Stops a c u w l fault) (sym rest.2) (stops_after c w rest.0 fault reading.plays (stops rest.0 rest.1))
 
 -- a fault of a piece that was read
-pub piece_stops : {b c : Script} {v w : Option (List ℕ)} {left_then left_last : Option (List ℕ)} (fault : ScriptFault) (piece : List ℕ) → Consumes left_then left_last piece
+pub piece_stops : (b c : Script) (v w : Option (List ℕ)) {left_then : Option (List ℕ)} (left_last : Option (List ℕ)) (fault : ScriptFault) (piece : List ℕ) → Consumes left_then left_last piece
     → ((later : List ℕ) → Stops b c v w (piece ++ later) fault) → (rest : List ℕ) → left_then ≡ Some rest → Stops b c v w rest fault
-piece_stops {b} {c} {v} {w} {left_then} {left_last} fault piece read stops rest is =
+piece_stops b c v w {left_then} left_last fault piece read stops rest is =
     let behind = rest_of left_then left_last piece rest read is in
     subst (λ (l : List ℕ). Stops b c v w l fault) (sym behind.2) (stops behind.0)
 
@@ -397,11 +400,15 @@ run_written config a b c u v w input left (Err OutOfMemory) start empty came oth
 }
 
 -- a run that ends at a write
-pub run_cut : (config : ConfigModel) (a b : Script) (u v : Option (List ℕ)) (input : List ℕ) (left : Option (List ℕ)) → Starts config a → ComesTo a b u v input left (Err Write) → WritesFront config input u v
+pub run_cut : (config : ConfigModel) (a b : Script) (u v : Option (List ℕ)) (input : List ℕ) (left : Option (List ℕ)) (r : Result (Unit {0}) ScriptFault) → Starts config a → ComesTo a b u v input left r → r ≡ Err Write → RunsScript config input left u v r
 unfolding ComesTo Stops
-run_cut config a b u v input left start came =
+run_cut config a b u v input left (Ok done) start came cut = absurd (cc)
+run_cut config a b u v input left (Err (Line n fault)) start came cut = absurd (cc)
+run_cut config a b u v input left (Err Read) start came cut = absurd (cc)
+run_cut config a b u v input left (Err Write) start came cut =
     let front = passed_front start.output (subst (λ (l : List ℕ). PassesSome u v a.player.output.items l) (starts_text config a start input) came) in
     record { length = front.0; written = front.1 }
+run_cut config a b u v input left (Err OutOfMemory) start came cut = absurd (cc)
 
 -- a front of the text that a run told
 told_front : (config : ConfigModel) (a b : Script) (u v w : Option (List ℕ)) (input : List ℕ) (text rest : List ℕ) → Starts config a → PassesOn u v a.player.output.items b.player.output.items text → script_text config input ≡ text ++ rest
@@ -427,3 +434,98 @@ run_unwritten config a b u v w input left (Err Write) start came other some = ab
 run_unwritten config a b u v w input left (Err OutOfMemory) start came other some =
     let more = events_front (opened_node config) (script_events input) came.count in
     told_front config a b u v w input came.text more.0 start came.passed (more.1 ∙ ap (λ l. l ++ more.0) (sym (came.text_is ∙ starts_front config a start input came.count))) some
+
+-- a run whose last output can't be written
+pub run_fails : (config : ConfigModel) (a b : Script) (u v w : Option (List ℕ)) (input : List ℕ) (left : Option (List ℕ)) (r : Result (Unit {0}) ScriptFault) (fault : ScriptFault) → Starts config a
+    → ComesTo a b u v input left r → (r ≡ Err Write → ⊥) → PassesSome v w b.player.output.items [] → fault ≡ Write → RunsScript config input left u w (Err fault)
+run_fails config a b u v w input left r fault start came other some is =
+    subst (λ (f : ScriptFault). RunsScript config input left u w (Err f)) (sym is) (run_unwritten config a b u v w input left r start came other some)
+
+-- memory was refused before the script began
+pub run_never : (config : ConfigModel) (input : List ℕ) (left w : Option (List ℕ)) → RunsScript config input left w w (Err OutOfMemory)
+run_never config input left w = record { count = 0; written = Appends-nil w }
+
+-- a script that stops
+pub comes_stopped : (a c : Script) (u w : Option (List ℕ)) (input : List ℕ) (left : Option (List ℕ)) (fault : ScriptFault) → Stops a c u w input fault → ComesTo a c u w input left (Err fault)
+unfolding ComesTo
+comes_stopped a c u w input left fault stops = stops
+
+-- a reader that failed
+pub read_stops : (s : Script) (w : Option (List ℕ)) (rest : List ℕ) (fault : ScriptFault) → fault ≡ Read → Stops s s w w rest fault
+unfolding Stops
+read_stops s w rest (Line n bad) is = absurd (cc)
+read_stops s w rest Read is = stops_here rest (passes_nothing w s.player.output.items)
+read_stops s w rest Write is = absurd (cc)
+read_stops s w rest OutOfMemory is = stops_here rest (passes_nothing w s.player.output.items)
+
+-- a read of nothing
+pub read_none : (left left_then : Option (List ℕ)) (n : ℕ) (piece : List ℕ) → n ≡ 0 → 0 < length piece → Consumes left left_then (take n piece) × (n ≡ 0 → 0 < length piece → IsAtEnd left_then) → Consumes left left_then [] × IsAtEnd left_then
+read_none left left_then n piece none room read = (subst (λ (k : ℕ). Consumes left left_then (take k piece)) none read.0, read.1 none room)
+
+-- a line that was played, by what came of it
+came_good : (old new : Script) (v w : Option (List ℕ)) (n : ℕ) (meaning : Result (Option EventModel) LineFault) → LineComesTo old.player new.player v w n meaning (Ok tt)
+    → (event : Option EventModel) × (meaning ≡ Ok event) × PlaysLine old.player new.player v w (line_events (Ok event))
+unfolding LineComesTo
+came_good old new v w n (Ok event) came = (event, refl, came)
+came_good old new v w n (Err fault) came = absurd came
+
+-- a line before its newline was played
+pub line_came : (old new : Script) (v w : Option (List ℕ)) (text : List ℕ) → text ≡ strip_carriage_return old.line.items → IsBare old.line.items
+    → LineComesTo old.player new.player v w old.number (line_of text) (Ok tt) → new.line.items ≡ [] → new.number ≡ old.number + 1 → Plays old new v w (10 ∷ [])
+line_came old new v w text is bare came empty next =
+    let good = came_good old new v w old.number (line_of text) came in
+    line_plays old new v w good.0 bare (ap line_of (sym is) ∙ good.1) good.2 empty next
+
+-- a line before its newline stops the script
+pub line_bad : (old new : Script) (v w : Option (List ℕ)) (text : List ℕ) (fault : ScriptFault) → text ≡ strip_carriage_return old.line.items → IsBare old.line.items
+    → LineComesTo old.player new.player v w old.number (line_of text) (Err fault) → (later : List ℕ) → Stops old new v w (10 ∷ later) fault
+line_bad old new v w text fault is bare came later =
+    line_stops old new v w (strip_carriage_return old.line.items) (10 ∷ later) (lines later) (Err fault) (lines_first old.line.items later bare)
+    (subst (λ (l : List ℕ). LineComesTo old.player new.player v w old.number (line_of l) (Err fault)) is came)
+
+-- the last line was played
+pub last_came : (old new : Script) (v w : Option (List ℕ)) (text : List ℕ) (r : Result (Unit {0}) ScriptFault) → text ≡ old.line.items → IsBare old.line.items → 0 < length old.line.items
+    → LineComesTo old.player new.player v w old.number (line_of text) r → OnOk r (Ends old new v w [])
+last_came old new v w text (Ok done) is bare some came =
+    let good = came_good old new v w old.number (line_of text) came in
+    line_ends old new v w good.0 (ap lines (append-nil old.line.items) ∙ lines_last old.line.items bare some) (ap line_of (sym is) ∙ good.1) good.2
+last_came old new v w text (Err fault) is bare some came = tt
+
+-- the last line stops the script
+pub last_bad : (old new : Script) (v w : Option (List ℕ)) (text : List ℕ) (r : Result (Unit {0}) ScriptFault) → text ≡ old.line.items → IsBare old.line.items → 0 < length old.line.items
+    → LineComesTo old.player new.player v w old.number (line_of text) r → IfErr r (λ fault. Stops old new v w [] fault)
+last_bad old new v w text r is bare some came =
+    line_stops old new v w old.line.items [] [] r (ap lines (append-nil old.line.items) ∙ lines_last old.line.items bare some)
+    (subst (λ (l : List ℕ). LineComesTo old.player new.player v w old.number (line_of l) r) is came)
+
+-- a line's fault is never want of memory
+NeverMemory : Result (Option EventModel) LineFault → Type 0
+NeverMemory meaning = meaning ≡ Err NoMemory → ⊥
+
+never_said : (form : Option LineForm) (words : List (List ℕ)) → NeverMemory (words_say form words)
+unfolding words_say
+never_said None words is = absurd (cc)
+never_said (Some form) words is = never_counted (nat_eq (length words) (length form.parts)) (event_in form words) is
+  where
+    never_counted : (b : Bool) (event : Option EventModel) → NeverMemory (if b then event_or_fault event else Err Count)
+    never_counted true None is = absurd (cc)
+    never_counted true (Some event) is = absurd (cc)
+    never_counted false event is = absurd (cc)
+
+never_memory : (text : List ℕ) → NeverMemory (line_of text)
+unfolding line_of
+never_memory text is = never_long (nat_lt 140000 (length text)) (is_skipped text) is
+  where
+    never_long : (a b : Bool) → NeverMemory (if a then Err TooLong else (if b then Ok None else words_say (form_of (words_of text)) (words_of text)))
+    never_long true b is = absurd (cc)
+    never_long false true is = absurd (cc)
+    never_long false false is = never_said (form_of (words_of text)) (words_of text) is
+
+-- a good line for which there is no memory
+pub memory_came : (p : Player) (w : Option (List ℕ)) (n : ℕ) (text : List ℕ) (bad : LineFault) → bad ≡ NoMemory → Reads (line_of text) (Err bad) → LineComesTo p p w w n (line_of text) (Err OutOfMemory)
+memory_came p w n text bad is reads = memory_of (line_of text) (never_memory text) reads
+  where
+    memory_of : (meaning : Result (Option EventModel) LineFault) → NeverMemory meaning → Reads meaning (Err bad) → LineComesTo p p w w n meaning (Err OutOfMemory)
+    unfolding LineComesTo
+    memory_of (Ok event) never reads = passes_nothing w p.output.items
+    memory_of (Err fault) never reads = absurd (never (ap (λ f. Err f) (sym reads ∙ is)))

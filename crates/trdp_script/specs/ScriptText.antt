@@ -32,7 +32,7 @@ abbrev pub node_unless : Option NodeFault → NodeState → EventModel → NodeS
 node_unless (Some fault) node event = node
 node_unless None node event = record node {
   globals = globals_after node.globals event;
-  slots = slots_after node.setup node.globals event 0 node.slots;
+  slots = slots_after node.config node.globals event 0 node.slots;
 }
 
 -- the node after an event
@@ -47,7 +47,7 @@ nodes_after node (event ∷ events) = nodes_after (node_after node event) events
 -- what is told of an event with this fault, or of the records of one with none
 abbrev pub text_unless : Option NodeFault → NodeState → EventModel → List ℕ
 text_unless (Some fault) node event = text_of_fault fault
-text_unless None node event = slots_text node.setup node.globals event 0 node.slots
+text_unless None node event = slots_text node.config node.globals event 0 node.slots
 
 -- what is told of an event
 abbrev pub event_text : NodeState → EventModel → List ℕ

@@ -7,7 +7,7 @@ ghost use Rattle.trdp_base.specs.NumberText.{text_of_number};
 ghost use Rattle.trdp_base.specs.declared.number.TheConstants.{NUMBER_LENGTH};
 ghost use Rattle.trdp_base.specs.declared.address.TheConstants.{PLACE_LENGTH};
 ghost use Rattle.trdp_pd.specs.Peeks.{peek_model};
-ghost use Rattle.trdp_engine.specs.Records.{record_model, content_model, answer_model};
+ghost use Rattle.trdp_engine.specs.Records.{record_model, content_model, answer_model, indication_model};
 ghost use Rattle.trdp_script.specs.declared.print.TheConstants.{CONTENT_ROOM};
 ghost use Rattle.trdp_script.specs.RecordText.{text_of_peek, text_of_answer, text_of_indication, words_of_send, text_of_send, text_of_content, text_of_record, text_of_fault, bytes_of, answer_bytes};
 
@@ -137,7 +137,8 @@ fn put_peek(text: &mut Vec<u8>, peek: Peek<'_>)
 #[tactic(auto, unfolding(crate::specs::RecordText::text_of_indication))]
 fn put_indication(text: &mut Vec<u8>, indication: Indication)
     requires room { vec_len text.old + CONTENT_ROOM ≤ vec_capacity text.old }
-    ensures items { text.new.items ≡ text.old.items ++ text_of_indication indication }
+    ensures items { text.new.items ≡ text.old.items
+        ++ text_of_indication (indication_model indication) }
     ensures len { vec_len text.new ≤ vec_len text.old + CONTENT_ROOM }
     ensures capacity { vec_capacity text.old ≤ vec_capacity text.new }
 {

@@ -1,10 +1,11 @@
 //! A script's way through the node: its lines in, the text of its records out.
 
-ghost use Rattle.std.specs.Prelude.{◌≡◌, ◌≤◌, ◌+◌, ◌^◌, ◌<◌, ◌++◌, ◌∷◌, ℕ, List, [], Option, Some, Ok, length, IfOk, OnOk, IfErr};
+ghost use Rattle.std.specs.Prelude.{◌≡◌, ◌≤◌, ◌+◌, ◌^◌, ◌<◌, ◌++◌, ◌∷◌, ℕ, List, [], Option, Some, Ok, Err, true, false, length, IfOk, OnOk, OnErr, IfErr};
 ghost use Rattle.trdp_engine.specs.NodeStates.{opened_node};
 ghost use Rattle.trdp_engine.specs.Events.{event_model};
 ghost use Rattle.trdp_script.specs.Lines.{line_of};
 ghost use Rattle.trdp_script.specs.Pieces.{IsBare};
+ghost use Rattle.trdp_script.specs.Writes.{PassesOn, PassesSome};
 ghost use Rattle.trdp_script.specs.ScriptRuns.{RunsScript};
 ghost use Rattle.trdp_script.specs.ScriptSteps.{ComesTo, Ends, IsSound, LineComesTo, Plays, Starts, Stops};
 ghost use Rattle.trdp_dataset.specs.Configs.{ConfigModel};
@@ -136,7 +137,7 @@ impl Script {
             (R.remaining reader.new) (W.contents writer.old) (W.contents writer.new) result }
     {
         let end = self.run(alloc, piece, reader, writer);
-        if end == Err(ScriptFault::Write) {
+        if is_write_fault(&end) {
             return end;
         }
         match self.write_out(writer) {
@@ -179,9 +180,12 @@ impl Script {
 
     /// Writes the output that is left to write.
     fn write_out<W: Write>(&mut self, writer: &mut W) -> Result<(), ScriptFault>
-        requires sound { IsSound self.old }
-        ensures sound { OnOk result (IsSound self.new) }
+        ensures sound { IsSound self.old → IsSound self.new }
         ensures empty { OnOk result (self.new.player.output.items ≡ []) }
+        ensures passed { OnOk result (PassesOn (W.contents writer.old) (W.contents writer.new)
+            self.old.player.output.items self.new.player.output.items []) }
+        ensures cut { OnErr result (PassesSome (W.contents writer.old) (W.contents writer.new)
+            self.old.player.output.items []) }
         ensures number { self.new.number ≡ self.old.number }
         ensures ok { OnOk result
             (Plays self.old self.new (W.contents writer.old) (W.contents writer.new) []) }
@@ -353,6 +357,14 @@ impl Player {
             Err(_) => Err(ScriptFault::OutOfMemory),
         }
     }
+}
+
+/// Whether the output couldn't be written.
+fn is_write_fault(end: &Result<(), ScriptFault>) -> bool
+    ensures write { result ≡ true → end.now ≡ Err ScriptFault.Write }
+    ensures other { result ≡ false → end.now ≡ Err ScriptFault.Write → ⊥ }
+{
+    matches!(end, Err(ScriptFault::Write))
 }
 
 /// So many zeros.

@@ -1,6 +1,6 @@
 //! What is refused.
 
-use crate::tests::{Bench, Said, publish, subscribe, terms, zeros};
+use crate::tests::{Bench, Said, publish, subscribe, subscription_terms, zeros};
 use crate::{Call, Event, NodeFault, Refusal};
 use std::test::Fail;
 use trdp_base::{Ip, MOMENT_MAX};
@@ -13,7 +13,9 @@ fn moments_have_limits(rt: HostRuntime) -> Result<(), Fail> {
     let past = bench.node.step(&Event::Moment(4), &mut bench.out);
     assert_eq!(rt; past, Err(NodeFault::Past));
     bench.moment(MOMENT_MAX)?;
-    let late = bench.node.step(&Event::Moment(MOMENT_MAX + 1), &mut bench.out);
+    let late = bench
+        .node
+        .step(&Event::Moment(MOMENT_MAX + 1), &mut bench.out);
     assert_eq!(rt; late, Err(NodeFault::TooLate));
     Ok(())
 }
@@ -49,7 +51,7 @@ fn terms_have_limits(rt: HostRuntime) -> Result<(), Fail> {
     );
     let short = subscribe(0, 999, Behaviour::Zero);
     assert_eq!(rt; bench.call(short)?, Said::Refused(Refusal::Timeout));
-    let mut backwards: SubscriptionTerms = terms(0, 0, Behaviour::Zero);
+    let mut backwards: SubscriptionTerms = subscription_terms(0, 0, Behaviour::Zero);
     backwards.filter.low = Ip(0x0a00_0009);
     backwards.filter.high = Ip(0x0a00_0001);
     let refused = bench.call(Call::Subscribe(backwards))?;

@@ -1,10 +1,10 @@
 //! Pull requests and redundancy groups.
 
-use crate::tests::{Bench, HERE, Said, X, terms, record_said};
+use crate::tests::{Bench, HERE, Said, X, publisher_terms, record_said};
 use crate::{Call, Event, NodeFault, Protocol, Refusal, What};
 use std::test::Fail;
 use trdp_base::{Ip, Place, Topo};
-use trdp_pd::{RequesterTerms, PublisherTerms};
+use trdp_pd::{PublisherTerms, RequesterTerms};
 
 /// The place of a stranger.
 const STRANGER: Place = Place {
@@ -59,7 +59,7 @@ fn publish<'a>(com_id: u32, cycle: u32, group: u8) -> Event<'a> {
     let terms = PublisherTerms {
         com_id,
         group,
-        ..terms(0, cycle)
+        ..publisher_terms(0, cycle)
     };
     Event::Call {
         slot: 0,

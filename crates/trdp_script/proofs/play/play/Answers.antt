@@ -16,7 +16,7 @@ all_ok (Err e) q = tt
 
 pub returns-in-Ok-clause-node : goal.returns-in-Ok-clause-node
 returns-in-Ok-clause-node c =
-    all_ok c.push_records.result (node_played c.args.node.now c.step.new.self _ _ _ c.in-Ok.ensures.fault c.step.ensures.setup c.in-Ok.ensures.globals c.step.ensures.count c.in-Ok.ensures.steps)
+    all_ok c.push_records.result (node_played c.args.node.now c.step.new.self _ _ _ c.in-Ok.ensures.fault c.step.ensures.config c.in-Ok.ensures.globals c.step.ensures.count c.in-Ok.ensures.steps)
 
 pub returns-in-Ok-clause-text : goal.returns-in-Ok-clause-text
 returns-in-Ok-clause-text c =

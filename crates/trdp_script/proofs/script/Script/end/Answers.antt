@@ -1,18 +1,18 @@
-use Rattle.std.proofs.Common.{rules, ◌≡◌, ◌≤◌, ◌+◌, ◌^◌, ◌<◌, ◌++◌, ◌∷◌, ℕ, List, [], Option, Some, Ok, length, IfOk, OnOk, IfErr, ◌-◌, ◌*◌, ◌/◌, ◌%◌, Bool, true, false, nat_eq, nat_lt, slice_index_or, slice_set, bit_and, bit_or, Fits, w8, w32, w64, Bor, MutBor}
-use Rattle.trdp_engine.specs.NodeStates.{opened_node}
-use Rattle.trdp_engine.specs.Events.{event_model}
-use Rattle.trdp_script.specs.Lines.{line_of}
-use Rattle.trdp_script.specs.Pieces.{IsBare}
-use Rattle.trdp_script.specs.ScriptRuns.{RunsScript}
-use Rattle.trdp_script.specs.ScriptSteps.{ComesTo, Ends, IsSound, LineComesTo, Plays, Starts, Stops}
-use Rattle.trdp_dataset.specs.Configs.{ConfigModel}
-use Rattle.trdp_script.specs.declared.script.TheConstants.{PIECE_ROOM}
+use Rattle.std.proofs.Common.{◌<◌, length, arith}
+use Rattle.std.proofs.lemmas.Bool.Decides.{nat_tests}
+use Rattle.trdp_script.proofs.Steps.{last_came, last_bad}
 use Rattle.trdp_script.proofs.script.Script.end.Goals as goal
 
--- src/script.rt:286:5
 pub returns-clause-ok : goal.returns-clause-ok
-returns-clause-ok g c = ?
+returns-clause-ok g c =
+    let filled = c.if-is_empty.ensures in
+    let len = c.args.self.now.line.ok in
+    let some : 0 < length c.args.self.now.line.items = grind (arith, nat_tests) in
+    last_came c.args.self.now _ _ _ c.deref.result.now c.take_line.result c.deref.ensures.value c.requires.sound.bare some c.take_line.ensures.line
 
--- src/script.rt:286:5
 pub returns-clause-err : goal.returns-clause-err
-returns-clause-err g c = ?
+returns-clause-err g c =
+    let filled = c.if-is_empty.ensures in
+    let len = c.args.self.now.line.ok in
+    let some : 0 < length c.args.self.now.line.items = grind (arith, nat_tests) in
+    last_bad c.args.self.now _ _ _ c.deref.result.now c.take_line.result c.deref.ensures.value c.requires.sound.bare some c.take_line.ensures.line

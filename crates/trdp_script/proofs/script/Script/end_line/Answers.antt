@@ -1,18 +1,14 @@
-use Rattle.std.proofs.Common.{rules, ◌≡◌, ◌≤◌, ◌+◌, ◌^◌, ◌<◌, ◌++◌, ◌∷◌, ℕ, List, [], Option, Some, Ok, length, IfOk, OnOk, IfErr, ◌-◌, ◌*◌, ◌/◌, ◌%◌, Bool, true, false, nat_eq, nat_lt, slice_index_or, slice_set, bit_and, bit_or, Fits, w8, w32, w64, Bor, MutBor}
-use Rattle.trdp_engine.specs.NodeStates.{opened_node}
-use Rattle.trdp_engine.specs.Events.{event_model}
-use Rattle.trdp_script.specs.Lines.{line_of}
-use Rattle.trdp_script.specs.Pieces.{IsBare}
-use Rattle.trdp_script.specs.ScriptRuns.{RunsScript}
-use Rattle.trdp_script.specs.ScriptSteps.{ComesTo, Ends, IsSound, LineComesTo, Plays, Starts, Stops}
-use Rattle.trdp_dataset.specs.Configs.{ConfigModel}
-use Rattle.trdp_script.specs.declared.script.TheConstants.{PIECE_ROOM}
+use Rattle.std.proofs.Common.{◌≡◌, ◌∙◌, ap, refl}
+use Rattle.std.specs.Str.Lines.{strip_carriage_return}
+use Rattle.trdp_script.proofs.Steps.{line_came, line_bad}
 use Rattle.trdp_script.proofs.script.Script.end_line.Goals as goal
 
--- src/script.rt:264:5
 pub returns-in-Ok-clause-ok : goal.returns-in-Ok-clause-ok
-returns-in-Ok-clause-ok g c = ?
+returns-in-Ok-clause-ok g c =
+    let text = c.without_return-line.ensures ∙ ap strip_carriage_return c.deref.ensures.value in
+    line_came c.args.self.now _ _ _ c.without_return-line.result.now text c.requires.sound.bare c.in-Ok.ensures.line c.clear.ensures.items refl
 
--- src/script.rt:264:5
 pub returns-in-Err-clause-err : goal.returns-in-Err-clause-err
-returns-in-Err-clause-err g c = ?
+returns-in-Err-clause-err g c =
+    let text = c.without_return-line.ensures ∙ ap strip_carriage_return c.deref.ensures.value in
+    line_bad c.args.self.now _ _ _ c.without_return-line.result.now c.in-Err.fault text c.requires.sound.bare c.in-Err.ensures.line

@@ -1,18 +1,11 @@
-use Rattle.std.proofs.Common.{rules, ◌≡◌, ◌≤◌, ◌+◌, ◌^◌, ◌<◌, ◌++◌, ◌∷◌, ℕ, List, [], Option, Some, Ok, length, IfOk, OnOk, IfErr, ◌-◌, ◌*◌, ◌/◌, ◌%◌, Bool, true, false, nat_eq, nat_lt, slice_index_or, slice_set, bit_and, bit_or, Fits, w8, w32, w64, Bor, MutBor}
-use Rattle.trdp_engine.specs.NodeStates.{opened_node}
-use Rattle.trdp_engine.specs.Events.{event_model}
-use Rattle.trdp_script.specs.Lines.{line_of}
-use Rattle.trdp_script.specs.Pieces.{IsBare}
-use Rattle.trdp_script.specs.ScriptRuns.{RunsScript}
-use Rattle.trdp_script.specs.ScriptSteps.{ComesTo, Ends, IsSound, LineComesTo, Plays, Starts, Stops}
-use Rattle.trdp_dataset.specs.Configs.{ConfigModel}
-use Rattle.trdp_script.specs.declared.script.TheConstants.{PIECE_ROOM}
+use Rattle.std.proofs.Common.{◌∷◌}
+use Rattle.trdp_script.proofs.Results.{on_ok, if_err}
+use Rattle.trdp_script.proofs.Steps.{plays_both, stops_after}
 use Rattle.trdp_script.proofs.script.Script.take_to_newline.Goals as goal
 
--- src/script.rt:222:5
 pub returns-in-Ok-clause-ok : goal.returns-in-Ok-clause-ok
-returns-in-Ok-clause-ok g c = ?
+returns-in-Ok-clause-ok g c = on_ok c.end_line.result (plays_both (c.in-Ok.ensures.ok (g.W.Write.contents c.args.writer.now))) c.end_line.ensures.ok
 
--- src/script.rt:222:5
 pub returns-in-Ok-clause-err : goal.returns-in-Ok-clause-err
-returns-in-Ok-clause-err g c = ?
+returns-in-Ok-clause-err g c =
+    if_err c.end_line.result (λ fault stops later. stops_after c.end_line.new.self _ (10 ∷ later) fault (c.in-Ok.ensures.ok (g.W.Write.contents c.args.writer.now)) (stops later)) c.end_line.ensures.err

@@ -1,0 +1,70 @@
+#!/usr/bin/env python3
+"""How fast trdpd plays scripts: lines a second of processor time, and the most memory that it held.
+
+    bench/script_lines.py [LINES] [PROGRAM]       default: 1000000 lines, crates/trdpd/out/trdpd (./run builds it)
+
+Two scripts of that many lines over examples/node.toml are played from a file to a file: puts alone, and a mix of moments, puts,
+datagrams that a subscription takes, and gets. The telegrams' frame checks are zlib's.
+"""
+import os
+import struct
+import subprocess
+import sys
+import tempfile
+import zlib
+
+TOP = os.path.dirname(os.path.dirname(os.path.abspath(__file__)))
+OPEN = ["call 0 publish 100 0 100000 0 0 0 10.0.0.2:17224", "call 0 subscribe 200 0 0.0.0.0 0.0.0.0 0.0.0.0 0 0 0 keep"]
+
+
+def telegram(counter, payload):
+    """A process data telegram of comId 200."""
+    head = struct.pack(">IHHIIIIIII", counter, 0x0100, 0x5064, 200, 0, 0, len(payload), 0, 0, 0)
+    return head + struct.pack("<I", zlib.crc32(head)) + payload + bytes(-len(payload) % 4)
+
+
+def puts(count):
+    yield from OPEN
+    for i in range(count - 2):
+        yield f"call 0 put 1 {i % 65536:04x}"
+
+
+def mixed(count):
+    yield from OPEN
+    for i in range(count - 2):
+        if i % 4 == 0:
+            yield f"moment {i * 1000}"
+        elif i % 4 == 1:
+            yield f"call 0 put 1 {i % 65536:04x}"
+        elif i % 4 == 2:
+            yield f"pd 10.0.0.2:17224 10.0.0.1:17224 {telegram(i * 16, struct.pack('>Q', i)).hex()}"
+        else:
+            yield "call 0 get 2"
+
+
+def play(program, lines):
+    """Plays the lines; answers seconds of processor time, the most memory in KiB, and the lines that came out."""
+    with tempfile.TemporaryFile() as script, tempfile.TemporaryFile() as out:
+        for line in lines:
+            script.write(line.encode() + b"\n")
+        script.seek(0)
+        ran = subprocess.Popen([program, "run", f"{TOP}/examples/node.toml"], stdin=script, stdout=out)
+        _, status, usage = os.wait4(ran.pid, 0)
+        if status != 0:
+            sys.exit(f"trdpd ended with {status}")
+        out.seek(0)
+        return usage.ru_utime + usage.ru_stime, usage.ru_maxrss, sum(1 for _ in out)
+
+
+def main():
+    count = int(sys.argv[1]) if len(sys.argv) > 1 else 1_000_000
+    program = sys.argv[2] if len(sys.argv) > 2 else f"{TOP}/crates/trdpd/out/trdpd"
+    print(f"{'script':8}{'lines':>10}{'seconds':>9}{'lines/s':>12}{'peak MiB':>10}{'lines out':>11}")
+    for name, lines in (("puts", puts), ("mixed", mixed)):
+        for size in (count // 10, count):
+            seconds, memory, out = play(program, lines(size))
+            print(f"{name:8}{size:10}{seconds:9.2f}{size / seconds:12.0f}{memory / 1024:10.1f}{out:11}")
+
+
+if __name__ == "__main__":
+    main()
