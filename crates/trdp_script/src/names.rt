@@ -61,15 +61,14 @@ pub fn state_name(state: ValueState) -> &'static [u8]
 }
 
 /// The word for a line's fault.
-pub fn line_fault_name(fault: LineFault) -> &'static [u8]
-    ensures word { result.now ≡ name_of_line_fault fault }
-    ensures length { length result.now ≤ 11 }
+pub fn line_fault_name(fault: LineFault) -> &'static str
+    ensures { result.now ≡ name_of_line_fault fault }
 {
     match fault {
-        LineFault::TooLong => b"TooLong",
-        LineFault::Unknown => b"Unknown",
-        LineFault::Count => b"Count",
-        LineFault::BadWord => b"BadWord",
-        LineFault::OutOfMemory => b"OutOfMemory",
+        LineFault::TooLong => "TooLong",
+        LineFault::Unknown => "Unknown",
+        LineFault::Count => "Count",
+        LineFault::BadWord => "BadWord",
+        LineFault::OutOfMemory => "OutOfMemory",
     }
 }
