@@ -1,7 +1,7 @@
 -- The lines of an input that comes in pieces.
-use Rattle.std.proofs.Common.{inl, inr, ◌≡◌, zero, suc, ◌+◌, ◌-◌, ◌<◌, ◌≤◌, ℕ, Bool, true, false, List, [], ◌∷◌, ◌++◌, length, take, Some, None, Ok, Err, Option, refl, sym, ◌∙◌, ap, arith, append_assoc, append-nil, length-append, length-take, subst}
+use Rattle.std.proofs.Common.{inl, inr, ◌≡◌, ◌+◌, ◌-◌, ◌<◌, ◌≤◌, ℕ, Bool, true, false, List, [], ◌∷◌, ◌++◌, length, take, Some, Err, refl, sym, ◌∙◌, ap, arith, append_assoc, append-nil, length-append, length-take}
 use Rattle.std.specs.Prelude.{◌==◌, nat_lt, if◌then◌else◌, slice_index}
-use Rattle.std.specs.List.{All, slice_split, onto_first}
+use Rattle.std.specs.List.{slice_split, onto_first}
 use Rattle.std.specs.Str.Lines.{lines, lines_of_parts, strip_carriage_return}
 use Rattle.std.proofs.lemmas.Bool.Decides.{nat_tests, eqb_tells}
 use Rattle.std.proofs.lemmas.List.Elements.{All-push}

@@ -1,7 +1,7 @@
 -- Turns of the loops over records.
-use Rattle.std.proofs.Common.{◌≡◌, zero, suc, ◌+◌, ◌<◌, ◌≤◌, ℕ, Bool, true, false, List, [], ◌∷◌, ◌++◌, length, take, drop, Some, None, refl, sym, ◌∙◌, ap, arith, append_assoc, append-nil}
-use Rattle.std.specs.Prelude.{slice_get, slice_index, slice_index_or, ◌==◌, filter, if◌then◌else◌}
-use Rattle.std.specs.List.{flat_map, All}
+use Rattle.std.proofs.Common.{◌≡◌, suc, ◌+◌, ◌<◌, ◌≤◌, ℕ, false, List, [], ◌∷◌, ◌++◌, length, take, drop, Some, None, sym, ◌∙◌, ap, arith, append_assoc, append-nil}
+use Rattle.std.specs.Prelude.{slice_get, slice_index, ◌==◌}
+use Rattle.std.specs.List.{flat_map}
 use Rattle.std.proofs.Math.Seq.{drop-cons, take-suc}
 use Rattle.std.proofs.lemmas.Bool.Decides.{nat_tests}
 use Rattle.std.proofs.lemmas.List.Concat.{flat_map-cons}

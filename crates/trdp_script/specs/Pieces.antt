@@ -1,5 +1,5 @@
 -- Bytes between newlines.
-use Rattle.std.specs.Prelude.{◌≡◌, ◌≢◌, ℕ, List, ◌∷◌, ◌++◌, ◌==◌, false}
+use Rattle.std.specs.Prelude.{◌≡◌, ℕ, List, ◌∷◌, ◌++◌, ◌==◌, false}
 use Rattle.std.specs.List.{All}
 
 -- no newline is among the bytes

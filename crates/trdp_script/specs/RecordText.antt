@@ -7,13 +7,21 @@ use Rattle.trdp_base.specs.NumberText.{text_of_number}
 use Rattle.trdp_pd.specs.Peeks.{PeekModel}
 use Rattle.trdp_pd.specs.declared.terms.ValueState.{ValueState}
 use Rattle.trdp_pd.specs.declared.terms.ValueState.TheVariants.{Never, Valid, Silent}
-use Rattle.trdp_engine.specs.Records.{AnswerModel, HandleIs, DoneIs, ValueIs, RefusedIs, IndicationModel, SilentIs, AliveIs, Content, Answers, Indicates, Sends, RecordModel}
+use Rattle.trdp_engine.specs.Records.{AnswerModel, HandleIs, DoneIs, ValueIs, RefusedIs}
+use Rattle.trdp_engine.specs.Records.{IndicationModel, SilentIs, AliveIs}
+use Rattle.trdp_engine.specs.Records.{Content, Answers, Indicates, Sends, RecordModel}
 use Rattle.trdp_engine.specs.declared.fault.NodeFault.{NodeFault}
-use Rattle.trdp_engine.specs.declared.fault.NodeFault.TheVariants.{NoSlot, Past, TooLate, NoGroup, OutOfMemory}
+use Rattle.trdp_engine.specs.declared.fault.NodeFault.TheVariants.{NoSlot, Past, TooLate}
+use Rattle.trdp_engine.specs.declared.fault.NodeFault.TheVariants.{NoGroup, OutOfMemory}
 use Rattle.trdp_engine.specs.declared.fault.Refusal.{Refusal}
-use Rattle.trdp_engine.specs.declared.fault.Refusal.TheVariants.{NoHandle, WrongKind, State, Cycle, Timeout, Expected, Status, Range, NoDataset, TooLong, Shape, SessionOpen, Quota, Exhausted}
+use Rattle.trdp_engine.specs.declared.fault.Refusal.TheVariants.{NoHandle, WrongKind, State}
+use Rattle.trdp_engine.specs.declared.fault.Refusal.TheVariants.{Cycle, Timeout, Expected, Status}
+use Rattle.trdp_engine.specs.declared.fault.Refusal.TheVariants.{Range, NoDataset, TooLong, Shape}
+use Rattle.trdp_engine.specs.declared.fault.Refusal.TheVariants.{SessionOpen, Quota, Exhausted}
 use Rattle.trdp_script.specs.declared.fault.LineFault.{LineFault}
-use Rattle.trdp_script.specs.declared.fault.LineFault.TheVariants.{TooLong as LineTooLong, Unknown, Count, BadWord, OutOfMemory as NoLineMemory}
+use Rattle.trdp_script.specs.declared.fault.LineFault.TheVariants.{TooLong as LineTooLong, Unknown}
+use Rattle.trdp_script.specs.declared.fault.LineFault.TheVariants.{Count, BadWord}
+use Rattle.trdp_script.specs.declared.fault.LineFault.TheVariants.{OutOfMemory as NoLineMemory}
 use Rattle.trdp_engine.specs.declared.record.Protocol.{Protocol}
 use Rattle.trdp_engine.specs.declared.record.Protocol.TheVariants.{Pd, Md}
 
@@ -83,7 +91,8 @@ unfoldable pub text_of_send : Protocol → Place → List ℕ → List ℕ
 text_of_send protocol to telegram =
     words_of_send protocol ++ text_of_place to ++ codes " " ++ text_of_hex telegram
 
--- what a record says: an answer, an indication, or a telegram with its protocol, its destination and its bytes
+-- what a record says: an answer, an indication, or a telegram with its protocol, its destination
+-- and its bytes
 unfoldable pub text_of_content : Content → List ℕ
 text_of_content (Answers answer) = text_of_answer answer
 text_of_content (Indicates indication) = text_of_indication indication

@@ -1,12 +1,14 @@
--- What a script says and gives: the events of its lines, the first line with a fault, and the text of the records.
-use Rattle.std.specs.Prelude.{ℕ, zero, suc, List, [], ◌∷◌, ◌++◌, length, Option, Some, None, Result, Ok, Err}
+-- What a script says and gives: the events of its lines, the first line with a fault, and the text
+-- of the records.
+use Rattle.std.specs.Prelude.{ℕ, suc, List, [], ◌∷◌, ◌++◌, length}
+use Rattle.std.specs.Prelude.{Option, Some, None, Result, Ok, Err}
 use Rattle.std.specs.List.{flat_map}
 use Rattle.std.specs.Str.Lines.{lines}
 use Rattle.trdp_dataset.specs.Configs.{ConfigModel}
 use Rattle.trdp_filter.specs.declared.globals.Globals.{Globals}
 use Rattle.trdp_engine.specs.declared.fault.NodeFault.{NodeFault}
 use Rattle.trdp_engine.specs.Events.{EventModel}
-use Rattle.trdp_engine.specs.Records.{RecordModel, labelled}
+use Rattle.trdp_engine.specs.Records.{labelled}
 use Rattle.trdp_engine.specs.Slots.{SlotState}
 use Rattle.trdp_engine.specs.Alone.{refused_as, globals_after, slot_after, records_after}
 use Rattle.trdp_engine.specs.NodeStates.{NodeState, opened_node}
@@ -20,7 +22,8 @@ slots_after config g event s [] = []
 slots_after config g event s (slot ∷ slots) =
     slot_after config s slot g event ∷ slots_after config g event (suc s) slots
 
--- the text of the records that these slots get at such an event, slots rising, each slot's in their order
+-- the text of the records that these slots get at such an event, slots rising, each slot's in
+-- their order
 abbrev pub slots_text : ConfigModel → Globals → EventModel → ℕ → List SlotState → List ℕ
 slots_text config g event s [] = []
 slots_text config g event s (slot ∷ slots) =
@@ -56,10 +59,13 @@ event_text node event = text_unless (refused_as (length node.slots) node.globals
 -- what is told of events, one after another
 abbrev pub events_text : NodeState → List EventModel → List ℕ
 events_text node [] = []
-events_text node (event ∷ events) = event_text node event ++ events_text (node_after node event) events
+events_text node (event ∷ events) =
+    event_text node event ++ events_text (node_after node event) events
 
--- the event of a line, and then these; a line that is skipped has none, and behind a line with a fault there is none
-abbrev pub after_line : Result (Option EventModel) LineFault → List EventModel → List EventModel
+-- the event of a line, and then these; a line that is skipped has none, and behind a line with a
+-- fault there is none
+abbrev pub after_line : Result (Option EventModel) LineFault → List EventModel
+    → List EventModel
 after_line (Ok (Some event)) events = event ∷ events
 after_line (Ok None) events = events
 after_line (Err fault) events = []
@@ -70,7 +76,8 @@ events_of [] = []
 events_of (line ∷ lines) = after_line (line_of line) (events_of lines)
 
 -- a line's number and its fault, or without a fault what is found later
-abbrev pub fault_or : ℕ → Result (Option EventModel) LineFault → Option (ℕ × LineFault) → Option (ℕ × LineFault)
+abbrev pub fault_or : ℕ → Result (Option EventModel) LineFault → Option (ℕ × LineFault)
+    → Option (ℕ × LineFault)
 fault_or n (Ok event) later = later
 fault_or n (Err fault) later = Some (n, fault)
 
@@ -79,7 +86,8 @@ abbrev pub fault_from : ℕ → List (List ℕ) → Option (ℕ × LineFault)
 fault_from n [] = None
 fault_from n (line ∷ lines) = fault_or n (line_of line) (fault_from (suc n) lines)
 
--- the events of a script, whose lines end with a newline, or with a carriage return and a newline; the last may lack its end
+-- the events of a script, whose lines end with a newline, or with a carriage return and a newline;
+-- the last may lack its end
 abbrev pub script_events : List ℕ → List EventModel
 script_events input = events_of (lines input)
 

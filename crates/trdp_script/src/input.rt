@@ -1,6 +1,7 @@
 //! The lines of an input that comes in pieces.
 
-ghost use Rattle.std.specs.Prelude.{◌≡◌, ◌<◌, ◌≤◌, length, take, slice_index, IfOk, IfErr, MatchOption};
+ghost use Rattle.std.specs.Prelude.{◌≡◌, ◌<◌, ◌≤◌, length, take, slice_index};
+ghost use Rattle.std.specs.Prelude.{IfOk, IfErr, MatchOption};
 ghost use Rattle.std.specs.Io.KnownBytes.{ReadConsumes};
 ghost use Rattle.std.specs.Str.Lines.{strip_carriage_return};
 ghost use Rattle.trdp_script.specs.Pieces.{IsSplit, IsBare};
@@ -46,7 +47,8 @@ pub fn without_return(line: &[u8]) -> &[u8]
     }
 }
 
-/// Reads the next bytes to the front of `piece`, and answers how many these are: 0 at the end of the input.
+/// Reads the next bytes to the front of `piece`, and answers how many these are: 0 at the end of
+/// the input.
 ///
 /// # Errors
 /// `Read` where the reader fails.
@@ -54,7 +56,8 @@ pub fn read_piece<R: Read>(reader: &mut R, piece: &mut [u8]) -> Result<usize, Sc
     requires { 0 < length piece.old }
     ensures within { IfOk result (λ count. count ≤ length piece.new) }
     ensures length { length piece.new ≡ length piece.old }
-    ensures bytes { ReadConsumes (R.remaining reader.old) (R.remaining reader.new) result piece.new }
+    ensures bytes { ReadConsumes (R.remaining reader.old) (R.remaining reader.new)
+        result piece.new }
     ensures fault { IfErr result (λ fault. fault ≡ ScriptFault.Read) }
 {
     match reader.read(piece) {

@@ -1,4 +1,9 @@
-//! The text form of a node: lines that say events, lines that tell of records, and scripts of such lines.
+//! The text form of a node: lines that say events, lines that tell of records, and scripts of such
+//! lines.
+//!
+//! What no contract can say is that memory is there and that the outside works: a `read_line` or a
+//! `run_script` that answers want of memory at once meets its contract. The tests show that with
+//! ample memory the lines are read and the scripts played.
 #![tactic(auto)]
 
 mod fault;

@@ -82,7 +82,8 @@ fn write_whole<W: Write>(writer: &mut W, bytes: &[u8]) -> Result<(), ScriptFault
 /// Writes a front of the bytes, and answers its length: 0 where the write is to be tried again.
 fn write_some<W: Write>(writer: &mut W, bytes: &[u8]) -> Result<usize, ScriptFault>
     ensures within { IfOk result (λ count. count ≤ length bytes.now) }
-    ensures written { WriteAppends (W.contents writer.old) (W.contents writer.new) result bytes.now }
+    ensures written { WriteAppends (W.contents writer.old) (W.contents writer.new)
+        result bytes.now }
     ensures fault { IfErr result (λ fault. fault ≡ ScriptFault.Write) }
 {
     match writer.write(bytes) {

@@ -1,6 +1,6 @@
 //! An event's way through the node, and the text of what the node gives.
 
-ghost use Rattle.std.specs.Prelude.{◌≡◌, ◌≤◌, ◌++◌, [], length, filter, ◌==◌, map, OnOk, OnErr, ℕ, true};
+ghost use Rattle.std.specs.Prelude.{◌≡◌, ◌≤◌, ◌++◌, ◌==◌, [], length, filter, true, OnOk};
 ghost use Rattle.std.specs.List.{flat_map};
 ghost use Rattle.trdp_engine.specs.Events.{event_model};
 ghost use Rattle.trdp_script.specs.RecordText.{text_of_record};
@@ -15,8 +15,8 @@ use trdp_engine::{Event, Node, NodeFault, Outbox, Record};
 /// The number of slots that a node has at most (profile).
 const SLOTS_MAX: u16 = 16;
 
-/// Gives the node an event, and leaves the text of what it gives in `text`: the records slot by slot, slots rising, each
-/// slot's in their order, or the line of the event's fault.
+/// Gives the node an event, and leaves the text of what it gives in `text`: the records slot by
+/// slot, slots rising, each slot's in their order, or the line of the event's fault (profile).
 ///
 /// # Errors
 /// `AllocError` where memory for the event or for its text was refused.
@@ -40,7 +40,8 @@ pub fn play(
     }
 }
 
-/// Appends the lines of records: in their order where that is one of rising slots, and else slot by slot.
+/// Appends the lines of records: in their order where that is one of rising slots, and else slot
+/// by slot.
 fn push_records(text: &mut Vec<u8>, records: &Outbox) -> Result<(), AllocError>
     ensures { OnOk result (text.new.items
         ≡ text.old.items ++ flat_map text_of_record (by_slot 16 records.now.records)) }

@@ -1,15 +1,19 @@
 //! The lines that tell of a node's records and faults.
 
-ghost use Rattle.std.specs.Prelude.{◌≡◌, ◌≤◌, ◌+◌, ◌*◌, ◌++◌, length, OnOk, OnErr, codes, vec_len, vec_capacity};
+ghost use Rattle.std.specs.Prelude.{◌≡◌, ◌≤◌, ◌+◌, ◌*◌, ◌++◌, length, OnOk, OnErr};
+ghost use Rattle.std.specs.Prelude.{codes, vec_len, vec_capacity};
 ghost use Rattle.trdp_base.specs.AddressText.{text_of_place};
 ghost use Rattle.trdp_base.specs.HexText.{text_of_hex};
 ghost use Rattle.trdp_base.specs.NumberText.{text_of_number};
 ghost use Rattle.trdp_base.specs.declared.number.TheConstants.{NUMBER_LENGTH};
 ghost use Rattle.trdp_base.specs.declared.address.TheConstants.{PLACE_LENGTH};
 ghost use Rattle.trdp_pd.specs.Peeks.{peek_model};
-ghost use Rattle.trdp_engine.specs.Records.{record_model, content_model, answer_model, indication_model};
+ghost use Rattle.trdp_engine.specs.Records.{record_model, content_model, answer_model};
+ghost use Rattle.trdp_engine.specs.Records.{indication_model};
 ghost use Rattle.trdp_script.specs.declared.print.TheConstants.{CONTENT_ROOM};
-ghost use Rattle.trdp_script.specs.RecordText.{text_of_peek, text_of_answer, text_of_indication, words_of_send, text_of_send, text_of_content, text_of_record, text_of_fault, bytes_of, answer_bytes};
+ghost use Rattle.trdp_script.specs.RecordText.{text_of_peek, text_of_answer, text_of_indication};
+ghost use Rattle.trdp_script.specs.RecordText.{words_of_send, text_of_send, text_of_content};
+ghost use Rattle.trdp_script.specs.RecordText.{text_of_record, text_of_fault, bytes_of, answer_bytes};
 
 use crate::names::{fault_name, refusal_name, state_name};
 use std::alloc::AllocError;
@@ -17,13 +21,15 @@ use trdp_base::{NUMBER_LENGTH, PLACE_LENGTH, Place, push_hex, push_number, push_
 use trdp_engine::{Answer, Indication, NodeFault, Protocol, Record, What};
 use trdp_pd::Peek;
 
-/// Enough for what a record says, beside the digits of its bytes: the longest is a subscription's value.
+/// Enough bytes for what a record says, beside the digits of its bytes: the longest is a
+/// subscription's value.
 const CONTENT_ROOM: usize = 43;
 
-/// Enough for a whole line, beside the digits of its bytes.
+/// Enough bytes for a whole line, beside the digits of its bytes.
 const LINE_ROOM: usize = NUMBER_LENGTH + CONTENT_ROOM + 1;
 
-/// Appends a record's line: the slot's number, a space, what the record says and a newline (profile).
+/// Appends a record's line: the slot's number, a space, what the record says and a newline
+/// (profile).
 ///
 /// Room for the whole line is taken first.
 ///
@@ -98,7 +104,8 @@ fn put_answer(text: &mut Vec<u8>, answer: Answer<'_>)
         ≤ vec_capacity text.old }
     ensures items { text.new.items ≡ text.old.items ++ text_of_answer (answer_model answer.entry) }
     ensures len { vec_len text.new
-        ≤ vec_len text.old + (CONTENT_ROOM + 2 * length (answer_bytes (answer_model answer.entry))) }
+        ≤ vec_len text.old
+        + (CONTENT_ROOM + 2 * length (answer_bytes (answer_model answer.entry))) }
     ensures capacity { vec_capacity text.old ≤ vec_capacity text.new }
 {
     match answer {
@@ -133,7 +140,8 @@ fn put_peek(text: &mut Vec<u8>, peek: Peek<'_>)
     put_hex(text, peek.bytes);
 }
 
-/// Appends what happened to a subscription, with a space before it, to a list that has room for it.
+/// Appends what happened to a subscription, with a space before it, to a list that has room for
+/// it.
 #[tactic(auto, unfolding(crate::specs::RecordText::text_of_indication))]
 fn put_indication(text: &mut Vec<u8>, indication: Indication)
     requires room { vec_len text.old + CONTENT_ROOM ≤ vec_capacity text.old }

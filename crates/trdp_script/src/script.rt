@@ -1,13 +1,15 @@
 //! A script's way through the node: its lines in, the text of its records out.
 
-ghost use Rattle.std.specs.Prelude.{◌≡◌, ◌≤◌, ◌+◌, ◌^◌, ◌<◌, ◌++◌, ◌∷◌, ℕ, List, [], Option, Some, Ok, Err, true, false, length, IfOk, OnOk, OnErr, IfErr};
+ghost use Rattle.std.specs.Prelude.{◌≡◌, ◌<◌, ◌≤◌, ◌+◌, ◌^◌, ◌++◌, ◌∷◌, ℕ, List, [], length};
+ghost use Rattle.std.specs.Prelude.{Option, Some, Ok, Err, true, false, IfOk, OnOk, OnErr, IfErr};
 ghost use Rattle.trdp_engine.specs.NodeStates.{opened_node};
 ghost use Rattle.trdp_engine.specs.Events.{event_model};
 ghost use Rattle.trdp_script.specs.Lines.{line_of};
 ghost use Rattle.trdp_script.specs.Pieces.{IsBare};
 ghost use Rattle.trdp_script.specs.Writes.{PassesOn, PassesSome};
 ghost use Rattle.trdp_script.specs.ScriptRuns.{RunsScript};
-ghost use Rattle.trdp_script.specs.ScriptSteps.{ComesTo, Ends, IsSound, LineComesTo, Plays, Starts, Stops};
+ghost use Rattle.trdp_script.specs.ScriptSteps.{ComesTo, Ends, IsSound, LineComesTo, Plays};
+ghost use Rattle.trdp_script.specs.ScriptSteps.{Starts, Stops};
 ghost use Rattle.trdp_dataset.specs.Configs.{ConfigModel};
 ghost use Rattle.trdp_script.specs.declared.script.TheConstants.{PIECE_ROOM};
 
@@ -25,8 +27,8 @@ use trdp_engine::{Event, Node, Outbox};
 /// How many bytes are read at once.
 const PIECE_ROOM: usize = 65_536;
 
-/// Room for the bytes of a line before its newline: the longest line and a carriage return. One byte more tells a line
-/// that is too long, however it goes on.
+/// Room for the bytes of a line before its newline: the longest line and a carriage return. One
+/// byte more tells a line that is too long, however it goes on.
 const LINE_ROOM: usize = LINE_MAX + 1;
 
 /// Why a script ends before the end of its input.
@@ -57,24 +59,26 @@ impl From<AllocError> for ScriptFault {
     }
 }
 
-/// Plays a script from the reader over a node of the configuration, and writes what the node gives to the writer: for each
-/// event its records slot by slot, slots rising, each slot's in their order, or the line `fault NAME` of an event that the
-/// node took no notice of (profile).
+/// Plays a script from the reader over a node of the configuration, and writes what the node gives
+/// to the writer: for each event its records slot by slot, slots rising, each slot's in their
+/// order, or the line `fault NAME` of an event that the node took no notice of (profile).
 ///
-/// Lines end with a newline, or with a carriage return and a newline; the last may lack its end. Output is collected, and
-/// written when the room for it is full, before more is read, and at the end. What was written before a fault stands.
+/// Lines end with a newline, or with a carriage return and a newline; the last may lack its end.
+/// Output is collected, and written when the room for it is full, before more is read, and at the
+/// end. What was written before a fault stands.
 ///
 /// # Errors
-/// `Line` at the first line with a fault, `Read` where the reader fails or after 4,294,967,295 reads, `Write` where the writer
-/// fails, and `OutOfMemory`.
+/// `Line` at the first line with a fault, `Read` where the reader fails or after 4,294,967,295
+/// reads, `Write` where the writer fails, and `OutOfMemory`.
 pub fn run_script<R: Read, W: Write>(
     alloc: Global,
     config: NodeConfig,
     reader: &mut R,
     writer: &mut W,
 ) -> Result<(), ScriptFault>
-    ensures script { (input : List ℕ) → R.remaining reader.old ≡ Some input → RunsScript config input
-        (R.remaining reader.new) (W.contents writer.old) (W.contents writer.new) result }
+    ensures script { (input : List ℕ) → R.remaining reader.old ≡ Some input
+        → RunsScript config input (R.remaining reader.new)
+        (W.contents writer.old) (W.contents writer.new) result }
 {
     match Script::new(alloc, config) {
         Ok((mut script, mut piece)) => script.run_whole(alloc, &mut piece, reader, writer),
@@ -146,7 +150,8 @@ impl Script {
         }
     }
 
-    /// Reads and plays to the end of the input, by way of the piece. Output may be left to write, but for `Write`.
+    /// Reads and plays to the end of the input, by way of the piece. Output may be left to write,
+    /// but for `Write`.
     fn run<R: Read, W: Write>(
         &mut self,
         alloc: Global,
@@ -157,8 +162,9 @@ impl Script {
         requires sound { IsSound self.old }
         requires number { self.old.number ≡ 1 }
         requires room { (0 < length piece.old) × (length piece.old ≤ 65536) }
-        ensures run { (input : List ℕ) → R.remaining reader.old ≡ Some input → ComesTo self.old self.new
-            (W.contents writer.old) (W.contents writer.new) input (R.remaining reader.new) result }
+        ensures run { (input : List ℕ) → R.remaining reader.old ≡ Some input
+            → ComesTo self.old self.new (W.contents writer.old) (W.contents writer.new)
+            input (R.remaining reader.new) result }
     {
         for _read in 0..u32::MAX {
             if let Err(fault) = self.write_out(writer) {
@@ -331,7 +337,8 @@ impl Player {
     ) -> Result<(), ScriptFault>
         requires slots { length self.old.node.slots ≤ 16 }
         ensures count { length self.new.node.slots ≡ length self.old.node.slots }
-        ensures line { LineComesTo self.old self.new (W.contents writer.old) (W.contents writer.new)
+        ensures line { LineComesTo self.old self.new
+            (W.contents writer.old) (W.contents writer.new)
             number (line_of line.now) result }
     {
         match read_line(alloc, line) {
@@ -349,7 +356,8 @@ impl Player {
     fn take_event<W: Write>(&mut self, event: &Event<'_>, writer: &mut W) -> Result<(), ScriptFault>
         requires slots { length self.old.node.slots ≤ 16 }
         ensures count { length self.new.node.slots ≡ length self.old.node.slots }
-        ensures line { LineComesTo self.old self.new (W.contents writer.old) (W.contents writer.new)
+        ensures line { LineComesTo self.old self.new
+            (W.contents writer.old) (W.contents writer.new)
             0 (Ok (Some (event_model event.now))) result }
     {
         match play(&mut self.node, event, &mut self.records, &mut self.text) {

@@ -1,4 +1,4 @@
-use Rattle.std.proofs.Common.{◌≡◌, ◌∙◌, ap, subst, rules, List, ℕ}
+use Rattle.std.proofs.Common.{rules}
 use Rattle.std.specs.Prelude.{OnOk, OnErr, Result, Ok, Err}
 use Rattle.trdp_script.proofs.Writing.{passes_some_of, passes_then_whole, passes_then_front}
 use Rattle.trdp_script.proofs.output.put.Goals as goal

@@ -1,7 +1,7 @@
-use Rattle.std.proofs.Common.{◌≡◌, Some, sym, ◌∙◌, ap}
+use Rattle.std.proofs.Common.{sym, ◌∙◌, ap}
 use Rattle.std.specs.Option.{option_map}
 use Rattle.trdp_engine.specs.Records.{record_model}
-use Rattle.trdp_script.proofs.Turns.{rising_more, rising_all}
+use Rattle.trdp_script.proofs.Turns.{rising_more}
 use Rattle.trdp_script.proofs.play.is_rising.Goals as goal
 
 pub loop-i-preserved : goal.loop-i-preserved

@@ -1,7 +1,6 @@
-use Rattle.std.proofs.Common.{◌≡◌, ◌++◌, Some, None, sym, ◌∙◌, ap}
+use Rattle.std.proofs.Common.{◌++◌, sym, ◌∙◌, ap}
 use Rattle.std.specs.Option.{option_map}
 use Rattle.trdp_engine.specs.Records.{record_model}
-use Rattle.trdp_script.specs.RecordText.{text_of_record}
 use Rattle.trdp_script.specs.SlotOrder.{slot_text}
 use Rattle.trdp_script.proofs.Turns.{told_one, told_all, some_within}
 use Rattle.trdp_script.proofs.Orders.{own_text}

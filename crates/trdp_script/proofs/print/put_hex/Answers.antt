@@ -1,4 +1,4 @@
-use Rattle.std.proofs.Common.{◌≡◌, ◌≤◌, ◌+◌, ◌++◌, length, ap, arith, length-append}
+use Rattle.std.proofs.Common.{length, ap, arith, length-append}
 use Rattle.trdp_base.specs.HexText.{text_of_hex}
 use Rattle.trdp_script.proofs.TextLengths.{hex_length}
 use Rattle.trdp_script.proofs.print.put_hex.Goals as goal

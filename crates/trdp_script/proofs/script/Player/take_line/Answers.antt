@@ -1,4 +1,4 @@
-use Rattle.trdp_script.proofs.Steps.{memory_came}
+use Rattle.trdp_script.proofs.LineSteps.{memory_came}
 use Rattle.trdp_script.proofs.script.Player.take_line.Goals as goal
 
 pub returns-in-Err-OutOfMemory-clause-line : goal.returns-in-Err-OutOfMemory-clause-line

@@ -1,6 +1,6 @@
 use Rattle.std.proofs.Common.{◌<◌, length, arith}
 use Rattle.std.proofs.lemmas.Bool.Decides.{nat_tests}
-use Rattle.trdp_script.proofs.Steps.{last_came, last_bad}
+use Rattle.trdp_script.proofs.LineSteps.{last_came, last_bad}
 use Rattle.trdp_script.proofs.script.Script.end.Goals as goal
 
 pub returns-clause-ok : goal.returns-clause-ok

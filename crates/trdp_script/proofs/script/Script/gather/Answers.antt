@@ -1,4 +1,4 @@
-use Rattle.std.proofs.Common.{◌≡◌, ◌++◌, ◌<◌, ◌+◌, length, arith, refl}
+use Rattle.std.proofs.Common.{◌++◌, ◌<◌, ◌+◌, length, arith, refl}
 use Rattle.trdp_script.proofs.Steps.{too_long_stops, gather_stops}
 use Rattle.trdp_script.proofs.script.Script.gather.Goals as goal
 

@@ -1,7 +1,8 @@
-use Rattle.std.proofs.Common.{◌≡◌, ◌≤◌, ◌<◌, ◌+◌, ◌*◌, List, ℕ, length, take, arith, refl, sym, ◌∙◌, subst}
+use Rattle.std.proofs.Common.{◌<◌, List, ℕ, length, arith, refl, sym, subst}
 use Rattle.std.specs.Io.KnownBytes.{Consumes}
 use Rattle.trdp_script.specs.declared.script.ScriptFault.TheVariants.{Read}
-use Rattle.trdp_script.proofs.Steps.{comes_stopped, piece_stops, read_none, read_stops, reading_ends, reading_more, reading_starts, reading_stops, reading_written}
+use Rattle.trdp_script.proofs.Readings.{comes_stopped, piece_stops, read_none, reading_ends, reading_more, reading_starts, reading_stops, reading_written}
+use Rattle.trdp_script.proofs.Steps.{read_stops}
 use Rattle.trdp_script.proofs.script.Script.run.Goals as goal
 
 pub loop-read-init : goal.loop-read-init
