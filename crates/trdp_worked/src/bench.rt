@@ -1,0 +1,54 @@
+//! A node that a test holds in its own hands, and leads by lines.
+
+use crate::stand_in::{print_record, read_line};
+use std::alloc::Global;
+use std::test::Fail;
+use trdp_dataset::NodeConfig;
+use trdp_engine::{Node, Outbox};
+
+/// A node, with the records that it has given.
+#[derive(Drop)]
+pub struct Bench {
+    pub node: Node,
+    pub out: Outbox,
+}
+
+impl Bench {
+    /// A new node of that configuration, whose outbox is empty.
+    pub fn new(alloc: Global, config: &[u8]) -> Result<Bench, Fail> {
+        let config = NodeConfig::from_toml(alloc, config)?;
+        let node = Node::new(alloc, config).ok().ok_or("no memory")?;
+        let out = Outbox::new(alloc);
+        Ok(Bench { node, out })
+    }
+
+    /// Hands the event of a line to the node.
+    pub fn take(&mut self, alloc: Global, line: &[u8]) -> Result<(), Fail> {
+        let line = read_line(alloc, line)?;
+        if let Some(event) = line.event() {
+            self.node.step(&event, &mut self.out)?;
+        }
+        Ok(())
+    }
+
+    /// Hands the events of lines to the node, and drops what it gives for them.
+    pub fn prepare(&mut self, alloc: Global, script: &str) -> Result<(), Fail> {
+        for line in script.as_bytes().split(|byte| *byte == b'\n') {
+            self.take(alloc, line)?;
+        }
+        self.out.clear();
+        Ok(())
+    }
+
+    /// The records of the outbox as lines. The outbox is empty afterwards.
+    pub fn told(&mut self, alloc: Global) -> Result<Vec<u8>, Fail> {
+        let mut text = Vec::new(alloc);
+        for index in 0..self.out.len() {
+            if let Some(record) = self.out.get(index) {
+                print_record(&mut text, &record)?;
+            }
+        }
+        self.out.clear();
+        Ok(text)
+    }
+}

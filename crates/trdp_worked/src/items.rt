@@ -1,0 +1,309 @@
+//! Values that are handed over and shown as items, and the look at a subscription from outside.
+
+use crate::bench::Bench;
+use crate::play::CONFIG;
+use crate::stand_in::print_record;
+use std::alloc::Global;
+use std::test::Fail;
+use trdp_base::{Ip, Place};
+use trdp_engine::{Answer, Event, NodeFault, PeekFault, Protocol, Record, ValueFault, What};
+use trdp_marshal::Item;
+use trdp_pd::Peek;
+
+/// The item of a number n and of n numbers of 1 to 250, which n counts.
+fn counted(alloc: Global, n: u16) -> Result<Item, Fail> {
+    let mut numbers = Vec::new(alloc);
+    for index in 0..n {
+        numbers.push(Item::U(u64::from(index % 250) + 1))?;
+    }
+    let mut items = Vec::new(alloc);
+    items.push(Item::U(u64::from(n)))?;
+    items.push(Item::List(numbers))?;
+    Ok(Item::List(items))
+}
+
+/// The pull request for comId 100, from 10.0.0.2.
+static PULL: &str = "\
+    pd 10.0.0.2:17224 10.0.0.1:17224 \
+    0000000001005072000000640000000000000000000000000000000000000000000000003bff69e3";
+
+/// The pull reply of comId 100 with counter 0, which carries the number 2 and the numbers 1 and 2 of 16 bits.
+static PULLED: &str = "\
+    0 send pd 10.0.0.2:17224 \
+    00000000010050700000006400000000000000000000000500000000000000000000000060fe4938\
+    0200010002000000\n";
+
+/// What an item is put into, and what the node says to it.
+struct Putting {
+    slot: u16,
+    handle: u32,
+    /// How many numbers the item counts.
+    count: u16,
+    ending: Result<(), NodeFault>,
+    answer: &'static str,
+}
+
+/// A publisher of dataset 1001, one of dataset 0 and a subscription of dataset 1001.
+static THREE: &str = "\
+    call 0 publish 100 1001 0 0 0 0 10.0.0.2:17224\n\
+    call 0 publish 200 0 0 0 0 0 10.0.0.2:17224\n\
+    call 0 subscribe 100 1001 0.0.0.0 0.0.0.0 0.0.0.0 0 0 0 keep";
+
+static PUTTINGS: [Putting; 7] = [
+    Putting {
+        slot: 0,
+        handle: 1,
+        count: 255,
+        ending: Ok(()),
+        answer: "0 done\n",
+    },
+    Putting {
+        slot: 0,
+        handle: 1,
+        count: 256,
+        ending: Ok(()),
+        answer: "0 refused Shape\n",
+    },
+    Putting {
+        slot: 0,
+        handle: 1,
+        count: 2,
+        ending: Ok(()),
+        answer: "0 done\n",
+    },
+    Putting {
+        slot: 0,
+        handle: 2,
+        count: 0,
+        ending: Ok(()),
+        answer: "0 refused NoDataset\n",
+    },
+    Putting {
+        slot: 0,
+        handle: 3,
+        count: 0,
+        ending: Ok(()),
+        answer: "0 refused WrongKind\n",
+    },
+    Putting {
+        slot: 0,
+        handle: 4,
+        count: 0,
+        ending: Ok(()),
+        answer: "0 refused NoHandle\n",
+    },
+    Putting {
+        slot: 2,
+        handle: 1,
+        count: 0,
+        ending: Err(NodeFault::NoSlot),
+        answer: "",
+    },
+];
+
+#[test]
+fn items_are_put_as_their_bytes(rt: HostRuntime) -> Result<(), Fail> {
+    let alloc = rt.alloc();
+    let mut bench = Bench::new(alloc, CONFIG)?;
+    bench.prepare(alloc, THREE)?;
+    for row in &PUTTINGS {
+        let item = counted(alloc, row.count)?;
+        let ending = bench
+            .node
+            .put_value(alloc, row.slot, row.handle, &item, &mut bench.out);
+        assert_eq!(rt; ending, row.ending);
+        assert_eq!(rt; str::from_utf8(&bench.told(alloc)?)?, row.answer);
+    }
+    bench.take(alloc, PULL.as_bytes())?;
+    assert_eq!(rt; str::from_utf8(&bench.told(alloc)?)?, PULLED);
+    Ok(())
+}
+
+/// What a subscription of dataset 1001 shows after a script.
+struct Showing {
+    script: &'static str,
+    /// Its state, the counter and the bytes, as the line that a call `get` gives.
+    peek: &'static str,
+    /// How many numbers its item counts.
+    count: u16,
+}
+
+static SHOWINGS: [Showing; 4] = [
+    Showing {
+        script: "call 0 subscribe 100 1001 0.0.0.0 0.0.0.0 0.0.0.0 0 0 0 keep",
+        peek: "0 value Never 0 00\n",
+        count: 0,
+    },
+    Showing {
+        script: "\
+            call 0 subscribe 100 1001 0.0.0.0 0.0.0.0 0.0.0.0 0 0 50000 zero\n\
+            # Pd c=7 com=100 | 0200010002\n\
+            pd 10.0.0.2:17224 10.0.0.1:17224 \
+            0000000701005064000000640000000000000000000000050000000000000000000000006de33269\
+            0200010002000000",
+        peek: "0 value Valid 7 0200010002\n",
+        count: 2,
+    },
+    Showing {
+        script: "\
+            call 0 subscribe 100 1001 0.0.0.0 0.0.0.0 0.0.0.0 0 0 50000 zero\n\
+            # Pd c=7 com=100 | 0200010002\n\
+            pd 10.0.0.2:17224 10.0.0.1:17224 \
+            0000000701005064000000640000000000000000000000050000000000000000000000006de33269\
+            0200010002000000\n\
+            moment 50000",
+        peek: "0 value Silent 7 00\n",
+        count: 0,
+    },
+    Showing {
+        script: "\
+            call 0 subscribe 100 1001 0.0.0.0 0.0.0.0 0.0.0.0 0 0 50000 keep\n\
+            # Pd c=7 com=100 | 0200010002\n\
+            pd 10.0.0.2:17224 10.0.0.1:17224 \
+            0000000701005064000000640000000000000000000000050000000000000000000000006de33269\
+            0200010002000000\n\
+            moment 50000",
+        peek: "0 value Silent 7 0200010002\n",
+        count: 2,
+    },
+];
+
+/// The line of a look at a subscription.
+fn line_of(alloc: Global, peek: Peek<'_>) -> Result<Vec<u8>, Fail> {
+    let mut line = Vec::new(alloc);
+    let what = What::Answer(Answer::Value(peek));
+    print_record(&mut line, &Record { slot: 0, what })?;
+    Ok(line)
+}
+
+#[test]
+fn subscriptions_show_bytes_and_their_item(rt: HostRuntime) -> Result<(), Fail> {
+    let alloc = rt.alloc();
+    for row in &SHOWINGS {
+        let mut bench = Bench::new(alloc, CONFIG)?;
+        bench.prepare(alloc, row.script)?;
+        let line = line_of(alloc, bench.node.peek(0, 1)?)?;
+        assert_eq!(rt; str::from_utf8(&line)?, row.peek);
+        let item = counted(alloc, row.count)?;
+        assert_eq!(rt; bench.node.value_of(alloc, 0, 1)?, item);
+    }
+    Ok(())
+}
+
+/// Where nothing is to be seen, and why.
+struct Unseen {
+    slot: u16,
+    handle: u32,
+    /// None where the bytes are shown and the item alone isn't.
+    peek: Option<PeekFault>,
+    item: ValueFault,
+}
+
+static UNSEEN: [Unseen; 4] = [
+    Unseen {
+        slot: 2,
+        handle: 1,
+        peek: Some(PeekFault::NoSlot),
+        item: ValueFault::NoSlot,
+    },
+    Unseen {
+        slot: 0,
+        handle: 9,
+        peek: Some(PeekFault::NoHandle),
+        item: ValueFault::NoHandle,
+    },
+    Unseen {
+        slot: 0,
+        handle: 1,
+        peek: Some(PeekFault::WrongKind),
+        item: ValueFault::WrongKind,
+    },
+    Unseen {
+        slot: 0,
+        handle: 2,
+        peek: None,
+        item: ValueFault::NoDataset,
+    },
+];
+
+/// A publisher and a subscription of dataset 0.
+static UNTYPED: &str = "\
+    call 0 publish 100 1001 0 0 0 0 10.0.0.2:17224\n\
+    call 0 subscribe 100 0 0.0.0.0 0.0.0.0 0.0.0.0 0 0 0 keep";
+
+#[test]
+fn a_look_that_finds_nothing_says_why(rt: HostRuntime) -> Result<(), Fail> {
+    let alloc = rt.alloc();
+    let mut bench = Bench::new(alloc, CONFIG)?;
+    bench.prepare(alloc, UNTYPED)?;
+    for row in &UNSEEN {
+        let peek = bench.node.peek(row.slot, row.handle);
+        assert_eq!(rt; peek.err(), row.peek);
+        let item = bench.node.value_of(alloc, row.slot, row.handle);
+        assert_eq!(rt; item, Err(row.item));
+    }
+    Ok(())
+}
+
+/// One slot with one object of each kind, and a dataset whose values fill a telegram: a count of 16 bits and so many bytes.
+static LARGE: &[u8] = b"\
+[node]
+address = \"10.0.0.1\"
+[[slot]]
+publishers = 1
+subscriptions = 1
+[[dataset]]
+id = 2001
+element = [{ type = \"UINT16\" }, { type = \"UINT8\", size = 0 }]
+";
+
+/// A publisher and a subscription of that dataset.
+static PAIR: &str = "\
+    call 0 publish 100 2001 0 0 0 0 10.0.0.2:17224\n\
+    call 0 subscribe 100 2001 0.0.0.0 0.0.0.0 0.0.0.0 0 0 0 keep";
+
+/// The telegram that the first record of the outbox is.
+fn telegram_sent(bench: &Bench, alloc: Global) -> Result<Vec<u8>, Fail> {
+    let mut bytes = Vec::new(alloc);
+    if let Some(
+        Record {
+            what: What::Send { telegram, .. },
+            ..
+        },
+    ) = bench.out.get(0)
+    {
+        bytes.extend_from_slice(telegram)?;
+    }
+    Ok(bytes)
+}
+
+/// The node's own place for process data.
+const HERE: Place = Place {
+    ip: Ip(0x0a00_0001),
+    port: 17224,
+};
+
+#[test]
+fn an_item_of_1432_bytes_goes_out_and_comes_in(rt: HostRuntime) -> Result<(), Fail> {
+    let alloc = rt.alloc();
+    let mut bench = Bench::new(alloc, LARGE)?;
+    bench.prepare(alloc, PAIR)?;
+    let longer = counted(alloc, 1431)?;
+    bench.node.put_value(alloc, 0, 1, &longer, &mut bench.out)?;
+    assert_eq!(rt; str::from_utf8(&bench.told(alloc)?)?, "0 refused TooLong\n");
+    let longest = counted(alloc, 1430)?;
+    bench.node.put_value(alloc, 0, 1, &longest, &mut bench.out)?;
+    assert_eq!(rt; str::from_utf8(&bench.told(alloc)?)?, "0 done\n");
+    bench.take(alloc, PULL.as_bytes())?;
+    let telegram = telegram_sent(&bench, alloc)?;
+    assert_eq!(rt; telegram.len(), 1472);
+    let event = Event::Datagram {
+        protocol: Protocol::Pd,
+        src: HERE,
+        dst: HERE,
+        bytes: &telegram,
+    };
+    bench.node.step(&event, &mut bench.out)?;
+    assert_eq!(rt; bench.node.value_of(alloc, 0, 2)?, longest);
+    Ok(())
+}

@@ -1,0 +1,183 @@
+//! The node's calls that no line makes, and a node at every limit.
+
+use crate::bench::Bench;
+use crate::play::CONFIG;
+use std::alloc::Global;
+use std::process::Abort;
+use std::test::Fail;
+use trdp_base::{Ip, Place, Topo, push_number};
+use trdp_engine::{Call, Event, run_both, same_view, view_drops_nothing};
+use trdp_pd::PublisherTerms;
+
+/// Makes a publisher of comId 100 with a cycle of 100 ms, to 10.0.0.2.
+const PUBLISH: Event<'static> = Event::Call {
+    slot: 0,
+    call: Call::Publish(PublisherTerms {
+        com_id: 100,
+        dataset: 0,
+        cycle: 100_000,
+        group: 0,
+        topo: Topo { etb: 0, op_trn: 0 },
+        to: Place {
+            ip: Ip(0x0a00_0002),
+            port: 17224,
+        },
+    }),
+};
+
+/// Gives the first publisher its value.
+const PUT: Event<'static> = Event::Call {
+    slot: 0,
+    call: Call::Put {
+        handle: 1,
+        bytes: b"\x0a\x0b",
+    },
+};
+
+/// What these two and the moment 100000 give.
+static FIRST_TELEGRAM: &str = "\
+    0 handle 1\n\
+    0 done\n\
+    0 send pd 10.0.0.2:17224 \
+    000000000100506400000064000000000000000000000002000000000000000000000000ec179c94\
+    0a0b0000\n";
+
+#[test]
+fn a_run_takes_all_events(rt: HostRuntime) -> Result<(), Fail> {
+    let alloc = rt.alloc();
+    let mut bench = Bench::new(alloc, CONFIG)?;
+    assert!(rt; bench.out.is_empty());
+    let events = [PUBLISH, PUT, Event::Moment(100_000)];
+    assert_eq!(rt; bench.node.run(&events, &mut bench.out), 3);
+    assert_eq!(rt; bench.out.len(), 3);
+    assert!(rt; bench.out.get(3).is_none());
+    let text = bench.told(alloc)?;
+    assert_eq!(rt; str::from_utf8(&text)?, FIRST_TELEGRAM);
+    assert!(rt; bench.out.is_empty());
+    Ok(())
+}
+
+#[test]
+fn two_nodes_run_alike(rt: HostRuntime) -> Result<(), Fail> {
+    let mut first = Bench::new(rt.alloc(), CONFIG)?;
+    let mut second = Bench::new(rt.alloc(), CONFIG)?;
+    let events = [PUBLISH, PUT];
+    let others = [PUBLISH, Event::Moment(0), PUT];
+    let taken = run_both(
+        &mut first.node,
+        &mut second.node,
+        &events,
+        &others,
+        &mut first.out,
+        &mut second.out,
+    );
+    assert_eq!(rt; taken, (2, 3));
+    same_view();
+    view_drops_nothing();
+    Ok(())
+}
+
+static SLOT: &[u8] = b"\
+[[slot]]
+publishers = 256
+subscriptions = 256
+requesters = 256
+listeners = 256
+callers = 256
+repliers = 256
+";
+
+/// Appends a dataset of 256 bytes.
+fn push_dataset(text: &mut Vec<u8>, id: u64) -> Result<(), Fail> {
+    text.extend_from_slice(b"[[dataset]]\nid = ")?;
+    push_number(text, id)?;
+    text.extend_from_slice(b"\nelement = [")?;
+    for _ in 0..256 {
+        text.extend_from_slice(b"{ type = 8 }, ")?;
+    }
+    text.extend_from_slice(b"]\n")?;
+    Ok(())
+}
+
+/// A configuration of 16 slots with quotas of 256, and 256 datasets of 256 elements.
+fn largest(alloc: Global) -> Result<Vec<u8>, Fail> {
+    let mut text = Vec::new(alloc);
+    text.extend_from_slice(b"[node]\naddress = \"10.0.0.1\"\n")?;
+    for _ in 0..16 {
+        text.extend_from_slice(SLOT)?;
+    }
+    for id in 1000..1256 {
+        push_dataset(&mut text, id)?;
+    }
+    Ok(text)
+}
+
+/// What is opened 256 times, with the last answer to it.
+struct Opening {
+    line: &'static str,
+    last: &'static str,
+}
+
+static OPENINGS: [Opening; 3] = [
+    Opening {
+        line: "call 0 publish 100 0 1000 0 0 0 10.0.0.2:17224",
+        last: "0 handle 256\n",
+    },
+    Opening {
+        line: "call 0 subscribe 100 1255 0.0.0.0 0.0.0.0 0.0.0.0 0 0 1000 zero",
+        last: "0 handle 512\n",
+    },
+    Opening {
+        line: "call 0 openpull 100 0 0.0.0.0 0 0 10.0.0.2:17224",
+        last: "0 handle 768\n",
+    },
+];
+
+/// Takes a line so many times, and drops what it gives but for the last time.
+fn repeat(bench: &mut Bench, alloc: Global, line: &str, times: u32) -> Result<(), Fail> {
+    for _ in 0..times {
+        bench.out.clear();
+        bench.take(alloc, line.as_bytes())?;
+    }
+    Ok(())
+}
+
+/// Opens what the line opens 256 times, and is then refused one more.
+fn open_all(
+    rt: &(impl Abort + AllocGlobal),
+    bench: &mut Bench,
+    opening: &Opening,
+) -> Result<(), Fail> {
+    let alloc = rt.alloc();
+    repeat(bench, alloc, opening.line, 256)?;
+    assert_eq!(rt; str::from_utf8(&bench.told(alloc)?)?, opening.last);
+    bench.take(alloc, opening.line.as_bytes())?;
+    assert_eq!(rt; str::from_utf8(&bench.told(alloc)?)?, "0 refused Quota\n");
+    Ok(())
+}
+
+/// Gives each of 256 publishers a value of 1,432 bytes.
+fn put_all(bench: &mut Bench) -> Result<(), Fail> {
+    let bytes = &[0x5a; 1432];
+    for handle in 1..=256 {
+        let call = Call::Put { handle, bytes };
+        let event = Event::Call { slot: 0, call };
+        bench.node.step(&event, &mut bench.out)?;
+    }
+    Ok(())
+}
+
+#[test]
+fn a_node_at_every_limit(rt: HostRuntime) -> Result<(), Fail> {
+    let mut bench = Bench::new(rt.alloc(), &largest(rt.alloc())?)?;
+    for opening in &OPENINGS {
+        open_all(&rt, &mut bench, opening)?;
+    }
+    put_all(&mut bench)?;
+    assert_eq!(rt; bench.out.len(), 256);
+    bench.out.clear();
+    // Each publisher sends, and each subscription is silent.
+    bench.node.step(&Event::Moment(1000), &mut bench.out)?;
+    assert_eq!(rt; bench.out.len(), 512);
+    Ok(())
+}
