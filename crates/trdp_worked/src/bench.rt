@@ -2,6 +2,7 @@
 
 use crate::stand_in::{print_record, read_line};
 use std::alloc::Global;
+use std::process::Abort;
 use std::test::Fail;
 use trdp_dataset::NodeConfig;
 use trdp_engine::{Node, Outbox};
@@ -40,15 +41,26 @@ impl Bench {
         Ok(())
     }
 
-    /// The records of the outbox as lines. The outbox is empty afterwards.
-    pub fn told(&mut self, alloc: Global) -> Result<Vec<u8>, Fail> {
+    /// The records of the outbox as lines.
+    fn lines(&self, alloc: Global) -> Result<Vec<u8>, Fail> {
         let mut text = Vec::new(alloc);
         for index in 0..self.out.len() {
             if let Some(record) = self.out.get(index) {
                 print_record(&mut text, &record)?;
             }
         }
-        self.out.clear();
         Ok(text)
+    }
+
+    /// Asserts that the records of the outbox are these lines, and drops them.
+    pub fn tells(
+        &mut self,
+        rt: &(impl Abort + AllocGlobal),
+        lines: &'static str,
+    ) -> Result<(), Fail> {
+        let text = self.lines(rt.alloc())?;
+        assert_eq!(rt; str::from_utf8(&text)?, lines);
+        self.out.clear();
+        Ok(())
     }
 }

@@ -112,11 +112,10 @@ fn items_are_put_as_their_bytes(rt: HostRuntime) -> Result<(), Fail> {
             .node
             .put_value(alloc, row.slot, row.handle, &item, &mut bench.out);
         assert_eq!(rt; ending, row.ending);
-        assert_eq!(rt; str::from_utf8(&bench.told(alloc)?)?, row.answer);
+        bench.tells(&rt, row.answer)?;
     }
     bench.take(alloc, PULL.as_bytes())?;
-    assert_eq!(rt; str::from_utf8(&bench.told(alloc)?)?, PULLED);
-    Ok(())
+    bench.tells(&rt, PULLED)
 }
 
 /// What a subscription of dataset 1001 shows after a script.
@@ -262,48 +261,48 @@ static PAIR: &str = "\
     call 0 publish 100 2001 0 0 0 0 10.0.0.2:17224\n\
     call 0 subscribe 100 2001 0.0.0.0 0.0.0.0 0.0.0.0 0 0 0 keep";
 
-/// The telegram that the first record of the outbox is.
-fn telegram_sent(bench: &Bench, alloc: Global) -> Result<Vec<u8>, Fail> {
-    let mut bytes = Vec::new(alloc);
-    if let Some(
-        Record {
-            what: What::Send { telegram, .. },
-            ..
-        },
-    ) = bench.out.get(0)
-    {
-        bytes.extend_from_slice(telegram)?;
-    }
-    Ok(bytes)
-}
-
 /// The node's own place for process data.
 const HERE: Place = Place {
     ip: Ip(0x0a00_0001),
     port: 17224,
 };
 
+/// Hands the telegram that the first record is to the node itself, and answers its length.
+fn loop_back(bench: &mut Bench, alloc: Global) -> Result<usize, Fail> {
+    let mut bytes = Vec::new(alloc);
+    if let Some(record) = bench.out.get(0) {
+        if let What::Send { telegram, .. } = record.what {
+            bytes.extend_from_slice(telegram)?;
+        }
+    }
+    let event = Event::Datagram {
+        protocol: Protocol::Pd,
+        src: HERE,
+        dst: HERE,
+        bytes: &bytes,
+    };
+    bench.node.step(&event, &mut bench.out)?;
+    Ok(bytes.len())
+}
+
+/// Puts an item of so many numbers into the publisher of handle 1.
+fn put_counted(bench: &mut Bench, alloc: Global, count: u16) -> Result<(), Fail> {
+    let item = counted(alloc, count)?;
+    bench.node.put_value(alloc, 0, 1, &item, &mut bench.out)?;
+    Ok(())
+}
+
 #[test]
 fn an_item_of_1432_bytes_goes_out_and_comes_in(rt: HostRuntime) -> Result<(), Fail> {
     let alloc = rt.alloc();
     let mut bench = Bench::new(alloc, LARGE)?;
     bench.prepare(alloc, PAIR)?;
-    let longer = counted(alloc, 1431)?;
-    bench.node.put_value(alloc, 0, 1, &longer, &mut bench.out)?;
-    assert_eq!(rt; str::from_utf8(&bench.told(alloc)?)?, "0 refused TooLong\n");
-    let longest = counted(alloc, 1430)?;
-    bench.node.put_value(alloc, 0, 1, &longest, &mut bench.out)?;
-    assert_eq!(rt; str::from_utf8(&bench.told(alloc)?)?, "0 done\n");
+    put_counted(&mut bench, alloc, 1431)?;
+    put_counted(&mut bench, alloc, 1430)?;
+    bench.tells(&rt, "0 refused TooLong\n0 done\n")?;
     bench.take(alloc, PULL.as_bytes())?;
-    let telegram = telegram_sent(&bench, alloc)?;
-    assert_eq!(rt; telegram.len(), 1472);
-    let event = Event::Datagram {
-        protocol: Protocol::Pd,
-        src: HERE,
-        dst: HERE,
-        bytes: &telegram,
-    };
-    bench.node.step(&event, &mut bench.out)?;
-    assert_eq!(rt; bench.node.value_of(alloc, 0, 2)?, longest);
+    assert_eq!(rt; loop_back(&mut bench, alloc)?, 1472);
+    let item = counted(alloc, 1430)?;
+    assert_eq!(rt; bench.node.value_of(alloc, 0, 2)?, item);
     Ok(())
 }

@@ -14,6 +14,8 @@ mod calls;
 #[cfg(test)]
 mod items;
 #[cfg(test)]
+mod lines;
+#[cfg(test)]
 mod node;
 #[cfg(test)]
 mod play;

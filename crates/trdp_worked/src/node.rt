@@ -3,7 +3,6 @@
 use crate::bench::Bench;
 use crate::play::CONFIG;
 use std::alloc::Global;
-use std::process::Abort;
 use std::test::Fail;
 use trdp_base::{Ip, Place, Topo, push_number};
 use trdp_engine::{Call, Event, run_both, same_view, view_drops_nothing};
@@ -51,8 +50,7 @@ fn a_run_takes_all_events(rt: HostRuntime) -> Result<(), Fail> {
     assert_eq!(rt; bench.node.run(&events, &mut bench.out), 3);
     assert_eq!(rt; bench.out.len(), 3);
     assert!(rt; bench.out.get(3).is_none());
-    let text = bench.told(alloc)?;
-    assert_eq!(rt; str::from_utf8(&text)?, FIRST_TELEGRAM);
+    bench.tells(&rt, FIRST_TELEGRAM)?;
     assert!(rt; bench.out.is_empty());
     Ok(())
 }
@@ -142,25 +140,15 @@ fn repeat(bench: &mut Bench, alloc: Global, line: &str, times: u32) -> Result<()
     Ok(())
 }
 
-/// Opens what the line opens 256 times, and is then refused one more.
-fn open_all(
-    rt: &(impl Abort + AllocGlobal),
-    bench: &mut Bench,
-    opening: &Opening,
-) -> Result<(), Fail> {
-    let alloc = rt.alloc();
-    repeat(bench, alloc, opening.line, 256)?;
-    assert_eq!(rt; str::from_utf8(&bench.told(alloc)?)?, opening.last);
-    bench.take(alloc, opening.line.as_bytes())?;
-    assert_eq!(rt; str::from_utf8(&bench.told(alloc)?)?, "0 refused Quota\n");
-    Ok(())
-}
-
 /// Gives each of 256 publishers a value of 1,432 bytes.
-fn put_all(bench: &mut Bench) -> Result<(), Fail> {
-    let bytes = &[0x5a; 1432];
+fn put_all(bench: &mut Bench, alloc: Global) -> Result<(), Fail> {
+    let mut bytes = Vec::new(alloc);
+    bytes.resize(1432, 0x5a)?;
     for handle in 1..=256 {
-        let call = Call::Put { handle, bytes };
+        let call = Call::Put {
+            handle,
+            bytes: &bytes,
+        };
         let event = Event::Call { slot: 0, call };
         bench.node.step(&event, &mut bench.out)?;
     }
@@ -169,11 +157,15 @@ fn put_all(bench: &mut Bench) -> Result<(), Fail> {
 
 #[test]
 fn a_node_at_every_limit(rt: HostRuntime) -> Result<(), Fail> {
-    let mut bench = Bench::new(rt.alloc(), &largest(rt.alloc())?)?;
+    let alloc = rt.alloc();
+    let mut bench = Bench::new(alloc, &largest(alloc)?)?;
     for opening in &OPENINGS {
-        open_all(&rt, &mut bench, opening)?;
+        repeat(&mut bench, alloc, opening.line, 256)?;
+        bench.tells(&rt, opening.last)?;
+        bench.take(alloc, opening.line.as_bytes())?;
+        bench.tells(&rt, "0 refused Quota\n")?;
     }
-    put_all(&mut bench)?;
+    put_all(&mut bench, alloc)?;
     assert_eq!(rt; bench.out.len(), 256);
     bench.out.clear();
     // Each publisher sends, and each subscription is silent.
