@@ -19,8 +19,6 @@ mod pull;
 mod record;
 mod shown;
 mod slot;
-#[cfg(test)]
-mod tests;
 mod value;
 
 pub use event::{Call, Event};

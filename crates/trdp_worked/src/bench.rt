@@ -24,21 +24,22 @@ impl Bench {
     }
 
     /// Hands the event of a line to the node.
-    pub fn take(&mut self, alloc: Global, line: &[u8]) -> Result<(), Fail> {
-        let line = read_line(alloc, line)?;
+    pub fn take(&mut self, alloc: Global, line: &str) -> Result<(), Fail> {
+        let line = read_line(alloc, line.as_bytes())?;
         if let Some(event) = line.event() {
             self.node.step(&event, &mut self.out)?;
         }
         Ok(())
     }
 
-    /// Hands the events of lines to the node, and drops what it gives for them.
-    pub fn prepare(&mut self, alloc: Global, script: &str) -> Result<(), Fail> {
-        for line in script.as_bytes().split(|byte| *byte == b'\n') {
-            self.take(alloc, line)?;
+    /// A new node of that configuration that has taken the lines, and whose outbox is empty.
+    pub fn after(alloc: Global, config: &[u8], lines: &[&str]) -> Result<Bench, Fail> {
+        let mut bench = Bench::new(alloc, config)?;
+        for line in lines {
+            bench.take(alloc, line)?;
         }
-        self.out.clear();
-        Ok(())
+        bench.out.clear();
+        Ok(bench)
     }
 
     /// The records of the outbox as lines.

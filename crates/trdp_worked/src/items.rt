@@ -4,11 +4,11 @@ use crate::bench::Bench;
 use crate::play::CONFIG;
 use crate::stand_in::print_record;
 use std::alloc::Global;
+use std::process::Abort;
 use std::test::Fail;
 use trdp_base::{Ip, Place};
 use trdp_engine::{Answer, Event, NodeFault, PeekFault, Protocol, Record, ValueFault, What};
 use trdp_marshal::Item;
-use trdp_pd::Peek;
 
 /// The item of a number n and of n numbers of 1 to 250, which n counts.
 fn counted(alloc: Global, n: u16) -> Result<Item, Fail> {
@@ -44,10 +44,11 @@ struct Putting {
 }
 
 /// A publisher of dataset 1001, one of dataset 0 and a subscription of dataset 1001.
-static THREE: &str = "\
-    call 0 publish 100 1001 0 0 0 0 10.0.0.2:17224\n\
-    call 0 publish 200 0 0 0 0 0 10.0.0.2:17224\n\
-    call 0 subscribe 100 1001 0.0.0.0 0.0.0.0 0.0.0.0 0 0 0 keep";
+static THREE: [&str; 3] = [
+    "call 0 publish 100 1001 0 0 0 0 10.0.0.2:17224",
+    "call 0 publish 200 0 0 0 0 0 10.0.0.2:17224",
+    "call 0 subscribe 100 1001 0.0.0.0 0.0.0.0 0.0.0.0 0 0 0 keep",
+];
 
 static PUTTINGS: [Putting; 7] = [
     Putting {
@@ -101,90 +102,111 @@ static PUTTINGS: [Putting; 7] = [
     },
 ];
 
+/// What the node says to that item for that object.
+fn put_counted(
+    bench: &mut Bench,
+    alloc: Global,
+    row: &Putting,
+) -> Result<Result<(), NodeFault>, Fail> {
+    let item = counted(alloc, row.count)?;
+    Ok(bench
+        .node
+        .put_value(alloc, row.slot, row.handle, &item, &mut bench.out))
+}
+
+/// Puts each item, and compares what the node says to it.
+fn put_each(
+    rt: &(impl Abort + AllocGlobal),
+    bench: &mut Bench,
+    rows: &'static [Putting],
+) -> Result<(), Fail> {
+    for row in rows {
+        let ending = put_counted(bench, rt.alloc(), row)?;
+        assert_eq!(rt; ending, row.ending);
+        bench.tells(rt, row.answer)?;
+    }
+    Ok(())
+}
+
 #[test]
 fn items_are_put_as_their_bytes(rt: HostRuntime) -> Result<(), Fail> {
     let alloc = rt.alloc();
-    let mut bench = Bench::new(alloc, CONFIG)?;
-    bench.prepare(alloc, THREE)?;
-    for row in &PUTTINGS {
-        let item = counted(alloc, row.count)?;
-        let ending = bench
-            .node
-            .put_value(alloc, row.slot, row.handle, &item, &mut bench.out);
-        assert_eq!(rt; ending, row.ending);
-        bench.tells(&rt, row.answer)?;
-    }
-    bench.take(alloc, PULL.as_bytes())?;
+    let mut bench = Bench::after(alloc, CONFIG, &THREE)?;
+    put_each(&rt, &mut bench, &PUTTINGS)?;
+    bench.take(alloc, PULL)?;
     bench.tells(&rt, PULLED)
 }
 
-/// What a subscription of dataset 1001 shows after a script.
+/// What a subscription of dataset 1001 shows after lines.
 struct Showing {
-    script: &'static str,
+    lines: &'static [&'static str],
     /// Its state, the counter and the bytes, as the line that a call `get` gives.
     peek: &'static str,
     /// How many numbers its item counts.
     count: u16,
 }
 
+/// The datagram of comId 100 with counter 7, which carries the number 2 and the numbers 1 and 2 of 16 bits.
+const DATA: &str = "\
+    pd 10.0.0.2:17224 10.0.0.1:17224 \
+    0000000701005064000000640000000000000000000000050000000000000000000000006de33269\
+    0200010002000000";
+
 static SHOWINGS: [Showing; 4] = [
     Showing {
-        script: "call 0 subscribe 100 1001 0.0.0.0 0.0.0.0 0.0.0.0 0 0 0 keep",
+        lines: &["call 0 subscribe 100 1001 0.0.0.0 0.0.0.0 0.0.0.0 0 0 0 keep"],
         peek: "0 value Never 0 00\n",
         count: 0,
     },
     Showing {
-        script: "\
-            call 0 subscribe 100 1001 0.0.0.0 0.0.0.0 0.0.0.0 0 0 50000 zero\n\
-            # Pd c=7 com=100 | 0200010002\n\
-            pd 10.0.0.2:17224 10.0.0.1:17224 \
-            0000000701005064000000640000000000000000000000050000000000000000000000006de33269\
-            0200010002000000",
+        lines: &[
+            "call 0 subscribe 100 1001 0.0.0.0 0.0.0.0 0.0.0.0 0 0 50000 zero",
+            DATA,
+        ],
         peek: "0 value Valid 7 0200010002\n",
         count: 2,
     },
     Showing {
-        script: "\
-            call 0 subscribe 100 1001 0.0.0.0 0.0.0.0 0.0.0.0 0 0 50000 zero\n\
-            # Pd c=7 com=100 | 0200010002\n\
-            pd 10.0.0.2:17224 10.0.0.1:17224 \
-            0000000701005064000000640000000000000000000000050000000000000000000000006de33269\
-            0200010002000000\n\
-            moment 50000",
+        lines: &[
+            "call 0 subscribe 100 1001 0.0.0.0 0.0.0.0 0.0.0.0 0 0 50000 zero",
+            DATA,
+            "moment 50000",
+        ],
         peek: "0 value Silent 7 00\n",
         count: 0,
     },
     Showing {
-        script: "\
-            call 0 subscribe 100 1001 0.0.0.0 0.0.0.0 0.0.0.0 0 0 50000 keep\n\
-            # Pd c=7 com=100 | 0200010002\n\
-            pd 10.0.0.2:17224 10.0.0.1:17224 \
-            0000000701005064000000640000000000000000000000050000000000000000000000006de33269\
-            0200010002000000\n\
-            moment 50000",
+        lines: &[
+            "call 0 subscribe 100 1001 0.0.0.0 0.0.0.0 0.0.0.0 0 0 50000 keep",
+            DATA,
+            "moment 50000",
+        ],
         peek: "0 value Silent 7 0200010002\n",
         count: 2,
     },
 ];
 
-/// The line of a look at a subscription.
-fn line_of(alloc: Global, peek: Peek<'_>) -> Result<Vec<u8>, Fail> {
+/// The line of what the subscription of handle 1 shows.
+fn line_shown(bench: &Bench, alloc: Global) -> Result<Vec<u8>, Fail> {
+    let what = What::Answer(Answer::Value(bench.node.peek(0, 1)?));
     let mut line = Vec::new(alloc);
-    let what = What::Answer(Answer::Value(peek));
     print_record(&mut line, &Record { slot: 0, what })?;
     Ok(line)
 }
 
+/// Whether the subscription of that handle shows an item of so many numbers.
+fn shows_item(bench: &Bench, alloc: Global, handle: u32, count: u16) -> Result<bool, Fail> {
+    let item = counted(alloc, count)?;
+    Ok(bench.node.value_of(alloc, 0, handle)? == item)
+}
+
 #[test]
 fn subscriptions_show_bytes_and_their_item(rt: HostRuntime) -> Result<(), Fail> {
-    let alloc = rt.alloc();
     for row in &SHOWINGS {
-        let mut bench = Bench::new(alloc, CONFIG)?;
-        bench.prepare(alloc, row.script)?;
-        let line = line_of(alloc, bench.node.peek(0, 1)?)?;
-        assert_eq!(rt; str::from_utf8(&line)?, row.peek);
-        let item = counted(alloc, row.count)?;
-        assert_eq!(rt; bench.node.value_of(alloc, 0, 1)?, item);
+        let bench = Bench::after(rt.alloc(), CONFIG, row.lines)?;
+        let line = line_shown(&bench, rt.alloc())?;
+        assert_eq!(rt; line.as_slice(), row.peek.as_bytes());
+        assert!(rt; shows_item(&bench, rt.alloc(), 1, row.count)?);
     }
     Ok(())
 }
@@ -226,15 +248,15 @@ static UNSEEN: [Unseen; 4] = [
 ];
 
 /// A publisher and a subscription of dataset 0.
-static UNTYPED: &str = "\
-    call 0 publish 100 1001 0 0 0 0 10.0.0.2:17224\n\
-    call 0 subscribe 100 0 0.0.0.0 0.0.0.0 0.0.0.0 0 0 0 keep";
+static UNTYPED: [&str; 2] = [
+    "call 0 publish 100 1001 0 0 0 0 10.0.0.2:17224",
+    "call 0 subscribe 100 0 0.0.0.0 0.0.0.0 0.0.0.0 0 0 0 keep",
+];
 
 #[test]
 fn a_look_that_finds_nothing_says_why(rt: HostRuntime) -> Result<(), Fail> {
     let alloc = rt.alloc();
-    let mut bench = Bench::new(alloc, CONFIG)?;
-    bench.prepare(alloc, UNTYPED)?;
+    let bench = Bench::after(alloc, CONFIG, &UNTYPED)?;
     for row in &UNSEEN {
         let peek = bench.node.peek(row.slot, row.handle);
         assert_eq!(rt; peek.err(), row.peek);
@@ -257,9 +279,27 @@ element = [{ type = \"UINT16\" }, { type = \"UINT8\", size = 0 }]
 ";
 
 /// A publisher and a subscription of that dataset.
-static PAIR: &str = "\
-    call 0 publish 100 2001 0 0 0 0 10.0.0.2:17224\n\
-    call 0 subscribe 100 2001 0.0.0.0 0.0.0.0 0.0.0.0 0 0 0 keep";
+static PAIR: [&str; 2] = [
+    "call 0 publish 100 2001 0 0 0 0 10.0.0.2:17224",
+    "call 0 subscribe 100 2001 0.0.0.0 0.0.0.0 0.0.0.0 0 0 0 keep",
+];
+
+static LARGEST: [Putting; 2] = [
+    Putting {
+        slot: 0,
+        handle: 1,
+        count: 1431,
+        ending: Ok(()),
+        answer: "0 refused TooLong\n",
+    },
+    Putting {
+        slot: 0,
+        handle: 1,
+        count: 1430,
+        ending: Ok(()),
+        answer: "0 done\n",
+    },
+];
 
 /// The node's own place for process data.
 const HERE: Place = Place {
@@ -285,24 +325,13 @@ fn loop_back(bench: &mut Bench, alloc: Global) -> Result<usize, Fail> {
     Ok(bytes.len())
 }
 
-/// Puts an item of so many numbers into the publisher of handle 1.
-fn put_counted(bench: &mut Bench, alloc: Global, count: u16) -> Result<(), Fail> {
-    let item = counted(alloc, count)?;
-    bench.node.put_value(alloc, 0, 1, &item, &mut bench.out)?;
-    Ok(())
-}
-
 #[test]
 fn an_item_of_1432_bytes_goes_out_and_comes_in(rt: HostRuntime) -> Result<(), Fail> {
     let alloc = rt.alloc();
-    let mut bench = Bench::new(alloc, LARGE)?;
-    bench.prepare(alloc, PAIR)?;
-    put_counted(&mut bench, alloc, 1431)?;
-    put_counted(&mut bench, alloc, 1430)?;
-    bench.tells(&rt, "0 refused TooLong\n0 done\n")?;
-    bench.take(alloc, PULL.as_bytes())?;
+    let mut bench = Bench::after(alloc, LARGE, &PAIR)?;
+    put_each(&rt, &mut bench, &LARGEST)?;
+    bench.take(alloc, PULL)?;
     assert_eq!(rt; loop_back(&mut bench, alloc)?, 1472);
-    let item = counted(alloc, 1430)?;
-    assert_eq!(rt; bench.node.value_of(alloc, 0, 2)?, item);
+    assert!(rt; shows_item(&bench, alloc, 2, 1430)?);
     Ok(())
 }

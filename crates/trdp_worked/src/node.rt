@@ -3,6 +3,7 @@
 use crate::bench::Bench;
 use crate::play::CONFIG;
 use std::alloc::Global;
+use std::process::Abort;
 use std::test::Fail;
 use trdp_base::{Ip, Place, Topo, push_number};
 use trdp_engine::{Call, Event, run_both, same_view, view_drops_nothing};
@@ -135,7 +136,7 @@ static OPENINGS: [Opening; 3] = [
 fn repeat(bench: &mut Bench, alloc: Global, line: &str, times: u32) -> Result<(), Fail> {
     for _ in 0..times {
         bench.out.clear();
-        bench.take(alloc, line.as_bytes())?;
+        bench.take(alloc, line)?;
     }
     Ok(())
 }
@@ -155,21 +156,37 @@ fn put_all(bench: &mut Bench, alloc: Global) -> Result<(), Fail> {
     Ok(())
 }
 
+/// Opens what a line opens 256 times, and is then refused one more.
+fn open_all(
+    rt: &(impl Abort + AllocGlobal),
+    bench: &mut Bench,
+    line: &'static str,
+    last: &'static str,
+) -> Result<(), Fail> {
+    repeat(bench, rt.alloc(), line, 256)?;
+    bench.tells(rt, last)?;
+    bench.take(rt.alloc(), line)?;
+    bench.tells(rt, "0 refused Quota\n")
+}
+
+/// A node with 256 objects of each kind, each publisher with a value of 1,432 bytes.
+fn full(rt: &(impl Abort + AllocGlobal)) -> Result<Bench, Fail> {
+    let text = largest(rt.alloc())?;
+    let mut bench = Bench::new(rt.alloc(), &text)?;
+    for opening in &OPENINGS {
+        open_all(rt, &mut bench, opening.line, opening.last)?;
+    }
+    put_all(&mut bench, rt.alloc())?;
+    Ok(bench)
+}
+
 #[test]
 fn a_node_at_every_limit(rt: HostRuntime) -> Result<(), Fail> {
-    let alloc = rt.alloc();
-    let mut bench = Bench::new(alloc, &largest(alloc)?)?;
-    for opening in &OPENINGS {
-        repeat(&mut bench, alloc, opening.line, 256)?;
-        bench.tells(&rt, opening.last)?;
-        bench.take(alloc, opening.line.as_bytes())?;
-        bench.tells(&rt, "0 refused Quota\n")?;
-    }
-    put_all(&mut bench, alloc)?;
+    let mut bench = full(&rt)?;
     assert_eq!(rt; bench.out.len(), 256);
     bench.out.clear();
     // Each publisher sends, and each subscription is silent.
-    bench.node.step(&Event::Moment(1000), &mut bench.out)?;
+    bench.take(rt.alloc(), "moment 1000")?;
     assert_eq!(rt; bench.out.len(), 512);
     Ok(())
 }
