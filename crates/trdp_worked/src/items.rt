@@ -109,9 +109,11 @@ fn put_counted(
     row: &Putting,
 ) -> Result<Result<(), NodeFault>, Fail> {
     let item = counted(alloc, row.count)?;
-    Ok(bench
-        .node
-        .put_value(alloc, row.slot, row.handle, &item, &mut bench.out))
+    Ok(
+        bench
+            .node
+            .put_value(alloc, row.slot, row.handle, &item, &mut bench.out),
+    )
 }
 
 /// Puts each item, and compares what the node says to it.

@@ -9,32 +9,54 @@ use trdp_base::{Ip, Place, Topo, push_number};
 use trdp_engine::{Call, Event, run_both, same_view, view_drops_nothing};
 use trdp_pd::PublisherTerms;
 
-/// Makes a publisher of comId 100 with a cycle of 100 ms, to 10.0.0.2.
-const PUBLISH: Event<'static> = Event::Call {
-    slot: 0,
-    call: Call::Publish(PublisherTerms {
-        com_id: 100,
-        dataset: 0,
-        cycle: 100_000,
-        group: 0,
-        topo: Topo { etb: 0, op_trn: 0 },
-        to: Place {
-            ip: Ip(0x0a00_0002),
-            port: 17224,
-        },
-    }),
-};
-
-/// Gives the first publisher its value.
-const PUT: Event<'static> = Event::Call {
-    slot: 0,
-    call: Call::Put {
-        handle: 1,
-        bytes: b"\x0a\x0b",
+/// A publisher of comId 100 with a cycle of 100 ms, to 10.0.0.2.
+const TERMS: PublisherTerms = PublisherTerms {
+    com_id: 100,
+    dataset: 0,
+    cycle: 100_000,
+    group: 0,
+    topo: Topo { etb: 0, op_trn: 0 },
+    to: Place {
+        ip: Ip(0x0a00_0002),
+        port: 17224,
     },
 };
 
-/// What these two and the moment 100000 give.
+/// The publisher is made, gets its value, and is due.
+static EVENTS: [Event<'static>; 3] = [
+    Event::Call {
+        slot: 0,
+        call: Call::Publish(TERMS),
+    },
+    Event::Call {
+        slot: 0,
+        call: Call::Put {
+            handle: 1,
+            bytes: b"\x0a\x0b",
+        },
+    },
+    Event::Moment(100_000),
+];
+
+/// The same, with a moment between that changes nothing and a last one that is refused.
+static OTHERS: [Event<'static>; 5] = [
+    Event::Call {
+        slot: 0,
+        call: Call::Publish(TERMS),
+    },
+    Event::Moment(0),
+    Event::Call {
+        slot: 0,
+        call: Call::Put {
+            handle: 1,
+            bytes: b"\x0a\x0b",
+        },
+    },
+    Event::Moment(100_000),
+    Event::Moment(7),
+];
+
+/// What they give.
 static FIRST_TELEGRAM: &str = "\
     0 handle 1\n\
     0 done\n\
@@ -44,36 +66,31 @@ static FIRST_TELEGRAM: &str = "\
 
 #[test]
 fn a_run_takes_all_events(rt: HostRuntime) -> Result<(), Fail> {
-    let alloc = rt.alloc();
-    let mut bench = Bench::new(alloc, CONFIG)?;
+    let mut bench = Bench::new(rt.alloc(), CONFIG)?;
     assert!(rt; bench.out.is_empty());
-    let events = [PUBLISH, PUT, Event::Moment(100_000)];
-    assert_eq!(rt; bench.node.run(&events, &mut bench.out), 3);
-    assert_eq!(rt; bench.out.len(), 3);
+    let taken = bench.node.run(&EVENTS, &mut bench.out);
+    assert_eq!(rt; taken, 3);
     assert!(rt; bench.out.get(3).is_none());
-    bench.tells(&rt, FIRST_TELEGRAM)?;
-    assert!(rt; bench.out.is_empty());
-    Ok(())
+    bench.tells(&rt, FIRST_TELEGRAM)
 }
 
 #[test]
 fn two_nodes_run_alike(rt: HostRuntime) -> Result<(), Fail> {
     let mut first = Bench::new(rt.alloc(), CONFIG)?;
     let mut second = Bench::new(rt.alloc(), CONFIG)?;
-    let events = [PUBLISH, PUT];
-    let others = [PUBLISH, Event::Moment(0), PUT];
     let taken = run_both(
         &mut first.node,
         &mut second.node,
-        &events,
-        &others,
+        &EVENTS,
+        &OTHERS,
         &mut first.out,
         &mut second.out,
     );
-    assert_eq!(rt; taken, (2, 3));
+    assert_eq!(rt; taken, (3, 5));
     same_view();
     view_drops_nothing();
-    Ok(())
+    first.tells(&rt, FIRST_TELEGRAM)?;
+    second.tells(&rt, FIRST_TELEGRAM)
 }
 
 static SLOT: &[u8] = b"\
@@ -141,18 +158,15 @@ fn repeat(bench: &mut Bench, alloc: Global, line: &str, times: u32) -> Result<()
     Ok(())
 }
 
-/// Gives each of 256 publishers a value of 1,432 bytes.
-fn put_all(bench: &mut Bench, alloc: Global) -> Result<(), Fail> {
-    let mut bytes = Vec::new(alloc);
-    bytes.resize(1432, 0x5a)?;
-    for handle in 1..=256 {
-        let call = Call::Put {
-            handle,
-            bytes: &bytes,
-        };
-        let event = Event::Call { slot: 0, call };
-        bench.node.step(&event, &mut bench.out)?;
-    }
+/// The longest value.
+static LONGEST: [u8; 1432] = [0x5a; 1432];
+
+/// Gives a publisher the longest value.
+fn put_longest(bench: &mut Bench, handle: u32) -> Result<(), Fail> {
+    let bytes = &LONGEST;
+    let call = Call::Put { handle, bytes };
+    let event = Event::Call { slot: 0, call };
+    bench.node.step(&event, &mut bench.out)?;
     Ok(())
 }
 
@@ -176,7 +190,9 @@ fn full(rt: &(impl Abort + AllocGlobal)) -> Result<Bench, Fail> {
     for opening in &OPENINGS {
         open_all(rt, &mut bench, opening.line, opening.last)?;
     }
-    put_all(&mut bench, rt.alloc())?;
+    for handle in 1..=256 {
+        put_longest(&mut bench, handle)?;
+    }
     Ok(bench)
 }
 
