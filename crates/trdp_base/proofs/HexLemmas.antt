@@ -101,14 +101,6 @@ pub read_alone : (text read bytes : List ℕ) → IsInPairs text → hex_pairs r
 read_alone text read [] pairs same p q e = absurd (omega (arith, pairs.even, ap length e))
 read_alone text read (byte ∷ bytes) pairs same p q e = pairs_alone read (byte ∷ bytes) p q (same ∙ e)
 
--- `-` is the written form of no bytes alone
-pub dash_alone : (text bytes : List ℕ) → text ≡ text_of_hex [] → text ≡ text_of_hex bytes → [] ≡ bytes
-dash_alone text [] dash e = refl
-dash_alone text (byte ∷ bytes) dash e = absurd (omega (arith, ap length dash, ap length e, length-hex_pairs (byte ∷ bytes)))
-
-pub dash_is_text : (text : List ℕ) → text ≡ text_of_hex [] → IsHexText text
-dash_is_text text dash = ([], All-nil IsByte, dash)
-
 -- one more byte is written
 pub push_more : (old out bytes : List ℕ) (index high low : ℕ) → index < length bytes → high ≡ hex_digit (get_or bytes index 0 / 16) → low ≡ hex_digit (get_or bytes index 0 % 16) → out ≡ old ++ hex_pairs (take index bytes) → (out ++ high ∷ []) ++ low ∷ [] ≡ old ++ hex_pairs (take (index + 1) bytes)
 push_more old out bytes index high low inside first second before =

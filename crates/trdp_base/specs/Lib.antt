@@ -3,3 +3,4 @@ pub mod HexText
 pub mod Moments
 pub mod NumberText
 pub mod Numbers
+pub mod QuotaLimits

@@ -1,6 +1,6 @@
 -- Moments.
 use Rattle.std.specs.Prelude.{ℕ, ◌^◌}
 
--- the last moment, in microseconds
+-- the last moment, in microseconds since the node began (profile)
 abbrev pub last_moment : ℕ
 last_moment = 2 ^ 62

@@ -5,6 +5,10 @@ use Rattle.std.specs.Prelude.{◌≡◌, ℕ, ◌<◌, ◌⊎◌, List, length, 
 abbrev pub text_of_number : ℕ → List ℕ
 text_of_number number = decimal number
 
+-- the length of the longest written number of 64 bits, 18446744073709551615
+abbrev pub number_length : ℕ
+number_length = 20
+
 -- a plus sign, or a zero with more behind it
 abbrev pub HasNeedlessStart : List ℕ → Type 0
 HasNeedlessStart text = (slice_index text 0 ≡ 43) ⊎ ((slice_index text 0 ≡ 48) × (1 < length text))

@@ -1,7 +1,7 @@
 //! Addresses and places as text: four numbers joined by dots, and a port behind a colon.
 
 ghost use Rattle.std.specs.Prelude.{◌≡◌, ◌≢◌, ℕ, ◌+◌, ◌^◌, ◌<◌, ◌≤◌, ◌++◌, ◌∷◌, IfOk, IfErr, OnOk, OnErr, IsOk, IfSome, IfNone, All, vec_len, vec_capacity};
-ghost use Rattle.trdp_base.specs.AddressText.{text_of_ip, text_of_place};
+ghost use Rattle.trdp_base.specs.AddressText.{text_of_ip, text_of_place, ip_length, place_length};
 ghost use Rattle.trdp_base.specs.NumberText.{text_of_number};
 ghost use Rattle.trdp_base.specs.declared.place.Ip.{Ip};
 ghost use Rattle.trdp_base.specs.declared.place.Place.{Place};
@@ -13,15 +13,17 @@ use crate::text::TextFault;
 use std::alloc::AllocError;
 use std::net::Ipv4Addr;
 
-/// The length of the longest written address, that of 255.255.255.255.
+/// The length in bytes of the longest written address, that of 255.255.255.255.
 pub const IP_LENGTH: usize = 15;
 
-/// The length of the longest written place, that of 255.255.255.255:65535.
+/// The length in bytes of the longest written place, that of 255.255.255.255:65535.
 pub const PLACE_LENGTH: usize = 21;
 
-/// Reads an IPv4 address: four numbers of 0 to 255, joined by dots, without leading zeros (profile).
+/// Reads an IPv4 address: four numbers of 0 to 255 joined by dots, without leading zeros
+/// (profile).
 ///
-/// Any other text is [`TextFault::BadText`].
+/// # Errors
+/// [`TextFault::BadText`] at any other text.
 pub fn read_ip(text: &[u8]) -> Result<Ip, TextFault>
     ensures value { IfOk result (λ ip. text.now ≡ text_of_ip ip) }
     ensures found { (ip : Ip) → ip.0 < 2 ^ 32 → text.now ≡ text_of_ip ip → result ≡ Ok ip }
@@ -35,7 +37,8 @@ pub fn read_ip(text: &[u8]) -> Result<Ip, TextFault>
 
 /// Reads a place: an address, a colon and a port of 0 to 65535, without leading zeros (profile).
 ///
-/// Any other text is [`TextFault::BadText`].
+/// # Errors
+/// [`TextFault::BadText`] at any other text.
 pub fn read_place(text: &[u8]) -> Result<Place, TextFault>
     ensures value { IfOk result (λ place. text.now ≡ text_of_place place) }
     ensures found { (place : Place) → place.ip.0 < 2 ^ 32 → place.port < 2 ^ 16
@@ -70,15 +73,17 @@ fn split_at_colon(text: &[u8]) -> Option<(&[u8], &[u8])>
     Some((before, &behind[1..]))
 }
 
-/// Appends the written form of an address.
+/// Appends the written form of an address (profile).
 ///
-/// It needs no memory where there is room for [`IP_LENGTH`] more bytes. Without memory the list's items stay
-/// as they were.
+/// It needs no memory where there is room for [`IP_LENGTH`] more bytes.
+///
+/// # Errors
+/// [`AllocError`] where there is no memory; the list's items stay as they were.
 pub fn push_ip(out: &mut Vec<u8>, ip: Ip) -> Result<(), AllocError>
     ensures ok { OnOk result (out.new.items ≡ out.old.items ++ text_of_ip ip) }
     ensures err { OnErr result (out.new.items ≡ out.old.items) }
-    ensures length { vec_len out.new ≤ vec_len out.old + IP_LENGTH }
-    ensures succeeds { vec_len out.old + IP_LENGTH ≤ vec_capacity out.old → IsOk result }
+    ensures length { vec_len out.new ≤ vec_len out.old + ip_length }
+    ensures succeeds { vec_len out.old + ip_length ≤ vec_capacity out.old → IsOk result }
     ensures capacity { vec_capacity out.old ≤ vec_capacity out.new }
 {
     out.reserve(IP_LENGTH)?;
@@ -86,15 +91,17 @@ pub fn push_ip(out: &mut Vec<u8>, ip: Ip) -> Result<(), AllocError>
     Ok(())
 }
 
-/// Appends the written form of a place.
+/// Appends the written form of a place (profile).
 ///
-/// It needs no memory where there is room for [`PLACE_LENGTH`] more bytes. Without memory the list's items stay
-/// as they were.
+/// It needs no memory where there is room for [`PLACE_LENGTH`] more bytes.
+///
+/// # Errors
+/// [`AllocError`] where there is no memory; the list's items stay as they were.
 pub fn push_place(out: &mut Vec<u8>, place: Place) -> Result<(), AllocError>
     ensures ok { OnOk result (out.new.items ≡ out.old.items ++ text_of_place place) }
     ensures err { OnErr result (out.new.items ≡ out.old.items) }
-    ensures length { vec_len out.new ≤ vec_len out.old + PLACE_LENGTH }
-    ensures succeeds { vec_len out.old + PLACE_LENGTH ≤ vec_capacity out.old → IsOk result }
+    ensures length { vec_len out.new ≤ vec_len out.old + place_length }
+    ensures succeeds { vec_len out.old + place_length ≤ vec_capacity out.old → IsOk result }
     ensures capacity { vec_capacity out.old ≤ vec_capacity out.new }
 {
     out.reserve(PLACE_LENGTH)?;
@@ -106,9 +113,9 @@ pub fn push_place(out: &mut Vec<u8>, place: Place) -> Result<(), AllocError>
 
 /// Appends the written form of an address to a list that has room for it.
 fn put_ip(out: &mut Vec<u8>, ip: Ip)
-    requires room { vec_len out.old + IP_LENGTH ≤ vec_capacity out.old }
+    requires room { vec_len out.old + ip_length ≤ vec_capacity out.old }
     ensures items { out.new.items ≡ out.old.items ++ text_of_ip ip }
-    ensures length { vec_len out.new ≤ vec_len out.old + IP_LENGTH }
+    ensures length { vec_len out.new ≤ vec_len out.old + ip_length }
     ensures capacity { vec_capacity out.old ≤ vec_capacity out.new }
 {
     let [first, second, third, fourth] = ip.0.to_be_bytes();

@@ -9,8 +9,9 @@ use std::alloc::{AllocError, Global};
 
 /// Reads bytes: lower-case hexadecimal digits in pairs, or `-` for no bytes (profile).
 ///
-/// Any other text, the empty one too, is [`TextFault::BadText`], which is found before memory is taken.
-/// A good text for whose bytes there is no memory is [`TextFault::OutOfMemory`].
+/// # Errors
+/// [`TextFault::BadText`] at any other text, the empty one too, before memory is taken.
+/// [`TextFault::OutOfMemory`] where there is no memory for the bytes of a good text.
 pub fn read_hex(alloc: Global, text: &[u8]) -> Result<Vec<u8>, TextFault>
     ensures value { IfOk result (λ bytes. text.now ≡ text_of_hex bytes.items) }
     ensures found { (bytes : List ℕ) → All (λ byte. byte < 256) bytes
@@ -23,10 +24,7 @@ pub fn read_hex(alloc: Global, text: &[u8]) -> Result<Vec<u8>, TextFault>
     if !is_in_pairs(text) {
         return Err(TextFault::BadText);
     }
-    match bytes_of_pairs(alloc, text) {
-        Ok(bytes) => Ok(bytes),
-        Err(AllocError) => Err(TextFault::OutOfMemory),
-    }
+    Ok(bytes_of_pairs(alloc, text)?)
 }
 
 /// Whether a text is the written form of no bytes.
@@ -77,9 +75,12 @@ fn value_of_digit(digit: u8) -> u8
     }
 }
 
-/// Appends the written form of bytes, which is `-` for none.
+/// Appends the written form of bytes, which is `-` for none (profile).
 ///
-/// It needs no memory where there is room for that. Without memory the list's items stay as they were.
+/// It needs no memory where there is room for that.
+///
+/// # Errors
+/// [`AllocError`] where there is no memory; the list's items stay as they were.
 pub fn push_hex(out: &mut Vec<u8>, bytes: &[u8]) -> Result<(), AllocError>
     ensures ok { OnOk result (out.new.items ≡ out.old.items ++ text_of_hex bytes.now) }
     ensures err { OnErr result (out.new.items ≡ out.old.items) }

@@ -1,4 +1,5 @@
-//! The small types of a TRDP node and their texts: addresses, places, topology counts, moments, quotas.
+//! The small types of a TRDP node and their texts: addresses, places, topology counts, moments and
+//! quotas.
 #![tactic(auto)]
 
 mod address;

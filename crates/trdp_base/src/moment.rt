@@ -5,12 +5,13 @@ ghost use Rattle.trdp_base.specs.Moments.{last_moment};
 
 use std::marker::Model;
 
-/// The last moment, 2^62 microseconds (profile).
+/// The last moment in microseconds, 2^62 (profile).
 pub const MOMENT_MAX: u64 = 4_611_686_018_427_387_904;
 
-/// A moment in microseconds, 0 to [`MOMENT_MAX`].
+/// A moment, in microseconds since the node began (profile).
 #[derive(Clone, Copy, Debug, PartialEq, Eq, Hash, PartialOrd, Ord)]
 pub struct Moment {
+    /// Microseconds since the node began, 0 to [`MOMENT_MAX`].
     microseconds: u64,
 }
 
@@ -25,7 +26,7 @@ impl Model for Moment {
 }
 
 impl Moment {
-    /// The moment of that many microseconds; None above [`MOMENT_MAX`].
+    /// The moment of so many microseconds; None above [`MOMENT_MAX`].
     pub fn new(microseconds: u64) -> Option<Self>
         ensures valid { IsSome result ↔ (microseconds ≤ last_moment) }
         ensures value { IfSome result (λ m. m ≡ microseconds) }
@@ -37,7 +38,7 @@ impl Moment {
         }
     }
 
-    /// Its microseconds.
+    /// Its microseconds, 0 to [`MOMENT_MAX`].
     pub fn get(self) -> u64
         ensures value { result ≡ self }
         ensures within { result ≤ last_moment }

@@ -1,19 +1,20 @@
 //! Numbers as text: decimal digits without leading zeros.
 
 ghost use Rattle.std.specs.Prelude.{◌≡◌, ℕ, ◌+◌, ◌%◌, ◌^◌, ◌<◌, ◌≤◌, ◌↔◌, ◌++◌, length, drop, IfOk, IfErr, OnOk, OnErr, IsOk, IfSome, IsTrue, vec_len, vec_capacity};
-ghost use Rattle.trdp_base.specs.NumberText.{text_of_number, HasNeedlessStart};
+ghost use Rattle.trdp_base.specs.NumberText.{text_of_number, number_length, HasNeedlessStart};
 ghost use Rattle.trdp_base.specs.declared.text.TextFault.TheVariants.{BadText};
 
 use crate::text::TextFault;
 use std::alloc::AllocError;
 use std::str;
 
-/// The length of the longest written number, that of 2^64 - 1.
+/// The length in bytes of the longest written number, that of 2^64 - 1.
 pub const NUMBER_LENGTH: usize = 20;
 
-/// Reads a decimal number of at most `max`, without sign and without leading zeros (profile).
+/// Reads a decimal number of 0 to `max`, without sign and without leading zeros (profile).
 ///
-/// Any other text is [`TextFault::BadText`].
+/// # Errors
+/// [`TextFault::BadText`] at any other text.
 pub fn read_number(text: &[u8], max: u64) -> Result<u64, TextFault>
     ensures value { IfOk result (λ number. (text.now ≡ text_of_number number) × (number ≤ max)) }
     ensures found { (number : ℕ) → number ≤ max
@@ -49,15 +50,17 @@ fn has_needless_start(text: &[u8]) -> bool
     matches!(text, [b'+', ..] | [b'0', _, ..])
 }
 
-/// Appends the written form of a number.
+/// Appends the written form of a number (profile).
 ///
-/// It needs no memory where there is room for [`NUMBER_LENGTH`] more bytes. Without memory the list's items stay
-/// as they were.
+/// It needs no memory where there is room for [`NUMBER_LENGTH`] more bytes.
+///
+/// # Errors
+/// [`AllocError`] where there is no memory; the list's items stay as they were.
 pub fn push_number(out: &mut Vec<u8>, number: u64) -> Result<(), AllocError>
     ensures ok { OnOk result (out.new.items ≡ out.old.items ++ text_of_number number) }
     ensures err { OnErr result (out.new.items ≡ out.old.items) }
-    ensures length { vec_len out.new ≤ vec_len out.old + NUMBER_LENGTH }
-    ensures succeeds { vec_len out.old + NUMBER_LENGTH ≤ vec_capacity out.old → IsOk result }
+    ensures length { vec_len out.new ≤ vec_len out.old + number_length }
+    ensures succeeds { vec_len out.old + number_length ≤ vec_capacity out.old → IsOk result }
     ensures capacity { vec_capacity out.old ≤ vec_capacity out.new }
 {
     out.reserve(NUMBER_LENGTH)?;
@@ -80,7 +83,7 @@ pub(crate) fn put_number(out: &mut Vec<u8>, number: u64)
 
 /// Writes a number's digits at the end of the list, and says where they begin.
 fn write_digits(number: u64, digits: &mut [u8; NUMBER_LENGTH]) -> usize
-    ensures within { result ≤ NUMBER_LENGTH }
+    ensures within { result ≤ number_length }
     ensures digits { drop result digits.new ≡ text_of_number number }
 {
     let mut start = NUMBER_LENGTH - 1;

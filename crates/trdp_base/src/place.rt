@@ -1,12 +1,17 @@
 //! Where a telegram comes from and goes to.
 
-/// An IPv4 address as a number in host order: 10.0.0.1 is `0x0a000001`.
+/// An IPv4 address.
 #[derive(Clone, Copy, Debug, PartialEq, Eq, Hash, PartialOrd, Ord)]
-pub struct Ip(pub u32);
+pub struct Ip(
+    /// The four bytes as a number in host order: 10.0.0.1 is `0x0a000001`.
+    pub u32,
+);
 
-/// An address with a UDP port, in host order.
+/// An address with a UDP port.
 #[derive(Clone, Copy, Debug, PartialEq, Eq, Hash, PartialOrd, Ord)]
 pub struct Place {
+    /// The address.
     pub ip: Ip,
+    /// The UDP port, in host order.
     pub port: u16,
 }

@@ -1,33 +1,60 @@
--- What std reads as an address is the address of the text.
-use Rattle.std.proofs.Common.{◌≡◌, ℕ, List, [], ◌∷◌, length, Option, Some, None, option_map, refl, sym, ap, ◌∙◌, subst, lit≤, ne_eqb, append-nil, arith}
-use Rattle.std.specs.Int.{w32, from_be_bytes}
-use Rattle.std.specs.declared.net.ipv4_addr.Ipv4Addr.{Ipv4Addr}
-use Rattle.std.specs.Net.Addr.{ipv4_octets, ipv4_bits}
-use Rattle.std.specs.Net.Grammar.{IsIpv4Text, IsDotted}
-use Rattle.std.specs.Net.Reader.{read_ipv4, whole_value}
-use Rattle.std.proofs.NetLemmas.Ipv4.{read_ipv4_complete, read_ipv4_sound}
-use Rattle.trdp_dataset.specs.Values.{address_of}
+-- What is read as an address is the address of the text.
+use Rattle.std.proofs.Common.{◌≡◌, ◌<◌, ◌^◌, ℕ, zero, suc, Bool, true, false, List, Some, None, if◌then◌else◌, Result, Ok, Err, refl, sym, ap, ◌∙◌, arith, inl, inr, ◌⊎◌}
+use Rattle.std.proofs.lemmas.Slice.Eq.{bytes_eq-Decides}
+use Rattle.trdp_base.specs.AddressText.{text_of_ip}
+use Rattle.trdp_base.specs.declared.place.Ip.{Ip}
+use Rattle.trdp_base.specs.declared.text.TextFault.{TextFault}
+use Rattle.trdp_dataset.specs.Values.{found_below, is_written_so, address_of}
 
--- a text that writes an address is read as its number
-pub address_read : (text : List ℕ) (a : Ipv4Addr) → IsIpv4Text text a → Some (ipv4_bits a) ≡ address_of text
-unfolding address_of ipv4_bits
-address_read text a h =
-    let e : read_ipv4 text ≡ Some (ipv4_octets a, []) = ap read_ipv4 (sym (append-nil text)) ∙ read_ipv4_complete text (ipv4_octets a) [] h (lit≤ tt) in
-    rw e
+one_below : (n k : ℕ) → n < suc k → (n ≡ k) ⊎ (n < k)
+one_below n k small = grind (arith, small)
 
-rest_unread : (text octets rest : List ℕ) → read_ipv4 text ≡ Some (octets, rest) → ((a : Ipv4Addr) → ¬ IsIpv4Text text a)
-    → None ≡ option_map (λ (o : List ℕ). from_be_bytes w32 o) (whole_value (Some (octets, rest)))
-rest_unread text octets [] e h =
-    let (front, split, spells) = read_ipv4_sound text octets [] e in
-    absurd (h (record { octets = octets }) (subst (λ (t : List ℕ). IsDotted t octets) (sym (split ∙ append-nil front)) spells))
-rest_unread text octets (c ∷ rest) e h = rw (ne_eqb (length (c ∷ rest)) 0 (omega arith)) refl
+found_here : (test : ℕ → Bool) (k n : ℕ) (b : Bool) → test k ≡ b → n < suc k → test n ≡ true → (test k ≡ true → k ≡ n)
+    → (n < k → found_below test k ≡ Some n) → (if b then Some k else found_below test k) ≡ Some n
+found_here test k n true e small passes only rest = ap (λ (m : ℕ). Some m) (only e)
+found_here test k n false e small passes only rest = elim (one_below n k small) [
+  | inl same ↦ absurd (let x : false ≡ true = sym e ∙ (ap test (sym same) ∙ passes) in cc)
+  | inr less ↦ rest less
+]
 
-unread : (text : List ℕ) (found : Option (List ℕ × List ℕ)) → read_ipv4 text ≡ found → ((a : Ipv4Addr) → ¬ IsIpv4Text text a)
-    → None ≡ option_map (λ (o : List ℕ). from_be_bytes w32 o) (whole_value found)
-unread text None e h = refl
-unread text (Some p) e h = rest_unread text p.0 p.1 e h
+-- the only number that passes is found
+only_found : (test : ℕ → Bool) (k n : ℕ) → n < k → test n ≡ true → ((m : ℕ) → m < k → test m ≡ true → m ≡ n) → found_below test k ≡ Some n
+unfolding found_below
+only_found test zero n small passes only = absurd (omega (arith, small))
+only_found test (suc k) n small passes only =
+    found_here test k n (test k) refl small passes (only k (omega arith)) (λ less. only_found test k n less passes (λ m below. only m (omega (arith, below))))
 
--- a text that writes no address is none
-pub address_unread : (text : List ℕ) → ((a : Ipv4Addr) → ¬ IsIpv4Text text a) → None ≡ address_of text
+none_here : (test : ℕ → Bool) (k : ℕ) (b : Bool) → test k ≡ b → (test k ≡ true → ⊥) → found_below test k ≡ None → (if b then Some k else found_below test k) ≡ None
+none_here test k true e none rest = absurd (none e)
+none_here test k false e none rest = rest
+
+-- none is found where none passes
+none_found : (test : ℕ → Bool) (k : ℕ) → ((m : ℕ) → m < k → test m ≡ true → ⊥) → found_below test k ≡ None
+unfolding found_below
+none_found test zero none = refl
+none_found test (suc k) none = none_here test k (test k) refl (none k (omega arith)) (none_found test k (λ m below. none m (omega (arith, below))))
+
+written : (text : List ℕ) (n : ℕ) → text ≡ text_of_ip (record { 0 = n }) → is_written_so text n ≡ true
+written text n e = (bytes_eq-Decides text (text_of_ip (record { 0 = n }))).1 e
+
+is_written : (text : List ℕ) (n : ℕ) → is_written_so text n ≡ true → text ≡ text_of_ip (record { 0 = n })
+is_written text n e = (bytes_eq-Decides text (text_of_ip (record { 0 = n }))).0 e
+
+-- a text is read as one address
+same_ip : (read : Result Ip TextFault) (ip other : Ip) → read ≡ Ok ip → read ≡ Ok other → other.0 ≡ ip.0
+same_ip read ip other e f = let same : Ok ip ≡ Ok other = sym e ∙ f in cc
+
+-- an address whose written form the text is, and the only one
+pub address_read : (text : List ℕ) (read : Result Ip TextFault) (ip : Ip) → read ≡ Ok ip → ip.0 < 2 ^ 32 → text ≡ text_of_ip ip
+    → ((other : Ip) → other.0 < 2 ^ 32 → text ≡ text_of_ip other → read ≡ Ok other) → Some ip.0 ≡ address_of text
 unfolding address_of
-address_unread text h = unread text (read_ipv4 text) refl h
+address_read text read ip e small same only =
+    sym (only_found (is_written_so text) (2 ^ 32) ip.0 small (written text ip.0 same)
+    (λ m below passes. same_ip read ip (record { 0 = m }) e (only (record { 0 = m }) below (is_written text m passes))))
+
+-- a text that is the written form of no address
+pub address_unread : (text : List ℕ) (read : Result Ip TextFault) (fault : TextFault) → read ≡ Err fault
+    → ((other : Ip) → other.0 < 2 ^ 32 → text ≡ text_of_ip other → read ≡ Ok other) → None ≡ address_of text
+unfolding address_of
+address_unread text read fault e none =
+    sym (none_found (is_written_so text) (2 ^ 32) (λ m below passes. let same : Err fault ≡ Ok (record { 0 = m }) = sym e ∙ none (record { 0 = m }) below (is_written text m passes) in cc))

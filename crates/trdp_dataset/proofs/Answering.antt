@@ -22,7 +22,7 @@ fault_comes OutOfMemory expected e = tt
 fault_comes fault expected e = e
 
 -- the first fault of two lists, where the first list has one
-first_here : (xs ys : List (Option ConfigFault)) (fault : ConfigFault) → first_fault xs ≡ Some fault → first_fault (xs ++ ys) ≡ Some fault
+pub first_here : (xs ys : List (Option ConfigFault)) (fault : ConfigFault) → first_fault xs ≡ Some fault → first_fault (xs ++ ys) ≡ Some fault
 first_here [] ys fault e = cc
 first_here (None ∷ xs) ys fault e = first_here xs ys fault e
 first_here (Some f ∷ xs) ys fault e = e

@@ -6,7 +6,7 @@ use Rattle.toml.specs.Data.{Data, string, integer, float, boolean, datetime, arr
 use Rattle.toml.specs.View.{view, items_view}
 use Rattle.toml.specs.declared.value.Value.{Value}
 use Rattle.trdp_dataset.specs.Values.{items_list, items_in, is_table, is_tables}
-use Rattle.trdp_dataset.specs.Places.{tables_in}
+use Rattle.trdp_dataset.specs.Positions.{tables_in}
 use Rattle.trdp_dataset.specs.Seen.{tables_seen}
 
 pub items_listed : (vs : List Value) → map view vs ≡ items_list (items_view vs)

@@ -1,82 +1,44 @@
--- What a file without a fault has at its places.
-use Rattle.std.proofs.Common.{◌≡◌, ◌==◌, ◌&&◌, ◌||◌, ◌≤◌, ℕ, suc, Bool, true, false, not, nat_le, nat_lt, List, [], ◌∷◌, ◌++◌, length, Option, Some, None, option_map, option_and_then, is_some, if◌then◌else◌, refl, sym, ap, ◌∙◌, arith, subst, append_assoc}
-use Rattle.std.specs.Prelude.{find}
-use Rattle.std.specs.List.{list_all, list_any, filter_map, cons_option}
-use Rattle.std.proofs.lemmas.Bool.{and_parts, ltb-false}
+-- What a file without a fault has at its positions.
+use Rattle.std.proofs.Common.{◌≡◌, ◌==◌, ◌&&◌, ◌≤◌, ℕ, suc, Bool, true, false, nat_le, nat_lt, List, [], ◌∷◌, ◌++◌, length, Option, Some, None, option_map, option_and_then, is_some, is_none, if◌then◌else◌, refl, sym, ap, ◌∙◌, arith, subst, append_assoc}
+use Rattle.std.specs.List.{list_all, filter_map, cons_option}
+use Rattle.std.proofs.lemmas.Bool.{and_parts, ltb-false, le-leb}
 use Rattle.std.proofs.lemmas.List.{length-map}
 use Rattle.std.proofs.lemmas.Bool.Decides.{nat_tests}
 use Rattle.std.proofs.lemmas.List.Folds.{list_all-append}
 use Rattle.toml.specs.Data.{Data, string, integer, float, boolean, datetime, array, table, Members, as_table}
 use Rattle.trdp_dataset.specs.declared.element.Element.{Element}
-use Rattle.trdp_dataset.specs.declared.fault.ConfigFault.TheVariants.{Missing, WrongType, BadId}
-use Rattle.trdp_dataset.specs.declared.key.Key.TheVariants.{Slot, Dataset, DatasetId, Elements, ElementType}
-use Rattle.trdp_dataset.specs.Keys.{slot_keys, dataset_keys, element_keys}
-use Rattle.trdp_dataset.specs.Values.{items_list, items_in, is_table, is_tables, is_type, kind_in, identifier_in, in_range, natural_in}
+use Rattle.trdp_dataset.specs.declared.fault.ConfigFault.{ConfigFault}
+use Rattle.trdp_dataset.specs.declared.fault.ConfigFault.TheVariants.{Missing, WrongType, Real, TooMany}
+use Rattle.trdp_dataset.specs.declared.key.Key.{Key}
+use Rattle.trdp_dataset.specs.declared.key.Key.TheVariants.{Slot, Dataset, DatasetId, Elements, ElementType, ElementSize}
+use Rattle.trdp_dataset.specs.Keys.{is_required, dataset_keys, element_keys}
+use Rattle.trdp_dataset.specs.Types.{identifier_of}
+use Rattle.trdp_dataset.specs.Values.{items_list, items_in, is_table, is_tables, is_type, is_real, kind_in, identifier_in, natural_in}
 use Rattle.trdp_dataset.specs.Datasets.{DatasetModel}
-use Rattle.trdp_dataset.specs.Places.{PlaceModel, value_at, tables_in, tables_at, place_at, places_at, places_of_all, element_places, dataset_places, slot_places}
-use Rattle.trdp_dataset.specs.Faults.{is_missing, is_wrong, is_bad_place, is_excessive, has, missing_in, wrong_type_in, real_in, bad_id_in, place_fault}
+use Rattle.trdp_dataset.specs.Positions.{PositionModel, value_at, tables_in, tables_at, position_at, positions_at, positions_of_all, element_positions, dataset_positions, slot_positions}
+use Rattle.trdp_dataset.specs.Faults.{count_fault, tables_fault, bad_unless, fault_at}
 use Rattle.trdp_dataset.specs.Configs.{element_of, element_in, elements_in, dataset_in, datasets_in, slots_in, slot_in}
-use Rattle.trdp_dataset.proofs.Answering.{none_first}
 
-none_passes : {A : Type 0} → (test : A → Bool) (xs : List A) → find test xs ≡ None → list_all (λ x. not (test x)) xs ≡ true
-none_passes test [] e = refl
-none_passes test (x ∷ xs) e = by (test x) e (none_passes test xs)
-  where
-    by : (b : Bool) → (if b then Some x else find test xs) ≡ None → (find test xs ≡ None → list_all (λ y. not (test y)) xs ≡ true) → (not b && list_all (λ y. not (test y)) xs) ≡ true
-    by true h rest = cc
-    by false h rest = rest h
-
-any_passes : {A : Type 0} → (test : A → Bool) (xs : List A) → list_any test xs ≡ false → list_all (λ x. not (test x)) xs ≡ true
-any_passes test [] e = refl
-any_passes test (x ∷ xs) e = by (test x) e (any_passes test xs)
-  where
-    by : (b : Bool) → (b || list_any test xs) ≡ false → (list_any test xs ≡ false → list_all (λ y. not (test y)) xs ≡ true) → (not b && list_all (λ y. not (test y)) xs) ≡ true
-    by true h rest = cc
-    by false h rest = rest h
-
-unmapped : {A B : Type 0} → (f : A → B) (o : Option A) → option_map f o ≡ None → o ≡ None
-unmapped f None e = refl
-unmapped f (Some x) e = cc
-
-unchosen : {A : Type 0} → (b : Bool) (x : A) → (if b then Some x else None) ≡ None → b ≡ false
-unchosen true x e = cc
-unchosen false x e = refl
-
--- nothing is missing, wrong or unknown at these places
-pub record AreGood (places : List PlaceModel) : Type 0 where
-  pub there : list_all (λ p. not (is_missing p)) places ≡ true
-  pub right : list_all (λ p. not (is_wrong p)) places ≡ true
-  pub known : list_all (λ p. not (is_bad_place p)) places ≡ true
-
-pub good : (places : List PlaceModel) → place_fault places ≡ None → AreGood places
-unfolding missing_in wrong_type_in real_in bad_id_in
-good places e =
-    let a = none_first (missing_in places) _ e in
-    let b = none_first (wrong_type_in places) _ a.1 in
-    let c = none_first (real_in places) _ b.1 in
-    let d = none_first (bad_id_in places) _ c.1 in
-    record {
-      there = none_passes is_missing places (unmapped (λ (p : PlaceModel). Missing p.key) _ a.0);
-      right = none_passes is_wrong places (unmapped (λ (p : PlaceModel). WrongType p.key) _ b.0);
-      known = any_passes is_bad_place places (unchosen _ BadId d.0);
-    }
+-- there is no fault at these positions
+abbrev pub AreGood : List PositionModel → Type 0
+AreGood positions = list_all (λ p. is_none (fault_at p)) positions ≡ true
 
 all_parts : {A : Type 0} → (test : A → Bool) (xs ys : List A) → list_all test (xs ++ ys) ≡ true → (list_all test xs ≡ true) × (list_all test ys ≡ true)
 all_parts test xs ys e = and_parts (list_all test xs) (list_all test ys) (sym (list_all-append test xs ys) ∙ e)
 
-pub good_front : (xs ys : List PlaceModel) → AreGood (xs ++ ys) → AreGood xs
-good_front xs ys g = record { there = (all_parts _ xs ys g.there).0; right = (all_parts _ xs ys g.right).0; known = (all_parts _ xs ys g.known).0 }
+pub good_front : (xs ys : List PositionModel) → AreGood (xs ++ ys) → AreGood xs
+good_front xs ys g = (all_parts _ xs ys g).0
 
-pub good_back : (xs ys : List PlaceModel) → AreGood (xs ++ ys) → AreGood ys
-good_back xs ys g = record { there = (all_parts _ xs ys g.there).1; right = (all_parts _ xs ys g.right).1; known = (all_parts _ xs ys g.known).1 }
+pub good_back : (xs ys : List PositionModel) → AreGood (xs ++ ys) → AreGood ys
+good_back xs ys g = (all_parts _ xs ys g).1
 
-turned : (b : Bool) → not b ≡ true → b ≡ false
-turned true e = cc
-turned false e = refl
+none_there : {A : Type 0} → (o : Option A) → is_none o ≡ true → o ≡ None
+none_there None e = refl
+none_there (Some x) e = cc
 
-unturned : (b : Bool) → not b ≡ false → b ≡ true
-unturned true e = refl
-unturned false e = cc
+-- the first of good positions
+good_first : (p : PositionModel) (rest : List PositionModel) → AreGood (p ∷ rest) → fault_at p ≡ None
+good_first p rest g = none_there (fault_at p) (and_parts _ _ g).0
 
 -- the first table of an array that isn't empty
 pub record FirstTable (found : Option Data) : Type 0 where
@@ -93,11 +55,11 @@ first_of (boolean b) xs e = cc
 first_of (datetime dt) xs e = cc
 first_of (array ds) xs e = cc
 
-first_in : (xs : List Data) → list_all is_table xs ≡ true → (list_all is_table xs && (length xs == 0)) ≡ false → (ms : Members) × (rest : List Members) × (filter_map as_table xs ≡ ms ∷ rest)
+first_in : (xs : List Data) → list_all is_table xs ≡ true → (length xs == 0) ≡ false → (ms : Members) × (rest : List Members) × (filter_map as_table xs ≡ ms ∷ rest)
 first_in [] all some = cc
 first_in (x ∷ xs) all some = first_of x xs (and_parts (is_table x) (list_all is_table xs) all).0
 
-first_by : (d : Data) → is_tables d ≡ true → (is_tables d && (length (items_in d) == 0)) ≡ false → FirstTable (Some d)
+first_by : (d : Data) → is_tables d ≡ true → (length (items_in d) == 0) ≡ false → FirstTable (Some d)
 first_by (array ds) tables some = let f = first_in (items_list ds) tables some in record { first = f.0; rest = f.1; tables = f.2 }
 first_by (string s) tables some = cc
 first_by (integer z) tables some = cc
@@ -106,76 +68,133 @@ first_by (boolean b) tables some = cc
 first_by (datetime dt) tables some = cc
 first_by (table ms) tables some = cc
 
--- nothing, or an array without members
-abbrev lacks : Option Data → Bool
-lacks None = true
-lacks (Some d) = is_tables d && (length (items_in d) == 0)
+kept_by : {A B : Type 0} → (f : A → Option B) (o : Option B) (rest : List B) → length (cons_option o rest) ≤ suc (length rest)
+kept_by f None rest = omega arith
+kept_by f (Some x) rest = omega arith
 
-pub first_table : (found : Option Data) → lacks found ≡ false → has (λ d. not (is_tables d)) found ≡ false → FirstTable found
-first_table None there right = cc
-first_table (Some d) there right = first_by d (unturned (is_tables d) right) there
+-- no more is made of a list than it has
+pub kept : {A B : Type 0} → (f : A → Option B) (xs : List A) → length (filter_map f xs) ≤ length xs
+kept f [] = omega arith
+kept f (x ∷ xs) = let a = kept_by f (f x) (filter_map f xs) in let b = kept f xs in omega arith
 
-made_by : (found : Option Data) → is_missing (record { key = ElementType; found = found }) ≡ false → is_wrong (record { key = ElementType; found = found }) ≡ false
-    → is_bad_place (record { key = ElementType; found = found }) ≡ false → is_some (option_and_then kind_in found) ≡ true
-made_by None there right known = cc
-made_by (Some t) there right known =
-    let named : is_type t ≡ true = unturned (is_type t) right in
-    unturned (is_some (kind_in t)) (ap (λ b. b && not (is_some (kind_in t))) (sym named) ∙ known)
+uncounted : (key : Key) (b c : Bool) → (if b then Some (Missing key) else if c then Some TooMany else None) ≡ None → (b ≡ false) × (c ≡ false)
+uncounted key true c e = cc
+uncounted key false true e = cc
+uncounted key false false e = (refl, refl)
+
+tables_by : (key : Key) (b : Bool) (fault : Option ConfigFault) → (if b then fault else Some (WrongType key)) ≡ None → (b ≡ true) × (fault ≡ None)
+tables_by key true fault e = (refl, e)
+tables_by key false fault e = cc
+
+-- what an array of tables without a fault has
+record Counted (key : Key) (most : ℕ) (d : Data) : Type 0 where
+  pub tables : is_tables d ≡ true
+  pub some : (is_required key && (length (items_in d) == 0)) ≡ false
+  pub few : length (tables_in (Some d)) ≤ most
+
+counted : (key : Key) (most : ℕ) (d : Data) → tables_fault key most d ≡ None → Counted key most d
+counted key most d e =
+    let parts = tables_by key (is_tables d) (count_fault key most (length (items_in d))) e in
+    let tests = uncounted key (is_required key && (length (items_in d) == 0)) (nat_lt most (length (items_in d))) parts.1 in
+    let few = ltb-false most (length (items_in d)) tests.1 in
+    let fewer = kept as_table (items_in d) in
+    record { tables = parts.0; some = tests.0; few = omega (arith, few, fewer) }
+
+-- a required array without a fault
+pub record IsFilled (most : ℕ) (found : Option Data) : Type 0 where
+  pub table : FirstTable found
+  pub few : length (tables_in found) ≤ most
+
+slots_filled : (found : Option Data) → fault_at (record { key = Slot; found = found }) ≡ None → IsFilled 16 found
+slots_filled None e = cc
+slots_filled (Some d) e = let h = counted Slot 16 d e in record { table = first_by d h.tables h.some; few = h.few }
+
+elements_filled : (found : Option Data) → fault_at (record { key = Elements; found = found }) ≡ None → IsFilled 256 found
+elements_filled None e = cc
+elements_filled (Some d) e = let h = counted Elements 256 d e in record { table = first_by d h.tables h.some; few = h.few }
+
+datasets_few : (found : Option Data) → fault_at (record { key = Dataset; found = found }) ≡ None → length (tables_in found) ≤ 256
+datasets_few None e = omega arith
+datasets_few (Some d) e = (counted Dataset 256 d e).few
+
+known_by : (b c k : Bool) → (if b then (if c then Some Real else bad_unless k) else Some (WrongType ElementType)) ≡ None → k ≡ true
+known_by true true k e = cc
+known_by true false true e = refl
+known_by true false false e = cc
+known_by false c k e = cc
+
+made_by : (found : Option Data) → fault_at (record { key = ElementType; found = found }) ≡ None → is_some (option_and_then kind_in found) ≡ true
+made_by None e = cc
+made_by (Some t) e = known_by (is_type t) (is_real t) (is_some (kind_in t)) e
 
 some_made : {A B : Type 0} → (f : A → B) (o : Option A) → is_some o ≡ true → is_some (option_map f o) ≡ true
 some_made f None e = cc
 some_made f (Some x) e = refl
 
--- a table with good places is an element
-element_made : (members : Members) → AreGood (places_at element_keys members) → is_some (element_in members) ≡ true
-unfolding element_in places_at
+-- a table with good positions is an element
+element_made : (members : Members) → AreGood (positions_at element_keys members) → is_some (element_in members) ≡ true
+unfolding element_in positions_at
 element_made members g =
-    let there = turned _ (and_parts _ _ g.there).0 in
-    let right = turned _ (and_parts _ _ g.right).0 in
-    let known = turned _ (and_parts _ _ g.known).0 in
-    some_made (element_of members) (option_and_then kind_in (value_at ElementType members)) (made_by (value_at ElementType members) there right known)
+    some_made (element_of members) (option_and_then kind_in (value_at ElementType members))
+    (made_by (value_at ElementType members) (good_first (position_at members ElementType) (position_at members ElementSize ∷ []) g))
 
 length_made : {A : Type 0} → (o : Option A) (rest : List A) → is_some o ≡ true → nat_lt 0 (length (cons_option o rest)) ≡ true
 length_made None rest e = cc
 length_made (Some x) rest e = grind (arith, nat_tests)
 
--- a dataset with good places has an element
-dataset_filled : (members : Members) → AreGood (places_at dataset_keys members) → AreGood (places_of_all element_keys (tables_at Elements members)) → nat_lt 0 (length (elements_in members)) ≡ true
-unfolding elements_in places_at places_of_all tables_at
-dataset_filled members g h =
-    let there = turned _ (and_parts _ _ (and_parts _ _ g.there).1).0 in
-    let right = turned _ (and_parts _ _ (and_parts _ _ g.right).1).0 in
-    let f = first_table (value_at Elements members) there right in
-    let inner : AreGood (places_of_all element_keys (f.first ∷ f.rest)) = subst (λ (ts : List Members). AreGood (places_of_all element_keys ts)) f.tables h in
-    let made = element_made f.first (good_front (places_at element_keys f.first) (places_of_all element_keys f.rest) inner) in
-    ap (λ ts. nat_lt 0 (length (filter_map element_in ts))) f.tables ∙ length_made (element_in f.first) (filter_map element_in f.rest) made
+-- a dataset has an element, and at most 256
+abbrev pub is_filled : List Element → Bool
+is_filled es = nat_lt 0 (length es) && nat_le (length es) 256
 
-filled_by : (d : Members) (id : Option ℕ) (rest : List DatasetModel) → nat_lt 0 (length (elements_in d)) ≡ true → list_all (λ (m : DatasetModel). nat_lt 0 (length m.elements)) rest ≡ true
-    → list_all (λ (m : DatasetModel). nat_lt 0 (length m.elements)) (cons_option (option_map (λ n. record { id = n; elements = elements_in d }) id) rest) ≡ true
+short_by : (ts : List Members) → length ts ≤ 256 → nat_le (length (filter_map element_in ts)) 256 ≡ true
+short_by ts few = let fewer = kept element_in ts in le-leb (length (filter_map element_in ts)) 256 (omega (arith, fewer, few))
+
+-- a dataset with good positions is so
+dataset_filled : (members : Members) → AreGood (positions_at dataset_keys members) → AreGood (positions_of_all element_keys (tables_at Elements members)) → is_filled (elements_in members) ≡ true
+unfolding elements_in positions_at positions_of_all tables_at
+dataset_filled members g h =
+    let own = good_first (position_at members Elements) [] (and_parts _ _ g).1 in
+    let all = elements_filled (value_at Elements members) own in
+    let f = all.table in
+    let inner : AreGood (positions_of_all element_keys (f.first ∷ f.rest)) = subst (λ (ts : List Members). AreGood (positions_of_all element_keys ts)) f.tables h in
+    let made = element_made f.first (good_front (positions_at element_keys f.first) (positions_of_all element_keys f.rest) inner) in
+    let some = ap (λ ts. nat_lt 0 (length (filter_map element_in ts))) f.tables ∙ length_made (element_in f.first) (filter_map element_in f.rest) made in
+    rw (some, short_by (tables_in (value_at Elements members)) all.few) refl
+
+filled_by : (d : Members) (id : Option ℕ) (rest : List DatasetModel) → is_filled (elements_in d) ≡ true → list_all (λ (m : DatasetModel). is_filled m.elements) rest ≡ true
+    → list_all (λ (m : DatasetModel). is_filled m.elements) (cons_option (option_map (λ n. record { id = n; elements = elements_in d }) id) rest) ≡ true
 filled_by d None rest here later = later
 filled_by d (Some n) rest here later = rw (here, later) refl
 
-tables_filled : (ts : List Members) → AreGood (places_of_all dataset_keys ts) → AreGood (element_places ts) → list_all (λ (m : DatasetModel). nat_lt 0 (length m.elements)) (filter_map dataset_in ts) ≡ true
-unfolding places_of_all element_places dataset_in
+tables_filled : (ts : List Members) → AreGood (positions_of_all dataset_keys ts) → AreGood (element_positions ts) → list_all (λ (m : DatasetModel). is_filled m.elements) (filter_map dataset_in ts) ≡ true
+unfolding positions_of_all element_positions dataset_in
 tables_filled [] g h = refl
 tables_filled (t ∷ ts) g h =
-    let here = dataset_filled t (good_front (places_at dataset_keys t) (places_of_all dataset_keys ts) g) (good_front (places_of_all element_keys (tables_at Elements t)) (element_places ts) h) in
-    let later = tables_filled ts (good_back (places_at dataset_keys t) (places_of_all dataset_keys ts) g) (good_back (places_of_all element_keys (tables_at Elements t)) (element_places ts) h) in
+    let here = dataset_filled t (good_front (positions_at dataset_keys t) (positions_of_all dataset_keys ts) g) (good_front (positions_of_all element_keys (tables_at Elements t)) (element_positions ts) h) in
+    let later = tables_filled ts (good_back (positions_at dataset_keys t) (positions_of_all dataset_keys ts) g) (good_back (positions_of_all element_keys (tables_at Elements t)) (element_positions ts) h) in
     filled_by t (option_and_then identifier_in (value_at DatasetId t)) (filter_map dataset_in ts) here later
 
--- each dataset of a file with good places has an element
-pub all_filled : (top : Members) → AreGood (dataset_places top) → list_all (λ (m : DatasetModel). nat_lt 0 (length m.elements)) (datasets_in top) ≡ true
-unfolding datasets_in dataset_places
+-- each dataset of a file with good positions has an element, and at most 256
+pub all_filled : (top : Members) → AreGood (dataset_positions top) → list_all (λ (m : DatasetModel). is_filled m.elements) (datasets_in top) ≡ true
+unfolding datasets_in dataset_positions
 all_filled top g =
     let ts = tables_at Dataset top in
-    let parts = good_back (places_at (Dataset ∷ []) top) (places_of_all dataset_keys ts ++ element_places ts) (subst AreGood (append_assoc (places_at (Dataset ∷ []) top) (places_of_all dataset_keys ts) (element_places ts)) g) in
-    tables_filled ts (good_front (places_of_all dataset_keys ts) (element_places ts) parts) (good_back (places_of_all dataset_keys ts) (element_places ts) parts)
+    let parts = good_back (positions_at (Dataset ∷ []) top) (positions_of_all dataset_keys ts ++ element_positions ts) (subst AreGood (append_assoc (positions_at (Dataset ∷ []) top) (positions_of_all dataset_keys ts) (element_positions ts)) g) in
+    tables_filled ts (good_front (positions_of_all dataset_keys ts) (element_positions ts) parts) (good_back (positions_of_all dataset_keys ts) (element_positions ts) parts)
+
+-- there are at most 256 datasets
+pub all_few : (top : Members) → AreGood (dataset_positions top) → length (datasets_in top) ≤ 256
+unfolding datasets_in dataset_positions positions_at tables_at
+all_few top g =
+    let few = datasets_few (value_at Dataset top) (none_there _ (and_parts _ _ g).0) in
+    let fewer = kept dataset_in (tables_in (value_at Dataset top)) in
+    omega (arith, few, fewer)
 
 in_range_above : (low high n : ℕ) (b : Bool) (m : ℕ) → (nat_le low n && nat_le n high) ≡ b → (if b then Some n else None) ≡ Some m → nat_le low m ≡ true
 in_range_above low high n true m e found = let same : n ≡ m = cc in ap (nat_le low) (sym same) ∙ (and_parts _ _ e).0
 in_range_above low high n false m e found = cc
 
-natural_above : (found : Option ℕ) (m : ℕ) → option_and_then (in_range 31 4294967295) found ≡ Some m → nat_le 31 m ≡ true
+natural_above : (found : Option ℕ) (m : ℕ) → option_and_then identifier_of found ≡ Some m → nat_le 31 m ≡ true
 natural_above None m e = cc
 natural_above (Some n) m e = in_range_above 31 4294967295 n (nat_le 31 n && nat_le n 4294967295) m refl e
 
@@ -198,32 +217,11 @@ pub all_above : (top : Members) → list_all (λ (m : DatasetModel). nat_le 31 m
 unfolding datasets_in
 all_above top = tables_above (tables_at Dataset top)
 
--- there is a slot
-pub some_slot : (top : Members) → AreGood (slot_places top) → 1 ≤ length (slots_in top)
-unfolding slots_in slot_places places_at tables_at
-some_slot top g =
-    let there = turned _ (and_parts _ _ g.there).0 in
-    let right = turned _ (and_parts _ _ g.right).0 in
-    let f = first_table (value_at Slot top) there right in
-    rw f.tables (omega arith)
-
-kept_by : {A B : Type 0} → (f : A → Option B) (o : Option B) (rest : List B) → length (cons_option o rest) ≤ suc (length rest)
-kept_by f None rest = omega arith
-kept_by f (Some x) rest = omega arith
-
-kept : {A B : Type 0} → (f : A → Option B) (xs : List A) → length (filter_map f xs) ≤ length xs
-kept f [] = omega arith
-kept f (x ∷ xs) = let a = kept_by f (f x) (filter_map f xs) in let b = kept f xs in omega arith
-
-few_by : (found : Option Data) → is_excessive (record { key = Slot; found = found }) ≡ false → length (tables_in found) ≤ 16
-few_by None e = omega arith
-few_by (Some d) e = let a = kept as_table (items_in d) in let b : length (items_in d) ≤ 16 = ltb-false 16 (length (items_in d)) e in omega arith
-
--- there are at most 16 slots
-pub few_slots : (top : Members) (others : List PlaceModel) → list_any is_excessive (slot_places top ++ others) ≡ false → length (slots_in top) ≤ 16
-unfolding slots_in slot_places places_at tables_at
-few_slots top others e =
-    let all = any_passes is_excessive (slot_places top ++ others) e in
-    let first = turned (is_excessive (place_at top Slot)) (and_parts (not (is_excessive (place_at top Slot))) (list_all (λ p. not (is_excessive p)) (places_of_all slot_keys (tables_at Slot top) ++ others)) all).0 in
-    let few = few_by (value_at Slot top) first in
-    omega (arith, few, length-map (tables_in (value_at Slot top)) slot_in)
+-- there is a slot, and there are at most 16
+pub some_slots : (top : Members) → AreGood (slot_positions top) → (1 ≤ length (slots_in top)) × (length (slots_in top) ≤ 16)
+unfolding slots_in slot_positions positions_at tables_at
+some_slots top g =
+    let all = slots_filled (value_at Slot top) (none_there _ (and_parts _ _ g).0) in
+    let same = length-map (tables_in (value_at Slot top)) slot_in in
+    let some : 1 ≤ length (tables_in (value_at Slot top)) = rw all.table.tables (omega arith) in
+    (omega (arith, some, same), omega (arith, all.few, same))

@@ -9,6 +9,8 @@ pub mod Loading
 pub mod Sound
 pub mod Sizes
 pub mod Rows
+pub mod FixedRows
 pub mod Steps
 pub mod Twice
-pub mod Passes
+pub mod Least
+pub mod Singles

@@ -1,53 +1,51 @@
 -- The checks of a file, one after the other.
-use Rattle.std.proofs.Common.{◌≡◌, List, [], ◌∷◌, ◌++◌, Option, Some, None, refl, sym, ◌∙◌, subst}
+use Rattle.std.proofs.Common.{◌≡◌, List, [], ◌∷◌, Option, Some, None, map, refl, sym, ap, ◌∙◌, IfSome, subst}
 use Rattle.trdp_dataset.specs.declared.fault.ConfigFault.{ConfigFault}
 use Rattle.trdp_dataset.specs.Datasets.{DatasetModel}
-use Rattle.trdp_dataset.specs.Places.{PlaceModel}
-use Rattle.trdp_dataset.specs.Faults.{IsFaultOf, first_fault, missing_in, wrong_type_in, real_in, bad_id_in, twice_id_in, no_dataset_in, no_count_in, too_deep_in, too_big_in, too_many_in, place_fault, fit_fault, fault_in}
-use Rattle.trdp_dataset.proofs.Answering.{fault_comes, fault_here, fault_later, first_later}
+use Rattle.trdp_dataset.specs.Positions.{PositionModel}
+use Rattle.trdp_dataset.specs.Faults.{IsFaultOf, before_datasets, fault_at, least_of_two, least_fault, first_fault, twice_id_in, no_dataset_in, no_count_in, too_deep_in, too_big_in, dataset_fault, fit_fault, fault_in}
+use Rattle.trdp_dataset.proofs.Answering.{fault_comes, fault_moves, first_here, first_later}
+use Rattle.trdp_dataset.proofs.Least.{least_alone}
+use Rattle.trdp_dataset.proofs.Singles.{IsOfPosition, IsLate, least_single, dataset_own, early, early_first, before_first, late_last}
 
 alone : (o : Option ConfigFault) → first_fault (o ∷ []) ≡ o
 alone None = refl
 alone (Some f) = refl
 
-module _ (places : List PlaceModel) (ds : List DatasetModel) where
-  at_places : List (Option ConfigFault)
-  at_places = missing_in places ∷ wrong_type_in places ∷ real_in places ∷ bad_id_in places ∷ []
+module _ (positions : List PositionModel) (ds : List DatasetModel) where
+  least : Option ConfigFault
+  least = least_fault (map fault_at positions)
 
-  once : List (Option ConfigFault)
-  once = twice_id_in ds ∷ []
+  is_single : (f : ConfigFault) → Some f ≡ least → IsOfPosition f
+  unfolding least
+  is_single f e = subst (λ (o : Option ConfigFault). IfSome o IsOfPosition) (sym e) (least_single positions)
 
-  fitting : List (Option ConfigFault)
-  fitting = no_dataset_in ds ∷ no_count_in ds ∷ too_deep_in ds ∷ too_big_in ds ∷ []
+  -- a fault of a position other than too many of something
+  pub position_stops : (fault : ConfigFault) → Some fault ≡ before_datasets (least_fault (map fault_at positions)) → IsFaultOf fault (fault_in positions ds)
+  unfolding fault_in least
+  position_stops fault before =
+      let b = before_first (least_fault (map fault_at positions)) fault before in
+      fault_comes fault (fault_in positions ds)
+      (ap (λ o. least_of_two o (dataset_fault ds)) (sym b.0) ∙ early_first fault (dataset_fault ds) (early fault (is_single fault b.0) b.1) (dataset_own ds))
 
-  few : List (Option ConfigFault)
-  few = too_many_in places ∷ []
+  own_stops : (fault : ConfigFault) → IsLate (least_fault (map fault_at positions)) → IsFaultOf fault (dataset_fault ds) → IsFaultOf fault (fault_in positions ds)
+  unfolding fault_in
+  own_stops fault late h =
+      fault_moves fault (dataset_fault ds) (fault_in positions ds) (λ f e. late_last (least_fault (map fault_at positions)) (dataset_fault ds) f late e (dataset_own ds)) h
 
-  pub place_stops : (fault : ConfigFault) → Some fault ≡ place_fault places → IsFaultOf fault (fault_in places ds)
-  unfolding fault_in at_places once fitting few
-  place_stops fault e = fault_here at_places (once ++ (fitting ++ few)) fault (fault_comes fault (place_fault places) (sym e))
+  pub twice_stops : (fault : ConfigFault) → IsLate (least_fault (map fault_at positions)) → IsFaultOf fault (twice_id_in ds) → IsFaultOf fault (fault_in positions ds)
+  twice_stops fault late h =
+      let fitting = no_dataset_in ds ∷ no_count_in ds ∷ too_deep_in ds ∷ too_big_in ds ∷ [] in
+      own_stops fault late (fault_moves fault (twice_id_in ds) (dataset_fault ds) (λ f e. first_here (twice_id_in ds ∷ []) fitting f (alone (twice_id_in ds) ∙ e)) h)
 
-  pub twice_stops : (fault : ConfigFault) → None ≡ place_fault places → IsFaultOf fault (twice_id_in ds) → IsFaultOf fault (fault_in places ds)
-  unfolding fault_in at_places once fitting few
-  twice_stops fault none h =
-      fault_later at_places (once ++ (fitting ++ few)) fault (sym none)
-      (fault_here once (fitting ++ few) fault (subst (λ (o : Option ConfigFault). IsFaultOf fault o) (sym (alone (twice_id_in ds))) h))
+  fitting_left : twice_id_in ds ≡ None → dataset_fault ds ≡ fit_fault ds
+  fitting_left twice =
+      first_later (twice_id_in ds ∷ []) (no_dataset_in ds ∷ no_count_in ds ∷ too_deep_in ds ∷ too_big_in ds ∷ []) (alone (twice_id_in ds) ∙ twice)
 
-  pub fit_stops : (fault : ConfigFault) → None ≡ place_fault places → twice_id_in ds ≡ None → IsFaultOf fault (fit_fault ds) → IsFaultOf fault (fault_in places ds)
-  unfolding fault_in at_places once fitting few
-  fit_stops fault none twice h =
-      fault_later at_places (once ++ (fitting ++ few)) fault (sym none)
-      (fault_later once (fitting ++ few) fault (alone (twice_id_in ds) ∙ twice) (fault_here fitting few fault h))
+  pub fit_stops : (fault : ConfigFault) → IsLate (least_fault (map fault_at positions)) → twice_id_in ds ≡ None → IsFaultOf fault (fit_fault ds) → IsFaultOf fault (fault_in positions ds)
+  fit_stops fault late twice h = own_stops fault late (subst (IsFaultOf fault) (sym (fitting_left twice)) h)
 
-  pub many_stops : (fault : ConfigFault) → None ≡ place_fault places → twice_id_in ds ≡ None → fit_fault ds ≡ None → Some fault ≡ too_many_in places → IsFaultOf fault (fault_in places ds)
-  unfolding fault_in at_places once fitting few
-  many_stops fault none twice fit many =
-      fault_later at_places (once ++ (fitting ++ few)) fault (sym none)
-      (fault_later once (fitting ++ few) fault (alone (twice_id_in ds) ∙ twice)
-      (fault_later fitting few fault fit (fault_comes fault (first_fault few) (alone (too_many_in places) ∙ sym many))))
-
-  pub nothing_stops : None ≡ place_fault places → twice_id_in ds ≡ None → fit_fault ds ≡ None → None ≡ too_many_in places → fault_in places ds ≡ None
-  unfolding fault_in at_places once fitting few
-  nothing_stops none twice fit many =
-      first_later at_places (once ++ (fitting ++ few)) (sym none)
-      ∙ (first_later once (fitting ++ few) (alone (twice_id_in ds) ∙ twice) ∙ (first_later fitting few fit ∙ (alone (too_many_in places) ∙ sym many)))
+  -- where datasets have no fault that of the positions is left
+  pub least_left : twice_id_in ds ≡ None → fit_fault ds ≡ None → fault_in positions ds ≡ least_fault (map fault_at positions)
+  unfolding fault_in
+  least_left twice fit = ap (least_of_two (least_fault (map fault_at positions))) (fitting_left twice ∙ fit) ∙ least_alone (least_fault (map fault_at positions))

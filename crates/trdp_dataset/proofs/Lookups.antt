@@ -37,7 +37,7 @@ some_mapped f (Some x) = refl
 pub known_stored : (entries : List Entry) (id : ℕ) → is_some (lookup (λ k. id == k) entries) ≡ is_known (datasets_of entries) id
 known_stored entries id = some_mapped (λ (v : Vec Element Global). v.items) (lookup (λ k. id == k) entries) ∙ ap (λ (o : Option (List Element)). is_some o) (elements_stored entries id)
 
--- the place of a key is one of a dataset of that identifier
+-- the index of a key is one of a dataset of that identifier
 id_stored : (entries : List Entry) (i : ℕ) → i < length (keys_of entries) → option_map (λ (m : DatasetModel). m.id) (slice_get (datasets_of entries) i) ≡ Some (get_or (keys_of entries) i 0)
 id_stored [] i h = absurd (omega arith)
 id_stored (e ∷ entries) zero h = refl
@@ -48,12 +48,12 @@ id_found entries id i h =
     let at = position-Some (λ (k : ℕ). id == k) (keys_of entries) i 0 h in
     id_stored entries i at.0 ∙ ap (λ (n : ℕ). Some n) (sym (eqb-true id (get_or (keys_of entries) i 0) at.1))
 
-pub id_found_if : (entries : List Entry) (id : ℕ) (place : Option ℕ) → place ≡ position (λ k. id == k) (keys_of entries)
-    → IfSome place (λ i. option_map (λ (m : DatasetModel). m.id) (slice_get (datasets_of entries) i) ≡ Some id)
+pub id_found_if : (entries : List Entry) (id : ℕ) (found : Option ℕ) → found ≡ position (λ k. id == k) (keys_of entries)
+    → IfSome found (λ i. option_map (λ (m : DatasetModel). m.id) (slice_get (datasets_of entries) i) ≡ Some id)
 id_found_if entries id None h = tt
 id_found_if entries id (Some i) h = id_found entries id i (sym h)
 
--- a list by identifier, at the place of an identifier
+-- a list by identifier, at the index of an identifier
 pub value_found : {B : Type 0} → (registry : List DatasetModel) (f : ℕ → B) (id i : ℕ) → option_map (λ (m : DatasetModel). m.id) (slice_get registry i) ≡ Some id
     → slice_get (map (λ (m : DatasetModel). f m.id) registry) i ≡ Some (f id)
 value_found [] f id i h = cc

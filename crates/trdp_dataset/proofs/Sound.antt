@@ -1,22 +1,23 @@
 -- Datasets without a fault fit together.
-use Rattle.std.proofs.Common.{◌≡◌, ◌==◌, ◌&&◌, ◌||◌, ◌≤◌, ℕ, Bool, true, false, cond, not, nat_le, nat_lt, length, List, [], ◌∷◌, ◌++◌, Option, Some, None, option_map, if◌then◌else◌, refl, sym, ap, ◌∙◌, eqb-true, arith, inl, inr, ◌⊎◌}
-use Rattle.std.specs.Prelude.{find}
+use Rattle.std.proofs.Common.{◌≡◌, ◌==◌, ◌&&◌, ◌||◌, ◌≤◌, ◌<◌, ℕ, zero, suc, Bool, true, false, cond, not, nat_le, nat_lt, length, List, [], ◌∷◌, ◌++◌, Option, Some, None, option_map, if◌then◌else◌, refl, sym, ap, ◌∙◌, eqb-true, eq-eqb, arith, inl, inr, ◌⊎◌}
+use Rattle.std.specs.Prelude.{find, slice_get}
 use Rattle.std.specs.List.{list_all, cons_option}
 use Rattle.std.proofs.lemmas.Bool.{and_parts, leb-true, ltb-true}
 use Rattle.trdp_dataset.specs.declared.element.Element.{Element}
 use Rattle.trdp_dataset.specs.declared.element.Form.{Form}
 use Rattle.trdp_dataset.specs.declared.element.Form.TheVariants.{Unsigned, Signed, Time48, Time64, Nested}
-use Rattle.trdp_dataset.specs.declared.fault.ConfigFault.TheVariants.{NoDataset}
+use Rattle.trdp_dataset.specs.declared.fault.ConfigFault.TheVariants.{TwiceId, NoDataset}
 use Rattle.trdp_dataset.specs.Elements.{form_of, nested_id}
 use Rattle.trdp_dataset.specs.Datasets.{DatasetModel, dataset_of, elements_of, is_known, passes, all_pass, all_counted}
 use Rattle.trdp_dataset.specs.Depths.{is_within}
 use Rattle.trdp_dataset.specs.ZeroSizes.{zero_size}
-use Rattle.trdp_dataset.specs.Faults.{nested_ids, no_dataset_in, no_count_in, too_deep_in, too_big_in, fit_fault}
+use Rattle.trdp_dataset.specs.Faults.{has_twice, twice_id_in, nested_ids, no_dataset_in, no_count_in, too_deep_in, too_big_in, fit_fault}
 use Rattle.trdp_dataset.specs.Registries.{IsRegistry}
 use Rattle.trdp_dataset.proofs.Answering.{none_first}
 use Rattle.trdp_dataset.proofs.Sizes.{unknown_size}
 use Rattle.trdp_dataset.proofs.Steps.{each, all_made}
-use Rattle.trdp_dataset.proofs.Twice.{known-cons}
+use Rattle.trdp_dataset.proofs.Twice.{known-cons, or_true}
+use Rattle.trdp_dataset.proofs.Filled.{is_filled}
 
 found_by : (b : Bool) (d : DatasetModel) (rest : Option DatasetModel) (es : List Element) → option_map (λ (m : DatasetModel). m.elements) (cond b (Some d) rest) ≡ Some es
     → ((b ≡ true) × (d.elements ≡ es)) ⊎ (option_map (λ (m : DatasetModel). m.elements) rest ≡ Some es)
@@ -92,18 +93,54 @@ unfolding zero_size
 size_by registry id true known all = leb-true _ _ (each_known (λ n. nat_le (zero_size registry n) 65388) registry id all known)
 size_by registry id false unknown all = let none = unknown_size registry 5 id (sym unknown) in omega (arith, none)
 
+-- the identifier at an index is known
+id_known : (registry : List DatasetModel) (i id : ℕ) → option_map (λ (m : DatasetModel). m.id) (slice_get registry i) ≡ Some id → is_known registry id ≡ true
+id_known [] i id at = cc
+id_known (d ∷ ds) zero id at = let same : d.id ≡ id = cc in known-cons d ds id ∙ ap (λ b. b || is_known ds id) (eq-eqb id d.id (sym same))
+id_known (d ∷ ds) (suc i) id at = known-cons d ds id ∙ (ap (λ b. (id == d.id) || b) (id_known ds i id at) ∙ or_true (id == d.id))
+
+first_known : (d : DatasetModel) (ds : List DatasetModel) (i id : ℕ) → has_twice (d ∷ ds) ≡ false → d.id ≡ id
+    → option_map (λ (m : DatasetModel). m.id) (slice_get ds i) ≡ Some id → ⊥
+first_known d ds i id once same at =
+    let known : is_known ds d.id ≡ true = ap (is_known ds) same ∙ id_known ds i id at in
+    let twice : has_twice (d ∷ ds) ≡ true = ap (λ b. b || has_twice ds) known in
+    let no : true ≡ false = sym twice ∙ once in cc
+
+once_later : (a b : Bool) → (a || b) ≡ false → b ≡ false
+once_later true b e = cc
+once_later false b e = e
+
+-- no two datasets have one identifier
+apart : (registry : List DatasetModel) (i j id : ℕ) → has_twice registry ≡ false → option_map (λ (m : DatasetModel). m.id) (slice_get registry i) ≡ Some id
+    → option_map (λ (m : DatasetModel). m.id) (slice_get registry j) ≡ Some id → i ≡ j
+apart [] i j id once at there = cc
+apart (d ∷ ds) zero zero id once at there = refl
+apart (d ∷ ds) zero (suc j) id once at there = absurd (first_known d ds j id once (cc) there)
+apart (d ∷ ds) (suc i) zero id once at there = absurd (first_known d ds i id once (cc) at)
+apart (d ∷ ds) (suc i) (suc j) id once at there = ap suc (apart ds i j id (once_later (is_known ds d.id) (has_twice ds) once) at there)
+
+filled_parts : (es : List Element) → is_filled es ≡ true → (0 < length es) × (length es ≤ 256)
+filled_parts es e = let parts = and_parts (nat_lt 0 (length es)) (nat_le (length es) 256) e in (ltb-true 0 (length es) parts.0, leb-true (length es) 256 parts.1)
+
+twice_by_test : (b : Bool) → (if b then Some TwiceId else None) ≡ None → b ≡ false
+twice_by_test true e = cc
+twice_by_test false e = refl
+
 -- datasets without a fault are a registry
-pub sound : (registry : List DatasetModel) → fit_fault registry ≡ None → list_all (λ (m : DatasetModel). nat_le 31 m.id) registry ≡ true → list_all (λ (m : DatasetModel). nat_lt 0 (length m.elements)) registry ≡ true
-    → IsRegistry registry
-unfolding no_dataset_in no_count_in too_deep_in too_big_in
-sound registry fits above filled =
+pub sound : (registry : List DatasetModel) → twice_id_in registry ≡ None → fit_fault registry ≡ None → length registry ≤ 256 → list_all (λ (m : DatasetModel). nat_le 31 m.id) registry ≡ true
+    → list_all (λ (m : DatasetModel). is_filled m.elements) registry ≡ true → IsRegistry registry
+unfolding twice_id_in no_dataset_in no_count_in too_deep_in too_big_in
+sound registry once fits few above filled =
     let a = none_first (no_dataset_in registry) _ fits in
     let b = none_first (no_count_in registry) _ a.1 in
     let c = none_first (too_deep_in registry) _ b.1 in
     let d = none_first (too_big_in registry) _ c.1 in
     record {
       above = λ id known. leb-true 31 id (each_known (nat_le 31) registry id above known);
-      filled = λ id es found. ltb-true 0 (length es) (each_found (λ xs. nat_lt 0 (length xs)) registry id es filled found);
+      apart = λ i j id at there. apart registry i j id (twice_by_test (has_twice registry) once) at there;
+      few = few;
+      filled = λ id es found. (filled_parts es (each_found is_filled registry id es filled found)).0;
+      short = λ id es found. (filled_parts es (each_found is_filled registry id es filled found)).1;
       known = λ id es found. nested_known (is_known registry) registry id es (none_mapped (λ id. NoDataset id) _ a.0) found;
       counted = λ id es found. each_found (all_counted false) registry id es (no_fault _ _ b.0) found;
       deep = λ id known. each_known (is_within registry 5) registry id (no_fault _ _ c.0) known;

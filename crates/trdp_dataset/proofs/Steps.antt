@@ -7,7 +7,7 @@ use Rattle.std.proofs.lemmas.Option.{get_or_from_slice_get, slice_get_within}
 use Rattle.trdp_dataset.specs.declared.element.Element.{Element}
 use Rattle.trdp_dataset.specs.Datasets.{DatasetModel}
 
--- the dataset at a place, with these elements, and those after it
+-- the dataset at an index, with these elements, and those after it
 pub record Opened (ds : List DatasetModel) (i : ℕ) (es : List Element) : Type 0 where
   pub d : DatasetModel
   pub elements : d.elements ≡ es

@@ -38,7 +38,7 @@ pub known-append : (ds es : List DatasetModel) (id : ℕ) → is_known (ds ++ es
 known-append [] es id = ap (λ b. b || is_known es id) (sym (found_known [] id))
 known-append (d ∷ ds) es id = known-cons d (ds ++ es) id ∙ (ap (λ b. (id == d.id) || b) (known-append ds es id) ∙ (or_assoc (id == d.id) (is_known ds id) (is_known es id) ∙ ap (λ b. b || is_known es id) (sym (known-cons d ds id))))
 
-or_true : (a : Bool) → (a || true) ≡ true
+pub or_true : (a : Bool) → (a || true) ≡ true
 or_true true = refl
 or_true false = refl
 

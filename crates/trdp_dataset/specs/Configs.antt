@@ -15,27 +15,30 @@ use Rattle.trdp_dataset.specs.declared.key.Key.{Key}
 use Rattle.trdp_dataset.specs.declared.key.Key.TheVariants.{Address, PdPort, MdPort, OperatorPort, Slot, ControlPort, Dataset, DatasetId, Elements, ElementType, ElementSize}
 use Rattle.trdp_dataset.specs.declared.fault.ConfigFault.{ConfigFault}
 use Rattle.trdp_dataset.specs.declared.fault.ConfigFault.TheVariants.{Toml, OutOfMemory}
-use Rattle.trdp_dataset.specs.Keys.{quota_keys}
+use Rattle.trdp_dataset.specs.Keys.{wanted_by, default_of, quota_keys}
 use Rattle.trdp_dataset.specs.Values.{number_in, address_in, identifier_in, kind_in}
 use Rattle.trdp_dataset.specs.Datasets.{DatasetModel}
-use Rattle.trdp_dataset.specs.Places.{value_at, tables_at, node_in, dataset_places, all_places}
+use Rattle.trdp_dataset.specs.Positions.{value_at, tables_at, node_in, dataset_positions, all_positions}
 use Rattle.trdp_dataset.specs.Faults.{fault_in}
 
--- the number that a value is, or the default where it is none in the range
-unfoldable pub number_or : ℕ → ℕ → ℕ → Option Data → ℕ
-number_or low high default found = unwrap_or (option_and_then (number_in low high) found) default
+-- the number of a key whose value was looked for: the key's default where there is none in the
+-- key's range
+unfoldable pub number_of : Key → Option Data → ℕ
+number_of key found =
+    unwrap_or (option_and_then (number_in (wanted_by key)) found) (default_of key)
 
--- the number at a key
-abbrev pub number_at : ℕ → ℕ → ℕ → Key → Members → ℕ
-number_at low high default key members = number_or low high default (value_at key members)
+-- the number at a key of a table
+abbrev pub number_at : Key → Members → ℕ
+number_at key members = number_of key (value_at key members)
 
 -- an element of that type, of the size that the table gives, or 1
 abbrev pub element_of : Members → ElementKind → Element
-element_of members kind = record { kind = kind; size = number_at 0 65535 1 ElementSize members }
+element_of members kind = record { kind = kind; size = number_at ElementSize members }
 
 -- the element that a table is, if its type is known
 unfoldable pub element_in : Members → Option Element
-element_in members = option_map (element_of members) (option_and_then kind_in (value_at ElementType members))
+element_in members =
+    option_map (element_of members) (option_and_then kind_in (value_at ElementType members))
 
 -- the elements of a dataset
 unfoldable pub elements_in : Members → List Element
@@ -43,22 +46,26 @@ elements_in members = filter_map element_in (tables_at Elements members)
 
 -- the dataset that a table is, if it has an identifier
 unfoldable pub dataset_in : Members → Option DatasetModel
-dataset_in members = option_map (λ id. record { id = id; elements = elements_in members }) (option_and_then identifier_in (value_at DatasetId members))
+dataset_in members =
+    option_map (λ id. record { id = id; elements = elements_in members })
+    (option_and_then identifier_in (value_at DatasetId members))
 
 -- the datasets of a file
 unfoldable pub datasets_in : Members → List DatasetModel
 datasets_in top = filter_map dataset_in (tables_at Dataset top)
 
--- a slot: its quotas of publishers, subscriptions, requesters, listeners, callers and repliers, and its control port
+-- a slot: its quotas of publishers, subscriptions, requesters, listeners, callers and repliers,
+-- and its control port
 pub record SlotModel : Type 0 where
   pub quotas : List ℕ
   pub control_port : ℕ
 
 unfoldable pub quotas_in : Members → List ℕ
-quotas_in members = map (λ key. number_at 0 256 0 key members) quota_keys
+quotas_in members = map (λ key. number_at key members) quota_keys
 
 unfoldable pub slot_in : Members → SlotModel
-slot_in members = record { quotas = quotas_in members; control_port = number_at 0 65535 0 ControlPort members }
+slot_in members =
+    record { quotas = quotas_in members; control_port = number_at ControlPort members }
 
 unfoldable pub slots_in : Members → List SlotModel
 slots_in top = map slot_in (tables_at Slot top)
@@ -81,19 +88,19 @@ unfoldable pub config_in : Members → ConfigModel
 config_in top = record {
   registry = datasets_in top;
   address = unwrap_or (option_and_then address_in (node_value Address top)) 0;
-  pd_port = number_or 1 65535 17224 (node_value PdPort top);
-  md_port = number_or 1 65535 17225 (node_value MdPort top);
-  operator_port = number_or 0 65535 0 (node_value OperatorPort top);
+  pd_port = number_of PdPort (node_value PdPort top);
+  md_port = number_of MdPort (node_value MdPort top);
+  operator_port = number_of OperatorPort (node_value OperatorPort top);
   slots = slots_in top;
 }
 
 -- the fault of the datasets of a file
 unfoldable pub registry_fault_of : Members → Option ConfigFault
-registry_fault_of top = fault_in (dataset_places top) (datasets_in top)
+registry_fault_of top = fault_in (dataset_positions top) (datasets_in top)
 
 -- the fault of a file
 unfoldable pub config_fault_of : Members → Option ConfigFault
-config_fault_of top = fault_in (all_places top) (datasets_in top)
+config_fault_of top = fault_in (all_positions top) (datasets_in top)
 
 abbrev pub unless : {A : Type 0} → Option ConfigFault → A → Result A ConfigFault
 unless None x = Ok x
@@ -107,12 +114,14 @@ registry_of top = unless (registry_fault_of top) (datasets_in top)
 abbrev pub config_of : Members → Result ConfigModel ConfigFault
 config_of top = unless (config_fault_of top) (config_in top)
 
--- what a call read from bytes is what they mean by a function of the table; Toml comes where they are no UTF-8
--- or no table, and want of memory at any time
-abbrev pub Reads : {A : Type 0} → (Members → Result A ConfigFault) → List ℕ → Result A ConfigFault → Type 0
+-- what a call read from bytes is what they mean by a function of the table; Toml comes where they
+-- are no UTF-8 or no table, and want of memory at any time
+abbrev pub Reads : {A : Type 0} → (Members → Result A ConfigFault) → List ℕ → Result A ConfigFault
+    → Type 0
 Reads meaning bytes (Err OutOfMemory) = Unit {0}
 Reads meaning bytes (Err Toml) = IsUtf8 bytes → parse_document bytes ≡ None
-Reads meaning bytes result = IsUtf8 bytes × ((top : Members) × (parse_document bytes ≡ Some top) × (result ≡ meaning top))
+Reads meaning bytes result = IsUtf8 bytes
+    × ((top : Members) × (parse_document bytes ≡ Some top) × (result ≡ meaning top))
 
 -- what a call parsed is the table of the bytes
 abbrev pub Parses : List ℕ → Result (BTreeMap (String Global) Value) ConfigFault → Type 0

@@ -1,92 +1,108 @@
--- The faults of a configuration file, one definition for each kind.
-use Rattle.std.specs.Prelude.{◌≡◌, ◌==◌, ◌&&◌, ◌||◌, not, nat_lt, nat_le, ℕ, Bool, true, false, List, [], ◌∷◌, Option, Some, None, option_map, is_some, find, length, Result, Ok, Err, if◌then◌else◌}
-use Rattle.std.specs.List.{filter_map, flat_map, list_all, list_any}
+-- The faults of a configuration file: of each position of a key, and of the datasets.
+use Rattle.std.specs.Prelude.{◌≡◌, ◌==◌, ◌&&◌, ◌||◌, not, nat_lt, nat_le, ℕ, Bool, true, false, List, [], ◌∷◌, Option, Some, None, option_map, is_some, find, length, map, Result, Ok, Err, if◌then◌else◌}
+use Rattle.std.specs.List.{filter_map, flat_map, list_all}
 use Rattle.toml.specs.Data.{Data}
 use Rattle.trdp_dataset.specs.declared.element.Element.{Element}
 use Rattle.trdp_dataset.specs.declared.key.Key.{Key}
-use Rattle.trdp_dataset.specs.declared.key.Key.TheVariants.{Slot}
 use Rattle.trdp_dataset.specs.declared.key.Wanted.{Wanted}
 use Rattle.trdp_dataset.specs.declared.key.Wanted.TheVariants as wanted
 use Rattle.trdp_dataset.specs.declared.fault.ConfigFault.{ConfigFault}
-use Rattle.trdp_dataset.specs.declared.fault.ConfigFault.TheVariants.{Missing, WrongType, Real, BadId, TwiceId, NoDataset, NoCount, TooDeep, TooBig, TooMany, OutOfMemory}
+use Rattle.trdp_dataset.specs.declared.fault.ConfigFault.TheVariants.{Toml, Missing, WrongType, Real, BadId, TwiceId, NoDataset, NoCount, TooDeep, TooBig, TooMany, OutOfMemory}
 use Rattle.trdp_dataset.specs.Elements.{form_of, nested_id}
 use Rattle.trdp_dataset.specs.Datasets.{DatasetModel, is_known, all_counted}
 use Rattle.trdp_dataset.specs.Depths.{is_within}
 use Rattle.trdp_dataset.specs.ZeroSizes.{zero_size}
 use Rattle.trdp_dataset.specs.Keys.{wanted_by, is_required}
-use Rattle.trdp_dataset.specs.Values.{items_in, is_of, is_real, identifier_in, kind_in, is_integer, is_type, natural_in}
-use Rattle.trdp_dataset.specs.Places.{PlaceModel}
+use Rattle.trdp_dataset.specs.Values.{items_in, natural_in, natural_within, address_in, identifier_in, kind_in, is_real, is_integer, is_table, is_tables, is_type}
+use Rattle.trdp_dataset.specs.Positions.{PositionModel}
 
--- whether what a place has passes a test; where it has nothing it doesn't
-abbrev pub has : (Data → Bool) → Option Data → Bool
-has test None = false
-has test (Some d) = test d
+-- a value has to be of its key's kind
+abbrev pub wrong_unless : Key → Bool → Option ConfigFault
+wrong_unless key true = None
+wrong_unless key false = Some (WrongType key)
 
--- an array without members, where tables are wanted
-abbrev pub is_empty : Wanted → Data → Bool
-is_empty wanted.Tables d = is_of wanted.Tables d && (length (items_in d) == 0)
-is_empty _ d = false
+-- an array of so many tables, of which the key allows at most so many; without any it is as good
+-- as none
+abbrev pub count_fault : Key → ℕ → ℕ → Option ConfigFault
+count_fault key most count =
+    if is_required key && (count == 0) then Some (Missing key)
+    else if nat_lt most count then Some TooMany
+    else None
 
--- nothing, or an array without members
-abbrev pub is_lacking : Key → Option Data → Bool
-is_lacking key None = true
-is_lacking key (Some d) = is_empty (wanted_by key) d
+abbrev pub tables_fault : Key → ℕ → Data → Option ConfigFault
+tables_fault key most d =
+    if is_tables d then count_fault key most (length (items_in d)) else Some (WrongType key)
 
--- a required key isn't there, or the array under it is empty
-abbrev pub is_missing : PlaceModel → Bool
-is_missing place = is_required place.key && is_lacking place.key place.found
+-- a quota, of which the key allows at most so many
+abbrev pub quota_fault : Key → ℕ → Option ℕ → Option ConfigFault
+quota_fault key most None = Some (WrongType key)
+quota_fault key most (Some n) = if nat_lt most n then Some TooMany else None
 
--- a value isn't of the kind that its key wants
-abbrev pub is_wrong : PlaceModel → Bool
-is_wrong place = has (λ d. not (is_of (wanted_by place.key) d)) place.found
+abbrev pub bad_unless : Bool → Option ConfigFault
+bad_unless true = None
+bad_unless false = Some BadId
 
--- the type of an element is a real number
-abbrev pub is_real_at : Wanted → Data → Bool
-is_real_at wanted.Kind d = is_real d
-is_real_at _ d = false
+-- an identifier of a dataset
+abbrev pub identifier_fault : Key → Data → Option ConfigFault
+identifier_fault key d =
+    if is_integer d then bad_unless (is_some (identifier_in d)) else Some (WrongType key)
 
-abbrev pub is_real_place : PlaceModel → Bool
-is_real_place place = has (is_real_at (wanted_by place.key)) place.found
+-- the type of an element
+abbrev pub kind_fault : Key → Data → Option ConfigFault
+kind_fault key d =
+    if is_type d then (if is_real d then Some Real else bad_unless (is_some (kind_in d)))
+    else Some (WrongType key)
 
--- an identifier is out of range, or a type isn't known
-abbrev pub is_bad_at : Wanted → Data → Bool
-is_bad_at wanted.Identifier d = is_integer d && not (is_some (identifier_in d))
-is_bad_at wanted.Kind d = is_type d && not (is_some (kind_in d))
-is_bad_at _ d = false
+-- the fault of a value at a key, by what the key wants
+abbrev pub value_fault : Key → Wanted → Data → Option ConfigFault
+value_fault key wanted.Table d = wrong_unless key (is_table d)
+value_fault key (wanted.Tables most) d = tables_fault key most d
+value_fault key wanted.Address d = wrong_unless key (is_some (address_in d))
+value_fault key (wanted.Number least most) d =
+    wrong_unless key (is_some (natural_within least most d))
+value_fault key (wanted.Quota most) d = quota_fault key most (natural_in d)
+value_fault key (wanted.Identifier least most) d = identifier_fault key d
+value_fault key wanted.Kind d = kind_fault key d
 
-abbrev pub is_bad_place : PlaceModel → Bool
-is_bad_place place = has (is_bad_at (wanted_by place.key)) place.found
+abbrev pub found_fault : Key → Option Data → Option ConfigFault
+found_fault key None = if is_required key then Some (Missing key) else None
+found_fault key (Some d) = value_fault key (wanted_by key) d
 
--- the most members of an array
-abbrev pub most : Key → ℕ
-most Slot = 16
-most _ = 256
+-- the fault of one position
+abbrev pub fault_at : PositionModel → Option ConfigFault
+fault_at position = found_fault position.key position.found
 
--- a number above the most
-abbrev pub is_above : ℕ → Option ℕ → Bool
-is_above top None = false
-is_above top (Some n) = nat_lt top n
+-- the number of a fault in the order of the faults
+abbrev pub rank : ConfigFault → ℕ
+rank Toml = 1
+rank (Missing key) = 2
+rank (WrongType key) = 3
+rank Real = 4
+rank BadId = 5
+rank TwiceId = 6
+rank (NoDataset id) = 7
+rank NoCount = 8
+rank TooDeep = 9
+rank TooBig = 10
+rank TooMany = 11
+rank OutOfMemory = 12
 
--- an array has too many members, or a quota is too large
-abbrev pub exceeds : Key → Wanted → Data → Bool
-exceeds key wanted.Tables d = nat_lt (most key) (length (items_in d))
-exceeds key wanted.Quota d = is_above 256 (natural_in d)
-exceeds key _ d = false
+-- of two faults the one of the lower number, and of two of one number the former
+abbrev pub least_of_two : Option ConfigFault → Option ConfigFault → Option ConfigFault
+least_of_two None later = later
+least_of_two (Some fault) None = Some fault
+least_of_two (Some fault) (Some later) =
+    if nat_lt (rank later) (rank fault) then Some later else Some fault
 
-abbrev pub is_excessive : PlaceModel → Bool
-is_excessive place = has (exceeds place.key (wanted_by place.key)) place.found
+-- of all faults in order the one of the lowest number, and of several of that number the first
+abbrev pub least_fault : List (Option ConfigFault) → Option ConfigFault
+least_fault [] = None
+least_fault (fault ∷ later) = least_of_two fault (least_fault later)
 
-unfoldable pub missing_in : List PlaceModel → Option ConfigFault
-missing_in places = option_map (λ place. Missing place.key) (find is_missing places)
-
-unfoldable pub wrong_type_in : List PlaceModel → Option ConfigFault
-wrong_type_in places = option_map (λ place. WrongType place.key) (find is_wrong places)
-
-unfoldable pub real_in : List PlaceModel → Option ConfigFault
-real_in places = if list_any is_real_place places then Some Real else None
-
-unfoldable pub bad_id_in : List PlaceModel → Option ConfigFault
-bad_id_in places = if list_any is_bad_place places then Some BadId else None
+-- the least fault of positions, where it comes before those of datasets
+abbrev pub before_datasets : Option ConfigFault → Option ConfigFault
+before_datasets (Some TooMany) = None
+before_datasets fault = fault
 
 -- some dataset has the identifier of an earlier one
 abbrev pub has_twice : List DatasetModel → Bool
@@ -102,19 +118,21 @@ nested_ids es = filter_map (λ e. nested_id (form_of e.kind)) es
 
 -- the first dataset that is nested somewhere and isn't there
 unfoldable pub no_dataset_in : List DatasetModel → Option ConfigFault
-no_dataset_in datasets = option_map (λ id. NoDataset id) (find (λ id. not (is_known datasets id)) (flat_map (λ d. nested_ids d.elements) datasets))
+no_dataset_in datasets =
+    option_map (λ id. NoDataset id)
+    (find (λ id. not (is_known datasets id)) (flat_map (λ d. nested_ids d.elements) datasets))
 
 unfoldable pub no_count_in : List DatasetModel → Option ConfigFault
-no_count_in datasets = if list_all (λ d. all_counted false d.elements) datasets then None else Some NoCount
+no_count_in datasets =
+    if list_all (λ d. all_counted false d.elements) datasets then None else Some NoCount
 
 unfoldable pub too_deep_in : List DatasetModel → Option ConfigFault
-too_deep_in datasets = if list_all (λ d. is_within datasets 5 d.id) datasets then None else Some TooDeep
+too_deep_in datasets =
+    if list_all (λ d. is_within datasets 5 d.id) datasets then None else Some TooDeep
 
 unfoldable pub too_big_in : List DatasetModel → Option ConfigFault
-too_big_in datasets = if list_all (λ d. nat_le (zero_size datasets d.id) 65388) datasets then None else Some TooBig
-
-unfoldable pub too_many_in : List PlaceModel → Option ConfigFault
-too_many_in places = if list_any is_excessive places then Some TooMany else None
+too_big_in datasets =
+    if list_all (λ d. nat_le (zero_size datasets d.id) 65388) datasets then None else Some TooBig
 
 -- the first fault that there is
 abbrev pub first_fault : List (Option ConfigFault) → Option ConfigFault
@@ -122,19 +140,23 @@ first_fault [] = None
 first_fault (None ∷ later) = first_fault later
 first_fault (Some fault ∷ later) = Some fault
 
--- the fault of single places other than too large numbers
-abbrev pub place_fault : List PlaceModel → Option ConfigFault
-place_fault places = first_fault (missing_in places ∷ wrong_type_in places ∷ real_in places ∷ bad_id_in places ∷ [])
-
 -- the fault of datasets that don't fit together
 abbrev pub fit_fault : List DatasetModel → Option ConfigFault
-fit_fault datasets = first_fault (no_dataset_in datasets ∷ no_count_in datasets ∷ too_deep_in datasets ∷ too_big_in datasets ∷ [])
+fit_fault datasets = first_fault
+    (no_dataset_in datasets ∷ no_count_in datasets
+    ∷ too_deep_in datasets ∷ too_big_in datasets ∷ [])
 
--- the fault of a file with these places and datasets: of the first kind that applies anywhere, the first place
-unfoldable pub fault_in : List PlaceModel → List DatasetModel → Option ConfigFault
-fault_in places datasets = first_fault
-    (missing_in places ∷ wrong_type_in places ∷ real_in places ∷ bad_id_in places ∷ twice_id_in datasets ∷ no_dataset_in datasets
-    ∷ no_count_in datasets ∷ too_deep_in datasets ∷ too_big_in datasets ∷ too_many_in places ∷ [])
+-- the fault of the datasets of a file; these faults follow one another in the order
+abbrev pub dataset_fault : List DatasetModel → Option ConfigFault
+dataset_fault datasets = first_fault
+    (twice_id_in datasets ∷ no_dataset_in datasets ∷ no_count_in datasets
+    ∷ too_deep_in datasets ∷ too_big_in datasets ∷ [])
+
+-- the fault of a file with these positions and datasets: of all its faults the one of the lowest
+-- number, and of several of that number the first
+unfoldable pub fault_in : List PositionModel → List DatasetModel → Option ConfigFault
+fault_in positions datasets =
+    least_of_two (least_fault (map fault_at positions)) (dataset_fault datasets)
 
 -- a fault that comes is the expected one, or memory ran out
 abbrev pub IsFaultOf : ConfigFault → Option ConfigFault → Type 0

@@ -1,61 +1,69 @@
--- The keys of a configuration file.
+-- The table of keys of a configuration file.
 use Rattle.std.specs.Prelude.{ℕ, Bool, true, false, List, [], ◌∷◌, codes}
 use Rattle.trdp_dataset.specs.declared.key.Key.{Key}
 use Rattle.trdp_dataset.specs.declared.key.Key.TheVariants.{Node, Address, PdPort, MdPort, OperatorPort, Slot, Publishers, Subscriptions, Requesters, Listeners, Callers, Repliers, ControlPort, Dataset, DatasetId, Elements, ElementType, ElementSize}
 use Rattle.trdp_dataset.specs.declared.key.Wanted.{Wanted}
 use Rattle.trdp_dataset.specs.declared.key.Wanted.TheVariants as wanted
+use Rattle.trdp_dataset.specs.declared.key.Absent.{Absent}
+use Rattle.trdp_dataset.specs.declared.key.Absent.TheVariants as absent
+
+-- a row of the table: the key as it stands in the file, what its value has to be, and what it
+-- means that it isn't there
+pub record KeyRowModel : Type 0 where
+  pub text : List ℕ
+  pub wanted : Wanted
+  pub absent : Absent
+
+abbrev pub row : List ℕ → Wanted → Absent → KeyRowModel
+row text wants lacks = record { text = text; wanted = wants; absent = lacks }
+
+-- the table of keys: the root's `node`, the node's keys, the root's `slot`, a slot's keys, the
+-- root's `dataset`, the keys of a dataset and those of an element
+abbrev pub key_row : Key → KeyRowModel
+key_row Node = row (codes "node") wanted.Table absent.Missing
+key_row Address = row (codes "address") wanted.Address absent.Missing
+key_row PdPort = row (codes "pd_port") (wanted.Number 1 65535) (absent.Default 17224)
+key_row MdPort = row (codes "md_port") (wanted.Number 1 65535) (absent.Default 17225)
+key_row OperatorPort = row (codes "operator_port") (wanted.Number 0 65535) (absent.Default 0)
+key_row Slot = row (codes "slot") (wanted.Tables 16) absent.Missing
+key_row Publishers = row (codes "publishers") (wanted.Quota 256) (absent.Default 0)
+key_row Subscriptions = row (codes "subscriptions") (wanted.Quota 256) (absent.Default 0)
+key_row Requesters = row (codes "requesters") (wanted.Quota 256) (absent.Default 0)
+key_row Listeners = row (codes "listeners") (wanted.Quota 256) (absent.Default 0)
+key_row Callers = row (codes "callers") (wanted.Quota 256) (absent.Default 0)
+key_row Repliers = row (codes "repliers") (wanted.Quota 256) (absent.Default 0)
+key_row ControlPort = row (codes "control_port") (wanted.Number 0 65535) (absent.Default 0)
+key_row Dataset = row (codes "dataset") (wanted.Tables 256) absent.Empty
+key_row DatasetId = row (codes "id") (wanted.Identifier 31 4294967295) absent.Missing
+key_row Elements = row (codes "element") (wanted.Tables 256) absent.Missing
+key_row ElementType = row (codes "type") wanted.Kind absent.Missing
+key_row ElementSize = row (codes "size") (wanted.Number 0 65535) (absent.Default 1)
 
 -- a key as it stands in the file
 abbrev pub key_text : Key → List ℕ
-key_text Node = codes "node"
-key_text Address = codes "address"
-key_text PdPort = codes "pd_port"
-key_text MdPort = codes "md_port"
-key_text OperatorPort = codes "operator_port"
-key_text Slot = codes "slot"
-key_text Publishers = codes "publishers"
-key_text Subscriptions = codes "subscriptions"
-key_text Requesters = codes "requesters"
-key_text Listeners = codes "listeners"
-key_text Callers = codes "callers"
-key_text Repliers = codes "repliers"
-key_text ControlPort = codes "control_port"
-key_text Dataset = codes "dataset"
-key_text DatasetId = codes "id"
-key_text Elements = codes "element"
-key_text ElementType = codes "type"
-key_text ElementSize = codes "size"
+key_text key = (key_row key).text
 
--- the kind of value that a key wants
+-- what the value at a key has to be
 abbrev pub wanted_by : Key → Wanted
-wanted_by Node = wanted.Table
-wanted_by Slot = wanted.Tables
-wanted_by Dataset = wanted.Tables
-wanted_by Elements = wanted.Tables
-wanted_by Address = wanted.Address
-wanted_by PdPort = wanted.Number 1 65535
-wanted_by MdPort = wanted.Number 1 65535
-wanted_by OperatorPort = wanted.Number 0 65535
-wanted_by ControlPort = wanted.Number 0 65535
-wanted_by ElementSize = wanted.Number 0 65535
-wanted_by Publishers = wanted.Quota
-wanted_by Subscriptions = wanted.Quota
-wanted_by Requesters = wanted.Quota
-wanted_by Listeners = wanted.Quota
-wanted_by Callers = wanted.Quota
-wanted_by Repliers = wanted.Quota
-wanted_by DatasetId = wanted.Identifier
-wanted_by ElementType = wanted.Kind
+wanted_by key = (key_row key).wanted
 
--- the keys that must be there
+abbrev pub is_fault : Absent → Bool
+is_fault absent.Missing = true
+is_fault absent.Empty = false
+is_fault (absent.Default n) = false
+
+-- a key must be there
 abbrev pub is_required : Key → Bool
-is_required Node = true
-is_required Address = true
-is_required Slot = true
-is_required DatasetId = true
-is_required Elements = true
-is_required ElementType = true
-is_required _ = false
+is_required key = is_fault (key_row key).absent
+
+abbrev pub default_number : Absent → ℕ
+default_number absent.Missing = 0
+default_number absent.Empty = 0
+default_number (absent.Default n) = n
+
+-- the number that stands for a key where it isn't there; 0 where no number does
+abbrev pub default_of : Key → ℕ
+default_of key = default_number (key_row key).absent
 
 -- the keys of each table, in order
 abbrev pub node_keys : List Key
@@ -65,7 +73,8 @@ abbrev pub quota_keys : List Key
 quota_keys = Publishers ∷ Subscriptions ∷ Requesters ∷ Listeners ∷ Callers ∷ Repliers ∷ []
 
 abbrev pub slot_keys : List Key
-slot_keys = Publishers ∷ Subscriptions ∷ Requesters ∷ Listeners ∷ Callers ∷ Repliers ∷ ControlPort ∷ []
+slot_keys =
+    Publishers ∷ Subscriptions ∷ Requesters ∷ Listeners ∷ Callers ∷ Repliers ∷ ControlPort ∷ []
 
 abbrev pub dataset_keys : List Key
 dataset_keys = DatasetId ∷ Elements ∷ []

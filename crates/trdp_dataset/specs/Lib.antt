@@ -2,12 +2,13 @@ pub mod Elements
 pub mod Datasets
 pub mod Depths
 pub mod ZeroSizes
+pub mod FixedSizes
 pub mod Registries
 pub mod Stored
 pub mod Keys
 pub mod Types
 pub mod Values
-pub mod Places
+pub mod Positions
 pub mod Seen
 pub mod Faults
 pub mod Configs

@@ -1,13 +1,12 @@
 -- What the values of a configuration file mean.
-use Rattle.std.specs.Prelude.{◌&&◌, ◌||◌, nat_le, ℕ, pos, Bool, false, List, [], ◌∷◌, Option, Some, None, option_map, option_and_then, is_some, if◌then◌else◌}
+use Rattle.std.specs.Prelude.{◌≤◌, ◌||◌, bytes_eq, ℕ, zero, suc, ◌^◌, pos, Bool, false, List, [], ◌∷◌, Option, Some, None, option_and_then, is_some, if◌then◌else◌}
 use Rattle.std.specs.List.{list_all}
-use Rattle.std.specs.Int.{from_be_bytes, w32}
-use Rattle.std.specs.Net.Reader.{read_ipv4, whole_value}
+use Rattle.trdp_base.specs.AddressText.{text_of_ip}
 use Rattle.toml.specs.Data.{Data, string, integer, array, Items, no_items, item, as_str, as_integer, as_table}
 use Rattle.trdp_dataset.specs.declared.element.ElementKind.{ElementKind}
 use Rattle.trdp_dataset.specs.declared.key.Wanted.{Wanted}
 use Rattle.trdp_dataset.specs.declared.key.Wanted.TheVariants as wanted
-use Rattle.trdp_dataset.specs.Types.{type_named, type_numbered, is_real_name, is_real_number}
+use Rattle.trdp_dataset.specs.Types.{in_range, identifier_of, type_named, type_numbered, is_real_name, is_real_number}
 
 -- the items in order
 abbrev pub items_list : Items → List Data
@@ -19,9 +18,18 @@ abbrev pub items_in : Data → List Data
 items_in (array ds) = items_list ds
 items_in _ = []
 
--- the address of a text: four decimal numbers of 0 to 255 without leading zeros, joined by dots
+-- the number below a limit that passes a test, if there is one
+unfoldable pub found_below : (ℕ → Bool) → ℕ → Option ℕ
+found_below test zero = None
+found_below test (suc n) = if test n then Some n else found_below test n
+
+-- a text is the written form of the address of that number
+abbrev pub is_written_so : List ℕ → ℕ → Bool
+is_written_so text n = bytes_eq text (text_of_ip (record { 0 = n }))
+
+-- the address of a text: the one of 32 bits whose written form it is
 unfoldable pub address_of : List ℕ → Option ℕ
-address_of text = option_map (λ octets. from_be_bytes w32 octets) (whole_value (read_ipv4 text))
+address_of text = found_below (is_written_so text) (2 ^ 32)
 
 -- the address that a value gives
 abbrev pub address_in : Data → Option ℕ
@@ -33,17 +41,25 @@ abbrev pub natural_in : Data → Option ℕ
 natural_in (integer (pos n)) = Some n
 natural_in _ = None
 
--- the number, if it is in the range
-abbrev pub in_range : ℕ → ℕ → ℕ → Option ℕ
-in_range low high n = if nat_le low n && nat_le n high then Some n else None
-
 -- the whole number that a value is, if it is in the range
-abbrev pub number_in : ℕ → ℕ → Data → Option ℕ
-number_in low high d = option_and_then (in_range low high) (natural_in d)
+abbrev pub natural_within : ℕ → ℕ → Data → Option ℕ
+natural_within least most d = option_and_then (in_range least most) (natural_in d)
+
+-- the number that a value is, if a number in this range is wanted
+abbrev pub number_in : Wanted → Data → Option ℕ
+number_in (wanted.Number least most) d = natural_within least most d
+number_in (wanted.Quota most) d = natural_within 0 most d
+number_in _ d = None
+
+-- a number is in the range that is wanted
+abbrev pub IsAllowed : Wanted → ℕ → Type 0
+IsAllowed (wanted.Number least most) n = (least ≤ n) × (n ≤ most)
+IsAllowed (wanted.Quota most) n = n ≤ most
+IsAllowed _ n = ⊥
 
 -- the identifier of a dataset that a value is
 abbrev pub identifier_in : Data → Option ℕ
-identifier_in d = number_in 31 4294967295 d
+identifier_in d = option_and_then identifier_of (natural_in d)
 
 -- the type that a value names or numbers
 abbrev pub kind_in : Data → Option ElementKind
@@ -71,13 +87,3 @@ is_tables _ = false
 -- a name or a whole number
 abbrev pub is_type : Data → Bool
 is_type d = is_some (as_str d) || is_integer d
-
--- a value is of the kind that is wanted
-abbrev pub is_of : Wanted → Data → Bool
-is_of wanted.Table d = is_table d
-is_of wanted.Tables d = is_tables d
-is_of wanted.Address d = is_some (address_in d)
-is_of (wanted.Number low high) d = is_some (number_in low high d)
-is_of wanted.Quota d = is_some (natural_in d)
-is_of wanted.Identifier d = is_integer d
-is_of wanted.Kind d = is_type d

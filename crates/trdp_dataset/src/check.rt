@@ -15,7 +15,8 @@ use std::alloc::Global;
 
 /// The first dataset that the elements are of and that isn't there.
 fn unknown_in(datasets: &Datasets, elements: &[Element]) -> Option<u32>
-    ensures value { result ≡ find (λ id. not (is_known datasets.now id)) (nested_ids elements.now) }
+    ensures value { result
+        ≡ find (λ id. not (is_known datasets.now id)) (nested_ids elements.now) }
 {
     elements
         .iter()

@@ -3,18 +3,19 @@
 ghost use Rattle.std.specs.Prelude.{◌≡◌, ◌≤◌, length, unwrap_or, option_map, option_and_then, IfOk};
 ghost use Rattle.toml.specs.Data.{as_table};
 ghost use Rattle.toml.specs.View.{view, table_view};
-ghost use Rattle.trdp_dataset.specs.Values.{address_in};
-ghost use Rattle.trdp_dataset.specs.Places.{value_at};
+ghost use Rattle.trdp_dataset.specs.Keys.{wanted_by, default_of};
+ghost use Rattle.trdp_dataset.specs.Values.{address_in, IsAllowed};
+ghost use Rattle.trdp_dataset.specs.Positions.{value_at};
 ghost use Rattle.trdp_dataset.specs.Seen.{tables_seen};
-ghost use Rattle.trdp_dataset.specs.Configs.{number_at, number_or, node_value, config_in, datasets_in, quotas_in, slot_in, slots_in};
+ghost use Rattle.trdp_dataset.specs.Configs.{number_of, node_value, config_in, datasets_in, quotas_in, slot_in, slots_in};
 ghost use Rattle.trdp_dataset.specs.StoredSlots.{slot_seen, slots_of};
 
 use crate::fault::ConfigFault;
 use crate::key::Key;
 use crate::load::load;
 use crate::parse::parse;
-use crate::place::{all_places, members_at, node_in, value_at};
-use crate::read::number_or;
+use crate::position::{all_positions, members_at, node_in, value_at};
+use crate::read::{number_at, number_of};
 use crate::registry::Registry;
 use crate::value::address;
 use std::alloc::{AllocError, Global};
@@ -25,18 +26,27 @@ use trdp_base::{Ip, Quotas};
 /// An application slot as a configuration has it.
 #[derive(Clone, Copy, Drop)]
 struct Slot {
+    /// How many objects of each kind the slot may hold, each 0 to 256.
     quotas: Quotas,
+    /// The UDP port for the slot's calls, in host order; 0 for none.
     control_port: u16,
 }
 
-/// The configuration of a node: its datasets, its address and ports, and the quotas and control port of each slot.
+/// The configuration of a node: its datasets, its address and ports, and the quotas and control
+/// port of each slot.
 #[derive(Drop)]
 pub struct NodeConfig {
+    /// The datasets.
     registry: Registry,
+    /// The node's IPv4 address, in host order.
     address: Ip,
+    /// The UDP port of process data, 1 to 65535.
     pd_port: u16,
+    /// The UDP port of message data, 1 to 65535.
     md_port: u16,
+    /// The UDP port of the operator, 1 to 65535; 0 for none.
     operator_port: u16,
+    /// The application slots in the order of the file, 1 to 16.
     slots: Vec<Slot>,
 }
 
@@ -47,17 +57,17 @@ impl Model for NodeConfig {
 
     ghost Value = { ConfigModel };
 
-    ghost view = { λ c. record { registry = c.registry; address = c.address.0; pd_port = c.pd_port; md_port = c.md_port; operator_port = c.operator_port; slots = slots_of c.slots.items } };
+    ghost view = { λ c. record {
+      registry = c.registry;
+      address = c.address.0;
+      pd_port = c.pd_port;
+      md_port = c.md_port;
+      operator_port = c.operator_port;
+      slots = slots_of c.slots.items;
+    } };
 
-    ghost invariant = { λ c. (1 ≤ c.pd_port) × (1 ≤ c.md_port) × (1 ≤ length c.slots.items) × (length c.slots.items ≤ 16) };
-}
-
-/// The quota at a key of a slot; 0 where there is none.
-fn quota(slot: &Table, key: Key) -> u16
-    ensures value { result ≡ number_at 0 256 0 key (table_view slot.now) }
-    ensures within { result ≤ 256 }
-{
-    number_or(value_at(slot, key), 0, 256, 0)
+    ghost invariant = { λ c. (1 ≤ c.pd_port) × (1 ≤ c.md_port) × (1 ≤ length c.slots.items)
+        × (length c.slots.items ≤ 16) };
 }
 
 /// The quotas of a slot.
@@ -66,12 +76,12 @@ fn quotas_in(slot: &Table) -> Quotas
     ensures value { result ≡ quotas_in (table_view slot.now) }
 {
     let counts = [
-        quota(slot, Key::Publishers),
-        quota(slot, Key::Subscriptions),
-        quota(slot, Key::Requesters),
-        quota(slot, Key::Listeners),
-        quota(slot, Key::Callers),
-        quota(slot, Key::Repliers),
+        number_at(slot, Key::Publishers),
+        number_at(slot, Key::Subscriptions),
+        number_at(slot, Key::Requesters),
+        number_at(slot, Key::Listeners),
+        number_at(slot, Key::Callers),
+        number_at(slot, Key::Repliers),
     ];
     Quotas::new(counts).unwrap()
 }
@@ -83,7 +93,7 @@ fn slot_in(slot: &Table) -> Slot
 {
     Slot {
         quotas: quotas_in(slot),
-        control_port: number_or(value_at(slot, Key::ControlPort), 0, 65535, 0),
+        control_port: number_at(slot, Key::ControlPort),
     }
 }
 
@@ -112,9 +122,18 @@ fn node_value(top: &Table, key: Key) -> Option<&Value>
     }
 }
 
+/// The number that the table of the node has at a key.
+fn node_number(top: &Table, key: Key) -> u16
+    ensures value { result ≡ number_of key (node_value key (table_view top.now)) }
+    ensures range { IsAllowed (wanted_by key) (default_of key) → IsAllowed (wanted_by key) result }
+{
+    number_of(key, node_value(top, key))
+}
+
 /// The address of the node; 0.0.0.0 where there is none.
 fn address_in(top: &Table) -> Ip
-    ensures value { result.0 ≡ unwrap_or (option_and_then address_in (node_value Key.Address (table_view top.now))) 0 }
+    ensures value { result.0
+        ≡ unwrap_or (option_and_then address_in (node_value Key.Address (table_view top.now))) 0 }
 {
     match node_value(top, Key::Address) {
         Some(value) => match address(value) {
@@ -137,9 +156,9 @@ fn config_in(top: &Table, registry: Registry, slots: Vec<Slot>) -> NodeConfig
     NodeConfig {
         registry,
         address: address_in(top),
-        pd_port: number_or(node_value(top, Key::PdPort), 1, 65535, 17224),
-        md_port: number_or(node_value(top, Key::MdPort), 1, 65535, 17225),
-        operator_port: number_or(node_value(top, Key::OperatorPort), 0, 65535, 0),
+        pd_port: node_number(top, Key::PdPort),
+        md_port: node_number(top, Key::MdPort),
+        operator_port: node_number(top, Key::OperatorPort),
         slots,
     }
 }
@@ -151,14 +170,14 @@ impl NodeConfig {
     /// The configuration of a file in TOML.
     ///
     /// # Errors
-    /// The faults of [`ConfigFault`], of which `Toml` says that the bytes aren't UTF-8 or not TOML; `OutOfMemory` may
-    /// come in place of any of them.
+    /// The faults of [`ConfigFault`], of which `Toml` says that the bytes aren't UTF-8 or not
+    /// TOML; `OutOfMemory` may come in place of any of them.
     pub fn from_toml(alloc: Global, bytes: &[u8]) -> Result<Self, ConfigFault>
         ensures reads { Reads config_of bytes.now result }
     {
         let top = parse(alloc, bytes)?;
-        let places = all_places(alloc, &top)?;
-        let registry = load(alloc, &top, &places)?;
+        let positions = all_positions(alloc, &top)?;
+        let registry = load(alloc, &top, &positions)?;
         let slots = slots_in(alloc, &top)?;
         Ok(config_in(&top, registry, slots))
     }

@@ -8,6 +8,7 @@ use std::marker::Model;
 /// Datasets in the order of the file, no two with one identifier.
 #[derive(Drop)]
 pub(crate) struct Datasets {
+    /// The elements of each dataset in order, by its identifier.
     by_id: IndexMap<u32, Vec<Element>>,
 }
 
@@ -34,16 +35,23 @@ impl Datasets {
         }
     }
 
+    /// How many datasets there are.
     pub(crate) fn len(&self) -> usize
         ensures value { result ≡ length self.now }
     {
         self.by_id.len()
     }
 
-    /// Adds a dataset at the end; false where its identifier is there already, which changes nothing.
+    /// Adds a dataset at the end; false where its identifier is there already, which changes
+    /// nothing.
+    ///
+    /// # Errors
+    /// Memory ran out.
     pub(crate) fn push(&mut self, id: u32, elements: Vec<Element>) -> Result<bool, AllocError>
-        ensures new { IfOk result (λ added. added ≡ true → (is_known self.old id ≡ false) × (self.new ≡ self.old ++ record { id = id; elements = elements.items } ∷ [])) }
-        ensures twice { IfOk result (λ added. added ≡ false → (is_known self.old id ≡ true) × (self.new ≡ self.old)) }
+        ensures new { IfOk result (λ added. added ≡ true → (is_known self.old id ≡ false)
+            × (self.new ≡ self.old ++ record { id = id; elements = elements.items } ∷ [])) }
+        ensures twice { IfOk result (λ added. added ≡ false → (is_known self.old id ≡ true)
+            × (self.new ≡ self.old)) }
     {
         if self.by_id.contains_key(&id) {
             return Ok(false);
@@ -52,9 +60,10 @@ impl Datasets {
         Ok(true)
     }
 
-    /// The identifier and the elements of a dataset by its place.
+    /// The identifier and the elements of a dataset by its index.
     pub(crate) fn at(&self, i: usize) -> Option<(u32, &[Element])>
-        ensures value { option_map (λ d. record { id = d.0; elements = d.1.now }) result ≡ slice_get self.now i }
+        ensures value { option_map (λ d. record { id = d.0; elements = d.1.now }) result
+            ≡ slice_get self.now i }
     {
         match self.by_id.get_index(i) {
             Some((id, elements)) => Some((*id, elements.as_slice())),
@@ -62,7 +71,7 @@ impl Datasets {
         }
     }
 
-    /// The identifier of a dataset by its place.
+    /// The identifier of a dataset by its index.
     pub(crate) fn id_at(&self, i: usize) -> u32
         requires { i < length self.now }
         ensures value { option_map (λ d. d.id) (slice_get self.now i) ≡ Some result }
@@ -71,7 +80,7 @@ impl Datasets {
         id
     }
 
-    /// The elements of a dataset by its place.
+    /// The elements of a dataset by its index.
     pub(crate) fn elements_at(&self, i: usize) -> &[Element]
         requires { i < length self.now }
         ensures value { option_map (λ d. d.elements) (slice_get self.now i) ≡ Some result.now }
@@ -97,10 +106,11 @@ impl Datasets {
         self.index_of(id).is_some()
     }
 
-    /// The place of the dataset of that identifier.
+    /// The index of the dataset of that identifier.
     pub(crate) fn index_of(&self, id: u32) -> Option<usize>
         ensures found { is_some result ≡ is_known self.now id }
-        ensures place { IfSome result (λ i. option_map (λ d. d.id) (slice_get self.now i) ≡ Some id) }
+        ensures index { IfSome result (λ i.
+            option_map (λ d. d.id) (slice_get self.now i) ≡ Some id) }
         ensures within { IfSome result (λ i. i < length self.now) }
     {
         self.by_id.get_index_of(&id)

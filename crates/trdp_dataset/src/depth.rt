@@ -12,10 +12,12 @@ use crate::datasets::Datasets;
 use crate::element::{Element, Form};
 use std::alloc::{AllocError, Global};
 
-/// Whether the dataset that a type is passes; `within` says it of each dataset in order. Basic types pass.
+/// Whether the dataset that a type is passes; `within` says it of each dataset in order. Basic
+/// types pass.
 fn passes(datasets: &Datasets, within: &[bool], form: Form) -> bool
     requires { length within.now ≡ length datasets.now }
-    ensures { (depth : ℕ) → within.now ≡ within_row datasets.now depth → result ≡ passes (is_within datasets.now depth) form }
+    ensures { (depth : ℕ) → within.now ≡ within_row datasets.now depth
+        → result ≡ passes (is_within datasets.now depth) form }
 {
     match form {
         Form::Nested(id) => match datasets.index_of(id) {
@@ -29,7 +31,8 @@ fn passes(datasets: &Datasets, within: &[bool], form: Form) -> bool
 /// Whether each dataset that the elements are of passes.
 fn all_pass(datasets: &Datasets, within: &[bool], elements: &[Element]) -> bool
     requires { length within.now ≡ length datasets.now }
-    ensures { (depth : ℕ) → within.now ≡ within_row datasets.now depth → result ≡ all_pass (is_within datasets.now depth) elements.now }
+    ensures { (depth : ℕ) → within.now ≡ within_row datasets.now depth
+        → result ≡ all_pass (is_within datasets.now depth) elements.now }
 {
     for element in elements {
         if !passes(datasets, within, element.kind.form()) {
@@ -43,7 +46,8 @@ fn all_pass(datasets: &Datasets, within: &[bool], elements: &[Element]) -> bool
 #[tactic(auto, unfolding(crate::specs::Depths::is_within))]
 fn is_within(datasets: &Datasets, within: &[bool], id: u32) -> bool
     requires { length within.now ≡ length datasets.now }
-    ensures { (depth : ℕ) → within.now ≡ within_row datasets.now depth → result ≡ is_within datasets.now (suc depth) id }
+    ensures { (depth : ℕ) → within.now ≡ within_row datasets.now depth
+        → result ≡ is_within datasets.now (suc depth) id }
 {
     match datasets.elements(id) {
         Some(elements) => all_pass(datasets, within, elements),
@@ -55,7 +59,8 @@ fn is_within(datasets: &Datasets, within: &[bool], id: u32) -> bool
 fn one_deeper(alloc: Global, datasets: &Datasets, within: &[bool]) -> Result<Vec<bool>, AllocError>
     requires { length within.now ≡ length datasets.now }
     ensures len { IfOk result (λ next. length next.items ≡ length datasets.now) }
-    ensures row { IfOk result (λ next. (depth : ℕ) → within.now ≡ within_row datasets.now depth → next.items ≡ within_row datasets.now (suc depth)) }
+    ensures row { IfOk result (λ next. (depth : ℕ) → within.now ≡ within_row datasets.now depth
+        → next.items ≡ within_row datasets.now (suc depth)) }
 {
     let mut next = Vec::new(alloc);
     for i in 0..datasets.len() {
@@ -81,7 +86,8 @@ fn all_true(within: &[bool]) -> bool
 /// Whether a dataset nests deeper than 5.
 #[tactic(auto, unfolding(crate::specs::Faults::too_deep_in))]
 pub(crate) fn too_deep(alloc: Global, datasets: &Datasets) -> Result<bool, AllocError>
-    ensures value { IfOk result (λ deep. too_deep_in datasets.now ≡ (if deep then Some TooDeep else None)) }
+    ensures value { IfOk result (λ deep.
+        too_deep_in datasets.now ≡ (if deep then Some TooDeep else None)) }
 {
     let mut within = none_within(alloc, datasets)?;
     for _ in 0..5u8 {

@@ -3,12 +3,16 @@
 ghost use Rattle.std.specs.Prelude.{◌≡◌, ◌==◌, ◌&&◌};
 ghost use Rattle.trdp_dataset.specs.Elements.{width_len, form_of, is_count, nested_id};
 
-/// How many bytes a number takes in a telegram.
+/// How many bytes a number takes in a telegram (IEC 61375-2-3).
 #[derive(Clone, Copy, Debug, PartialEq, Eq)]
 pub enum Width {
+    /// 1 byte.
     One,
+    /// 2 bytes.
     Two,
+    /// 4 bytes.
     Four,
+    /// 8 bytes.
     Eight,
 }
 
@@ -26,7 +30,8 @@ impl Width {
     }
 }
 
-/// What a type is as far as its bytes go. Numbers are big-endian and packed without alignment.
+/// What a type is as far as its bytes go (IEC 61375-2-3). Numbers are big-endian; that values are
+/// packed without alignment is the profile's rule.
 #[derive(Clone, Copy, Debug, PartialEq, Eq)]
 pub enum Form {
     /// An unsigned number.
@@ -41,7 +46,8 @@ pub enum Form {
     Nested(u32),
 }
 
-/// The type of an element: one of the basic types of IEC 61375-2-3 other than the reals, or a dataset.
+/// The type of an element: one of the basic types of IEC 61375-2-3 other than the reals, or a
+/// dataset.
 #[derive(Clone, Copy, Debug, PartialEq, Eq)]
 pub enum ElementKind {
     /// BOOL8 and BITSET8, type 1.
@@ -99,11 +105,13 @@ impl ElementKind {
     }
 }
 
-/// One element of a dataset. Size 1 is a single value, a larger size an array of so many, and size 0 an array
-/// of as many as the element before it says.
+/// One element of a dataset (IEC 61375-2-3).
 #[derive(Clone, Copy, Debug, PartialEq, Eq)]
 pub struct Element {
+    /// The type of its values.
     pub kind: ElementKind,
+    /// How many values it has: 1 is a single value, more an array of so many, and 0 an array of as
+    /// many as the element before it says.
     pub size: u16,
 }
 
@@ -118,8 +126,8 @@ impl Element {
         }
     }
 
-    /// Whether the value of this element is the number of items of an array of size 0 after it: a single
-    /// UINT8, UINT16 or UINT32.
+    /// Whether the value of this element is the number of items of an array of size 0 after it: a
+    /// single UINT8, UINT16 or UINT32.
     pub fn is_count(self) -> bool
         ensures value { result ≡ is_count self }
     {

@@ -1,7 +1,8 @@
-//! The keys of a configuration file.
+//! The keys of a configuration file, and the one table of what a file may and must have at each of
+//! them.
 
 ghost use Rattle.std.specs.Prelude.{◌≡◌};
-ghost use Rattle.trdp_dataset.specs.Keys.{key_text, wanted_by, is_required};
+ghost use Rattle.trdp_dataset.specs.Keys.{key_row, key_text, wanted_by, is_required, default_of};
 
 use std::fmt;
 
@@ -46,81 +47,125 @@ pub enum Key {
     ElementSize,
 }
 
-/// What kind of value a key wants.
+/// What the value at a key has to be (profile).
 #[derive(Clone, Copy, Debug, PartialEq, Eq)]
 pub enum Wanted {
     /// A table.
     Table,
-    /// An array of tables.
-    Tables,
-    /// The text of an address.
+    /// An array of tables; more than so many are [`ConfigFault::TooMany`](crate::ConfigFault).
+    Tables(u16),
+    /// The text of an IPv4 address.
     Address,
-    /// A whole number in a range, ends included.
+    /// A whole number from the first to the second, ends included.
     Number(u16, u16),
-    /// A whole number from 0 on.
-    Quota,
-    /// A whole number.
-    Identifier,
-    /// A name or a whole number.
+    /// A whole number from 0 on; one above so many is
+    /// [`ConfigFault::TooMany`](crate::ConfigFault).
+    Quota(u16),
+    /// The identifier of a dataset, a whole number; one that isn't from the first to the second,
+    /// ends included, is [`ConfigFault::BadId`](crate::ConfigFault).
+    Identifier(u32, u32),
+    /// The type of an element, by its name or its number.
     Kind,
 }
 
+/// What it means that a key isn't there (profile).
+#[derive(Clone, Copy, Debug, PartialEq, Eq)]
+pub enum Absent {
+    /// The fault [`ConfigFault::Missing`](crate::ConfigFault), as does an array without members.
+    Missing,
+    /// An array without members.
+    Empty,
+    /// This number.
+    Default(u16),
+}
+
+/// A row of the table of keys.
+#[derive(Clone, Copy, Debug, PartialEq, Eq)]
+pub(crate) struct KeyRow {
+    /// The key as it stands in the file.
+    pub(crate) text: &'static str,
+    /// What its value has to be.
+    pub(crate) wanted: Wanted,
+    /// What it means that it isn't there.
+    pub(crate) absent: Absent,
+}
+
+/// A row of the table of keys.
+fn row(text: &'static str, wanted: Wanted, absent: Absent) -> KeyRow
+    ensures text { result.text.now ≡ text.now }
+    ensures wanted { result.wanted ≡ wanted }
+    ensures absent { result.absent ≡ absent }
+{
+    KeyRow {
+        text,
+        wanted,
+        absent,
+    }
+}
+
 impl Key {
+    /// The table of keys: the root's `node`, the node's keys, the root's `slot`, a slot's keys,
+    /// the root's `dataset`, the keys of a dataset and those of an element.
+    pub(crate) fn row(self) -> KeyRow
+        ensures text { result.text.now ≡ (key_row self).text }
+        ensures wanted { result.wanted ≡ (key_row self).wanted }
+        ensures absent { result.absent ≡ (key_row self).absent }
+    {
+        match self {
+            Key::Node => row("node", Wanted::Table, Absent::Missing),
+            Key::Address => row("address", Wanted::Address, Absent::Missing),
+            Key::PdPort => row("pd_port", Wanted::Number(1, 65535), Absent::Default(17224)),
+            Key::MdPort => row("md_port", Wanted::Number(1, 65535), Absent::Default(17225)),
+            Key::OperatorPort => row(
+                "operator_port",
+                Wanted::Number(0, 65535),
+                Absent::Default(0),
+            ),
+            Key::Slot => row("slot", Wanted::Tables(16), Absent::Missing),
+            Key::Publishers => row("publishers", Wanted::Quota(256), Absent::Default(0)),
+            Key::Subscriptions => row("subscriptions", Wanted::Quota(256), Absent::Default(0)),
+            Key::Requesters => row("requesters", Wanted::Quota(256), Absent::Default(0)),
+            Key::Listeners => row("listeners", Wanted::Quota(256), Absent::Default(0)),
+            Key::Callers => row("callers", Wanted::Quota(256), Absent::Default(0)),
+            Key::Repliers => row("repliers", Wanted::Quota(256), Absent::Default(0)),
+            Key::ControlPort => row("control_port", Wanted::Number(0, 65535), Absent::Default(0)),
+            Key::Dataset => row("dataset", Wanted::Tables(256), Absent::Empty),
+            Key::DatasetId => row("id", Wanted::Identifier(31, 4_294_967_295), Absent::Missing),
+            Key::Elements => row("element", Wanted::Tables(256), Absent::Missing),
+            Key::ElementType => row("type", Wanted::Kind, Absent::Missing),
+            Key::ElementSize => row("size", Wanted::Number(0, 65535), Absent::Default(1)),
+        }
+    }
+
     /// The key as it stands in the file.
     pub fn text(self) -> &'static str
         ensures value { result.now ≡ key_text self }
     {
-        match self {
-            Key::Node => "node",
-            Key::Address => "address",
-            Key::PdPort => "pd_port",
-            Key::MdPort => "md_port",
-            Key::OperatorPort => "operator_port",
-            Key::Slot => "slot",
-            Key::Publishers => "publishers",
-            Key::Subscriptions => "subscriptions",
-            Key::Requesters => "requesters",
-            Key::Listeners => "listeners",
-            Key::Callers => "callers",
-            Key::Repliers => "repliers",
-            Key::ControlPort => "control_port",
-            Key::Dataset => "dataset",
-            Key::DatasetId => "id",
-            Key::Elements => "element",
-            Key::ElementType => "type",
-            Key::ElementSize => "size",
-        }
+        self.row().text
     }
 
-    /// What kind of value the key wants.
+    /// What the value at the key has to be.
     pub(crate) fn wanted(self) -> Wanted
         ensures value { result ≡ wanted_by self }
     {
-        match self {
-            Key::Node => Wanted::Table,
-            Key::Slot | Key::Dataset | Key::Elements => Wanted::Tables,
-            Key::Address => Wanted::Address,
-            Key::PdPort | Key::MdPort => Wanted::Number(1, 65535),
-            Key::OperatorPort | Key::ControlPort | Key::ElementSize => Wanted::Number(0, 65535),
-            Key::Publishers
-            | Key::Subscriptions
-            | Key::Requesters
-            | Key::Listeners
-            | Key::Callers
-            | Key::Repliers => Wanted::Quota,
-            Key::DatasetId => Wanted::Identifier,
-            Key::ElementType => Wanted::Kind,
-        }
+        self.row().wanted
     }
 
     /// Whether the key must be there, and an array under it not be empty.
     pub(crate) fn is_required(self) -> bool
         ensures value { result ≡ is_required self }
     {
-        matches!(
-            self,
-            Key::Node | Key::Address | Key::Slot | Key::DatasetId | Key::Elements | Key::ElementType
-        )
+        self.row().absent == Absent::Missing
+    }
+
+    /// The number that stands for the key where it isn't there; 0 where no number does.
+    pub(crate) fn default_number(self) -> u16
+        ensures value { result ≡ default_of self }
+    {
+        match self.row().absent {
+            Absent::Default(number) => number,
+            _ => 0,
+        }
     }
 }
 

@@ -1,8 +1,9 @@
 //! The datasets of a train's telegrams and the configuration of a node, read from TOML.
 //!
-//! What a file means, and which fault it has, are functions of the table that its text is; the table is `toml`'s to read. What no
-//! contract can say is that memory is there: a reader that always answers `OutOfMemory` meets its contract, and the tests show
-//! that a good file is taken and a broken one gets its fault. The written form of a fault is covered by tests alone.
+//! What a file means, and which fault it has, are functions of the table that its text is; the
+//! table is `toml`'s to read. What no contract can say is that memory is there: a reader that
+//! always answers `OutOfMemory` meets its contract, and the tests show that a good file is taken
+//! and a broken one gets its fault. The sentence of a fault is covered by tests alone.
 #![tactic(auto)]
 
 mod check;
@@ -11,16 +12,15 @@ mod datasets;
 mod depth;
 mod element;
 mod fault;
+mod fixed;
 mod key;
 mod load;
 mod parse;
-mod pass;
-mod place;
+mod position;
+mod position_fault;
 mod read;
 mod registry;
 mod size;
-#[cfg(test)]
-mod tests;
 mod value;
 
 pub use config::NodeConfig;

@@ -4,38 +4,45 @@ ghost use Rattle.std.specs.Prelude.{◌≡◌, ◌≤◌, ◌++◌, false, optio
 ghost use Rattle.std.specs.List.{filter_map};
 ghost use Rattle.toml.specs.Data.{as_table};
 ghost use Rattle.toml.specs.View.{view, table_view};
-ghost use Rattle.trdp_dataset.specs.Values.{identifier_in};
-ghost use Rattle.trdp_dataset.specs.Places.{value_at, tables_at};
+ghost use Rattle.trdp_dataset.specs.Keys.{wanted_by, default_of};
+ghost use Rattle.trdp_dataset.specs.Values.{IsAllowed, identifier_in};
+ghost use Rattle.trdp_dataset.specs.Positions.{value_at, tables_at};
 ghost use Rattle.trdp_dataset.specs.Seen.{tables_seen};
 ghost use Rattle.trdp_dataset.specs.Faults.{has_twice, IsFaultOf, twice_id_in};
 ghost use Rattle.trdp_dataset.specs.Adding.{Adds, twice_fault};
-ghost use Rattle.trdp_dataset.specs.Configs.{number_or, element_in, elements_in, dataset_in, datasets_in};
+ghost use Rattle.trdp_dataset.specs.Configs.{number_of, number_at, element_in, elements_in, dataset_in, datasets_in};
 
 use crate::datasets::Datasets;
 use crate::element::Element;
 use crate::fault::ConfigFault;
 use crate::key::Key;
-use crate::place::{members_at, value_at};
-use crate::value::{identifier, kind, number};
+use crate::position::{members_at, value_at};
+use crate::value::{identifier, kind};
 use std::alloc::{AllocError, Global};
 use toml::{Table, Value};
 
-/// The number that a value is, or the default where it is none in the range.
-#[tactic(auto, unfolding(crate::specs::Configs::number_or))]
-pub(crate) fn number_or(found: Option<&Value>, low: u16, high: u16, default: u16) -> u16
-    requires least { low ≤ default }
-    requires most { default ≤ high }
-    ensures value { result ≡ number_or low high default (option_map (λ v. view v.now) found.entry) }
-    ensures least { low ≤ result }
-    ensures most { result ≤ high }
+/// The number of a key whose value was looked for: the key's default where there is no number in
+/// the key's range.
+#[tactic(auto, unfolding(crate::specs::Configs::number_of))]
+pub(crate) fn number_of(key: Key, found: Option<&Value>) -> u16
+    ensures value { result ≡ number_of key (option_map (λ v. view v.now) found.entry) }
+    ensures range { IsAllowed (wanted_by key) (default_of key) → IsAllowed (wanted_by key) result }
 {
     match found {
-        Some(value) => match number(value, low, high) {
+        Some(value) => match key.wanted().number(value) {
             Some(number) => number,
-            None => default,
+            None => key.default_number(),
         },
-        None => default,
+        None => key.default_number(),
     }
+}
+
+/// The number at a key of a table.
+pub(crate) fn number_at(table: &Table, key: Key) -> u16
+    ensures value { result ≡ number_at key (table_view table.now) }
+    ensures range { IsAllowed (wanted_by key) (default_of key) → IsAllowed (wanted_by key) result }
+{
+    number_of(key, value_at(table, key))
 }
 
 /// The element that a table is, if its type is known.
@@ -47,7 +54,7 @@ fn element_in(table: &Table) -> Option<Element>
         Some(value) => match kind(value) {
             Some(kind) => Some(Element {
                 kind,
-                size: number_or(value_at(table, Key::ElementSize), 0, 65535, 1),
+                size: number_at(table, Key::ElementSize),
             }),
             None => None,
         },
@@ -68,7 +75,8 @@ fn element_of(member: &Value) -> Option<Element>
 /// The elements of a dataset.
 #[tactic(auto, unfolding(crate::specs::Configs::elements_in))]
 fn elements_in(alloc: Global, dataset: &Table) -> Result<Vec<Element>, AllocError>
-    ensures value { IfOk result (λ elements. elements.items ≡ elements_in (table_view dataset.now)) }
+    ensures value { IfOk result (λ elements.
+        elements.items ≡ elements_in (table_view dataset.now)) }
 {
     let mut elements = Vec::new(alloc);
     for member in members_at(dataset, Key::Elements) {
@@ -81,7 +89,8 @@ fn elements_in(alloc: Global, dataset: &Table) -> Result<Vec<Element>, AllocErro
 
 /// The identifier of a dataset.
 fn identifier_of(dataset: &Table) -> Option<u32>
-    ensures value { result ≡ option_and_then identifier_in (value_at Key.DatasetId (table_view dataset.now)) }
+    ensures value { result
+        ≡ option_and_then identifier_in (value_at Key.DatasetId (table_view dataset.now)) }
 {
     match value_at(dataset, Key::DatasetId) {
         Some(value) => identifier(value),
@@ -92,8 +101,10 @@ fn identifier_of(dataset: &Table) -> Option<u32>
 /// Adds the dataset that a member of an array is, if it is a table with an identifier.
 #[tactic(auto, unfolding(crate::specs::Configs::dataset_in))]
 fn push_dataset(alloc: Global, datasets: &mut Datasets, member: &Value) -> Result<(), ConfigFault>
-    ensures added { OnOk result (Adds datasets.old datasets.new (option_and_then dataset_in (as_table (view member.now)))) }
-    ensures fault { IfErr result (λ fault. IsFaultOf fault (twice_fault datasets.old (option_and_then dataset_in (as_table (view member.now))))) }
+    ensures added { OnOk result (Adds datasets.old datasets.new
+        (option_and_then dataset_in (as_table (view member.now)))) }
+    ensures fault { IfErr result (λ fault. IsFaultOf fault
+        (twice_fault datasets.old (option_and_then dataset_in (as_table (view member.now))))) }
 {
     let Some(dataset) = member.as_table() else {
         return Ok(());
@@ -114,7 +125,8 @@ fn push_dataset(alloc: Global, datasets: &mut Datasets, member: &Value) -> Resul
 pub(crate) fn datasets_in(alloc: Global, top: &Table) -> Result<Datasets, ConfigFault>
     ensures value { IfOk result (λ datasets. datasets ≡ datasets_in (table_view top.now)) }
     ensures once { OnOk result (twice_id_in (datasets_in (table_view top.now)) ≡ None) }
-    ensures fault { IfErr result (λ fault. IsFaultOf fault (twice_id_in (datasets_in (table_view top.now)))) }
+    ensures fault { IfErr result (λ fault.
+        IsFaultOf fault (twice_id_in (datasets_in (table_view top.now)))) }
 {
     let mut datasets = Datasets::new(alloc);
     for member in members_at(top, Key::Dataset) {

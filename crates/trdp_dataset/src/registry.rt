@@ -5,29 +5,36 @@ use crate::element::Element;
 use crate::fault::ConfigFault;
 use crate::load::load;
 use crate::parse::parse;
-use crate::place::dataset_places;
+use crate::position::dataset_positions;
 use std::alloc::Global;
 use std::marker::Model;
 
-/// The datasets of a configuration, in the order of the file. An identifier is 31 to 4,294,967,295.
+/// The datasets of a configuration, in the order of the file. An identifier is 31 to
+/// 4,294,967,295.
 #[derive(Drop)]
 pub struct Registry {
+    /// The datasets in the order of the file, 0 to 256, no two with one identifier.
     datasets: Datasets,
+    /// The length of each dataset's zero value in bytes, 0 to 65,388, in the same order.
     zero_sizes: Vec<u32>,
+    /// Of each dataset in order, whether all its values take as many bytes as the zero value.
+    fixed: Vec<bool>,
 }
 
 impl Model for Registry {
     ghost use Rattle.std.specs.Prelude.{◌≡◌, List};
     ghost use Rattle.trdp_dataset.specs.Datasets.{DatasetModel};
-    ghost use Rattle.trdp_dataset.specs.ZeroSizes.{zero_size};
     ghost use Rattle.trdp_dataset.specs.Registries.{IsRegistry};
     ghost use Rattle.trdp_dataset.specs.Stored.{zero_sizes_of};
+    ghost use Rattle.trdp_dataset.specs.FixedSizes.{fixed_row};
 
     ghost Value = { List DatasetModel };
 
     ghost view = { λ r. r.datasets };
 
-    ghost invariant = { λ r. IsRegistry r.datasets × (r.zero_sizes.items ≡ zero_sizes_of r.datasets) };
+    ghost invariant = { λ r. IsRegistry r.datasets
+        × (r.zero_sizes.items ≡ zero_sizes_of r.datasets)
+        × (r.fixed.items ≡ fixed_row r.datasets 5) };
 }
 
 impl Registry {
@@ -36,31 +43,35 @@ impl Registry {
     ghost use Rattle.trdp_dataset.specs.ZeroSizes.{zero_size};
     ghost use Rattle.trdp_dataset.specs.Registries.{IsRegistry};
     ghost use Rattle.trdp_dataset.specs.Stored.{zero_sizes_of};
+    ghost use Rattle.trdp_dataset.specs.FixedSizes.{fixed_size, fixed_row};
     ghost use Rattle.trdp_dataset.specs.Configs.{Reads, registry_of};
 
-    /// The registry of a configuration file in TOML, of which the key `dataset` alone is looked at. Without that key
-    /// there is no dataset.
+    /// The registry of a configuration file in TOML, of which the key `dataset` alone is looked
+    /// at. Without that key there is no dataset.
     ///
     /// # Errors
-    /// The faults of [`ConfigFault`], of which `Toml` says that the bytes aren't UTF-8 or not TOML; `OutOfMemory` may
-    /// come in place of any of them.
+    /// The faults of [`ConfigFault`], of which `Toml` says that the bytes aren't UTF-8 or not
+    /// TOML; `OutOfMemory` may come in place of any of them.
     pub fn from_toml(alloc: Global, bytes: &[u8]) -> Result<Self, ConfigFault>
         ensures reads { Reads registry_of bytes.now result }
     {
         let top = parse(alloc, bytes)?;
-        let places = dataset_places(alloc, &top)?;
-        load(alloc, &top, &places)
+        let positions = dataset_positions(alloc, &top)?;
+        load(alloc, &top, &positions)
     }
 
-    /// The registry of datasets that fit together, with the sizes of their zero values in order.
-    pub(crate) fn new(datasets: Datasets, zero_sizes: Vec<u32>) -> Self
+    /// The registry of datasets that fit together, with the sizes of their zero values in order,
+    /// and whether all values of each take as many bytes.
+    pub(crate) fn new(datasets: Datasets, zero_sizes: Vec<u32>, fixed: Vec<bool>) -> Self
         requires sound { IsRegistry datasets }
         requires sizes { zero_sizes.items ≡ zero_sizes_of datasets }
+        requires fixed { fixed.items ≡ fixed_row datasets 5 }
         ensures value { result ≡ datasets }
     {
         Registry {
             datasets,
             zero_sizes,
+            fixed,
         }
     }
 
@@ -78,7 +89,7 @@ impl Registry {
         self.len() == 0
     }
 
-    /// The identifier of a dataset by its place in the file, from 0; None from `len()` on.
+    /// The identifier of a dataset by its index in the file, from 0; None from `len()` on.
     pub fn id_at(&self, i: usize) -> Option<u32>
         ensures value { result ≡ option_map (λ d. d.id) (slice_get self.now i) }
     {
@@ -102,7 +113,7 @@ impl Registry {
         self.elements(id).is_some()
     }
 
-    /// One element of a dataset by its place, from 0; None where there is none.
+    /// One element of a dataset by its index, from 0; None where there is none.
     pub fn element(&self, id: u32, i: usize) -> Option<Element>
         ensures value { result ≡ option_and_then (λ es. slice_get es i) (elements_of self.now id) }
     {
@@ -112,14 +123,33 @@ impl Registry {
         }
     }
 
-    /// How many bytes the zero value of a dataset takes, at most 65,388: every number in it is 0, and so each
-    /// array of size 0 is empty. None where no dataset has that identifier.
+    /// How many bytes the zero value of a dataset takes, at most 65,388: every number in it is 0,
+    /// and so each array of size 0 is empty. None where no dataset has that identifier.
     pub fn zero_size(&self, id: u32) -> Option<usize>
         ensures value { result ≡ (if is_known self.now id then Some (zero_size self.now id) else None) }
         ensures bound { IfSome result (λ n. n ≤ 65388) }
     {
         match self.datasets.index_of(id) {
             Some(i) => Some(self.zero_sizes[i] as usize),
+            None => None,
+        }
+    }
+
+    /// How many bytes each value of a dataset takes, at most 65,388: a dataset in which no array
+    /// of size 0 stands, nor in those that are nested in it, has values of one length. None of any
+    /// other dataset, and where no dataset has that identifier.
+    pub fn fixed_size(&self, id: u32) -> Option<usize>
+        ensures value { result ≡ fixed_size self.now id }
+        ensures bound { IfSome result (λ n. n ≤ 65388) }
+    {
+        match self.datasets.index_of(id) {
+            Some(i) => {
+                if self.fixed[i] {
+                    Some(self.zero_sizes[i] as usize)
+                } else {
+                    None
+                }
+            }
             None => None,
         }
     }

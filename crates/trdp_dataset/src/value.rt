@@ -3,15 +3,13 @@
 ghost use Rattle.std.specs.Prelude.{◌≡◌, ◌≤◌, IfSome, option_map, is_some, map, Some};
 ghost use Rattle.std.specs.List.{list_all};
 ghost use Rattle.toml.specs.View.{view};
-ghost use Rattle.trdp_dataset.specs.Types.{type_named, type_numbered, is_real_name, is_real_number};
-ghost use Rattle.trdp_dataset.specs.Faults.{is_above};
-ghost use Rattle.trdp_dataset.specs.Values.{items_in, address_of, address_in, natural_in, number_in, identifier_in, kind_in, is_real, is_integer, is_table, is_tables, is_type, is_of};
+ghost use Rattle.trdp_dataset.specs.Types.{in_range, identifier_of, type_named, type_numbered, is_real_name, is_real_number};
+ghost use Rattle.trdp_dataset.specs.Values.{items_in, address_of, address_in, natural_in, natural_within, number_in, IsAllowed, identifier_in, kind_in, is_real, is_table, is_tables};
 
 use crate::element::ElementKind;
-use crate::key::Wanted;
-use std::net::Ipv4Addr;
+use crate::key::{Key, Wanted};
 use toml::Value;
-use trdp_base::Ip;
+use trdp_base::{Ip, read_ip};
 
 /// The members of an array; none of any other value.
 pub(crate) fn items(value: &Value) -> &[Value]
@@ -24,7 +22,7 @@ pub(crate) fn items(value: &Value) -> &[Value]
 }
 
 /// The whole number that a value is, from 0 on.
-fn natural(value: &Value) -> Option<u64>
+pub(crate) fn natural(value: &Value) -> Option<u64>
     ensures value { result ≡ natural_in (view value.now) }
 {
     match value {
@@ -33,23 +31,53 @@ fn natural(value: &Value) -> Option<u64>
     }
 }
 
-/// Whether a value is a whole number above the most.
-pub(crate) fn exceeds(value: &Value, most: u16) -> bool
-    ensures value { result ≡ is_above most (natural_in (view value.now)) }
+/// The number, if it is in the range, ends included.
+fn in_range(number: u64, least: u32, most: u32) -> Option<u32>
+    ensures value { result ≡ in_range least most number }
+    ensures range { IfSome result (λ n. (least ≤ n) × (n ≤ most)) }
 {
-    match natural(value) {
-        Some(n) => n > u64::from(most),
-        None => false,
+    if u64::from(least) <= number && number <= u64::from(most) {
+        Some(number as u32)
+    } else {
+        None
     }
 }
 
 /// The whole number that a value is, if it is in the range, ends included.
-pub(crate) fn number(value: &Value, low: u16, high: u16) -> Option<u16>
-    ensures value { result ≡ number_in low high (view value.now) }
-    ensures range { IfSome result (λ n. (low ≤ n) × (n ≤ high)) }
+fn natural_within(value: &Value, least: u16, most: u16) -> Option<u16>
+    ensures value { result ≡ natural_within least most (view value.now) }
+    ensures range { IfSome result (λ n. (least ≤ n) × (n ≤ most)) }
 {
     match natural(value) {
-        Some(n) if u64::from(low) <= n && n <= u64::from(high) => Some(n as u16),
+        Some(number) => match in_range(number, u32::from(least), u32::from(most)) {
+            Some(number) => Some(number as u16),
+            None => None,
+        },
+        None => None,
+    }
+}
+
+impl Wanted {
+    /// The number that a value is, if a number is wanted and this one is in range.
+    pub(crate) fn number(self, value: &Value) -> Option<u16>
+        ensures value { result ≡ number_in self (view value.now) }
+        ensures range { IfSome result (λ n. IsAllowed self n) }
+    {
+        match self {
+            Wanted::Number(least, most) => natural_within(value, least, most),
+            Wanted::Quota(most) => natural_within(value, 0, most),
+            _ => None,
+        }
+    }
+}
+
+/// The identifier of a dataset that a number is, if it is in the range that the table of keys
+/// says.
+fn identifier_of(number: u64) -> Option<u32>
+    ensures value { result ≡ identifier_of number }
+{
+    match Key::DatasetId.wanted() {
+        Wanted::Identifier(least, most) => in_range(number, least, most),
         _ => None,
     }
 }
@@ -59,8 +87,8 @@ pub(crate) fn identifier(value: &Value) -> Option<u32>
     ensures value { result ≡ identifier_in (view value.now) }
 {
     match natural(value) {
-        Some(n) if 31 <= n && n <= 4_294_967_295 => Some(n as u32),
-        _ => None,
+        Some(number) => identifier_of(number),
+        None => None,
     }
 }
 
@@ -69,8 +97,8 @@ pub(crate) fn identifier(value: &Value) -> Option<u32>
 fn address_of(text: &str) -> Option<Ip>
     ensures value { option_map (λ ip. ip.0) result ≡ address_of text.now }
 {
-    match Ipv4Addr::parse_ascii(text.as_bytes()) {
-        Ok(address) => Some(Ip(address.to_bits())),
+    match read_ip(text.as_bytes()) {
+        Ok(ip) => Some(ip),
         Err(_) => None,
     }
 }
@@ -127,8 +155,10 @@ fn kind_numbered(number: u64) -> Option<ElementKind>
         14 => Some(ElementKind::Timedate32),
         15 => Some(ElementKind::Timedate48),
         16 => Some(ElementKind::Timedate64),
-        31..=4_294_967_295 => Some(ElementKind::Nested(number as u32)),
-        _ => None,
+        _ => match identifier_of(number) {
+            Some(id) => Some(ElementKind::Nested(id)),
+            None => None,
+        },
     }
 }
 
@@ -166,25 +196,8 @@ fn all_tables(items: &[Value]) -> bool
 }
 
 /// Whether a value is an array of tables.
-fn is_tables(value: &Value) -> bool
+pub(crate) fn is_tables(value: &Value) -> bool
     ensures value { result ≡ is_tables (view value.now) }
 {
     value.is_array() && all_tables(items(value))
-}
-
-impl Wanted {
-    /// Whether a value is of that kind.
-    pub(crate) fn accepts(self, value: &Value) -> bool
-        ensures value { result ≡ is_of self (view value.now) }
-    {
-        match self {
-            Wanted::Table => value.is_table(),
-            Wanted::Tables => is_tables(value),
-            Wanted::Address => address(value).is_some(),
-            Wanted::Number(low, high) => number(value, low, high).is_some(),
-            Wanted::Quota => natural(value).is_some(),
-            Wanted::Identifier => value.is_integer(),
-            Wanted::Kind => value.is_str() || value.is_integer(),
-        }
-    }
 }

@@ -19,7 +19,7 @@ record Least (t at : ℕ) (objects : List Entry) (first : ℕ × ℕ) : Type 0 w
   entry : Entry
   after : List Entry
   split : objects ≡ before ++ entry ∷ after
-  place : first.0 ≡ at + length before
+  index : first.0 ≡ at + length before
   due : is_due t entry ≡ true
   time : due_of entry.object ≡ Some first.1
   first_before : AllAfter entry (filter (is_due t) before)
@@ -67,7 +67,7 @@ skip t at x xs (Some first) not l =
       entry = l.entry;
       after = l.after;
       split = ap (λ (es : List Entry). x ∷ es) l.split;
-      place = omega (arith, l.place);
+      index = omega (arith, l.index);
       due = l.due;
       time = l.time;
       first_before = rw not l.first_before;
@@ -82,7 +82,7 @@ take t at d x xs is time above from =
       entry = x;
       after = xs;
       split = refl;
-      place = omega arith;
+      index = omega arith;
       due = is;
       time = time;
       first_before = tt;
@@ -97,7 +97,7 @@ keep t at d x xs first is time lt l =
       entry = l.entry;
       after = l.after;
       split = ap (λ (es : List Entry). x ∷ es) l.split;
-      place = omega (arith, l.place);
+      index = omega (arith, l.index);
       due = l.due;
       time = l.time;
       first_before = rw is (before_at l.entry x first.1 d l.time time lt, l.first_before);
@@ -139,7 +139,7 @@ found t xs (Some first) l =
       entry = l.entry;
       after = l.after;
       split = l.split;
-      place = omega (arith, l.place);
+      index = omega (arith, l.index);
       due = l.due;
       first_before = l.first_before;
       first_after = l.first_after;

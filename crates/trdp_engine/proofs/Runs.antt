@@ -17,23 +17,23 @@ use Rattle.trdp_engine.proofs.Views.{admitted_first, refused_first, prepend-prep
 pub record RunsAsAloneSoFar (old now : NodeState) (records records_then : List RecordModel) (events : List EventModel) (s : ℕ) (slot : SlotState) : Type 0 where
   pub here : SlotState
   pub is_here : slice_get now.slots s ≡ Some here
-  pub run_so_far : (later : List EventModel) → prepend (records_of s records) (alone_in_view old.setup s slot old.globals (events ++ later)) ≡ prepend (records_of s records_then) (alone_in_view old.setup s here now.globals later)
+  pub run_so_far : (later : List EventModel) → prepend (records_of s records) (alone_in_view old.config s slot old.globals (events ++ later)) ≡ prepend (records_of s records_then) (alone_in_view old.config s here now.globals later)
 
 pub at_start : (old : NodeState) (records : List RecordModel) (s : ℕ) (slot : SlotState) → slice_get old.slots s ≡ Some slot → RunsAsAloneSoFar old old records records [] s slot
 at_start old records s slot is = record { here = slot; is_here = is; run_so_far = λ later. refl }
 
 -- one more event that is admitted
-one_admitted : (old now next : NodeState) (records records_now records_next : List RecordModel) (events : List EventModel) (event : EventModel) (s : ℕ) (slot : SlotState) → now.setup ≡ old.setup → RunsAsAloneSoFar old now records records_now events s slot → refused_as (length now.slots) now.globals event ≡ None → next.globals ≡ globals_after now.globals event → ((here : SlotState) → slice_get now.slots s ≡ Some here → StepsAsAlone now next records_now records_next event s here) → RunsAsAloneSoFar old next records records_next (events ++ event ∷ []) s slot
+one_admitted : (old now next : NodeState) (records records_now records_next : List RecordModel) (events : List EventModel) (event : EventModel) (s : ℕ) (slot : SlotState) → now.config ≡ old.config → RunsAsAloneSoFar old now records records_now events s slot → refused_as (length now.slots) now.globals event ≡ None → next.globals ≡ globals_after now.globals event → ((here : SlotState) → slice_get now.slots s ≡ Some here → StepsAsAlone now next records_now records_next event s here) → RunsAsAloneSoFar old next records records_next (events ++ event ∷ []) s slot
 one_admitted old now next records records_now records_next events event s slot same r admitted globals steps =
     let stepped = steps r.here r.is_here in
     record {
-      here = slot_after now.setup s r.here now.globals event;
+      here = slot_after now.config s r.here now.globals event;
       is_here = stepped.slot_is;
       run_so_far = λ later.
           rw (append_assoc events (event ∷ []) later)
           (r.run_so_far (event ∷ later)
-          ∙ (ap (prepend (records_of s records_now)) (admitted_first old.setup s (length now.slots) r.here now.globals event later admitted)
-          ∙ (prepend-prepend (records_of s records_now) (records_after old.setup s r.here now.globals event) _
+          ∙ (ap (prepend (records_of s records_now)) (admitted_first old.config s (length now.slots) r.here now.globals event later admitted)
+          ∙ (prepend-prepend (records_of s records_now) (records_after old.config s r.here now.globals event) _
           ∙ rw (globals, stepped.records_are, same) refl)));
     }
 
@@ -45,11 +45,11 @@ one_refused old now records records_now events event fault s slot r bad = record
   run_so_far = λ later.
       rw (append_assoc events (event ∷ []) later)
       (r.run_so_far (event ∷ later)
-      ∙ ap (prepend (records_of s records_now)) (refused_first old.setup s (length now.slots) r.here now.globals event later fault (slice_get_within now.slots s r.here r.is_here) bad));
+      ∙ ap (prepend (records_of s records_now)) (refused_first old.config s (length now.slots) r.here now.globals event later fault (slice_get_within now.slots s r.here r.is_here) bad));
 }
 
 -- one more event, whatever the step answered but want of memory
-pub one_event : (old now next : NodeState) (records records_now records_next : List RecordModel) (events : List EventModel) (event : EventModel) (s : ℕ) (slot : SlotState) (fault : Option NodeFault) (result : Result (Unit {0}) NodeFault) → now.setup ≡ old.setup → refused_as (length now.slots) now.globals event ≡ fault → FaultIs fault result → (result ≡ Err OutOfMemory → ⊥) → OnErr result (next ≡ now) → OnErr result (records_next ≡ records_now) → OnOk result (next.globals ≡ globals_after now.globals event) → OnOk result ((s : ℕ) (here : SlotState) → slice_get now.slots s ≡ Some here → StepsAsAlone now next records_now records_next event s here) → RunsAsAloneSoFar old now records records_now events s slot → RunsAsAloneSoFar old next records records_next (events ++ event ∷ []) s slot
+pub one_event : (old now next : NodeState) (records records_now records_next : List RecordModel) (events : List EventModel) (event : EventModel) (s : ℕ) (slot : SlotState) (fault : Option NodeFault) (result : Result (Unit {0}) NodeFault) → now.config ≡ old.config → refused_as (length now.slots) now.globals event ≡ fault → FaultIs fault result → (result ≡ Err OutOfMemory → ⊥) → OnErr result (next ≡ now) → OnErr result (records_next ≡ records_now) → OnOk result (next.globals ≡ globals_after now.globals event) → OnOk result ((s : ℕ) (here : SlotState) → slice_get now.slots s ≡ Some here → StepsAsAlone now next records_now records_next event s here) → RunsAsAloneSoFar old now records records_now events s slot → RunsAsAloneSoFar old next records records_next (events ++ event ∷ []) s slot
 one_event old now next records records_now records_next events event s slot None (Ok done) same is answer memory kept unrecorded globals steps r = one_admitted old now next records records_now records_next events event s slot same r is globals (steps s)
 one_event old now next records records_now records_next events event s slot None (Err other) same is answer memory kept unrecorded globals steps r = absurd (memory (ap Err answer))
 one_event old now next records records_now records_next events event s slot (Some fault) (Ok done) same is answer memory kept unrecorded globals steps r = absurd answer

@@ -43,7 +43,7 @@ past_only slot zero none = absurd (cc)
 past_only slot (suc s) none = grind (arith, nat_tests)
 
 -- what slot 0 does at an event is all that the node does
-pub only_steps : (old new : NodeState) (slot : SlotState) (outcome : Outcome) (records records_then : List RecordModel) (event : EventModel) → old.slots ≡ slot ∷ [] → new.slots ≡ outcome.slot ∷ [] → records_then ≡ records ++ labelled 0 outcome.records → slot_after old.setup 0 slot old.globals event ≡ outcome.slot → records_after old.setup 0 slot old.globals event ≡ outcome.records → (s : ℕ) (other : SlotState) → slice_get old.slots s ≡ Some other → StepsAsAlone old new records records_then event s other
+pub only_steps : (old new : NodeState) (slot : SlotState) (outcome : Outcome) (records records_then : List RecordModel) (event : EventModel) → old.slots ≡ slot ∷ [] → new.slots ≡ outcome.slot ∷ [] → records_then ≡ records ++ labelled 0 outcome.records → slot_after old.config 0 slot old.globals event ≡ outcome.slot → records_after old.config 0 slot old.globals event ≡ outcome.records → (s : ℕ) (other : SlotState) → slice_get old.slots s ≡ Some other → StepsAsAlone old new records records_then event s other
 only_steps old new slot outcome records records_then event before after told same_slot same_records s other is =
     let one = only slot other s (rw before at is) in
     record {
@@ -81,35 +81,35 @@ appends_more slots others xs ys zs same a b = record {
 }
 
 -- a call of another slot than 0
-pub other_is_refused : (s : ℕ) (g : Globals) (call : CallModel) → (s == 0) ≡ false → FaultIs (refused_as 1 g (CallIs s call)) (Err NoSlot)
-other_is_refused s g call other = let past : nat_le 1 s ≡ true = grind (arith, nat_tests) in rw past refl
+pub other_is_refused : (s : ℕ) (globals : Globals) (call : CallModel) → (s == 0) ≡ false → FaultIs (refused_as 1 globals (CallIs s call)) (Err NoSlot)
+other_is_refused s globals call other = let past : nat_le 1 s ≡ true = grind (arith, nat_tests) in rw past refl
 
 -- what slot 0 does at a datagram: one that doesn't concern it changes nothing
-pub datagram_effect : (setup : ConfigModel) (slot : SlotState) (g : Globals) (protocol : Protocol) (src dst : Place) (bytes : List ℕ) → (slot_after setup 0 slot g (DatagramIs protocol src dst bytes) ≡ (received_if setup slot g (telegram_of protocol src dst bytes)).slot) × (records_after setup 0 slot g (DatagramIs protocol src dst bytes) ≡ (received_if setup slot g (telegram_of protocol src dst bytes)).records)
-datagram_effect setup slot g protocol src dst bytes = either setup slot g protocol src dst bytes (concerns g (telegram_of protocol src dst bytes) slot) refl
+pub datagram_effect : (config : ConfigModel) (slot : SlotState) (globals : Globals) (protocol : Protocol) (src dst : Place) (bytes : List ℕ) → (slot_after config 0 slot globals (DatagramIs protocol src dst bytes) ≡ (received_if config slot globals (telegram_of protocol src dst bytes)).slot) × (records_after config 0 slot globals (DatagramIs protocol src dst bytes) ≡ (received_if config slot globals (telegram_of protocol src dst bytes)).records)
+datagram_effect config slot globals protocol src dst bytes = either config slot globals protocol src dst bytes (concerns globals (telegram_of protocol src dst bytes) slot) refl
   where
-    either : (setup : ConfigModel) (slot : SlotState) (g : Globals) (protocol : Protocol) (src dst : Place) (bytes : List ℕ) (b : Bool) → concerns g (telegram_of protocol src dst bytes) slot ≡ b → (slot_after setup 0 slot g (DatagramIs protocol src dst bytes) ≡ (received_if setup slot g (telegram_of protocol src dst bytes)).slot) × (records_after setup 0 slot g (DatagramIs protocol src dst bytes) ≡ (received_if setup slot g (telegram_of protocol src dst bytes)).records)
-    either setup slot g protocol src dst bytes true is = (rw is refl, rw is refl)
-    either setup slot g protocol src dst bytes false is =
-        let same = unconcerned setup slot g (telegram_of protocol src dst bytes) is in
+    either : (config : ConfigModel) (slot : SlotState) (globals : Globals) (protocol : Protocol) (src dst : Place) (bytes : List ℕ) (b : Bool) → concerns globals (telegram_of protocol src dst bytes) slot ≡ b → (slot_after config 0 slot globals (DatagramIs protocol src dst bytes) ≡ (received_if config slot globals (telegram_of protocol src dst bytes)).slot) × (records_after config 0 slot globals (DatagramIs protocol src dst bytes) ≡ (received_if config slot globals (telegram_of protocol src dst bytes)).records)
+    either config slot globals protocol src dst bytes true is = (rw is refl, rw is refl)
+    either config slot globals protocol src dst bytes false is =
+        let same = unconcerned config slot globals (telegram_of protocol src dst bytes) is in
         (rw is (sym (ap (λ (o : Outcome). o.slot) same)), rw is (sym (ap (λ (o : Outcome). o.records) same)))
 
 -- what slot 0 does at a call of its own
-pub call_effect : (setup : ConfigModel) (slot : SlotState) (g : Globals) (s : ℕ) (call : CallModel) → s ≡ 0 → (slot_after setup 0 slot g (CallIs s call) ≡ (called setup slot g call).slot) × (records_after setup 0 slot g (CallIs s call) ≡ (called setup slot g call).records)
-call_effect setup slot g s call zero_is = rw zero_is (refl, refl)
+pub call_effect : (config : ConfigModel) (slot : SlotState) (globals : Globals) (s : ℕ) (call : CallModel) → s ≡ 0 → (slot_after config 0 slot globals (CallIs s call) ≡ (called config slot globals call).slot) × (records_after config 0 slot globals (CallIs s call) ≡ (called config slot globals call).records)
+call_effect config slot globals s call zero_is = rw zero_is (refl, refl)
 
 seen_moment : (now t last : ℕ) → now ≤ t → t ≤ last → (nat_le now t && nat_le t last) ≡ true
 seen_moment now t last le within = grind (arith, nat_tests)
 
 -- what slot 0 does at an admitted moment
-pub moment_effect : (setup : ConfigModel) (slot : SlotState) (g : Globals) (t : ℕ) → g.now ≤ t → t ≤ last_moment → (slot_after setup 0 slot g (MomentIs t) ≡ (moved_to slot (record g { now = t })).slot) × (records_after setup 0 slot g (MomentIs t) ≡ (moved_to slot (record g { now = t })).records)
-moment_effect setup slot g t le within = let seen = seen_moment g.now t last_moment le within in (rw seen refl, rw seen refl)
+pub moment_effect : (config : ConfigModel) (slot : SlotState) (globals : Globals) (t : ℕ) → globals.now ≤ t → t ≤ last_moment → (slot_after config 0 slot globals (MomentIs t) ≡ (moved_to slot (record globals { now = t })).slot) × (records_after config 0 slot globals (MomentIs t) ≡ (moved_to slot (record globals { now = t })).records)
+moment_effect config slot globals t le within = let seen = seen_moment globals.now t last_moment le within in (rw seen refl, rw seen refl)
 
 -- a value that is handed over to slot 0
-pub only_values : (setup : ConfigModel) (old new : NodeState) (slot : SlotState) (handle : ℕ) (item : ItemModel) (records records_then : List RecordModel) → old.slots ≡ slot ∷ [] → new.slots ≡ (valued setup slot handle item).slot ∷ [] → records_then ≡ records ++ labelled 0 (valued setup slot handle item).records → (r : ℕ) → r ≡ 0 → (s : ℕ) (other : SlotState) → slice_get old.slots s ≡ Some other → GetsOutcome new records records_then s (valued_at setup r s other handle item)
-only_values setup old new slot handle item records records_then before after told r zero_is s other is =
+pub only_values : (config : ConfigModel) (old new : NodeState) (slot : SlotState) (handle : ℕ) (item : ItemModel) (records records_then : List RecordModel) → old.slots ≡ slot ∷ [] → new.slots ≡ (valued config slot handle item).slot ∷ [] → records_then ≡ records ++ labelled 0 (valued config slot handle item).records → (r : ℕ) → r ≡ 0 → (s : ℕ) (other : SlotState) → slice_get old.slots s ≡ Some other → GetsOutcome new records records_then s (valued_at config r s other handle item)
+only_values config old new slot handle item records records_then before after told r zero_is s other is =
     let one = only slot other s (rw before at is) in
     record {
       slot_is = rw (after, zero_is, one.0, ← one.1) refl;
-      records_are = rw (told, zero_is, one.0, ← one.1, records_of-append 0 records (labelled 0 (valued setup slot handle item).records), records_of-labelled 0 (valued setup slot handle item).records) refl;
+      records_are = rw (told, zero_is, one.0, ← one.1, records_of-append 0 records (labelled 0 (valued config slot handle item).records), records_of-labelled 0 (valued config slot handle item).records) refl;
     }

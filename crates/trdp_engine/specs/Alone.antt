@@ -1,10 +1,12 @@
 -- A slot run by itself, and what a slot sees of a node's events.
-use Rattle.std.specs.Prelude.{◌≡◌, ℕ, List, [], ◌∷◌, ◌++◌, Option, Some, None, Bool, true, not, ◌==◌, ◌&&◌, nat_le, nat_lt, if◌then◌else◌, Result, Ok, Err}
+use Rattle.std.specs.Prelude.{◌≡◌, ℕ, List, [], ◌∷◌, ◌++◌, Option, Some, None, Bool, true, not}
+use Rattle.std.specs.Prelude.{◌==◌, ◌&&◌, nat_le, nat_lt, if◌then◌else◌, Result, Ok, Err}
 use Rattle.trdp_base.specs.Moments.{last_moment}
 use Rattle.trdp_filter.specs.declared.globals.Globals.{Globals}
 use Rattle.trdp_filter.specs.Globals.{with_role}
 use Rattle.trdp_engine.specs.declared.fault.NodeFault.{NodeFault}
-use Rattle.trdp_engine.specs.declared.fault.NodeFault.TheVariants.{NoSlot, Past, TooLate, NoGroup, OutOfMemory}
+use Rattle.trdp_engine.specs.declared.fault.NodeFault.TheVariants.{NoSlot, Past, TooLate, NoGroup}
+use Rattle.trdp_engine.specs.declared.fault.NodeFault.TheVariants.{OutOfMemory}
 use Rattle.trdp_dataset.specs.Configs.{ConfigModel}
 use Rattle.trdp_engine.specs.Records.{Content}
 use Rattle.trdp_engine.specs.Events.{EventModel, MomentIs, TopologyIs, RoleIs, DatagramIs, CallIs}
@@ -13,13 +15,16 @@ use Rattle.trdp_engine.specs.Calls.{called}
 use Rattle.trdp_engine.specs.Datagrams.{telegram_of, received_if, concerns}
 use Rattle.trdp_engine.specs.Moments.{moved_to}
 
--- the fault of an event in a node of so many slots, but for want of memory; an event without one is admitted
+-- the fault of an event in a node of so many slots, but for want of memory; an event without one
+-- is admitted
 abbrev pub refused_as : ℕ → Globals → EventModel → Option NodeFault
-refused_as slots g (MomentIs t) = if nat_lt t g.now then Some Past else if nat_lt last_moment t then Some TooLate else None
-refused_as slots g (TopologyIs topo) = None
-refused_as slots g (RoleIs group leader) = if group == 0 then Some NoGroup else None
-refused_as slots g (DatagramIs protocol src dst bytes) = None
-refused_as slots g (CallIs slot call) = if nat_le slots slot then Some NoSlot else None
+refused_as slots globals (MomentIs t) =
+    if nat_lt t globals.now then Some Past else
+    if nat_lt last_moment t then Some TooLate else None
+refused_as slots globals (TopologyIs topo) = None
+refused_as slots globals (RoleIs group leader) = if group == 0 then Some NoGroup else None
+refused_as slots globals (DatagramIs protocol src dst bytes) = None
+refused_as slots globals (CallIs slot call) = if nat_le slots slot then Some NoSlot else None
 
 -- the answer to an event: its fault, and without one at most want of memory
 abbrev pub FaultIs : Option NodeFault → Result (Unit {0}) NodeFault → Type 0
@@ -30,27 +35,31 @@ FaultIs (Some fault) (Err other) = other ≡ fault
 
 -- node globals after an admitted event
 abbrev pub globals_after : Globals → EventModel → Globals
-globals_after g (MomentIs t) = record g { now = t }
-globals_after g (TopologyIs topo) = record g { topo = topo }
-globals_after g (RoleIs group leader) = record g { led = with_role g.led group leader }
-globals_after g (DatagramIs protocol src dst bytes) = g
-globals_after g (CallIs slot call) = g
+globals_after globals (MomentIs t) = record globals { now = t }
+globals_after globals (TopologyIs topo) = record globals { topo = topo }
+globals_after globals (RoleIs group leader) =
+    record globals { led = with_role globals.led group leader }
+globals_after globals (DatagramIs protocol src dst bytes) = globals
+globals_after globals (CallIs slot call) = globals
 
--- an event that slot s sees: each admitted moment, topology counts, each admitted role, the datagrams that concern it, and its own calls
+-- an event that slot s sees: each admitted moment, topology counts, each admitted role, the
+-- datagrams that concern it, and its own calls
 abbrev pub is_in_view : ℕ → SlotState → Globals → EventModel → Bool
-is_in_view s slot g (MomentIs t) = nat_le g.now t && nat_le t last_moment
-is_in_view s slot g (TopologyIs topo) = true
-is_in_view s slot g (RoleIs group leader) = not (group == 0)
-is_in_view s slot g (DatagramIs protocol src dst bytes) = concerns g (telegram_of protocol src dst bytes) slot
-is_in_view s slot g (CallIs r call) = r == s
+is_in_view s slot globals (MomentIs t) = nat_le globals.now t && nat_le t last_moment
+is_in_view s slot globals (TopologyIs topo) = true
+is_in_view s slot globals (RoleIs group leader) = not (group == 0)
+is_in_view s slot globals (DatagramIs protocol src dst bytes) =
+    concerns globals (telegram_of protocol src dst bytes) slot
+is_in_view s slot globals (CallIs r call) = r == s
 
 -- effect of an event on a slot that sees it
 abbrev pub event_effect : ConfigModel → SlotState → Globals → EventModel → Outcome
-event_effect setup slot g (MomentIs t) = moved_to slot (record g { now = t })
-event_effect setup slot g (TopologyIs topo) = unchanged slot
-event_effect setup slot g (RoleIs group leader) = unchanged slot
-event_effect setup slot g (DatagramIs protocol src dst bytes) = received_if setup slot g (telegram_of protocol src dst bytes)
-event_effect setup slot g (CallIs s call) = called setup slot g call
+event_effect config slot globals (MomentIs t) = moved_to slot (record globals { now = t })
+event_effect config slot globals (TopologyIs topo) = unchanged slot
+event_effect config slot globals (RoleIs group leader) = unchanged slot
+event_effect config slot globals (DatagramIs protocol src dst bytes) =
+    received_if config slot globals (telegram_of protocol src dst bytes)
+event_effect config slot globals (CallIs s call) = called config slot globals call
 
 -- a slot after a list of events, the globals then, and all its records in order
 pub record Run : Type 0 where
@@ -64,35 +73,47 @@ prepend records run = record run { records = records ++ run.records }
 
 -- a slot run by itself over a list of events
 abbrev pub alone : ConfigModel → SlotState → Globals → List EventModel → Run
-alone setup slot g [] = record { slot = slot; globals = g; records = [] }
-alone setup slot g (event ∷ events) =
-    prepend (event_effect setup slot g event).records
-    (alone setup (event_effect setup slot g event).slot (globals_after g event) events)
+alone config slot globals [] = record { slot = slot; globals = globals; records = [] }
+alone config slot globals (event ∷ events) =
+    prepend (event_effect config slot globals event).records
+    (alone config (event_effect config slot globals event).slot
+    (globals_after globals event) events)
 
 -- the events that slot s sees
 abbrev pub view : ConfigModel → ℕ → SlotState → Globals → List EventModel → List EventModel
-view setup s slot g [] = []
-view setup s slot g (event ∷ events) =
-    if is_in_view s slot g event
-    then event ∷ view setup s (event_effect setup slot g event).slot (globals_after g event) events
-    else view setup s slot g events
+view config s slot globals [] = []
+view config s slot globals (event ∷ events) =
+    if is_in_view s slot globals event
+    then event ∷ view config s (event_effect config slot globals event).slot
+    (globals_after globals event) events
+    else view config s slot globals events
 
 -- slot s run by itself over the events that it sees
 abbrev pub alone_in_view : ConfigModel → ℕ → SlotState → Globals → List EventModel → Run
-alone_in_view setup s slot g events = alone setup slot g (view setup s slot g events)
+alone_in_view config s slot globals events =
+    alone config slot globals (view config s slot globals events)
 
 -- slot s after any one event of the node
 abbrev pub slot_after : ConfigModel → ℕ → SlotState → Globals → EventModel → SlotState
-slot_after setup s slot g event = if is_in_view s slot g event then (event_effect setup slot g event).slot else slot
+slot_after config s slot globals event =
+    if is_in_view s slot globals event
+    then (event_effect config slot globals event).slot
+    else slot
 
 -- the records that slot s gets at any one event of the node
 abbrev pub records_after : ConfigModel → ℕ → SlotState → Globals → EventModel → List Content
-records_after setup s slot g event = if is_in_view s slot g event then (event_effect setup slot g event).records else []
+records_after config s slot globals event =
+    if is_in_view s slot globals event
+    then (event_effect config slot globals event).records
+    else []
 
--- effect of any event on slot s, whether the slot sees it or not: the calls of other slots are none of its own
+-- effect of any event on slot s, whether the slot sees it or not: the calls of other slots are
+-- none of its own
 abbrev pub plain_effect : ConfigModel → ℕ → SlotState → Globals → EventModel → Outcome
-plain_effect setup s slot g (MomentIs t) = moved_to slot (record g { now = t })
-plain_effect setup s slot g (TopologyIs topo) = unchanged slot
-plain_effect setup s slot g (RoleIs group leader) = unchanged slot
-plain_effect setup s slot g (DatagramIs protocol src dst bytes) = received_if setup slot g (telegram_of protocol src dst bytes)
-plain_effect setup s slot g (CallIs r call) = if r == s then called setup slot g call else unchanged slot
+plain_effect config s slot globals (MomentIs t) = moved_to slot (record globals { now = t })
+plain_effect config s slot globals (TopologyIs topo) = unchanged slot
+plain_effect config s slot globals (RoleIs group leader) = unchanged slot
+plain_effect config s slot globals (DatagramIs protocol src dst bytes) =
+    received_if config slot globals (telegram_of protocol src dst bytes)
+plain_effect config s slot globals (CallIs r call) =
+    if r == s then called config slot globals call else unchanged slot

@@ -1,5 +1,6 @@
 -- What a datagram does to a slot.
-use Rattle.std.specs.Prelude.{ℕ, List, [], ◌∷◌, Option, Some, None, Bool, false, option_map, map, ◌&&◌, if◌then◌else◌}
+use Rattle.std.specs.Prelude.{ℕ, List, [], ◌∷◌, Option, Some, None, Bool, false, option_map, map}
+use Rattle.std.specs.Prelude.{◌&&◌, if◌then◌else◌}
 use Rattle.std.specs.List.{flat_map, list_any}
 use Rattle.trdp_base.specs.declared.place.Place.{Place}
 use Rattle.trdp_base.specs.declared.topo.Topo.{Topo}
@@ -8,7 +9,8 @@ use Rattle.trdp_filter.specs.declared.globals.Globals.{Globals}
 use Rattle.trdp_filter.specs.Counts.{topo_valid}
 use Rattle.trdp_filter.specs.Telegrams.{TelegramModel, PdIs, payload_of}
 use Rattle.trdp_pd.specs.declared.any_object.AnyObject.{AnyObject}
-use Rattle.trdp_pd.specs.declared.any_object.AnyObject.TheVariants.{Publisher, Subscription, Requester}
+use Rattle.trdp_pd.specs.declared.any_object.AnyObject.TheVariants.{Publisher, Subscription}
+use Rattle.trdp_pd.specs.declared.any_object.AnyObject.TheVariants.{Requester}
 use Rattle.trdp_pd.specs.declared.object.Taken.{Taken}
 use Rattle.trdp_pd.specs.declared.object.Taken.TheVariants.{Nothing, Stored, Alive, Pulled}
 use Rattle.trdp_pd.specs.Objects.{is_addressed, after_taking, taken}
@@ -16,15 +18,15 @@ use Rattle.trdp_dataset.specs.Configs.{ConfigModel}
 use Rattle.trdp_engine.specs.declared.object.Entry.{Entry}
 use Rattle.trdp_engine.specs.declared.record.Protocol.{Protocol}
 use Rattle.trdp_engine.specs.declared.record.Protocol.TheVariants.{Pd, Md}
-use Rattle.trdp_engine.specs.declared.record.Indication.TheVariants.{Alive as AliveAgain}
 use Rattle.trdp_engine.specs.Configs.{is_fitting}
-use Rattle.trdp_engine.specs.Records.{Content, Indicates}
+use Rattle.trdp_engine.specs.Records.{Content, Indicates, AliveIs}
 use Rattle.trdp_engine.specs.Pulls.{answer_place, pull_answer}
 use Rattle.trdp_engine.specs.Slots.{SlotState, Outcome, unchanged}
 
 -- the telegram of a datagram, if it is one that the node serves; message data comes later
 abbrev pub telegram_of : Protocol → Place → Place → List ℕ → Option TelegramModel
-telegram_of Pd src dst bytes = option_map (λ telegram. PdIs src dst telegram) (pd_telegram_of bytes)
+telegram_of Pd src dst bytes =
+    option_map (λ telegram. PdIs src dst telegram) (pd_telegram_of bytes)
 telegram_of Md src dst bytes = None
 
 -- the topology counts of a telegram
@@ -39,50 +41,60 @@ dataset_of (Requester r) = 0
 
 -- the payload is a value of the object's dataset
 abbrev pub fits_object : ConfigModel → TelegramModel → AnyObject → Bool
-fits_object setup telegram object = is_fitting setup (dataset_of object) (payload_of telegram)
+fits_object config telegram object = is_fitting config (dataset_of object) (payload_of telegram)
 
 -- the telegram is for the object of the entry
 abbrev pub is_for_entry : TelegramModel → Globals → Entry → Bool
-is_for_entry telegram g entry = is_addressed entry.object telegram g
+is_for_entry telegram globals entry = is_addressed entry.object telegram globals
 
--- the records of an object that did this with a telegram; what answers a pull request goes to that place
+-- the records of an object that did this with a telegram; what answers a pull request goes to
+-- that place
 abbrev pub taken_records : Place → Entry → Taken → List Content
 taken_records answer_to entry Nothing = []
 taken_records answer_to entry Stored = []
-taken_records answer_to entry Alive = Indicates (AliveAgain entry.handle) ∷ []
+taken_records answer_to entry Alive = Indicates (AliveIs entry.handle) ∷ []
 taken_records answer_to entry (Pulled head) = pull_answer entry.object answer_to head
 
 -- an object after a telegram: it took it if it was for it
 abbrev pub entry_after_telegram : ConfigModel → TelegramModel → Globals → Entry → Entry
-entry_after_telegram setup telegram g entry =
-    if is_for_entry telegram g entry
-    then record { handle = entry.handle; object = after_taking entry.object telegram g (fits_object setup telegram entry.object) }
+entry_after_telegram config telegram globals entry =
+    if is_for_entry telegram globals entry
+    then record {
+      handle = entry.handle;
+      object = after_taking entry.object telegram globals
+          (fits_object config telegram entry.object);
+    }
     else entry
 
 -- the records of an object at a telegram
 abbrev pub records_taking : ConfigModel → TelegramModel → Globals → Entry → List Content
-records_taking setup telegram g entry =
-    if is_for_entry telegram g entry
-    then taken_records (answer_place setup telegram) entry (taken entry.object telegram g (fits_object setup telegram entry.object))
+records_taking config telegram globals entry =
+    if is_for_entry telegram globals entry
+    then taken_records (answer_place config telegram) entry
+    (taken entry.object telegram globals (fits_object config telegram entry.object))
     else []
 
 -- effect of a telegram on a slot: the objects that it is for act in the order of their handles
 abbrev pub received : ConfigModel → SlotState → Globals → TelegramModel → Outcome
-received setup slot g telegram = record {
-  slot = record slot { objects = map (entry_after_telegram setup telegram g) slot.objects };
-  records = flat_map (records_taking setup telegram g) slot.objects;
+received config slot globals telegram = record {
+  slot = record slot { objects = map (entry_after_telegram config telegram globals) slot.objects };
+  records = flat_map (records_taking config telegram globals) slot.objects;
 }
 
 -- the telegram's topology counts match the node's
 abbrev pub is_valid_at : Globals → TelegramModel → Bool
-is_valid_at g telegram = topo_valid (counts_of telegram) g.topo
+is_valid_at globals telegram = topo_valid (counts_of telegram) globals.topo
 
--- effect of a datagram on a slot: none where it is no telegram or its counts don't match the node's
+-- effect of a datagram on a slot: none where it is no telegram or its counts don't match the
+-- node's
 abbrev pub received_if : ConfigModel → SlotState → Globals → Option TelegramModel → Outcome
-received_if setup slot g None = unchanged slot
-received_if setup slot g (Some telegram) = if is_valid_at g telegram then received setup slot g telegram else unchanged slot
+received_if config slot globals None = unchanged slot
+received_if config slot globals (Some telegram) =
+    if is_valid_at globals telegram then received config slot globals telegram else unchanged slot
 
--- the datagram concerns the slot: it is a telegram whose counts match the node's, and it is for one of the slot's objects
+-- the datagram concerns the slot: it is a telegram whose counts match the node's, and it is for
+-- one of the slot's objects
 abbrev pub concerns : Globals → Option TelegramModel → SlotState → Bool
-concerns g None slot = false
-concerns g (Some telegram) slot = is_valid_at g telegram && list_any (is_for_entry telegram g) slot.objects
+concerns globals None slot = false
+concerns globals (Some telegram) slot =
+    is_valid_at globals telegram && list_any (is_for_entry telegram globals) slot.objects

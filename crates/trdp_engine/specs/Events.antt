@@ -7,9 +7,12 @@ use Rattle.trdp_pd.specs.declared.terms.SubscriptionTerms.{SubscriptionTerms}
 use Rattle.trdp_pd.specs.declared.terms.RequesterTerms.{RequesterTerms}
 use Rattle.trdp_engine.specs.declared.record.Protocol.{Protocol}
 use Rattle.trdp_engine.specs.declared.event.Call.{Call as AnyCall}
-use Rattle.trdp_engine.specs.declared.event.Call.TheVariants.{Publish, Put, Unpublish, Subscribe, Get, Unsubscribe, OpenPull, Pull, ClosePull}
+use Rattle.trdp_engine.specs.declared.event.Call.TheVariants.{Publish, Put, Unpublish, Subscribe}
+use Rattle.trdp_engine.specs.declared.event.Call.TheVariants.{Get, Unsubscribe, OpenPull, Pull}
+use Rattle.trdp_engine.specs.declared.event.Call.TheVariants.{ClosePull}
 use Rattle.trdp_engine.specs.declared.event.Event.{Event}
-use Rattle.trdp_engine.specs.declared.event.Event.TheVariants.{Moment, Topology, Role, Datagram, Call}
+use Rattle.trdp_engine.specs.declared.event.Event.TheVariants.{Moment, Topology, Role, Datagram}
+use Rattle.trdp_engine.specs.declared.event.Event.TheVariants.{Call}
 
 -- a call of the application in a slot
 pub data CallModel : Type 0 where

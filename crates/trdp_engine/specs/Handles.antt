@@ -1,4 +1,5 @@
--- What is true of each slot that a node holds: its handles rise, and its objects are within their quotas.
+-- What is true of each slot that a node holds: its handles rise, and its objects are within their
+-- quotas.
 use Rattle.std.specs.Prelude.{ℕ, ◌+◌, ◌<◌, ◌≤◌, ◌^◌, List, [], ◌∷◌, slice_index}
 use Rattle.trdp_engine.specs.declared.object.Entry.{Entry}
 use Rattle.trdp_engine.specs.Slots.{count_of}

@@ -1,6 +1,7 @@
 pub mod Configs
 pub mod Records
 pub mod Slots
+pub mod Looks
 pub mod Events
 pub mod Pulls
 pub mod Calls

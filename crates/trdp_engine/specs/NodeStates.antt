@@ -1,5 +1,6 @@
 -- A node, and what its events do to each slot.
-use Rattle.std.specs.Prelude.{◌≡◌, ℕ, ◌<◌, ◌++◌, ◌∷◌, [], List, length, filter, slice_get, Some, None, true}
+use Rattle.std.specs.Prelude.{◌≡◌, ℕ, ◌<◌, ◌++◌, ◌∷◌, [], List, length, filter, slice_get, Some}
+use Rattle.std.specs.Prelude.{None, true}
 use Rattle.std.specs.List.{sum_by, list_any}
 use Rattle.trdp_filter.specs.declared.globals.Globals.{Globals}
 use Rattle.trdp_dataset.specs.Configs.{ConfigModel}
@@ -14,51 +15,68 @@ use Rattle.trdp_engine.specs.Alone.{slot_after, records_after, alone_in_view}
 
 -- a node: its configuration, its globals, and its slots
 pub record NodeState : Type 0 where
-  pub setup : ConfigModel
+  pub config : ConfigModel
   pub globals : Globals
   pub slots : List SlotState
 
 -- one event, as slot s sees it
-pub record StepsAsAlone (old new : NodeState) (records records_then : List RecordModel) (event : EventModel) (s : ℕ) (slot : SlotState) : Type 0 where
-  pub slot_is : slice_get new.slots s ≡ Some (slot_after old.setup s slot old.globals event)
-  pub records_are : records_of s records_then ≡ records_of s records ++ records_after old.setup s slot old.globals event
+pub record StepsAsAlone (old new : NodeState) (records records_then : List RecordModel)
+    (event : EventModel) (s : ℕ) (slot : SlotState) : Type 0 where
+  pub slot_is : slice_get new.slots s ≡ Some (slot_after old.config s slot old.globals event)
+  pub records_are : records_of s records_then
+      ≡ records_of s records ++ records_after old.config s slot old.globals event
 
--- a list of events, as slot s sees it: the slot, the globals and the records are those of the slot run by itself
-pub record RunsAsAlone (old new : NodeState) (records records_then : List RecordModel) (events : List EventModel) (s : ℕ) (slot : SlotState) : Type 0 where
-  pub slot_is : slice_get new.slots s ≡ Some (alone_in_view old.setup s slot old.globals events).slot
-  pub globals_are : new.globals ≡ (alone_in_view old.setup s slot old.globals events).globals
-  pub records_are : records_of s records_then ≡ records_of s records ++ (alone_in_view old.setup s slot old.globals events).records
+-- a list of events, as slot s sees it: the slot, the globals and the records are those of the
+-- slot run by itself
+pub record RunsAsAlone (old new : NodeState) (records records_then : List RecordModel)
+    (events : List EventModel) (s : ℕ) (slot : SlotState) : Type 0 where
+  pub slot_is : slice_get new.slots s
+      ≡ Some (alone_in_view old.config s slot old.globals events).slot
+  pub globals_are : new.globals ≡ (alone_in_view old.config s slot old.globals events).globals
+  pub records_are : records_of s records_then
+      ≡ records_of s records ++ (alone_in_view old.config s slot old.globals events).records
 
 -- the records of before stand first, and none is added for a number that no slot has
-pub record Appends (slots : List SlotState) (records records_then : List RecordModel) : Type 0 where
+pub record Appends (slots : List SlotState)
+    (records records_then : List RecordModel) : Type 0 where
   pub more : List RecordModel
   pub front : records_then ≡ records ++ more
-  pub none_else : (s : ℕ) → slice_get slots s ≡ None → records_of s records_then ≡ records_of s records
+  pub none_else : (s : ℕ) → slice_get slots s ≡ None
+      → records_of s records_then ≡ records_of s records
 
 -- how many objects of the slots are due by t
 abbrev pub due_in : ℕ → List SlotState → ℕ
 due_in t slots = sum_by (λ slot. length (filter (is_due t) slot.objects)) slots
 
--- the events at which memory may be wanting: a call, a moment by which something is due, a datagram that concerns a slot
+-- the events at which memory may be wanting: a call, a moment by which something is due, a
+-- datagram that concerns a slot
 abbrev pub MayTakeMemory : NodeState → EventModel → Type 0
 MayTakeMemory node (MomentIs t) = 0 < due_in t node.slots
 MayTakeMemory node (TopologyIs topo) = ⊥
 MayTakeMemory node (RoleIs group leader) = ⊥
-MayTakeMemory node (DatagramIs protocol src dst bytes) = list_any (concerns node.globals (telegram_of protocol src dst bytes)) node.slots ≡ true
+MayTakeMemory node (DatagramIs protocol src dst bytes) =
+    list_any (concerns node.globals (telegram_of protocol src dst bytes)) node.slots ≡ true
 MayTakeMemory node (CallIs s call) = Unit {0}
 
 -- a node that was just made serves the first slot of its configuration, which is empty
 abbrev pub opened_node : ConfigModel → NodeState
-opened_node config = record { setup = config; globals = first_globals; slots = opened_slot (quotas_of (slice_get config.slots 0)) ∷ [] }
+opened_node config =
+    record {
+      config = config;
+      globals = first_globals;
+      slots = opened_slot (quotas_of (slice_get config.slots 0)) ∷ [];
+    }
 
 -- slot s is the same in two nodes, and has got the same records since
-pub record GetsTheSame (first second : NodeState) (records records_then others others_then : List RecordModel) (s : ℕ) : Type 0 where
+pub record GetsTheSame (first second : NodeState)
+    (records records_then others others_then : List RecordModel) (s : ℕ) : Type 0 where
   pub slot_is : slice_get first.slots s ≡ slice_get second.slots s
   pub got : List Content
   pub first_got : records_of s records_then ≡ records_of s records ++ got
   pub second_got : records_of s others_then ≡ records_of s others ++ got
 
 -- slot s is that of the outcome, and has got its records
-pub record GetsOutcome (new : NodeState) (records records_then : List RecordModel) (s : ℕ) (outcome : Outcome) : Type 0 where
+pub record GetsOutcome (new : NodeState) (records records_then : List RecordModel) (s : ℕ)
+    (outcome : Outcome) : Type 0 where
   pub slot_is : slice_get new.slots s ≡ Some outcome.slot
   pub records_are : records_of s records_then ≡ records_of s records ++ outcome.records

@@ -1,12 +1,16 @@
 -- What a node gives its slots: answers, indications and telegrams.
-use Rattle.std.specs.Prelude.{ℕ, List, map, filter, ◌==◌}
+use Rattle.std.specs.Prelude.{ℕ, List, [], ◌∷◌, Option, Some, None, map, filter, ◌==◌}
 use Rattle.trdp_base.specs.declared.place.Place.{Place}
+use Rattle.trdp_head.specs.declared.pd.PdHead.{PdHead}
+use Rattle.trdp_head.specs.PdBytes.{pd_bytes}
 use Rattle.trdp_pd.specs.Peeks.{PeekModel, peek_model}
 use Rattle.trdp_engine.specs.declared.fault.Refusal.{Refusal}
 use Rattle.trdp_engine.specs.declared.record.Answer.{Answer as AnyAnswer}
 use Rattle.trdp_engine.specs.declared.record.Answer.TheVariants.{Handle, Done, Value, Refused}
 use Rattle.trdp_engine.specs.declared.record.Indication.{Indication as AnyIndication}
+use Rattle.trdp_engine.specs.declared.record.Indication.TheVariants.{Silent, Alive}
 use Rattle.trdp_engine.specs.declared.record.Protocol.{Protocol}
+use Rattle.trdp_engine.specs.declared.record.Protocol.TheVariants.{Pd}
 use Rattle.trdp_engine.specs.declared.record.What.{What}
 use Rattle.trdp_engine.specs.declared.record.What.TheVariants.{Answer, Indication, Send}
 use Rattle.trdp_engine.specs.declared.record.Record.{Record}
@@ -18,10 +22,17 @@ pub data AnswerModel : Type 0 where
   ValueIs : (peek : PeekModel) → AnswerModel
   RefusedIs : (refusal : Refusal) → AnswerModel
 
--- what a record says: an answer, an indication, or a telegram with its protocol, its destination and every byte
+-- what a node tells a slot of its own accord: the subscription of that handle fell silent, or is
+-- alive again
+pub data IndicationModel : Type 0 where
+  SilentIs : (handle : ℕ) → IndicationModel
+  AliveIs : (handle : ℕ) → IndicationModel
+
+-- what a record says: an answer, an indication, or a telegram with its protocol, its destination
+-- and every byte
 pub data Content : Type 0 where
   Answers : (answer : AnswerModel) → Content
-  Indicates : (indication : AnyIndication) → Content
+  Indicates : (indication : IndicationModel) → Content
   Sends : (protocol : Protocol) (to : Place) (telegram : List ℕ) → Content
 
 -- one thing that a node gives the slot of that number
@@ -36,10 +47,15 @@ answer_model Done = DoneIs
 answer_model (Value peek) = ValueIs (peek_model peek)
 answer_model (Refused refusal) = RefusedIs refusal
 
+-- an indication, apart from where its bytes lie
+abbrev pub indication_model : AnyIndication → IndicationModel
+indication_model (Silent handle) = SilentIs handle
+indication_model (Alive handle) = AliveIs handle
+
 -- what a record says, apart from where its bytes lie
 abbrev pub content_model : What → Content
 content_model (Answer answer) = Answers (answer_model answer)
-content_model (Indication indication) = Indicates indication
+content_model (Indication indication) = Indicates (indication_model indication)
 content_model (Send protocol to telegram) = Sends protocol to telegram.now
 
 -- a record, apart from where its bytes lie
@@ -52,4 +68,10 @@ records_of s records = map (λ r. r.content) (filter (λ r. r.slot == s) records
 
 -- these as records of slot s
 abbrev pub labelled : ℕ → List Content → List RecordModel
-labelled s contents = map (λ c. let r : RecordModel = record { slot = s; content = c } in r) contents
+labelled s contents =
+    map (λ c. let r : RecordModel = record { slot = s; content = c } in r) contents
+
+-- a value that is sent to that place under this header; without a value nothing is sent
+abbrev pub value_sent : Place → PdHead → Option (List ℕ) → List Content
+value_sent to head None = []
+value_sent to head (Some bytes) = Sends Pd to (pd_bytes head bytes) ∷ []

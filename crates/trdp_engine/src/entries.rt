@@ -1,8 +1,11 @@
 //! A slot's list of objects, looked up by handle and by kind.
 
-ghost use Rattle.std.specs.Prelude.{◌≡◌, ℕ, ◌+◌, ◌<◌, ◌≤◌, ◌++◌, ◌∷◌, length, [], Option, None, Some, position, option_copied, is_none, if◌then◌else◌, ◌==◌, vec_len, vec_capacity};
+ghost use Rattle.std.specs.Prelude.{◌≡◌, ℕ, ◌+◌, ◌<◌, ◌≤◌, ◌++◌, ◌∷◌, length, [], Option, None};
+ghost use Rattle.std.specs.Prelude.{Some, position, option_copied, is_none, if◌then◌else◌, ◌==◌};
+ghost use Rattle.std.specs.Prelude.{vec_len, vec_capacity};
 ghost use Rattle.trdp_engine.specs.Slots.{count_of, entry_of, changed, without};
-ghost use Rattle.trdp_engine.specs.Calls.{put_refusal, object_refusal, value_refusal, close_refusal, with_value};
+ghost use Rattle.trdp_engine.specs.Calls.{put_refusal, object_refusal, value_refusal};
+ghost use Rattle.trdp_engine.specs.Calls.{close_refusal, with_value};
 
 use crate::fault::Refusal;
 use crate::object::Entry;
@@ -11,7 +14,7 @@ use trdp_head::PD_PAYLOAD_MAX;
 use trdp_marshal::fits;
 use trdp_pd::AnyObject;
 
-/// How many of the objects are of the kind at that place of the quotas.
+/// How many of the objects are of the kind with that index in the quotas.
 pub fn count_of_kind(objects: &[Entry], kind: usize) -> usize
     ensures { result ≡ count_of kind objects.now }
 {
@@ -28,16 +31,16 @@ pub fn entry_at(objects: &[Entry], handle: u32) -> Option<&Entry>
     objects.iter().find(|entry| entry.handle == handle)
 }
 
-/// The place of the object of that handle.
-pub fn place(objects: &[Entry], handle: u32) -> Option<usize>
+/// The index of the object of that handle.
+pub fn index_of(objects: &[Entry], handle: u32) -> Option<usize>
     ensures { result ≡ position (λ entry. entry.handle == handle) objects.now }
 {
     objects.iter().position(|entry| entry.handle == handle)
 }
 
 /// Why the object takes no such value.
-fn object_refusal(object: &AnyObject, setup: &NodeConfig, bytes: &[u8]) -> Option<Refusal>
-    ensures refusal { result ≡ object_refusal setup.now bytes.now object.now }
+fn object_refusal(object: &AnyObject, config: &NodeConfig, bytes: &[u8]) -> Option<Refusal>
+    ensures refusal { result ≡ object_refusal config.now bytes.now object.now }
     ensures within { result ≡ None → length bytes.now ≤ 1432 }
 {
     match object {
@@ -45,7 +48,7 @@ fn object_refusal(object: &AnyObject, setup: &NodeConfig, bytes: &[u8]) -> Optio
         AnyObject::Publisher(publisher) => {
             if bytes.len() > PD_PAYLOAD_MAX {
                 Some(Refusal::TooLong)
-            } else if !fits(setup.registry(), publisher.dataset(), bytes) {
+            } else if !fits(config.registry(), publisher.dataset(), bytes) {
                 Some(Refusal::Shape)
             } else {
                 None
@@ -68,19 +71,22 @@ fn put(object: &mut AnyObject, bytes: &[u8])
 /// Gives the object of that handle a new value, or says why not.
 pub fn put_in(
     objects: &mut Vec<Entry>,
-    setup: &NodeConfig,
+    config: &NodeConfig,
     handle: u32,
     bytes: &[u8],
 ) -> Option<Refusal>
-    ensures refusal { result ≡ put_refusal setup.now bytes.now (entry_of handle objects.old.items) }
-    ensures items { objects.new.items ≡ (if is_none result then changed handle (with_value bytes.now) objects.old.items else objects.old.items) }
+    ensures refusal { result
+        ≡ put_refusal config.now bytes.now (entry_of handle objects.old.items) }
+    ensures items { objects.new.items
+        ≡ (if is_none result then changed handle (with_value bytes.now) objects.old.items
+        else objects.old.items) }
     ensures capacity { vec_capacity objects.new ≡ vec_capacity objects.old }
 {
-    match place(objects, handle) {
+    match index_of(objects, handle) {
         None => Some(Refusal::NoHandle),
-        Some(at) => {
-            let entry = &mut objects[at];
-            let refusal = object_refusal(&entry.object, setup, bytes);
+        Some(index) => {
+            let entry = &mut objects[index];
+            let refusal = object_refusal(&entry.object, config, bytes);
             if refusal.is_none() {
                 put(&mut entry.object, bytes);
             }
@@ -89,20 +95,22 @@ pub fn put_in(
     }
 }
 
-/// Ends the object of that handle, if it is of the kind at that place of the quotas, or says why not.
+/// Ends the object of that handle, if it is of the kind with that index in the quotas, or says why
+/// not.
 pub fn close_in(objects: &mut Vec<Entry>, kind: usize, handle: u32) -> Option<Refusal>
     ensures refusal { result ≡ close_refusal kind (entry_of handle objects.old.items) }
-    ensures items { objects.new.items ≡ (if is_none result then without handle objects.old.items else objects.old.items) }
+    ensures items { objects.new.items
+        ≡ (if is_none result then without handle objects.old.items else objects.old.items) }
     ensures capacity { vec_capacity objects.new ≡ vec_capacity objects.old }
 {
-    match place(objects, handle) {
+    match index_of(objects, handle) {
         None => Some(Refusal::NoHandle),
-        Some(at) => {
-            let held = objects[at].object.kind();
+        Some(index) => {
+            let held = objects[index].object.kind();
             if held != kind {
                 return Some(Refusal::WrongKind);
             }
-            let _ = objects.remove(at);
+            objects.remove(index);
             None
         }
     }

@@ -2,54 +2,103 @@
 
 use crate::record::Protocol;
 use trdp_base::{Place, Topo};
-use trdp_pd::{RequesterTerms, PublisherTerms, SubscriptionTerms};
+use trdp_pd::{PublisherTerms, RequesterTerms, SubscriptionTerms};
 
 /// A call of the application in a slot.
 #[derive(Clone, Copy, Debug)]
 pub enum Call<'a> {
     /// Makes a publisher, and answers its handle.
+    ///
+    /// # Errors
+    /// Refused: the first that applies of `Cycle`, `NoDataset`, `TooLong` (the dataset's zero
+    /// value is more than 1,432 bytes), `Quota` and `Exhausted`.
     Publish(PublisherTerms),
     /// Gives the publisher of that handle a new value.
+    ///
+    /// # Errors
+    /// Refused: the first that applies of `NoHandle`, `WrongKind`, `TooLong` (above 1,432 bytes)
+    /// and `Shape`.
     Put { handle: u32, bytes: &'a [u8] },
     /// Ends the publisher of that handle.
+    ///
+    /// # Errors
+    /// Refused: the first that applies of `NoHandle` and `WrongKind`.
     Unpublish { handle: u32 },
     /// Makes a subscription, and answers its handle.
+    ///
+    /// # Errors
+    /// Refused: the first that applies of `Timeout` (a supervision time other than 0 below 1,000
+    /// microseconds), `Range`, `NoDataset`, `TooLong` (the dataset's zero value is more than 1,432
+    /// bytes), `Quota` and `Exhausted`.
     Subscribe(SubscriptionTerms),
     /// Answers what the subscription of that handle shows.
+    ///
+    /// # Errors
+    /// Refused: the first that applies of `NoHandle` and `WrongKind`.
     Get { handle: u32 },
     /// Ends the subscription of that handle.
+    ///
+    /// # Errors
+    /// Refused: the first that applies of `NoHandle` and `WrongKind`.
     Unsubscribe { handle: u32 },
-    /// Makes a requester, and answers its handle. Refused: Quota, Exhausted.
+    /// Makes a requester, and answers its handle.
+    ///
+    /// # Errors
+    /// Refused: the first that applies of `Quota` and `Exhausted`.
     OpenPull(RequesterTerms),
-    /// Lets the requester of that handle send one pull request, after the answer. Refused: NoHandle, WrongKind, and State
-    /// where its topology counts don't match the node's.
+    /// Lets the requester of that handle send one pull request, after the answer.
+    ///
+    /// # Errors
+    /// Refused: the first that applies of `NoHandle`, `WrongKind`, and `State` where its topology
+    /// counts don't match the node's.
     Pull { handle: u32 },
-    /// Ends the requester of that handle. Refused: NoHandle, WrongKind.
+    /// Ends the requester of that handle.
+    ///
+    /// # Errors
+    /// Refused: the first that applies of `NoHandle` and `WrongKind`.
     ClosePull { handle: u32 },
 }
 
 /// One event, the atomic step of a node (profile).
 #[derive(Clone, Copy, Debug)]
 pub enum Event<'a> {
-    /// Time has come to that moment, in microseconds.
+    /// Time has come to that moment, in microseconds, at most 2^62.
+    ///
+    /// # Errors
+    /// `Past` before the node's latest moment, `TooLate` above 2^62.
     Moment(u64),
     /// The train's network has these topology counts.
     Topology(Topo),
-    /// The node is the leader of that redundancy group, 1 to 255, from now on, or a follower in it. Group 0 is `NoGroup`.
+    /// The node is the leader of that redundancy group, 1 to 255, from now on, or a follower in
+    /// it.
+    ///
+    /// # Errors
+    /// `NoGroup` for group 0.
     Role {
+        /// The group, 1 to 255.
         group: u8,
+        /// Whether the node leads it from now on.
         leader: bool,
     },
     /// These bytes came in over the protocol's port, from one place to another.
     Datagram {
+        /// Over which protocol's port.
         protocol: Protocol,
+        /// The address and port that it came from.
         src: Place,
+        /// The address and port that it went to.
         dst: Place,
+        /// Every byte of it.
         bytes: &'a [u8],
     },
     /// The application in that slot, numbered from 0, makes a call.
+    ///
+    /// # Errors
+    /// `NoSlot` where the node has no such slot.
     Call {
+        /// The slot's number.
         slot: u16,
+        /// The call.
         call: Call<'a>,
     },
 }

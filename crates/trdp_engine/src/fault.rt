@@ -1,70 +1,112 @@
 //! Why an event isn't taken, and why a call is refused.
 
+ghost use Rattle.std.specs.Prelude.{◌≡◌, ◌≢◌, Err, true, false};
+
+use crate::look::LookFault;
+use std::alloc::AllocError;
 use thiserror::Error;
 
-/// Why an event is not admitted: the first of these that applies (profile). Node and outbox stay as they were.
+/// Why an event is not admitted: the first of these that applies (profile). Node and outbox stay
+/// as they were.
 #[derive(Clone, Copy, Debug, PartialEq, Eq, Error)]
 pub enum NodeFault {
     /// The node has no slot of that number.
-    #[error("NoSlot")]
+    #[error("the node has no slot of that number")]
     NoSlot = 1,
     /// The moment lies before the node's latest one.
-    #[error("Past")]
+    #[error("the moment lies before the node's latest one")]
     Past = 2,
     /// The moment lies above 2^62 microseconds.
-    #[error("TooLate")]
+    #[error("the moment lies above 2^62 microseconds")]
     TooLate = 3,
     /// There is no redundancy group 0.
-    #[error("NoGroup")]
+    #[error("there is no redundancy group 0")]
     NoGroup = 4,
-    /// Memory that the event needs was refused.
-    #[error("OutOfMemory")]
+    /// There is no memory for what the event needs.
+    #[error("there is no memory for what the event needs")]
     OutOfMemory = 5,
 }
 
-/// Why a call is refused: the first of these that applies (profile). It is the one record of the call, and nothing else changes.
+impl From<AllocError> for NodeFault {
+    ghost use Rattle.std.specs.Prelude.{◌≡◌};
+    ghost use Rattle.trdp_engine.specs.declared.fault.NodeFault.TheVariants.{OutOfMemory};
+
+    ghost from_gives = { λ _ fault. fault ≡ OutOfMemory };
+
+    fn from(_: AllocError) -> NodeFault {
+        NodeFault::OutOfMemory
+    }
+}
+
+/// Whether the answer is want of memory.
+pub fn is_out_of_memory(answer: &Result<(), NodeFault>) -> bool
+    ensures yes { result ≡ true → answer.now ≡ Err NodeFault.OutOfMemory }
+    ensures no { result ≡ false → answer.now ≢ Err NodeFault.OutOfMemory }
+{
+    match answer {
+        Ok(()) => false,
+        Err(fault) => *fault == NodeFault::OutOfMemory,
+    }
+}
+
+/// Why a call is refused: the first of these that applies (profile). It is the one record of the
+/// call, and nothing else changes.
 #[derive(Clone, Copy, Debug, PartialEq, Eq, Error)]
 pub enum Refusal {
     /// The slot has no object of that handle.
-    #[error("NoHandle")]
+    #[error("the slot has no object of that handle")]
     NoHandle = 1,
     /// The object of that handle is of another kind.
-    #[error("WrongKind")]
+    #[error("the object of that handle is of another kind")]
     WrongKind = 2,
     /// The object isn't in a state for the call.
-    #[error("State")]
+    #[error("the object is not in a state for the call")]
     State = 3,
     /// A cycle other than 0 is below 1,000 microseconds.
-    #[error("Cycle")]
+    #[error("a cycle other than 0 is below 1,000 microseconds")]
     Cycle = 4,
     /// A time is outside its limits.
-    #[error("Timeout")]
+    #[error("a time is outside its limits")]
     Timeout = 5,
     /// More than 8 repliers are expected.
-    #[error("Expected")]
+    #[error("more than 8 repliers are expected")]
     Expected = 6,
     /// The status has the wrong sign.
-    #[error("Status")]
+    #[error("the status has the wrong sign")]
     Status = 7,
     /// The low end of a source range is above the high end.
-    #[error("Range")]
+    #[error("the low end of the source range is above its high end")]
     Range = 8,
     /// The node has no dataset of that number.
-    #[error("NoDataset")]
+    #[error("the node has no dataset of that number")]
     NoDataset = 9,
     /// The bytes are more than a telegram carries.
-    #[error("TooLong")]
+    #[error("the bytes are more than a telegram carries")]
     TooLong = 10,
     /// The bytes are no value of the dataset.
-    #[error("Shape")]
+    #[error("the bytes are no value of the dataset")]
     Shape = 11,
     /// The slot has a session of that identifier open.
-    #[error("SessionOpen")]
+    #[error("the slot has a session of that identifier open")]
     SessionOpen = 12,
     /// The slot has as many objects of the kind as its quota allows.
-    #[error("Quota")]
+    #[error("the slot has as many objects of the kind as its quota allows")]
     Quota = 13,
     /// The slot has given out its last handle.
-    #[error("Exhausted")]
+    #[error("the slot has given out its last handle")]
     Exhausted = 14,
+}
+
+impl From<LookFault> for Refusal {
+    ghost use Rattle.std.specs.Prelude.{◌≡◌};
+    ghost use Rattle.trdp_engine.specs.Calls.{look_refusal};
+
+    ghost from_gives = { λ fault refusal. refusal ≡ look_refusal fault };
+
+    fn from(fault: LookFault) -> Refusal {
+        match fault {
+            LookFault::NoHandle => Refusal::NoHandle,
+            LookFault::WrongKind => Refusal::WrongKind,
+        }
+    }
 }

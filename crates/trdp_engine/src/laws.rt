@@ -5,29 +5,39 @@ ghost use Rattle.trdp_dataset.specs.Configs.{ConfigModel};
 ghost use Rattle.trdp_filter.specs.declared.globals.Globals.{Globals};
 ghost use Rattle.trdp_engine.specs.Events.{EventModel, event_model};
 ghost use Rattle.trdp_engine.specs.Slots.{SlotState};
-ghost use Rattle.trdp_engine.specs.Alone.{refused_as, plain_effect, slot_after, records_after, view, alone_in_view};
+ghost use Rattle.trdp_engine.specs.Alone.{refused_as, plain_effect, slot_after, records_after};
+ghost use Rattle.trdp_engine.specs.Alone.{view, alone_in_view};
 ghost use Rattle.trdp_engine.specs.NodeStates.{GetsTheSame};
 
 use crate::event::Event;
 use crate::node::Node;
 use crate::outbox::Outbox;
 
-/// The law of equal views: two lists of events of which a slot sees the same come to the same for that slot, whatever
-/// else they hold.
+/// The law of equal views: two lists of events of which a slot sees the same come to the same for
+/// that slot, whatever else they hold.
 pub fn same_view()
-    ensures { (setup : ConfigModel) (s : ℕ) (slot : SlotState) (g : Globals) (events others : List EventModel) → view setup s slot g events ≡ view setup s slot g others → alone_in_view setup s slot g events ≡ alone_in_view setup s slot g others }
+    ensures { (config : ConfigModel) (s : ℕ) (slot : SlotState) (globals : Globals)
+        (events others : List EventModel)
+        → view config s slot globals events ≡ view config s slot globals others
+        → alone_in_view config s slot globals events ≡ alone_in_view config s slot globals others }
 {}
 
-/// The law of the view: an admitted event that a slot doesn't see does nothing in that slot's own model. What the slot
-/// sees comes to the same as all events, the calls of other slots left out.
+/// The law of the view: an admitted event that a slot doesn't see does nothing in that slot's own
+/// model. What the slot sees comes to the same as all events, the calls of other slots left out.
 #[tactic(auto, using(crate::proofs::Views::view_is_plain))]
 pub fn view_drops_nothing()
-    ensures { (setup : ConfigModel) (s n : ℕ) (slot : SlotState) (g : Globals) (event : EventModel) → refused_as n g event ≡ None → plain_effect setup s slot g event ≡ record { slot = slot_after setup s slot g event; records = records_after setup s slot g event } }
+    ensures { (config : ConfigModel) (s n : ℕ) (slot : SlotState) (globals : Globals)
+        (event : EventModel) → refused_as n globals event ≡ None
+        → plain_effect config s slot globals event
+        ≡ record {
+          slot = slot_after config s slot globals event;
+          records = records_after config s slot globals event;
+        } }
 {}
 
-/// Runs two nodes over two lists of events, and answers how many each took. Where the nodes have the same setup and globals,
-/// a slot that is the same in both, and sees the same of the events that were taken, is the same afterwards and has got the
-/// same records.
+/// Runs two nodes over two lists of events, and answers how many each took. Where the nodes have
+/// the same configuration and globals, a slot that is the same in both, and sees the same of the
+/// events that were taken, is the same afterwards and has got the same records.
 pub fn run_both(
     first: &mut Node,
     second: &mut Node,
@@ -36,7 +46,15 @@ pub fn run_both(
     out: &mut Outbox,
     other_out: &mut Outbox,
 ) -> (usize, usize)
-    ensures { first.old.setup ≡ second.old.setup → first.old.globals ≡ second.old.globals → (s : ℕ) (slot : SlotState) → slice_get first.old.slots s ≡ Some slot → slice_get second.old.slots s ≡ Some slot → view first.old.setup s slot first.old.globals (map event_model (take result.0 events.now)) ≡ view first.old.setup s slot first.old.globals (map event_model (take result.1 others.now)) → GetsTheSame first.new second.new out.old.records out.new.records other_out.old.records other_out.new.records s }
+    ensures { first.old.config ≡ second.old.config → first.old.globals ≡ second.old.globals
+        → (s : ℕ) (slot : SlotState) → slice_get first.old.slots s ≡ Some slot
+        → slice_get second.old.slots s ≡ Some slot
+        → view first.old.config s slot first.old.globals
+        (map event_model (take result.0 events.now))
+        ≡ view first.old.config s slot first.old.globals
+        (map event_model (take result.1 others.now))
+        → GetsTheSame first.new second.new out.old.records out.new.records other_out.old.records
+        other_out.new.records s }
 {
     let taken = first.run(events, out);
     let others_taken = second.run(others, other_out);

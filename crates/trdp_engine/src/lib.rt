@@ -1,8 +1,10 @@
 //! The node: events come in, and each slot gets its answers and telegrams.
 //!
-//! What no contract can say is that memory is there. A `run` that answers 0, a `run_both` that answers twice 0, and a `value_of`
-//! that answers want of memory wherever it could show an item meet their contracts, since memory may be lacking; the tests show
-//! that with ample memory every event is taken and every item shown.
+//! What no contract can say is that memory is there. A `run` that stops before the first event
+//! that may take memory (a call, a moment by which something is due, a datagram that concerns a
+//! slot), a `run_both` of two such runs, and a `value_of` that answers want of memory wherever it
+//! could show an item meet their contracts, since memory may be lacking; the tests show that with
+//! ample memory every event is taken and every item shown.
 #![tactic(auto)]
 
 mod datagram;
@@ -10,12 +12,15 @@ mod entries;
 mod event;
 mod fault;
 mod laws;
+mod look;
 mod moment;
 mod node;
 mod object;
+mod opening;
 mod outbox;
 mod peek;
 mod pull;
+mod reception;
 mod record;
 mod shown;
 mod slot;
@@ -29,3 +34,14 @@ pub use outbox::Outbox;
 pub use peek::PeekFault;
 pub use record::{Answer, Indication, Protocol, Record, What};
 pub use shown::ValueFault;
+
+// What callers pass in and get back, so that a program names this crate alone.
+pub use trdp_base::{
+    IP_LENGTH, Ip, MOMENT_MAX, Moment, NUMBER_LENGTH, PLACE_LENGTH, Place, QUOTA_LIMIT, Quotas,
+    TextFault, Topo, push_hex, push_ip, push_number, push_place, read_hex, read_ip, read_number,
+    read_place,
+};
+pub use trdp_dataset::{ConfigFault, Key, NodeConfig, Registry};
+pub use trdp_filter::PdFilter;
+pub use trdp_marshal::Item;
+pub use trdp_pd::{Behaviour, Peek, PublisherTerms, RequesterTerms, SubscriptionTerms, ValueState};

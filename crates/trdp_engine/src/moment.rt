@@ -1,20 +1,22 @@
 //! What a moment does to the objects of a slot.
 
-ghost use Rattle.std.specs.Prelude.{◌≡◌, ℕ, ◌+◌, ◌*◌, ◌<◌, ◌≤◌, ◌++◌, length, Option, IfSome, true, slice_get, slice_set, vec_capacity, map, filter};
+ghost use Rattle.std.specs.Prelude.{◌≡◌, ℕ, ◌+◌, ◌*◌, ◌<◌, ◌≤◌, ◌++◌, length, Option, IfSome};
+ghost use Rattle.std.specs.Prelude.{true, slice_get, slice_set, vec_capacity, map, filter};
 ghost use Rattle.std.specs.List.{flat_map};
 ghost use Rattle.trdp_base.specs.Moments.{last_moment};
 ghost use Rattle.trdp_head.specs.declared.pd.TheConstants.{PD_TELEGRAM_MAX};
 ghost use Rattle.trdp_engine.specs.Handles.{IsRising};
 ghost use Rattle.trdp_pd.specs.Objects.{due_of};
 ghost use Rattle.trdp_engine.specs.Records.{labelled};
-ghost use Rattle.trdp_engine.specs.Moments.{is_due, in_order, records_firing, entry_after_moment};
+ghost use Rattle.trdp_engine.specs.Moments.{is_due, in_order, sends_data, records_firing};
+ghost use Rattle.trdp_engine.specs.Moments.{entry_after_moment};
 ghost use Rattle.trdp_engine.specs.Firing.{due_time, sooner, IsFirst};
 
 use crate::object::Entry;
 use crate::outbox::Outbox;
 use crate::record::Indication;
 use trdp_filter::Globals;
-use trdp_head::PD_TELEGRAM_MAX;
+use trdp_head::{PD_TELEGRAM_MAX, PdHead};
 use trdp_pd::{AnyObject, Fired, Object};
 
 /// The object's due moment, if it has come by `t`.
@@ -27,7 +29,7 @@ fn due_time(entry: &Entry, t: u64) -> Option<u64>
     }
 }
 
-/// The earlier of what is known and an object before it, each with its place and due moment.
+/// The earlier of what is known and an object before it, each with its index and due moment.
 fn sooner(first: Option<(usize, u64)>, at: usize, due: Option<u64>) -> Option<(usize, u64)>
     ensures { result ≡ sooner first at due }
 {
@@ -46,7 +48,7 @@ fn sooner(first: Option<(usize, u64)>, at: usize, due: Option<u64>) -> Option<(u
     }
 }
 
-/// The place of the object that fires first of those that are due by `t`.
+/// The index of the object that fires first of those that are due by `t`.
 fn first_due(objects: &[Entry], t: u64) -> Option<usize>
     requires { IsRising objects.now }
     ensures { IsFirst t objects.now result }
@@ -61,64 +63,83 @@ fn first_due(objects: &[Entry], t: u64) -> Option<usize>
     }
 }
 
-/// Fires one object that is due.
-fn fire(entry: &mut Entry, g: &Globals, s: u16, out: &mut Outbox)
-    requires due { is_due g.now.now entry.old ≡ true }
-    requires now { g.now.now ≤ last_moment }
+/// Records the data of a publisher, with its value, under this header.
+fn push_data(object: &AnyObject, head: &PdHead, s: u16, out: &mut Outbox)
     requires row { 0 < out.old.row_room }
     requires bytes { PD_TELEGRAM_MAX ≤ out.old.byte_room }
-    ensures entry { entry.new ≡ entry_after_moment g.entry.now entry.old }
-    ensures records { out.new.records ≡ out.old.records ++ labelled s (records_firing g.entry.now entry.old) }
+    ensures records { out.new.records
+        ≡ out.old.records ++ labelled s (sends_data object.now head.now) }
     ensures row_room { out.old.row_room ≤ out.new.row_room + 1 }
     ensures byte_room { out.old.byte_room ≤ out.new.byte_room + PD_TELEGRAM_MAX }
 {
-    let handle = entry.handle;
-    match &mut entry.object {
-        AnyObject::Publisher(publisher) => {
-            if let Fired::Data(head) = publisher.fire(g) {
-                if let Some(value) = publisher.value() {
-                    out.push_pd(s, publisher.to(), &head, value);
-                }
-            }
+    if let AnyObject::Publisher(publisher) = object {
+        if let Some(value) = publisher.value() {
+            out.push_pd(s, publisher.to(), head, value);
         }
-        AnyObject::Subscription(subscription) => {
-            let _ = subscription.fire(g);
-            out.push_indication(s, Indication::Silent(handle));
-        }
-        // A requester is never due.
-        AnyObject::Requester(_) => {}
     }
 }
 
-/// Fires the object at the place.
-fn fire_at(objects: &mut Vec<Entry>, at: usize, g: &Globals, s: u16, out: &mut Outbox)
-    requires within { at < length objects.old.items }
-    requires due { IfSome (slice_get objects.old.items at) (λ entry. is_due g.now.now entry ≡ true) }
-    requires now { g.now.now ≤ last_moment }
+/// Fires one object that is due.
+fn fire(entry: &mut Entry, globals: &Globals, s: u16, out: &mut Outbox)
+    requires due { is_due globals.now.now entry.old ≡ true }
+    requires now { globals.now.now ≤ last_moment }
     requires row { 0 < out.old.row_room }
     requires bytes { PD_TELEGRAM_MAX ≤ out.old.byte_room }
-    ensures items { IfSome (slice_get objects.old.items at) (λ entry. objects.new.items ≡ slice_set objects.old.items at (entry_after_moment g.entry.now entry)) }
-    ensures records { IfSome (slice_get objects.old.items at) (λ entry. out.new.records ≡ out.old.records ++ labelled s (records_firing g.entry.now entry)) }
+    ensures entry { entry.new ≡ entry_after_moment globals.entry.now entry.old }
+    ensures records { out.new.records
+        ≡ out.old.records ++ labelled s (records_firing globals.entry.now entry.old) }
+    ensures row_room { out.old.row_room ≤ out.new.row_room + 1 }
+    ensures byte_room { out.old.byte_room ≤ out.new.byte_room + PD_TELEGRAM_MAX }
+{
+    match entry.object.fire(globals) {
+        Fired::Nothing => {}
+        Fired::Data(head) => push_data(&entry.object, &head, s, out),
+        Fired::Silent => out.push_indication(s, Indication::Silent(entry.handle)),
+    }
+}
+
+/// Fires the object of that index.
+fn fire_at(objects: &mut Vec<Entry>, at: usize, globals: &Globals, s: u16, out: &mut Outbox)
+    requires within { at < length objects.old.items }
+    requires due { IfSome (slice_get objects.old.items at)
+        (λ entry. is_due globals.now.now entry ≡ true) }
+    requires now { globals.now.now ≤ last_moment }
+    requires row { 0 < out.old.row_room }
+    requires bytes { PD_TELEGRAM_MAX ≤ out.old.byte_room }
+    ensures items { IfSome (slice_get objects.old.items at)
+        (λ entry.
+        objects.new.items ≡ slice_set objects.old.items at (entry_after_moment
+        globals.entry.now entry)) }
+    ensures records { IfSome (slice_get objects.old.items at)
+        (λ entry.
+        out.new.records ≡ out.old.records ++ labelled s (records_firing globals.entry.now
+        entry)) }
     ensures capacity { vec_capacity objects.new ≡ vec_capacity objects.old }
     ensures row_room { out.old.row_room ≤ out.new.row_room + 1 }
     ensures byte_room { out.old.byte_room ≤ out.new.byte_room + PD_TELEGRAM_MAX }
 {
     let entry = &mut objects[at];
-    fire(entry, g, s, out);
+    fire(entry, globals, s, out);
 }
 
 /// Fires the objects that are due, once each, in the order of their due moments and handles.
-pub fn fire_all(objects: &mut Vec<Entry>, g: &Globals, s: u16, out: &mut Outbox)
+pub fn fire_all(objects: &mut Vec<Entry>, globals: &Globals, s: u16, out: &mut Outbox)
     requires rising { IsRising objects.old.items }
-    requires now { g.now.now ≤ last_moment }
-    requires rows { length (filter (is_due g.now.now) objects.old.items) ≤ out.old.row_room }
-    requires bytes { PD_TELEGRAM_MAX * length (filter (is_due g.now.now) objects.old.items) ≤ out.old.byte_room }
-    ensures items { objects.new.items ≡ map (entry_after_moment g.entry.now) objects.old.items }
-    ensures records { out.new.records ≡ out.old.records ++ labelled s (flat_map (records_firing g.entry.now) (in_order (filter (is_due g.entry.now.now) objects.old.items))) }
+    requires now { globals.now.now ≤ last_moment }
+    requires rows { length (filter (is_due globals.now.now) objects.old.items) ≤ out.old.row_room }
+    requires bytes { PD_TELEGRAM_MAX * length (filter (is_due globals.now.now) objects.old.items)
+        ≤ out.old.byte_room }
+    ensures items { objects.new.items
+        ≡ map (entry_after_moment globals.entry.now) objects.old.items }
+    ensures records { out.new.records
+        ≡ out.old.records
+        ++ labelled s
+        (flat_map (records_firing globals.entry.now)
+        (in_order (filter (is_due globals.entry.now.now) objects.old.items))) }
     ensures capacity { vec_capacity objects.new ≡ vec_capacity objects.old }
 {
-    while let Some(at) = first_due(objects, g.now) {
-        fire_at(objects, at, g, s, out);
+    while let Some(at) = first_due(objects, globals.now) {
+        fire_at(objects, at, globals, s, out);
     }
 }
 

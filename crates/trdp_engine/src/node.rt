@@ -1,41 +1,46 @@
 //! The node: one event after another.
 
-ghost use Rattle.std.specs.Prelude.{nat_le, if◌then◌else◌, None, ◌≡◌, ◌≢◌, ℕ, ◌<◌, ◌≤◌, ◌++◌, ◌∷◌, [], length, OnOk, OnErr, IfOk, IfErr, Err, Some, true, false, slice_get, map, filter, take, replicate};
+ghost use Rattle.std.specs.Prelude.{nat_le, if◌then◌else◌, None, ◌≡◌, ◌≢◌, ℕ, ◌<◌, ◌≤◌, ◌∷◌};
+ghost use Rattle.std.specs.Prelude.{[], length, OnOk, OnErr, IfOk, IfErr, IfSome, Err, Some};
+ghost use Rattle.std.specs.Prelude.{slice_get, map, take, replicate};
 ghost use Rattle.trdp_base.specs.Moments.{last_moment};
-ghost use Rattle.trdp_engine.specs.Records.{Answers, RecordModel, labelled};
-ghost use Rattle.trdp_engine.specs.Events.{MomentIs, TopologyIs, RoleIs, DatagramIs, CallIs, call_model, event_model};
+ghost use Rattle.trdp_engine.specs.Events.{MomentIs, TopologyIs, RoleIs, DatagramIs, CallIs};
+ghost use Rattle.trdp_engine.specs.Events.{call_model, event_model};
 ghost use Rattle.trdp_engine.specs.Slots.{SlotState};
-ghost use Rattle.trdp_engine.specs.Calls.{called};
-ghost use Rattle.trdp_engine.specs.Datagrams.{telegram_of, received_if, concerns};
-ghost use Rattle.trdp_engine.specs.Moments.{is_due, moved_to};
+ghost use Rattle.trdp_engine.specs.Datagrams.{concerns};
 ghost use Rattle.trdp_engine.specs.Peeks.{peeked, peek_in};
 ghost use Rattle.trdp_engine.specs.ShownItems.{showing_in, ShowsItem};
 ghost use Rattle.trdp_marshal.specs.Items.{model_of};
 ghost use Rattle.trdp_engine.specs.Values.{valued_at};
 
 use crate::event::{Call, Event};
-use crate::fault::NodeFault;
+use crate::fault::{NodeFault, is_out_of_memory};
 use crate::outbox::Outbox;
 use crate::peek::PeekFault;
+use crate::reception::hear;
 use crate::record::Protocol;
-use crate::shown::ValueFault;
+use crate::shown::{ValueFault, item_shown};
 use crate::slot::Slot;
-use std::alloc::{AllocError, Global};
+use std::alloc::Global;
 use std::marker::Model;
 use std::slice;
 use trdp_base::{MOMENT_MAX, Place, Quotas, Topo};
 use trdp_dataset::NodeConfig;
-use trdp_filter::{Globals, Groups, Telegram};
-use trdp_head::{PD_TELEGRAM_MAX, read_pd};
+use trdp_filter::{Globals, Groups};
+use trdp_head::PD_TELEGRAM_MAX;
 use trdp_marshal::Item;
 use trdp_pd::Peek;
 
 /// The communication node of one end device. It serves slot 0.
 #[derive(Drop)]
 pub struct Node {
+    /// Where new objects take their memory from.
     alloc: Global,
+    /// The node's address and ports, its datasets, and the quotas of its slots.
     config: NodeConfig,
+    /// Its latest moment in microseconds, its topology counts, and the groups that it leads.
     globals: Globals,
+    /// Slot 0, the only one that is served.
     slot: Slot,
 }
 
@@ -48,16 +53,22 @@ impl Model for Node {
 
     ghost Value = { NodeState };
 
-    ghost view = { λ n. record { setup = n.config; globals = n.globals; slots = n.slot ∷ [] } };
+    ghost view = { λ n. record { config = n.config; globals = n.globals; slots = n.slot ∷ [] } };
 
-    ghost invariant = { λ n. (n.globals.now ≤ last_moment) × IsRegistry n.config.registry × AllFit n.config n.slot.objects };
+    ghost invariant = { λ n. (n.globals.now ≤ last_moment) × IsRegistry n.config.registry
+        × AllFit n.config n.slot.objects };
 }
 
 impl Node {
-    ghost use Rattle.trdp_engine.specs.NodeStates.{NodeState, GetsOutcome, StepsAsAlone, RunsAsAlone, Appends, MayTakeMemory, opened_node};
+    ghost use Rattle.trdp_engine.specs.NodeStates.{NodeState, GetsOutcome, StepsAsAlone};
+    ghost use Rattle.trdp_engine.specs.NodeStates.{RunsAsAlone, Appends, MayTakeMemory};
+    ghost use Rattle.trdp_engine.specs.NodeStates.{opened_node};
     ghost use Rattle.trdp_engine.specs.Alone.{FaultIs, refused_as, globals_after};
 
-    /// A node at moment 0 that leads no group, with empty slots. For want of memory the configuration comes back.
+    /// A node at moment 0 that leads no group, with empty slots.
+    ///
+    /// # Errors
+    /// The configuration comes back for want of memory.
     pub fn new(alloc: Global, config: NodeConfig) -> Result<Node, NodeConfig>
         ensures opened { IfOk result (λ node. node ≡ opened_node config) }
         ensures returned { IfErr result (λ back. back ≡ config) }
@@ -89,16 +100,24 @@ impl Node {
         slice::from_ref(&self.slot).len()
     }
 
-    /// Takes the moment `t`: room for the records of all that is due comes first, and then each due object fires.
+    /// Takes the moment `t`, in microseconds: room for the records of all that is due comes first,
+    /// and then each due object fires.
+    ///
+    /// # Errors
+    /// The first that applies of `Past`, `TooLate` and `OutOfMemory`.
     fn step_moment(&mut self, t: u64, out: &mut Outbox) -> Result<(), NodeFault>
-        ensures fault { FaultIs (refused_as (length self.old.slots) self.old.globals (MomentIs t)) result }
+        ensures fault { FaultIs (refused_as (length self.old.slots) self.old.globals (MomentIs t))
+            result }
         ensures kept { OnErr result (self.new ≡ self.old) }
         ensures unrecorded { OnErr result (out.new.records ≡ out.old.records) }
         ensures memory { result ≡ Err NodeFault.OutOfMemory → MayTakeMemory self.old (MomentIs t) }
-        ensures setup { self.new.setup ≡ self.old.setup }
-        ensures globals { OnOk result (self.new.globals ≡ globals_after self.old.globals (MomentIs t)) }
+        ensures config { self.new.config ≡ self.old.config }
+        ensures globals { OnOk result (self.new.globals
+            ≡ globals_after self.old.globals (MomentIs t)) }
         ensures count { length self.new.slots ≡ length self.old.slots }
-        ensures steps { OnOk result ((s : ℕ) (slot : SlotState) → slice_get self.old.slots s ≡ Some slot → StepsAsAlone self.old self.new out.old.records out.new.records (MomentIs t) s slot) }
+        ensures steps { OnOk result ((s : ℕ) (slot : SlotState)
+            → slice_get self.old.slots s ≡ Some slot
+            → StepsAsAlone self.old self.new out.old.records out.new.records (MomentIs t) s slot) }
         ensures appends { Appends self.old.slots out.old.records out.new.records }
     {
         if t < self.globals.now {
@@ -108,32 +127,33 @@ impl Node {
             return Err(NodeFault::TooLate);
         }
         let due = self.slot.due(t);
-        match out.reserve(due, PD_TELEGRAM_MAX * due) {
-            Err(_) => Err(NodeFault::OutOfMemory),
-            Ok(()) => {
-                self.globals.now = t;
-                self.slot.move_to(&self.globals, 0, out);
-                Ok(())
-            }
-        }
+        out.reserve(due, PD_TELEGRAM_MAX * due)?;
+        self.globals.now = t;
+        self.slot.move_to(&self.globals, 0, out);
+        Ok(())
     }
 
     /// Takes new topology counts.
     fn step_topology(&mut self, topo: Topo)
         ensures globals { self.new.globals ≡ globals_after self.old.globals (TopologyIs topo) }
         ensures slots { self.new.slots ≡ self.old.slots }
-        ensures setup { self.new.setup ≡ self.old.setup }
+        ensures config { self.new.config ≡ self.old.config }
     {
         self.globals.topo = topo;
     }
 
-    /// Takes the node's role in a redundancy group; there is no group 0.
+    /// Takes the node's role in a redundancy group.
+    ///
+    /// # Errors
+    /// `NoGroup` for group 0.
     fn step_role(&mut self, group: u8, leader: bool) -> Result<(), NodeFault>
-        ensures fault { FaultIs (refused_as (length self.old.slots) self.old.globals (RoleIs group leader)) result }
+        ensures fault { FaultIs
+            (refused_as (length self.old.slots) self.old.globals (RoleIs group leader)) result }
         ensures kept { OnErr result (self.new ≡ self.old) }
         ensures memory { result ≢ Err NodeFault.OutOfMemory }
-        ensures setup { self.new.setup ≡ self.old.setup }
-        ensures globals { OnOk result (self.new.globals ≡ globals_after self.old.globals (RoleIs group leader)) }
+        ensures config { self.new.config ≡ self.old.config }
+        ensures globals { OnOk result (self.new.globals
+            ≡ globals_after self.old.globals (RoleIs group leader)) }
         ensures slots { self.new.slots ≡ self.old.slots }
         ensures group { OnOk result (0 < group) }
     {
@@ -144,7 +164,11 @@ impl Node {
         Ok(())
     }
 
-    /// Takes a datagram. One that is no telegram, or of a protocol that isn't served yet, changes nothing.
+    /// Takes a datagram. One that is no telegram, or of a protocol that isn't served yet, changes
+    /// nothing.
+    ///
+    /// # Errors
+    /// `OutOfMemory`, where it concerns a slot.
     fn step_datagram(
         &mut self,
         protocol: Protocol,
@@ -153,17 +177,24 @@ impl Node {
         bytes: &[u8],
         out: &mut Outbox,
     ) -> Result<(), NodeFault>
-        ensures fault { FaultIs (refused_as (length self.old.slots) self.old.globals (DatagramIs protocol src dst bytes.now)) result }
+        ensures fault { FaultIs
+            (refused_as (length self.old.slots) self.old.globals
+            (DatagramIs protocol src dst bytes.now)) result }
         ensures kept { OnErr result (self.new ≡ self.old) }
         ensures unrecorded { OnErr result (out.new.records ≡ out.old.records) }
-        ensures memory { result ≡ Err NodeFault.OutOfMemory → MayTakeMemory self.old (DatagramIs protocol src dst bytes.now) }
-        ensures setup { self.new.setup ≡ self.old.setup }
-        ensures globals { OnOk result (self.new.globals ≡ globals_after self.old.globals (DatagramIs protocol src dst bytes.now)) }
+        ensures memory { result ≡ Err NodeFault.OutOfMemory
+            → MayTakeMemory self.old (DatagramIs protocol src dst bytes.now) }
+        ensures config { self.new.config ≡ self.old.config }
+        ensures globals { OnOk result (self.new.globals
+            ≡ globals_after self.old.globals (DatagramIs protocol src dst bytes.now)) }
         ensures count { length self.new.slots ≡ length self.old.slots }
-        ensures steps { OnOk result ((s : ℕ) (slot : SlotState) → slice_get self.old.slots s ≡ Some slot → StepsAsAlone self.old self.new out.old.records out.new.records (DatagramIs protocol src dst bytes.now) s slot) }
+        ensures steps { OnOk result ((s : ℕ) (slot : SlotState)
+            → slice_get self.old.slots s ≡ Some slot
+            → StepsAsAlone self.old self.new out.old.records out.new.records
+            (DatagramIs protocol src dst bytes.now) s slot) }
         ensures appends { Appends self.old.slots out.old.records out.new.records }
     {
-        match hear(
+        hear(
             &mut self.slot,
             &self.config,
             protocol,
@@ -172,47 +203,60 @@ impl Node {
             bytes,
             &self.globals,
             out,
-        ) {
-            Err(_) => Err(NodeFault::OutOfMemory),
-            Ok(()) => Ok(()),
-        }
+        )?;
+        Ok(())
     }
 
     /// Takes a call: room for its answer comes first.
+    ///
+    /// # Errors
+    /// The first that applies of `NoSlot` and `OutOfMemory`.
     fn step_call(&mut self, s: u16, call: &Call<'_>, out: &mut Outbox) -> Result<(), NodeFault>
-        ensures fault { FaultIs (refused_as (length self.old.slots) self.old.globals (CallIs s (call_model call.now))) result }
+        ensures fault { FaultIs
+            (refused_as (length self.old.slots) self.old.globals (CallIs s (call_model call.now)))
+            result }
         ensures kept { OnErr result (self.new ≡ self.old) }
         ensures unrecorded { OnErr result (out.new.records ≡ out.old.records) }
-        ensures setup { self.new.setup ≡ self.old.setup }
-        ensures globals { OnOk result (self.new.globals ≡ globals_after self.old.globals (CallIs s (call_model call.now))) }
+        ensures config { self.new.config ≡ self.old.config }
+        ensures globals { OnOk result (self.new.globals
+            ≡ globals_after self.old.globals (CallIs s (call_model call.now))) }
         ensures count { length self.new.slots ≡ length self.old.slots }
-        ensures steps { OnOk result ((r : ℕ) (slot : SlotState) → slice_get self.old.slots r ≡ Some slot → StepsAsAlone self.old self.new out.old.records out.new.records (CallIs s (call_model call.now)) r slot) }
+        ensures steps { OnOk result ((r : ℕ) (slot : SlotState)
+            → slice_get self.old.slots r ≡ Some slot
+            → StepsAsAlone self.old self.new out.old.records out.new.records
+            (CallIs s (call_model call.now)) r slot) }
         ensures appends { Appends self.old.slots out.old.records out.new.records }
     {
         if usize::from(s) >= self.slots() {
             return Err(NodeFault::NoSlot);
         }
-        match self
-            .slot
-            .serve(self.alloc, &self.config, call, &self.globals, 0, out)
-        {
-            Err(_) => Err(NodeFault::OutOfMemory),
-            Ok(()) => Ok(()),
-        }
+        self.slot
+            .serve(self.alloc, &self.config, call, &self.globals, 0, out)?;
+        Ok(())
     }
 
-    /// Takes one event, and appends its records to the outbox. After a fault node and outbox are as before; want of memory
-    /// comes last, and only at a call, at a moment by which something is due, or at a datagram that concerns a slot.
+    /// Takes one event, and appends its records to the outbox.
+    ///
+    /// # Errors
+    /// The event's own fault, as [`Event`] lists it. `OutOfMemory` comes last, and only at a
+    /// call, at a moment by which something is due, or at a datagram that concerns a slot. Node
+    /// and outbox are as before.
     pub fn step(&mut self, event: &Event<'_>, out: &mut Outbox) -> Result<(), NodeFault>
-        ensures fault { FaultIs (refused_as (length self.old.slots) self.old.globals (event_model event.now)) result }
+        ensures fault { FaultIs
+            (refused_as (length self.old.slots) self.old.globals (event_model event.now)) result }
         ensures kept { OnErr result (self.new ≡ self.old) }
         ensures unrecorded { OnErr result (out.new.records ≡ out.old.records) }
-        ensures memory { result ≡ Err NodeFault.OutOfMemory → MayTakeMemory self.old (event_model event.now) }
+        ensures memory { result ≡ Err NodeFault.OutOfMemory
+            → MayTakeMemory self.old (event_model event.now) }
 
-        ensures setup { self.new.setup ≡ self.old.setup }
-        ensures globals { OnOk result (self.new.globals ≡ globals_after self.old.globals (event_model event.now)) }
+        ensures config { self.new.config ≡ self.old.config }
+        ensures globals { OnOk result (self.new.globals
+            ≡ globals_after self.old.globals (event_model event.now)) }
         ensures count { length self.new.slots ≡ length self.old.slots }
-        ensures steps { OnOk result ((s : ℕ) (slot : SlotState) → slice_get self.old.slots s ≡ Some slot → StepsAsAlone self.old self.new out.old.records out.new.records (event_model event.now) s slot) }
+        ensures steps { OnOk result ((s : ℕ) (slot : SlotState)
+            → slice_get self.old.slots s ≡ Some slot
+            → StepsAsAlone self.old self.new out.old.records out.new.records
+            (event_model event.now) s slot) }
         ensures appends { Appends self.old.slots out.old.records out.new.records }
     {
         match *event {
@@ -232,11 +276,13 @@ impl Node {
         }
     }
 
-    /// Gives the publisher of that handle in slot `slot` a value that is handed over as an item: the call Put with the
-    /// bytes that the item is spelled by as a value of the publisher's dataset. An item without such bytes is the one record
-    /// Refused: NoHandle, WrongKind, NoDataset (dataset 0), Shape, TooLong, in this order.
+    /// Gives the publisher of that handle in slot `slot` a value that is handed over as an item:
+    /// the call Put with the bytes that the item is spelled by as a value of the publisher's
+    /// dataset. An item without such bytes is the one record Refused.
     ///
-    /// Its faults are `NoSlot`, and last `OutOfMemory`; after a fault node and outbox are as before.
+    /// # Errors
+    /// `NoSlot`, and last `OutOfMemory`; node and outbox are as before. Refused: the first that
+    /// applies of `NoHandle`, `WrongKind`, `NoDataset` (dataset 0), `Shape` and `TooLong`.
     pub fn put_value(
         &mut self,
         alloc: Global,
@@ -245,60 +291,71 @@ impl Node {
         item: &Item,
         out: &mut Outbox,
     ) -> Result<(), NodeFault>
-        ensures fault { FaultIs (if nat_le (length self.old.slots) slot then Some NodeFault.NoSlot else None) result }
+        ensures fault { FaultIs (if nat_le (length self.old.slots) slot then Some NodeFault.NoSlot
+            else None) result }
         ensures kept { OnErr result (self.new ≡ self.old) }
         ensures unrecorded { OnErr result (out.new.records ≡ out.old.records) }
 
-        ensures setup { self.new.setup ≡ self.old.setup }
+        ensures config { self.new.config ≡ self.old.config }
         ensures globals { self.new.globals ≡ self.old.globals }
         ensures count { length self.new.slots ≡ length self.old.slots }
-        ensures values { OnOk result ((s : ℕ) (state : SlotState) → slice_get self.old.slots s ≡ Some state → GetsOutcome self.new out.old.records out.new.records s (valued_at self.old.setup slot s state handle (model_of item.now))) }
+        ensures values { OnOk result ((s : ℕ) (state : SlotState)
+            → slice_get self.old.slots s ≡ Some state
+            → GetsOutcome self.new out.old.records out.new.records s
+            (valued_at self.old.config slot s state handle (model_of item.now))) }
         ensures appends { Appends self.old.slots out.old.records out.new.records }
     {
         if usize::from(slot) >= self.slots() {
             return Err(NodeFault::NoSlot);
         }
-        match self
-            .slot
-            .put_value(alloc, &self.config, handle, item, 0, out)
-        {
-            Err(_) => Err(NodeFault::OutOfMemory),
-            Ok(()) => Ok(()),
-        }
+        self.slot
+            .put_value(alloc, &self.config, handle, item, 0, out)?;
+        Ok(())
     }
 
     /// What the subscription of that handle shows, in every state of it. It takes no memory.
+    ///
+    /// # Errors
+    /// The first that applies of `NoSlot`, `NoHandle`, and `WrongKind` (the object is no
+    /// subscription).
     pub fn peek(&self, slot: u16, handle: u32) -> Result<Peek<'_>, PeekFault>
         ensures { peeked result ≡ peek_in (slice_get self.now.slots slot) handle }
     {
         if usize::from(slot) >= self.slots() {
             return Err(PeekFault::NoSlot);
         }
-        self.slot.look(handle)
+        Ok(self.slot.subscription(handle)?.peek())
     }
 
-    /// The item that the subscription of that handle shows, in every state of it: the one whose bytes, as a value of the
-    /// subscription's dataset, are those that `peek` shows.
+    /// The item that the subscription of that handle shows, in every state of it: the one whose
+    /// bytes, as a value of the subscription's dataset, are those that `peek` shows.
     ///
     /// # Errors
-    /// The first that applies of `NoSlot`, `NoHandle`, `WrongKind` (the object is no subscription), `NoDataset` (it is one of
-    /// dataset 0), and last `OutOfMemory`.
+    /// The first that applies of `NoSlot`, `NoHandle`, `WrongKind` (the object is no
+    /// subscription), `NoDataset` (it is one of dataset 0), and last `OutOfMemory`.
     pub fn value_of(&self, alloc: Global, slot: u16, handle: u32) -> Result<Item, ValueFault>
-        ensures { ShowsItem self.now.setup (showing_in (slice_get self.now.slots slot) handle) result }
+        ensures { ShowsItem self.now.config (showing_in (slice_get self.now.slots slot) handle)
+            result }
     {
         if usize::from(slot) >= self.slots() {
             return Err(ValueFault::NoSlot);
         }
-        self.slot.item_of(alloc, &self.config, handle)
+        let subscription = self.slot.subscription(handle)?;
+        item_shown(alloc, &self.config, subscription)
     }
 
-    /// Takes events in turn. It goes on after an event that is refused for a cause of its own, stops before the first that
-    /// lacks memory, and answers how many were taken.
+    /// Takes events in turn, and answers how many were taken. It goes on after an event that is
+    /// refused for a cause of its own, and stops before the first that lacks memory: only before a
+    /// call, a moment by which something is due, or a datagram that concerns a slot.
     pub fn run(&mut self, events: &[Event<'_>], out: &mut Outbox) -> usize
         ensures within { result ≤ length events.now }
-        ensures setup { self.new.setup ≡ self.old.setup }
+        ensures stops { IfSome (slice_get events.now result)
+            (λ event. MayTakeMemory self.new (event_model event)) }
+        ensures config { self.new.config ≡ self.old.config }
         ensures count { length self.new.slots ≡ length self.old.slots }
-        ensures alone { (s : ℕ) (slot : SlotState) → slice_get self.old.slots s ≡ Some slot → RunsAsAlone self.old self.new out.old.records out.new.records (map event_model (take result events.now)) s slot }
+        ensures alone { (s : ℕ) (slot : SlotState) → slice_get self.old.slots s ≡ Some slot
+            → RunsAsAlone self.old self.new out.old.records out.new.records
+            (map event_model (take result events.now)) s slot }
         ensures appends { Appends self.old.slots out.old.records out.new.records }
     {
         let mut taken = 0;
@@ -313,46 +370,9 @@ impl Node {
     }
 }
 
-/// What a datagram does to slot 0.
-fn hear(
-    slot: &mut Slot,
-    setup: &NodeConfig,
-    protocol: Protocol,
-    src: Place,
-    dst: Place,
-    bytes: &[u8],
-    g: &Globals,
-    out: &mut Outbox,
-) -> Result<(), AllocError>
-    requires { g.now.now ≤ last_moment }
-    ensures slot { OnOk result (slot.new ≡ (received_if setup.now slot.old g.entry.now (telegram_of protocol src dst bytes.now)).slot) }
-    ensures records { OnOk result (out.new.records ≡ out.old.records ++ labelled 0 (received_if setup.now slot.old g.entry.now (telegram_of protocol src dst bytes.now)).records) }
-    ensures kept { OnErr result (slot.new ≡ slot.old) }
-    ensures unrecorded { OnErr result (out.new.records ≡ out.old.records) }
-    ensures memory { OnErr result (concerns g.entry.now (telegram_of protocol src dst bytes.now) slot.old ≡ true) }
-{
-    match protocol {
-        Protocol::Md => Ok(()),
-        Protocol::Pd => match read_pd(bytes) {
-            Err(_) => Ok(()),
-            Ok(view) => slot.receive(setup, &Telegram::Pd { src, dst, view }, g, 0, out),
-        },
-    }
-}
-
 /// The quotas of a slot that may hold nothing.
 fn no_quotas() -> Quotas
     ensures { result ≡ replicate 6 0 }
 {
     Quotas::new([0; 6]).unwrap()
-}
-
-fn is_out_of_memory(answer: &Result<(), NodeFault>) -> bool
-    ensures yes { result ≡ true → answer.now ≡ Err NodeFault.OutOfMemory }
-    ensures no { result ≡ false → answer.now ≢ Err NodeFault.OutOfMemory }
-{
-    match answer {
-        Ok(()) => false,
-        Err(fault) => *fault == NodeFault::OutOfMemory,
-    }
 }

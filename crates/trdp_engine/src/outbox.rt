@@ -1,11 +1,15 @@
 //! What a node gives its slots, in order.
 
-ghost use Rattle.std.specs.Prelude.{◌≡◌, ℕ, ◌+◌, ◌<◌, ◌≤◌, ◌↔◌, ◌++◌, ◌∷◌, length, List, [], Option, OnOk, OnErr, IsTrue, ◌⊎◌, slice_get, option_map, take, drop, vec_len, vec_capacity};
+ghost use Rattle.std.specs.Prelude.{◌≡◌, ℕ, ◌+◌, ◌<◌, ◌≤◌, ◌↔◌, ◌++◌, ◌∷◌, length, List, []};
+ghost use Rattle.std.specs.Prelude.{Option, OnOk, OnErr, IsTrue, ◌⊎◌, slice_get, option_map, take};
+ghost use Rattle.std.specs.Prelude.{drop, vec_len, vec_capacity};
 ghost use Rattle.trdp_head.specs.PdBytes.{pd_bytes, pd_length_of};
 ghost use Rattle.trdp_engine.specs.declared.record.Protocol.TheVariants.{Pd};
 ghost use Rattle.trdp_pd.specs.Peeks.{peek_model};
-ghost use Rattle.trdp_engine.specs.Records.{Answers, ValueIs, Indicates, Sends, RecordModel, answer_model, content_model, record_model};
-ghost use Rattle.trdp_engine.specs.Outboxes.{reply_model, row_content};
+ghost use Rattle.trdp_engine.specs.Records.{Answers, ValueIs, Indicates, Sends, RecordModel};
+ghost use Rattle.trdp_engine.specs.Records.{answer_model, content_model, indication_model};
+ghost use Rattle.trdp_engine.specs.Records.{record_model};
+ghost use Rattle.trdp_engine.specs.Outboxes.{plain_answer_model, row_content};
 
 use crate::fault::Refusal;
 use crate::record::{Answer, Indication, Protocol, Record, What};
@@ -17,34 +21,48 @@ use trdp_pd::{Peek, ValueState};
 
 /// An answer without bytes.
 #[derive(Clone, Copy)]
-pub enum Reply {
+pub enum PlainAnswer {
+    /// A new object has this handle.
     Handle(u32),
+    /// The call took effect.
     Done,
+    /// The call was refused so.
     Refused(Refusal),
 }
 
 /// What a row says, but for its bytes.
 #[derive(Clone, Copy)]
 pub enum Form {
-    Reply(Reply),
+    /// An answer without bytes.
+    PlainAnswer(PlainAnswer),
+    /// What a subscription shows: how good its value is and the counter that came with it.
     Value(ValueState, u32),
+    /// What happened to an object.
     Indication(Indication),
+    /// A telegram of the protocol, to be sent to that place.
     Send(Protocol, Place),
 }
 
-/// A record whose bytes lie at a place of the outbox's list.
+/// A record whose bytes lie in the outbox's list.
 #[derive(Clone, Copy)]
 pub struct Row {
+    /// The number of the slot that it is for, from 0.
     slot: u16,
+    /// What it says, but for its bytes.
     form: Form,
+    /// The index of its first byte in the outbox's list.
     at: usize,
+    /// How many bytes it has; 0 where it has none.
     len: usize,
 }
 
-/// The records of a node's events, in order, with the bytes of their telegrams. It keeps its memory when it is cleared.
+/// The records of a node's events, in order, with the bytes of their telegrams and values. It
+/// keeps its memory when it is cleared.
 #[derive(Drop)]
 pub struct Outbox {
+    /// The records, in the order in which they came.
     rows: Vec<Row>,
+    /// The bytes of all records, one after the other.
     bytes: Vec<u8>,
 }
 
@@ -54,7 +72,12 @@ impl Model for Outbox {
 
     ghost Value = { OutboxState };
 
-    ghost view = { λ o. record { records = map (row_model o.bytes.items) o.rows.items; held = vec_len o.bytes; row_room = vec_capacity o.rows - vec_len o.rows; byte_room = vec_capacity o.bytes - vec_len o.bytes } };
+    ghost view = { λ o. record {
+      records = map (row_model o.bytes.items) o.rows.items;
+      held = vec_len o.bytes;
+      row_room = vec_capacity o.rows - vec_len o.rows;
+      byte_room = vec_capacity o.bytes - vec_len o.bytes;
+    } };
 
     ghost invariant = { λ o. AllWithin (length o.bytes.items) o.rows.items };
 }
@@ -107,6 +130,9 @@ impl Outbox {
     }
 
     /// Makes room for so many more records and so many bytes of theirs.
+    ///
+    /// # Errors
+    /// Want of memory for that room.
     pub(crate) fn reserve(&mut self, rows: usize, bytes: usize) -> Result<(), AllocError>
         ensures records { self.new.records ≡ self.old.records }
         ensures rows { OnOk result (rows ≤ self.new.row_room) }
@@ -121,7 +147,8 @@ impl Outbox {
     /// Adds a record without bytes.
     fn push(&mut self, slot: u16, form: Form)
         requires { 0 < self.old.row_room }
-        ensures records { self.new.records ≡ self.old.records ++ record { slot = slot; content = row_content form [] } ∷ [] }
+        ensures records { self.new.records
+            ≡ self.old.records ++ record { slot = slot; content = row_content form [] } ∷ [] }
         ensures row_room { self.old.row_room ≤ self.new.row_room + 1 }
         ensures byte_room { self.old.byte_room ≤ self.new.byte_room }
     {
@@ -138,19 +165,23 @@ impl Outbox {
     }
 
     /// Adds an answer without bytes.
-    pub(crate) fn push_reply(&mut self, slot: u16, reply: Reply)
+    pub(crate) fn push_plain_answer(&mut self, slot: u16, answer: PlainAnswer)
         requires { 0 < self.old.row_room }
-        ensures records { self.new.records ≡ self.old.records ++ record { slot = slot; content = Answers (reply_model reply) } ∷ [] }
+        ensures records { self.new.records
+            ≡ self.old.records
+            ++ record { slot = slot; content = Answers (plain_answer_model answer) } ∷ [] }
         ensures row_room { self.old.row_room ≤ self.new.row_room + 1 }
         ensures byte_room { self.old.byte_room ≤ self.new.byte_room }
     {
-        self.push(slot, Form::Reply(reply));
+        self.push(slot, Form::PlainAnswer(answer));
     }
 
     /// Adds an indication.
     pub(crate) fn push_indication(&mut self, slot: u16, indication: Indication)
         requires { 0 < self.old.row_room }
-        ensures records { self.new.records ≡ self.old.records ++ record { slot = slot; content = Indicates indication } ∷ [] }
+        ensures records { self.new.records
+            ≡ self.old.records
+            ++ record { slot = slot; content = Indicates (indication_model indication) } ∷ [] }
         ensures row_room { self.old.row_room ≤ self.new.row_room + 1 }
         ensures byte_room { self.old.byte_room ≤ self.new.byte_room }
     {
@@ -161,7 +192,10 @@ impl Outbox {
     pub(crate) fn push_value(&mut self, slot: u16, peek: Peek<'_>)
         requires row { 0 < self.old.row_room }
         requires bytes { length peek.bytes.now ≤ self.old.byte_room }
-        ensures records { self.new.records ≡ self.old.records ++ record { slot = slot; content = Answers (ValueIs (peek_model peek.entry)) } ∷ [] }
+        ensures records { self.new.records
+            ≡ self.old.records
+            ++ record { slot = slot; content = Answers (ValueIs (peek_model peek.entry)) }
+            ∷ [] }
         ensures row_room { self.old.row_room ≤ self.new.row_room + 1 }
         ensures byte_room { self.old.byte_room ≤ self.new.byte_room + length peek.entry.bytes.now }
     {
@@ -178,14 +212,18 @@ impl Outbox {
         );
     }
 
-    /// Adds a process data telegram, which it writes in its place.
+    /// Adds a process data telegram, which it writes into its own bytes.
     pub(crate) fn push_pd(&mut self, slot: u16, to: Place, head: &PdHead, payload: &[u8])
         requires row { 0 < self.old.row_room }
         requires payload { length payload.now ≤ 1432 }
         requires bytes { pd_length_of (length payload.now) ≤ self.old.byte_room }
-        ensures records { self.new.records ≡ self.old.records ++ record { slot = slot; content = Sends Pd to (pd_bytes head.now payload.now) } ∷ [] }
+        ensures records { self.new.records
+            ≡ self.old.records
+            ++ record { slot = slot; content = Sends Pd to (pd_bytes head.now payload.now) }
+            ∷ [] }
         ensures row_room { self.old.row_room ≤ self.new.row_room + 1 }
-        ensures byte_room { self.old.byte_room ≤ self.new.byte_room + pd_length_of (length payload.now) }
+        ensures byte_room { self.old.byte_room
+            ≤ self.new.byte_room + pd_length_of (length payload.now) }
     {
         let at = self.bytes.len();
         let len = append_pd(&mut self.bytes, head, payload);
@@ -201,14 +239,14 @@ impl Outbox {
     }
 }
 
-/// The answer of a reply.
-fn answer<'a>(reply: Reply) -> Answer<'a>
-    ensures { answer_model result ≡ reply_model reply }
+/// A plain answer as an answer.
+fn answer<'a>(plain: PlainAnswer) -> Answer<'a>
+    ensures { answer_model result ≡ plain_answer_model plain }
 {
-    match reply {
-        Reply::Handle(handle) => Answer::Handle(handle),
-        Reply::Done => Answer::Done,
-        Reply::Refused(refusal) => Answer::Refused(refusal),
+    match plain {
+        PlainAnswer::Handle(handle) => Answer::Handle(handle),
+        PlainAnswer::Done => Answer::Done,
+        PlainAnswer::Refused(refusal) => Answer::Refused(refusal),
     }
 }
 
@@ -217,7 +255,7 @@ fn content(form: Form, bytes: &[u8]) -> What<'_>
     ensures { content_model result ≡ row_content form bytes.now }
 {
     match form {
-        Form::Reply(reply) => What::Answer(answer(reply)),
+        Form::PlainAnswer(plain) => What::Answer(answer(plain)),
         Form::Value(state, counter) => What::Answer(Answer::Value(Peek {
             state,
             counter,
@@ -234,7 +272,8 @@ fn content(form: Form, bytes: &[u8]) -> What<'_>
 
 /// The record of a row with its bytes.
 fn record(row: Row, bytes: &[u8]) -> Record<'_>
-    ensures { record_model result ≡ record { slot = row.slot; content = row_content row.form bytes.now } }
+    ensures { record_model result
+        ≡ record { slot = row.slot; content = row_content row.form bytes.now } }
 {
     Record {
         slot: row.slot,
@@ -263,14 +302,15 @@ fn append(bytes: &mut Vec<u8>, more: &[u8]) -> usize
     ensures len { vec_len bytes.new ≡ vec_len bytes.old + length more.now }
     ensures capacity { vec_capacity bytes.old ≤ vec_capacity bytes.new }
 {
-    let _ = bytes.extend_from_slice(more);
+    bytes.extend_from_slice(more).unwrap();
     more.len()
 }
 
 /// Writes a telegram at the end of the bytes, within their room, and answers its length.
 fn append_pd(bytes: &mut Vec<u8>, head: &PdHead, payload: &[u8]) -> usize
     requires payload { length payload.now ≤ 1432 }
-    requires room { vec_len bytes.old + pd_length_of (length payload.now) ≤ vec_capacity bytes.old }
+    requires room { vec_len bytes.old + pd_length_of (length payload.now)
+        ≤ vec_capacity bytes.old }
     ensures items { bytes.new.items ≡ bytes.old.items ++ pd_bytes head.now payload.now }
     ensures length { result ≡ pd_length_of (length payload.now) }
     ensures len { vec_len bytes.new ≡ vec_len bytes.old + pd_length_of (length payload.now) }
@@ -278,7 +318,7 @@ fn append_pd(bytes: &mut Vec<u8>, head: &PdHead, payload: &[u8]) -> usize
 {
     let at = bytes.len();
     let len = pd_length(payload.len());
-    let _ = bytes.resize(at + len, 0);
+    bytes.resize(at + len, 0).unwrap();
     write_pd(head, payload, &mut bytes[at..])
 }
 

@@ -44,8 +44,11 @@ pub enum What<'a> {
     Indication(Indication),
     /// A telegram to send to that place.
     Send {
+        /// Over which protocol's port.
         protocol: Protocol,
+        /// The address and port that it goes to.
         to: Place,
+        /// Every byte of it, the header first.
         telegram: &'a [u8],
     },
 }
@@ -53,6 +56,8 @@ pub enum What<'a> {
 /// One thing that a node gives the slot of that number.
 #[derive(Clone, Copy, Debug)]
 pub struct Record<'a> {
+    /// The number of the slot that it is for, from 0.
     pub slot: u16,
+    /// What it says.
     pub what: What<'a>,
 }

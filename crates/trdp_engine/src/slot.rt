@@ -1,25 +1,24 @@
 //! The objects of one application, under handles of its own.
 
-ghost use Rattle.std.specs.Prelude.{true, ◌≡◌, ℕ, ◌+◌, ◌*◌, ◌<◌, ◌≤◌, ◌++◌, ◌∷◌, length, [], Option, OnOk, OnErr, IfOk, IfErr, is_some, if◌then◌else◌, None, Some, slice_index, filter, vec_len, vec_capacity};
+ghost use Rattle.std.specs.Prelude.{true, ◌≡◌, ◌+◌, ◌*◌, ◌<◌, ◌≤◌, ◌++◌, length};
+ghost use Rattle.std.specs.Prelude.{Option, OnOk, OnErr, IfOk, IfErr, Ok, Err, None, Some, filter};
+ghost use Rattle.std.specs.Prelude.{vec_capacity};
 ghost use Rattle.trdp_base.specs.Moments.{last_moment};
 ghost use Rattle.trdp_head.specs.declared.pd.TheConstants.{PD_TELEGRAM_MAX};
 ghost use Rattle.trdp_filter.specs.Telegrams.{telegram_model, IsWithinLimit};
-ghost use Rattle.trdp_pd.specs.Peeks.{peek_model};
 ghost use Rattle.trdp_pd.specs.Objects.{kind_of};
 ghost use Rattle.trdp_engine.specs.declared.fault.Refusal.{Refusal};
-ghost use Rattle.trdp_engine.specs.Configs.{zero_size_of};
-ghost use Rattle.trdp_engine.specs.Records.{labelled, ValueIs, RefusedIs};
-ghost use Rattle.trdp_engine.specs.Events.{PublishCall, SubscribeCall, call_model};
+ghost use Rattle.trdp_engine.specs.Records.{labelled};
+ghost use Rattle.trdp_engine.specs.Events.{call_model};
 ghost use Rattle.trdp_engine.specs.Slots.{opened_slot, entry_of, with_object};
-ghost use Rattle.trdp_engine.specs.Calls.{is_span, opening_refusal, dataset_refusal, publish_refusal, subscribe_refusal, put_refusal, put_unless, close_refusal, closed_unless, opened_unless, pulled_unless, get_answer, answered, called};
+ghost use Rattle.trdp_engine.specs.Calls.{opening_refusal, put_refusal};
+ghost use Rattle.trdp_engine.specs.Calls.{put_unless, close_refusal, closed_unless};
+ghost use Rattle.trdp_engine.specs.Calls.{pulled_unless, get_answer, answered, called};
 ghost use Rattle.trdp_engine.specs.Pulls.{pull_refusal};
-ghost use Rattle.trdp_pd.specs.Requesters.{opened};
 ghost use Rattle.trdp_engine.specs.Datagrams.{is_for_entry, received_if, concerns};
 ghost use Rattle.trdp_engine.specs.Moments.{is_due, moved_to};
-ghost use Rattle.trdp_engine.specs.Outboxes.{reply_model};
-ghost use Rattle.trdp_engine.specs.Peeks.{peeked, peek_of};
-ghost use Rattle.trdp_engine.specs.Fitting.{AllFit};
-ghost use Rattle.trdp_engine.specs.ShownItems.{showing_at, ShowsItem};
+ghost use Rattle.trdp_engine.specs.Outboxes.{plain_answer_model};
+ghost use Rattle.trdp_engine.specs.Looks.{subscription_at};
 ghost use Rattle.trdp_marshal.specs.Items.{model_of};
 ghost use Rattle.trdp_engine.specs.Values.{item_bytes, item_refusal, IsRefusedAs, valued};
 
@@ -27,12 +26,11 @@ use crate::datagram::{count_addressed, is_valid_at, take_all};
 use crate::entries::{append, close_in, count_of_kind, entry_at, put_in};
 use crate::event::Call;
 use crate::fault::Refusal;
+use crate::look::{LookFault, subscription_at};
 use crate::moment::{count_due, fire_all};
 use crate::object::Entry;
-use crate::outbox::{Outbox, Reply};
-use crate::peek::PeekFault;
+use crate::outbox::{Outbox, PlainAnswer};
 use crate::pull::pull_in;
-use crate::shown::{ValueFault, item_of};
 use crate::value::{SpellFault, spell};
 use std::alloc::{AllocError, Global};
 use std::marker::Model;
@@ -41,28 +39,29 @@ use trdp_dataset::NodeConfig;
 use trdp_filter::{Globals, Telegram};
 use trdp_head::{PD_PAYLOAD_MAX, PD_TELEGRAM_MAX};
 use trdp_marshal::Item;
-use trdp_pd::{
-    AnyObject, RequesterTerms, Peek, PublisherTerms, Publisher, Requester, Subscription, SubscriptionTerms,
-};
-
-/// The shortest cycle or supervision time but 0, in microseconds (profile).
-const SPAN_MIN: u32 = 1_000;
+use trdp_pd::{AnyObject, Subscription};
 
 /// The last handle of a slot (profile).
 const HANDLE_MAX: u64 = 4_294_967_295;
 
-/// The places of the kinds in the order of the quotas.
-const PUBLISHERS: usize = 0;
+/// The index of publishers in the quotas.
+pub const PUBLISHERS: usize = 0;
 
-const SUBSCRIPTIONS: usize = 1;
+/// The index of subscriptions in the quotas.
+pub const SUBSCRIPTIONS: usize = 1;
 
-const REQUESTERS: usize = 2;
+/// The index of requesters in the quotas.
+pub const REQUESTERS: usize = 2;
 
-/// A slot: its quotas, its next handle, and its objects by rising handle, in a list that never grows.
+/// The objects of one application, each under a handle of its own.
 #[derive(Drop)]
 pub struct Slot {
+    /// How many objects of each kind it may hold.
     quotas: Quotas,
+    /// The handle of its next new object, from 1; 2^32 once all handles are given out.
     next: u64,
+    /// Its objects by rising handle, in a list that has room for all that the quotas allow and
+    /// never grows.
     objects: Vec<Entry>,
 }
 
@@ -81,7 +80,10 @@ impl Model for Slot {
 impl Slot {
     ghost use Rattle.trdp_engine.specs.Slots.{SlotState};
 
-    /// An empty slot. It may lack memory for its list.
+    /// An empty slot.
+    ///
+    /// # Errors
+    /// Want of memory for its list.
     pub fn new(alloc: Global, quotas: Quotas) -> Result<Slot, AllocError>
         ensures { IfOk result (λ slot. slot ≡ opened_slot quotas) }
     {
@@ -96,8 +98,8 @@ impl Slot {
         })
     }
 
-    /// Why the slot takes no new object of the kind at that place of the quotas.
-    fn opening_refusal(&self, kind: usize) -> Option<Refusal>
+    /// Why the slot takes no new object of the kind with that index in the quotas.
+    pub fn opening_refusal(&self, kind: usize) -> Option<Refusal>
         requires { kind ≤ 2 }
         ensures { result ≡ opening_refusal self.now kind }
     {
@@ -111,7 +113,7 @@ impl Slot {
     }
 
     /// Adds an object under the next handle, and answers that handle.
-    fn add(&mut self, object: AnyObject) -> u32
+    pub fn add(&mut self, object: AnyObject) -> u32
         requires { opening_refusal self.old (kind_of object) ≡ None }
         ensures slot { self.new ≡ with_object self.old object }
         ensures handle { result ≡ self.old.next }
@@ -122,258 +124,174 @@ impl Slot {
         handle
     }
 
-    /// Why the slot refuses the terms.
-    fn publish_refusal(&self, setup: &NodeConfig, terms: &PublisherTerms) -> Option<Refusal>
-        ensures { result ≡ publish_refusal setup.now self.now terms.now }
-    {
-        if !is_span(terms.cycle) {
-            return Some(Refusal::Cycle);
-        }
-        match value_size(setup, terms.dataset) {
-            Err(refusal) => Some(refusal),
-            Ok(_) => self.opening_refusal(PUBLISHERS),
-        }
-    }
-
-    /// How many bytes the zero value of the subscription takes, or why the slot refuses it.
-    fn subscribed_size(
-        &self,
-        setup: &NodeConfig,
-        terms: &SubscriptionTerms,
-    ) -> Result<usize, Refusal>
-        ensures refused { IfErr result (λ refusal. subscribe_refusal setup.now self.now terms.now ≡ Some refusal) }
-        ensures accepted { IfOk result (λ size. subscribe_refusal setup.now self.now terms.now ≡ None) }
-        ensures opens { IfOk result (λ size. opening_refusal self.now 1 ≡ None) }
-        ensures size { IfOk result (λ size. size ≡ zero_size_of setup.now terms.now.dataset) }
-        ensures within { IfOk result (λ size. size ≤ 1432) }
-    {
-        if !is_span(terms.supervision) {
-            return Err(Refusal::Timeout);
-        }
-        if terms.filter.low > terms.filter.high {
-            return Err(Refusal::Range);
-        }
-        match value_size(setup, terms.dataset) {
-            Err(refusal) => Err(refusal),
-            Ok(size) => match self.opening_refusal(SUBSCRIPTIONS) {
-                Some(refusal) => Err(refusal),
-                None => Ok(size),
-            },
-        }
-    }
-
-    /// Makes a publisher. Every refusal is found first, then memory is taken, and then the slot changes.
-    fn publish(
-        &mut self,
-        alloc: Global,
-        setup: &NodeConfig,
-        terms: &PublisherTerms,
-        g: &Globals,
-    ) -> Result<Reply, AllocError>
-        requires { g.now.now ≤ last_moment }
-        ensures outcome { IfOk result (λ reply. called setup.now self.old g.entry.now (PublishCall terms.now) ≡ answered self.new (reply_model reply)) }
-        ensures kept { OnErr result (self.new ≡ self.old) }
-    {
-        if let Some(refusal) = self.publish_refusal(setup, terms) {
-            return Ok(Reply::Refused(refusal));
-        }
-        let publisher = Publisher::new(alloc, terms, g.now)?;
-        Ok(Reply::Handle(self.add(AnyObject::Publisher(publisher))))
-    }
-
-    /// Makes a subscription, in the same order.
-    fn subscribe(
-        &mut self,
-        alloc: Global,
-        setup: &NodeConfig,
-        terms: &SubscriptionTerms,
-        g: &Globals,
-    ) -> Result<Reply, AllocError>
-        requires { g.now.now ≤ last_moment }
-        ensures outcome { IfOk result (λ reply. called setup.now self.old g.entry.now (SubscribeCall terms.now) ≡ answered self.new (reply_model reply)) }
-        ensures kept { OnErr result (self.new ≡ self.old) }
-    {
-        match self.subscribed_size(setup, terms) {
-            Err(refusal) => Ok(Reply::Refused(refusal)),
-            Ok(size) => {
-                let subscription = Subscription::new(alloc, terms, size, g.now)?;
-                Ok(Reply::Handle(self.add(AnyObject::Subscription(subscription))))
-            }
-        }
-    }
-
-    /// Makes a requester. It needs no memory.
-    fn open_pull(&mut self, terms: &RequesterTerms) -> Reply
-        ensures { opened_unless (opening_refusal self.old 2) self.old (AnyObject.Requester (opened terms.now)) ≡ answered self.new (reply_model result) }
-    {
-        match self.opening_refusal(REQUESTERS) {
-            Some(refusal) => Reply::Refused(refusal),
-            None => Reply::Handle(self.add(AnyObject::Requester(Requester::new(terms)))),
-        }
-    }
-
     /// Lets the requester of that handle pull, and records the answer and the pull request.
-    fn pull(&mut self, handle: u32, g: &Globals, s: u16, out: &mut Outbox)
+    fn pull(&mut self, handle: u32, globals: &Globals, s: u16, out: &mut Outbox)
         requires rows { 2 ≤ out.old.row_room }
         requires bytes { 40 ≤ out.old.byte_room }
-        ensures slot { self.new ≡ (pulled_unless (pull_refusal g.entry.now (entry_of handle self.old.objects)) self.old handle).slot }
-        ensures records { out.new.records ≡ out.old.records ++ labelled s (pulled_unless (pull_refusal g.entry.now (entry_of handle self.old.objects)) self.old handle).records }
+        ensures slot { self.new
+            ≡ (pulled_unless (pull_refusal globals.entry.now (entry_of handle self.old.objects))
+            self.old handle).slot }
+        ensures records { out.new.records
+            ≡ out.old.records
+            ++ labelled s
+            (pulled_unless
+            (pull_refusal globals.entry.now (entry_of handle self.old.objects))
+            self.old handle).records }
     {
-        match pull_in(&mut self.objects, handle, g) {
-            Err(refusal) => out.push_reply(s, Reply::Refused(refusal)),
+        match pull_in(&mut self.objects, handle, globals) {
+            Err(refusal) => out.push_plain_answer(s, PlainAnswer::Refused(refusal)),
             Ok(request) => {
-                out.push_reply(s, Reply::Done);
+                out.push_plain_answer(s, PlainAnswer::Done);
                 out.push_pd(s, request.to, &request.head, b"");
             }
         }
     }
 
     /// Gives the publisher of that handle a new value.
-    fn put(&mut self, setup: &NodeConfig, handle: u32, bytes: &[u8]) -> Reply
-        ensures { put_unless (put_refusal setup.now bytes.now (entry_of handle self.old.objects)) self.old handle bytes.now ≡ answered self.new (reply_model result) }
+    fn put(&mut self, config: &NodeConfig, handle: u32, bytes: &[u8]) -> PlainAnswer
+        ensures { put_unless (put_refusal config.now bytes.now (entry_of handle self.old.objects))
+            self.old handle bytes.now ≡ answered self.new (plain_answer_model result) }
     {
-        match put_in(&mut self.objects, setup, handle, bytes) {
-            Some(refusal) => Reply::Refused(refusal),
-            None => Reply::Done,
+        match put_in(&mut self.objects, config, handle, bytes) {
+            Some(refusal) => PlainAnswer::Refused(refusal),
+            None => PlainAnswer::Done,
         }
     }
 
-    /// The bytes of an item as a value of the object of that handle, or why there are none.
+    /// The bytes of an item as a value of the object of that handle.
+    ///
+    /// # Errors
+    /// Refused: the first that applies of `NoHandle`, `WrongKind`, `NoDataset` (dataset 0),
+    /// `Shape` and `TooLong`. `NoMemory` comes last.
     fn spelled(
         &self,
         alloc: Global,
-        setup: &NodeConfig,
+        config: &NodeConfig,
         handle: u32,
         item: &Item,
     ) -> Result<Vec<u8>, SpellFault>
-        ensures bytes { IfOk result (λ bytes. bytes.items ≡ item_bytes setup.now (model_of item.now) (entry_of handle self.now.objects)) }
-        ensures spelled { IfOk result (λ bytes. item_refusal setup.now (model_of item.now) (entry_of handle self.now.objects) ≡ None) }
-        ensures refused { IfErr result (IsRefusedAs (item_refusal setup.now (model_of item.now) (entry_of handle self.now.objects))) }
+        ensures bytes { IfOk result
+            (λ bytes. bytes.items ≡ item_bytes config.now (model_of item.now)
+            (entry_of handle self.now.objects)) }
+        ensures spelled { IfOk result
+            (λ bytes.
+            item_refusal config.now (model_of item.now) (entry_of handle self.now.objects)
+            ≡ None) }
+        ensures refused { IfErr result
+            (IsRefusedAs
+            (item_refusal config.now (model_of item.now) (entry_of handle self.now.objects))) }
     {
         match entry_at(&self.objects, handle) {
             None => Err(SpellFault::Refused(Refusal::NoHandle)),
-            Some(entry) => spell(alloc, setup, &entry.object, item),
+            Some(entry) => spell(alloc, config, &entry.object, item),
         }
     }
 
-    /// Puts an item in the publisher of that handle and records the answer; an item without bytes there is refused.
+    /// Puts an item in the publisher of that handle and records the answer; an item without bytes
+    /// there is refused.
+    ///
+    /// # Errors
+    /// Want of memory for the item's bytes or the answer; nothing has changed.
     pub fn put_value(
         &mut self,
         alloc: Global,
-        setup: &NodeConfig,
+        config: &NodeConfig,
         handle: u32,
         item: &Item,
         s: u16,
         out: &mut Outbox,
     ) -> Result<(), AllocError>
-        ensures slot { OnOk result (self.new ≡ (valued setup.now self.old handle (model_of item.now)).slot) }
-        ensures records { OnOk result (out.new.records ≡ out.old.records ++ labelled s (valued setup.now self.old handle (model_of item.now)).records) }
+        ensures slot { OnOk result (self.new
+            ≡ (valued config.now self.old handle (model_of item.now)).slot) }
+        ensures records { OnOk result (out.new.records
+            ≡ out.old.records
+            ++ labelled s (valued config.now self.old handle (model_of item.now)).records) }
         ensures kept { OnErr result (self.new ≡ self.old) }
         ensures unrecorded { OnErr result (out.new.records ≡ out.old.records) }
     {
         out.reserve(1, 0)?;
-        match self.spelled(alloc, setup, handle, item) {
+        match self.spelled(alloc, config, handle, item) {
             Err(SpellFault::NoMemory) => Err(AllocError),
             Err(SpellFault::Refused(refusal)) => {
-                out.push_reply(s, Reply::Refused(refusal));
+                out.push_plain_answer(s, PlainAnswer::Refused(refusal));
                 Ok(())
             }
             Ok(bytes) => {
-                let reply = self.put(setup, handle, &bytes);
-                out.push_reply(s, reply);
+                let answer = self.put(config, handle, &bytes);
+                out.push_plain_answer(s, answer);
                 Ok(())
             }
         }
     }
 
-    /// Ends the object of that handle and of the kind at that place of the quotas.
-    fn close(&mut self, kind: usize, handle: u32) -> Reply
-        ensures { closed_unless (close_refusal kind (entry_of handle self.old.objects)) self.old handle ≡ answered self.new (reply_model result) }
+    /// Ends the object of that handle, if it is of the kind with that index in the quotas.
+    fn close(&mut self, kind: usize, handle: u32) -> PlainAnswer
+        ensures { closed_unless (close_refusal kind (entry_of handle self.old.objects)) self.old
+            handle ≡ answered self.new (plain_answer_model result) }
     {
         match close_in(&mut self.objects, kind, handle) {
-            Some(refusal) => Reply::Refused(refusal),
-            None => Reply::Done,
+            Some(refusal) => PlainAnswer::Refused(refusal),
+            None => PlainAnswer::Done,
         }
     }
 
-    /// What the subscription of that handle shows, or why it shows nothing.
-    fn peek(&self, handle: u32) -> Result<Peek<'_>, Refusal>
-        ensures shown { IfOk result (λ peek. get_answer (entry_of handle self.now.objects) ≡ ValueIs (peek_model peek)) }
-        ensures refused { IfErr result (λ refusal. get_answer (entry_of handle self.now.objects) ≡ RefusedIs refusal) }
-        ensures within { IfOk result (λ peek. length peek.bytes.now ≤ 1432) }
+    /// The subscription of that handle.
+    ///
+    /// # Errors
+    /// The first that applies of `NoHandle` and `WrongKind`.
+    pub fn subscription(&self, handle: u32) -> Result<&Subscription, LookFault>
+        ensures found { IfOk result (λ s. subscription_at handle self.now.objects ≡ Ok s.now) }
+        ensures fault { IfErr result
+            (λ fault. subscription_at handle self.now.objects ≡ Err fault) }
     {
-        match entry_at(&self.objects, handle) {
-            None => Err(Refusal::NoHandle),
-            Some(entry) => match &entry.object {
-                AnyObject::Publisher(_) | AnyObject::Requester(_) => Err(Refusal::WrongKind),
-                AnyObject::Subscription(subscription) => Ok(subscription.peek()),
-            },
-        }
-    }
-
-    /// What the subscription of that handle shows to a look from outside.
-    pub fn look(&self, handle: u32) -> Result<Peek<'_>, PeekFault>
-        ensures { peeked result ≡ peek_of (entry_of handle self.now.objects) }
-    {
-        match entry_at(&self.objects, handle) {
-            None => Err(PeekFault::NoHandle),
-            Some(entry) => match &entry.object {
-                AnyObject::Publisher(_) | AnyObject::Requester(_) => Err(PeekFault::WrongKind),
-                AnyObject::Subscription(subscription) => Ok(subscription.peek()),
-            },
-        }
-    }
-
-    /// The item that the subscription of that handle shows, or why it shows none.
-    pub fn item_of(
-        &self,
-        alloc: Global,
-        setup: &NodeConfig,
-        handle: u32,
-    ) -> Result<Item, ValueFault>
-        requires { AllFit setup.now self.now.objects }
-        ensures { ShowsItem setup.now (showing_at (entry_of handle self.now.objects)) result }
-    {
-        match entry_at(&self.objects, handle) {
-            None => Err(ValueFault::NoHandle),
-            Some(entry) => item_of(alloc, setup, &entry.object),
-        }
+        subscription_at(&self.objects, handle)
     }
 
     /// Records the answer to a look at the object of that handle.
     fn get(&self, handle: u32, s: u16, out: &mut Outbox)
         requires row { 0 < out.old.row_room }
         requires bytes { 1432 ≤ out.old.byte_room }
-        ensures { out.new.records ≡ out.old.records ++ labelled s (answered self.now (get_answer (entry_of handle self.now.objects))).records }
+        ensures { out.new.records
+            ≡ out.old.records
+            ++ labelled s
+            (answered self.now
+            (get_answer (subscription_at handle self.now.objects))).records }
     {
-        match self.peek(handle) {
-            Err(refusal) => out.push_reply(s, Reply::Refused(refusal)),
-            Ok(peek) => out.push_value(s, peek),
+        match self.subscription(handle) {
+            Err(fault) => out.push_plain_answer(s, PlainAnswer::Refused(Refusal::from(fault))),
+            Ok(subscription) => out.push_value(s, subscription.peek()),
         }
     }
 
-    /// Serves a call and records its answer. A refused call changes nothing, and neither does one that lacks memory.
+    /// Serves a call and records its answer. A refused call changes nothing.
+    ///
+    /// # Errors
+    /// Want of memory for the answer or a new object; nothing has changed.
     pub fn serve(
         &mut self,
         alloc: Global,
-        setup: &NodeConfig,
+        config: &NodeConfig,
         call: &Call<'_>,
-        g: &Globals,
+        globals: &Globals,
         s: u16,
         out: &mut Outbox,
     ) -> Result<(), AllocError>
-        requires now { g.now.now ≤ last_moment }
-        ensures slot { OnOk result (self.new ≡ (called setup.now self.old g.entry.now (call_model call.now)).slot) }
-        ensures records { OnOk result (out.new.records ≡ out.old.records ++ labelled s (called setup.now self.old g.entry.now (call_model call.now)).records) }
+        requires now { globals.now.now ≤ last_moment }
+        ensures slot { OnOk result (self.new
+            ≡ (called config.now self.old globals.entry.now (call_model call.now)).slot) }
+        ensures records { OnOk result (out.new.records
+            ≡ out.old.records
+            ++ labelled s
+            (called config.now self.old globals.entry.now (call_model call.now)).records) }
         ensures kept { OnErr result (self.new ≡ self.old) }
         ensures unrecorded { OnErr result (out.new.records ≡ out.old.records) }
     {
         // A pull has two records, and the longest value is longer than a pull request.
         out.reserve(2, PD_PAYLOAD_MAX)?;
-        let reply = match *call {
-            Call::Publish(terms) => self.publish(alloc, setup, &terms, g)?,
-            Call::Subscribe(terms) => self.subscribe(alloc, setup, &terms, g)?,
-            Call::Put { handle, bytes } => self.put(setup, handle, bytes),
+        let answer = match *call {
+            Call::Publish(terms) => self.publish(alloc, config, &terms, globals)?,
+            Call::Subscribe(terms) => self.subscribe(alloc, config, &terms, globals)?,
+            Call::Put { handle, bytes } => self.put(config, handle, bytes),
             Call::Unpublish { handle } => self.close(PUBLISHERS, handle),
             Call::Unsubscribe { handle } => self.close(SUBSCRIPTIONS, handle),
             Call::OpenPull(terms) => self.open_pull(&terms),
@@ -383,11 +301,11 @@ impl Slot {
                 return Ok(());
             }
             Call::Pull { handle } => {
-                self.pull(handle, g, s, out);
+                self.pull(handle, globals, s, out);
                 return Ok(());
             }
         };
-        out.push_reply(s, reply);
+        out.push_plain_answer(s, answer);
         Ok(())
     }
 
@@ -400,81 +318,64 @@ impl Slot {
     }
 
     /// Fires each object that is due, once, in order.
-    pub fn move_to(&mut self, g: &Globals, s: u16, out: &mut Outbox)
-        requires now { g.now.now ≤ last_moment }
-        requires rows { length (filter (is_due g.now.now) self.old.objects) ≤ out.old.row_room }
-        requires bytes { PD_TELEGRAM_MAX * length (filter (is_due g.now.now) self.old.objects) ≤ out.old.byte_room }
-        ensures slot { self.new ≡ (moved_to self.old g.entry.now).slot }
-        ensures records { out.new.records ≡ out.old.records ++ labelled s (moved_to self.old g.entry.now).records }
+    pub fn move_to(&mut self, globals: &Globals, s: u16, out: &mut Outbox)
+        requires now { globals.now.now ≤ last_moment }
+        requires rows { length (filter (is_due globals.now.now) self.old.objects)
+            ≤ out.old.row_room }
+        requires bytes { PD_TELEGRAM_MAX
+            * length (filter (is_due globals.now.now) self.old.objects) ≤ out.old.byte_room }
+        ensures slot { self.new ≡ (moved_to self.old globals.entry.now).slot }
+        ensures records { out.new.records
+            ≡ out.old.records ++ labelled s (moved_to self.old globals.entry.now).records }
     {
-        fire_all(&mut self.objects, g, s, out);
+        fire_all(&mut self.objects, globals, s, out);
     }
 
     /// How many of its objects the telegram is for.
-    fn addressed(&self, telegram: &Telegram<'_>, g: &Globals) -> usize
-        ensures count { result ≡ length (filter (is_for_entry (telegram_model telegram.now) g.entry.now) self.now.objects) }
+    fn addressed(&self, telegram: &Telegram<'_>, globals: &Globals) -> usize
+        ensures count { result
+            ≡ length (filter (is_for_entry (telegram_model telegram.now) globals.entry.now)
+            self.now.objects) }
         ensures within { result ≤ 768 }
     {
-        count_addressed(&self.objects, telegram, g)
+        count_addressed(&self.objects, telegram, globals)
     }
 
-    /// Takes a telegram: each object that it is for is handed it, in the order of their handles. One whose topology counts
-    /// don't match the node's changes nothing. Room for the records comes first.
+    /// Takes a telegram: each object that it is for is handed it, in the order of their handles.
+    /// One whose topology counts don't match the node's changes nothing. Room for the records
+    /// comes first.
+    ///
+    /// # Errors
+    /// Want of memory for the records, where the telegram concerns the slot; nothing has changed.
     pub fn receive(
         &mut self,
-        setup: &NodeConfig,
+        config: &NodeConfig,
         telegram: &Telegram<'_>,
-        g: &Globals,
+        globals: &Globals,
         s: u16,
         out: &mut Outbox,
     ) -> Result<(), AllocError>
-        requires now { g.now.now ≤ last_moment }
+        requires now { globals.now.now ≤ last_moment }
         requires limit { IsWithinLimit (telegram_model telegram.now) }
-        ensures slot { OnOk result (self.new ≡ (received_if setup.now self.old g.entry.now (Some (telegram_model telegram.now))).slot) }
-        ensures records { OnOk result (out.new.records ≡ out.old.records ++ labelled s (received_if setup.now self.old g.entry.now (Some (telegram_model telegram.now))).records) }
+        ensures slot { OnOk result (self.new
+            ≡ (received_if config.now self.old globals.entry.now
+            (Some (telegram_model telegram.now))).slot) }
+        ensures records { OnOk result (out.new.records
+            ≡ out.old.records
+            ++ labelled s
+            (received_if config.now self.old globals.entry.now
+            (Some (telegram_model telegram.now))).records) }
         ensures kept { OnErr result (self.new ≡ self.old) }
         ensures unrecorded { OnErr result (out.new.records ≡ out.old.records) }
-        ensures memory { OnErr result (concerns g.entry.now (Some (telegram_model telegram.now)) self.old ≡ true) }
+        ensures memory { OnErr result
+            (concerns globals.entry.now (Some (telegram_model telegram.now)) self.old ≡ true) }
     {
-        if !is_valid_at(telegram, g) {
+        if !is_valid_at(telegram, globals) {
             return Ok(());
         }
-        let addressed = self.addressed(telegram, g);
-        match out.reserve(addressed, PD_TELEGRAM_MAX * addressed) {
-            Err(error) => Err(error),
-            Ok(()) => {
-                take_all(&mut self.objects, setup, telegram, g, s, out);
-                Ok(())
-            }
-        }
-    }
-}
-
-/// Whether a cycle or supervision time is 0 or at least 1,000 microseconds.
-fn is_span(span: u32) -> bool
-    ensures { result ≡ is_span span }
-{
-    span == 0 || span >= SPAN_MIN
-}
-
-/// How many bytes the zero value of a dataset takes, or why no object can be of it.
-fn value_size(setup: &NodeConfig, dataset: u32) -> Result<usize, Refusal>
-    ensures refused { IfErr result (λ refusal. (later : Option Refusal) → dataset_refusal setup.now dataset later ≡ Some refusal) }
-    ensures accepted { IfOk result (λ size. (later : Option Refusal) → dataset_refusal setup.now dataset later ≡ later) }
-    ensures size { IfOk result (λ size. size ≡ zero_size_of setup.now dataset) }
-    ensures within { IfOk result (λ size. size ≤ 1432) }
-{
-    if dataset == 0 {
-        return Ok(0);
-    }
-    match setup.registry().zero_size(dataset) {
-        None => Err(Refusal::NoDataset),
-        Some(size) => {
-            if size > PD_PAYLOAD_MAX {
-                Err(Refusal::TooLong)
-            } else {
-                Ok(size)
-            }
-        }
+        let addressed = self.addressed(telegram, globals);
+        out.reserve(addressed, PD_TELEGRAM_MAX * addressed)?;
+        take_all(&mut self.objects, config, telegram, globals, s, out);
+        Ok(())
     }
 }

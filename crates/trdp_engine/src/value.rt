@@ -19,23 +19,30 @@ pub enum SpellFault {
     NoMemory,
 }
 
-/// The bytes of an item as a value of the object, or why there are none.
+/// The bytes of an item as a value of the object.
+///
+/// # Errors
+/// Refused: the first that applies of `WrongKind`, `NoDataset` (dataset 0), `Shape` and `TooLong`.
+/// `NoMemory` comes last.
 pub fn spell(
     alloc: Global,
-    setup: &NodeConfig,
+    config: &NodeConfig,
     object: &AnyObject,
     item: &Item,
 ) -> Result<Vec<u8>, SpellFault>
-    ensures bytes { IfOk result (λ bytes. bytes.items ≡ bytes_for setup.now (model_of item.now) object.now) }
-    ensures spelled { IfOk result (λ bytes. item_refusal_of setup.now (model_of item.now) object.now ≡ None) }
-    ensures refused { IfErr result (IsRefusedAs (item_refusal_of setup.now (model_of item.now) object.now)) }
+    ensures bytes { IfOk result
+        (λ bytes. bytes.items ≡ bytes_for config.now (model_of item.now) object.now) }
+    ensures spelled { IfOk result
+        (λ bytes. item_refusal_of config.now (model_of item.now) object.now ≡ None) }
+    ensures refused { IfErr result
+        (IsRefusedAs (item_refusal_of config.now (model_of item.now) object.now)) }
 {
     match object {
         AnyObject::Subscription(_) | AnyObject::Requester(_) => {
             Err(SpellFault::Refused(Refusal::WrongKind))
         }
         AnyObject::Publisher(publisher) => {
-            match encode(alloc, setup.registry(), publisher.dataset(), item) {
+            match encode(alloc, config.registry(), publisher.dataset(), item) {
                 Ok(bytes) => Ok(bytes),
                 Err(MarshalFault::NoDataset) => Err(SpellFault::Refused(Refusal::NoDataset)),
                 Err(MarshalFault::Shape) => Err(SpellFault::Refused(Refusal::Shape)),

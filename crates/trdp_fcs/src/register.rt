@@ -3,12 +3,12 @@
 ghost use Rattle.std.specs.Prelude.{◌≡◌, bit_xor};
 ghost use Rattle.trdp_fcs.specs.Register.{step, steps};
 
-/// The generator of IEEE 802.3 without its first bit, lowest bit first.
+/// The generator of IEEE 802.3, 0x104C11DB7, without its first bit and from the lowest bit up.
 const GENERATOR: u32 = 0xEDB8_8320;
 
 /// The register after one more byte of the message.
-pub fn with_byte(register: u32, byte: u8) -> u32
-    ensures { result ≡ steps 8 (bit_xor register byte) }
+pub(crate) fn with_byte(register: u32, byte: u8) -> u32
+    ensures { result ≡ steps 0xEDB88320 8 (bit_xor register byte) }
 {
     let mut shifted = register ^ u32::from(byte);
     for _ in 0..8u8 {
@@ -19,7 +19,7 @@ pub fn with_byte(register: u32, byte: u8) -> u32
 
 /// The register after one bit: the generator is subtracted where the bit that is dropped is 1.
 fn shift(register: u32) -> u32
-    ensures { result ≡ step register }
+    ensures { result ≡ step 0xEDB88320 register }
 {
     if register % 2 == 1 {
         (register >> 1) ^ GENERATOR

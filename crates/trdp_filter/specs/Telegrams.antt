@@ -11,7 +11,8 @@ pub data TelegramModel : Type 0 where
 
 -- a telegram, apart from where its payload lies
 abbrev pub telegram_model : Telegram → TelegramModel
-telegram_model (Pd src dst view) = PdIs src dst (record { head = view.head; payload = view.payload.now })
+telegram_model (Pd src dst view) =
+    PdIs src dst (record { head = view.head; payload = view.payload.now })
 
 -- the telegram is as long as its kind may be: process data carries at most 1432 bytes
 abbrev pub IsWithinLimit : TelegramModel → Type 0

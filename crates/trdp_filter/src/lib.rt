@@ -1,4 +1,5 @@
-//! What a node lets in: topology counts, the globals that all objects see, telegrams, and receive filters.
+//! What a node lets in: topology counts, the globals that all objects see, telegrams, and receive
+//! filters.
 //!
 //! Nothing here takes memory, and no call is refused.
 #![tactic(auto)]

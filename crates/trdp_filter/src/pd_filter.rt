@@ -7,18 +7,18 @@ use crate::counts::topo_valid;
 use trdp_base::{Ip, Place, Topo};
 use trdp_head::PdHead;
 
-/// A receive filter for process data.
+/// A receive filter for process data (profile).
 #[derive(Clone, Copy, Debug, PartialEq, Eq)]
 pub struct PdFilter {
     /// The one comId that passes.
     pub com_id: u32,
     /// The lowest source address that passes; 0 with a `high` of 0 for any source (profile).
     pub low: Ip,
-    /// The highest source address that passes.
+    /// The highest source address that passes; it passes too.
     pub high: Ip,
     /// The destination address that passes; 0 for any.
     pub dest: Ip,
-    /// The topology counts that those of a telegram must match.
+    /// The topology counts that those of a telegram must match; each is 0 for any.
     pub topo: Topo,
 }
 
@@ -39,10 +39,12 @@ impl PdFilter {
         self.dest == Ip(0) || self.dest == destination
     }
 
-    /// Whether a telegram from `src` to `dst` under this header passes, at a node with the topology counts `node`.
+    /// Whether a telegram from `src` to `dst` under this header passes, at a node with the
+    /// topology counts `node` (profile).
     ///
-    /// It passes by the comId, the source address, the destination address, and its topology counts, which must match
-    /// the filter's and the node's. Ports, the message type and the reply fields are not looked at.
+    /// It passes by the comId, the source address, the destination address, and its topology
+    /// counts, which must match the filter's and the node's. Ports, the message type and the reply
+    /// fields are not looked at.
     #[tactic(auto, unfolding(crate::specs::PdFilters::pd_passes))]
     pub fn passes(&self, src: Place, dst: Place, head: &PdHead, node: Topo) -> bool
         ensures { result ≡ pd_passes self.now src dst head.now node }

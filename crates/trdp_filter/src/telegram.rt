@@ -8,8 +8,11 @@ use trdp_head::PdView;
 pub enum Telegram<'a> {
     /// Process data.
     Pd {
+        /// Where its datagram came from.
         src: Place,
+        /// Where its datagram was sent to.
         dst: Place,
+        /// Its header and payload, which lie in the datagram.
         view: PdView<'a>,
     },
 }

@@ -26,67 +26,190 @@ fn head(com_id: u32, etb: u32) -> PdHead {
     }
 }
 
-#[test]
-fn counts(rt: HostRuntime) {
-    for (a, b, want) in [(7, 8, false), (7, 0, true), (0, 8, true), (7, 7, true)] {
-        assert_eq!(rt; valid(a, b), want, "at {a} {b}");
-    }
-    assert!(rt; topo_valid(topo(7, 0), topo(7, 5)));
-    assert!(rt; !topo_valid(topo(7, 4), topo(7, 5)));
+/// Two topology counts, and whether they match.
+struct Counts {
+    a: u32,
+    b: u32,
+    matches: bool,
 }
 
+static COUNTS: [Counts; 4] = [
+    Counts {
+        a: 7,
+        b: 8,
+        matches: false,
+    },
+    Counts {
+        a: 7,
+        b: 0,
+        matches: true,
+    },
+    Counts {
+        a: 0,
+        b: 8,
+        matches: true,
+    },
+    Counts {
+        a: 7,
+        b: 7,
+        matches: true,
+    },
+];
+
 #[test]
-fn source_range(rt: HostRuntime) {
-    let filter = PdFilter {
-        com_id: 100,
-        low: Ip(0x0a00_0002),
-        high: Ip(0x0a00_0004),
-        dest: Ip(0),
-        topo: topo(0, 0),
-    };
-    for (source, want) in [
-        (0x0a00_0001, false),
-        (0x0a00_0002, true),
-        (0x0a00_0004, true),
-        (0x0a00_0005, false),
-    ] {
-        let passes = filter.passes(place(source), place(0x0a00_0001), &head(100, 0), topo(0, 0));
-        assert_eq!(rt; passes, want, "at {source}");
+fn counts_match(rt: HostRuntime) {
+    for row in &COUNTS {
+        let (a, b) = (row.a, row.b);
+        assert_eq!(rt; valid(a, b), row.matches, "at {a} {b}");
+        assert_eq!(rt;
+            topo_valid(topo(a, 1), topo(b, 1)),
+            row.matches,
+            "at {a} {b}"
+        );
+        assert_eq!(rt;
+            topo_valid(topo(1, a), topo(1, b)),
+            row.matches,
+            "at {a} {b}"
+        );
     }
 }
 
-#[test]
-fn other_parts_of_a_filter(rt: HostRuntime) {
+const HERE: u32 = 0x0a00_0001;
+
+/// A telegram with its last topology count 0, and whether it passes a filter for comId 100, for
+/// the addresses from `low` to `high`, for the destination `HERE`, and for the counts 7 and 0.
+struct Passage {
+    low: u32,
+    high: u32,
+    source: u32,
+    destination: u32,
+    com_id: u32,
+    etb: u32,
+    node_etb: u32,
+    passes: bool,
+}
+
+/// Passes.
+const PASSAGE: Passage = Passage {
+    low: 0,
+    high: 0,
+    source: 0x0a00_0009,
+    destination: HERE,
+    com_id: 100,
+    etb: 7,
+    node_etb: 7,
+    passes: true,
+};
+
+/// Does not pass.
+const REFUSAL: Passage = Passage {
+    passes: false,
+    ..PASSAGE
+};
+
+static PASSAGES: [Passage; 14] = [
+    PASSAGE,
+    Passage {
+        com_id: 101,
+        ..REFUSAL
+    },
+    Passage {
+        destination: 0x0a00_0009,
+        ..REFUSAL
+    },
+    Passage { etb: 0, ..PASSAGE },
+    Passage {
+        etb: 8,
+        node_etb: 8,
+        ..REFUSAL
+    },
+    Passage {
+        node_etb: 0,
+        ..PASSAGE
+    },
+    Passage {
+        node_etb: 8,
+        ..REFUSAL
+    },
+    // The source range.
+    Passage {
+        low: 2,
+        high: 4,
+        source: 1,
+        ..REFUSAL
+    },
+    Passage {
+        low: 2,
+        high: 4,
+        source: 2,
+        ..PASSAGE
+    },
+    Passage {
+        low: 2,
+        high: 4,
+        source: 4,
+        ..PASSAGE
+    },
+    Passage {
+        low: 2,
+        high: 4,
+        source: 5,
+        ..REFUSAL
+    },
+    Passage {
+        high: 4,
+        source: 4,
+        ..PASSAGE
+    },
+    Passage {
+        high: 4,
+        source: 5,
+        ..REFUSAL
+    },
+    Passage {
+        low: 2,
+        source: 3,
+        ..REFUSAL
+    },
+];
+
+/// Whether the telegram passes.
+fn passes(row: &Passage) -> bool {
     let filter = PdFilter {
         com_id: 100,
-        low: Ip(0),
-        high: Ip(0),
-        dest: Ip(0x0a00_0001),
+        low: Ip(row.low),
+        high: Ip(row.high),
+        dest: Ip(HERE),
         topo: topo(7, 0),
     };
-    let (source, here) = (place(0x0a00_0009), place(0x0a00_0001));
-    assert!(rt; filter.passes(source, here, &head(100, 7), topo(7, 0)));
-    assert!(rt; filter.passes(source, here, &head(100, 0), topo(8, 0)));
-    assert!(rt; !filter.passes(source, here, &head(101, 7), topo(7, 0)));
-    assert!(rt; !filter.passes(source, source, &head(100, 7), topo(7, 0)));
-    assert!(rt; !filter.passes(source, here, &head(100, 8), topo(0, 0)));
-    assert!(rt; !filter.passes(source, here, &head(100, 7), topo(8, 0)));
+    filter.passes(
+        place(row.source),
+        place(row.destination),
+        &head(row.com_id, row.etb),
+        topo(row.node_etb, 0),
+    )
 }
 
 #[test]
-fn groups(rt: HostRuntime) {
+fn telegrams_pass_by_their_parts(rt: HostRuntime) {
+    for (index, row) in PASSAGES.iter().enumerate() {
+        assert_eq!(rt; passes(row), row.passes, "at row {index}");
+    }
+}
+
+#[test]
+fn a_node_leads_groups_1_to_255(rt: HostRuntime) {
     let mut globals = Globals {
         now: 0,
         topo: topo(0, 0),
         led: Groups::none(),
     };
-    assert!(rt; !globals.led.leads(3));
-    globals.led.set(3, true);
-    assert!(rt; globals.led.leads(3) && !globals.led.leads(4));
-    globals.led.set(4, false);
-    assert!(rt; globals.led.leads(3) && !globals.led.leads(4));
-    globals.led.set(3, false);
-    assert!(rt; !globals.led.leads(3));
+    assert!(rt; !globals.led.leads(1) && !globals.led.leads(255));
+    globals.led.set(1, true);
+    assert!(rt; globals.led.leads(1) && !globals.led.leads(255));
+    globals.led.set(255, true);
+    globals.led.set(1, false);
+    assert!(rt; !globals.led.leads(1) && globals.led.leads(255));
 }
 
 #[test]

@@ -1,5 +1,5 @@
 -- A written process data telegram has its length, and is read back.
-use Rattle.std.proofs.Common.{◌≡◌, ℕ, ◌+◌, ◌-◌, ◌^◌, ◌<◌, ◌≤◌, true, lit<, List, Some, ◌++◌, length, slice_index, take, drop, replicate, refl, sym, ap, ◌∙◌, arith, eq-eqb, length-append}
+use Rattle.std.proofs.Common.{◌≡◌, ℕ, ◌+◌, ◌-◌, ◌^◌, ◌<◌, ◌≤◌, true, lit<, List, ◌++◌, length, slice_index, take, drop, replicate, refl, sym, ap, ◌∙◌, arith, eq-eqb, length-append}
 use Rattle.std.proofs.lemmas.List.{length-replicate, take_at}
 use Rattle.trdp_base.specs.Numbers.{le}
 use Rattle.trdp_fcs.specs.FrameCheck.{frame_check_of}
@@ -12,9 +12,7 @@ use Rattle.trdp_head.specs.Checks.{is_checked, with_check}
 use Rattle.trdp_head.specs.PdKinds.{code_of}
 use Rattle.trdp_head.specs.PdHeads.{IsPdHead}
 use Rattle.trdp_head.specs.IsPdTelegram.{IsPdTelegram}
-use Rattle.trdp_head.specs.PdTelegrams.{pd_telegram_of}
 use Rattle.trdp_head.specs.PdBytes.{pd_length_of, pd_head_bytes, pd_bytes}
-use Rattle.trdp_head.proofs.PdTelegramFacts.{telegram-is}
 use Rattle.trdp_head.proofs.FieldBytes.{be-be_bytes, le-le_bytes}
 
 code_of-lt : (kind : PdKind) → code_of kind < 65536
@@ -104,7 +102,3 @@ IsPdTelegram-pd_bytes head payload h limit =
       fits = omega (arith, len, stored);
       content = sym (ap (λ (n : ℕ). take n (drop 40 (pd_bytes head payload))) stored ∙ pd_bytes-content head payload);
     }
-
--- the same of the model function
-pub pd_telegram_of-pd_bytes : (head : PdHead) (payload : List ℕ) → IsPdHead head → length payload ≤ 1432 → pd_telegram_of (pd_bytes head payload) ≡ Some (record { head = head; payload = payload })
-pd_telegram_of-pd_bytes head payload h limit = telegram-is (IsPdTelegram-pd_bytes head payload h limit)

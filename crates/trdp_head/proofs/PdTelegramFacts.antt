@@ -65,14 +65,6 @@ telegram-is {bytes} {head} {payload} t =
 some-inj : {X : Type 0} (x y : X) → Some x ≡ Some y → x ≡ y
 some-inj x y e = cc
 
--- bytes are one telegram at most
-pub telegram-unique : {bytes : List ℕ} {head other : PdHead} {payload rest : List ℕ} → IsPdTelegram bytes head payload → IsPdTelegram bytes other rest → (head ≡ other) × (payload ≡ rest)
-telegram-unique {bytes} {head} {other} {payload} {rest} t u =
-    let one : PdTelegram = record { head = head; payload = payload } in
-    let two : PdTelegram = record { head = other; payload = rest } in
-    let same : one ≡ two = some-inj one two (sym (telegram-is t) ∙ telegram-is u) in
-    (ap (λ (x : PdTelegram). x.head) same, ap (λ (x : PdTelegram). x.payload) same)
-
 -- where there is a fault, there is no telegram
 pub pd_telegram_of-fault : (bytes : List ℕ) (fault : HeadFault) → pd_fault_of bytes ≡ Some fault → pd_telegram_of bytes ≡ None
 unfolding pd_telegram_of

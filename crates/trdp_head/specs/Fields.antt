@@ -1,4 +1,4 @@
--- Numbers at their places in a header, and as bytes.
+-- Numbers at their offsets in a header, and as bytes.
 use Rattle.std.specs.Prelude.{ℕ, zero, suc, ◌/◌, ◌%◌, ◌^◌, List, [], ◌∷◌, take, drop, reverse}
 use Rattle.trdp_base.specs.Numbers.{be, le}
 

@@ -12,8 +12,9 @@ pd_length_of n = 40 + (n + 3) / 4 * 4
 -- the header before its frame check, with n bytes of payload
 unfoldable pub pd_head_bytes : PdHead → ℕ → List ℕ
 pd_head_bytes head n =
-    be_bytes 4 head.counter ++ be_bytes 2 0x0100 ++ be_bytes 2 (code_of head.kind) ++ be_bytes 4 head.com_id
-    ++ be_bytes 4 head.topo.etb ++ be_bytes 4 head.topo.op_trn ++ be_bytes 4 n ++ be_bytes 4 0
+    be_bytes 4 head.counter ++ be_bytes 2 0x0100 ++ be_bytes 2 (code_of head.kind)
+    ++ be_bytes 4 head.com_id ++ be_bytes 4 head.topo.etb ++ be_bytes 4 head.topo.op_trn
+    ++ be_bytes 4 n ++ be_bytes 4 0
     ++ be_bytes 4 head.reply_com_id ++ be_bytes 4 head.reply_ip.0
 
 -- the header with its frame check, the payload, and zeros up to a multiple of four

@@ -2,25 +2,26 @@
 
 use thiserror::Error;
 
-/// The first fault of bytes that are no telegram, in the order in which faults are looked for (profile).
+/// The first fault of bytes that are no telegram, in the order in which faults are looked for
+/// (profile).
 #[derive(Clone, Copy, Debug, PartialEq, Eq, Error)]
 pub enum HeadFault {
-    /// There are fewer bytes than a header has.
-    #[error("Short")]
+    /// There are fewer bytes than a header has: 40 for process data.
+    #[error("the bytes are fewer than a header has")]
     Short,
-    /// There are more bytes than the longest telegram has.
-    #[error("TooLong")]
+    /// There are more bytes than the longest telegram has: 1472 for process data.
+    #[error("the bytes are more than the longest telegram has")]
     TooLong,
     /// The stored frame check is not that of the header.
-    #[error("Fcs")]
+    #[error("the frame check is not that of the header")]
     Fcs,
     /// The high byte of the protocol version is not 1.
-    #[error("Version")]
+    #[error("the main protocol version is not 1")]
     Version,
     /// The message type is not one of those that the reader knows.
-    #[error("Kind")]
+    #[error("the message type is not one that is known here")]
     Kind,
     /// The dataset would be longer than what follows the header.
-    #[error("Length")]
+    #[error("the dataset is longer than what follows the header")]
     Length,
 }

@@ -1,4 +1,4 @@
-//! Numbers and bytes at their places in a telegram.
+//! Numbers and bytes at their offsets in a telegram.
 
 ghost use Rattle.std.specs.Prelude.{ℕ, ◌≡◌, ◌≤◌, ◌+◌, ◌-◌, ◌++◌, length, take, drop, replicate};
 ghost use Rattle.trdp_head.specs.Fields.{field, little_field, be_bytes};
@@ -6,7 +6,7 @@ ghost use Rattle.trdp_head.specs.Fields.{field, little_field, be_bytes};
 use byteorder::{BigEndian, ByteOrder, LittleEndian};
 
 /// The big-endian number of two bytes at the offset.
-pub fn u16_at(bytes: &[u8], offset: usize) -> u16
+pub(crate) fn u16_at(bytes: &[u8], offset: usize) -> u16
     requires { offset + 2 ≤ length bytes.now }
     ensures { result ≡ field offset 2 bytes.now }
 {
@@ -15,7 +15,7 @@ pub fn u16_at(bytes: &[u8], offset: usize) -> u16
 }
 
 /// The big-endian number of four bytes at the offset.
-pub fn u32_at(bytes: &[u8], offset: usize) -> u32
+pub(crate) fn u32_at(bytes: &[u8], offset: usize) -> u32
     requires { offset + 4 ≤ length bytes.now }
     ensures { result ≡ field offset 4 bytes.now }
 {
@@ -24,7 +24,7 @@ pub fn u32_at(bytes: &[u8], offset: usize) -> u32
 }
 
 /// The little-endian number of four bytes at the offset.
-pub fn little_u32_at(bytes: &[u8], offset: usize) -> u32
+pub(crate) fn little_u32_at(bytes: &[u8], offset: usize) -> u32
     requires { offset + 4 ≤ length bytes.now }
     ensures { result ≡ little_field offset 4 bytes.now }
 {
@@ -33,7 +33,7 @@ pub fn little_u32_at(bytes: &[u8], offset: usize) -> u32
 }
 
 /// Writes a number as two bytes at the offset, big-endian.
-pub fn put_u16(room: &mut [u8], offset: usize, number: u16)
+pub(crate) fn put_u16(room: &mut [u8], offset: usize, number: u16)
     requires { offset + 2 ≤ length room.old }
     ensures front { take (offset + 2) room.new ≡ take offset room.old ++ be_bytes 2 number }
     ensures rest { (n : ℕ) → offset + 2 ≤ n → drop n room.new ≡ drop n room.old }
@@ -42,7 +42,7 @@ pub fn put_u16(room: &mut [u8], offset: usize, number: u16)
 }
 
 /// Writes a number as four bytes at the offset, big-endian.
-pub fn put_u32(room: &mut [u8], offset: usize, number: u32)
+pub(crate) fn put_u32(room: &mut [u8], offset: usize, number: u32)
     requires { offset + 4 ≤ length room.old }
     ensures front { take (offset + 4) room.new ≡ take offset room.old ++ be_bytes 4 number }
     ensures rest { (n : ℕ) → offset + 4 ≤ n → drop n room.new ≡ drop n room.old }
@@ -51,7 +51,7 @@ pub fn put_u32(room: &mut [u8], offset: usize, number: u32)
 }
 
 /// Writes the bytes at the offset.
-pub fn put_bytes(room: &mut [u8], offset: usize, bytes: &[u8])
+pub(crate) fn put_bytes(room: &mut [u8], offset: usize, bytes: &[u8])
     requires { offset + length bytes.now ≤ length room.old }
     ensures front { take (offset + length bytes.now) room.new ≡ take offset room.old ++ bytes.now }
     ensures rest { (n : ℕ) → offset + length bytes.now ≤ n → drop n room.new ≡ drop n room.old }
@@ -60,7 +60,7 @@ pub fn put_bytes(room: &mut [u8], offset: usize, bytes: &[u8])
 }
 
 /// Writes zeros from the offset up to the end.
-pub fn put_zeros(room: &mut [u8], offset: usize, end: usize)
+pub(crate) fn put_zeros(room: &mut [u8], offset: usize, end: usize)
     requires order { offset ≤ end }
     requires within { end ≤ length room.old }
     ensures front { take end room.new ≡ take offset room.old ++ replicate (end - offset) 0 }

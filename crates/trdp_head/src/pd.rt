@@ -20,16 +20,19 @@ pub mod writing;
 
 use trdp_base::{Ip, Topo};
 
-/// The bytes of a process data header.
+/// The length in bytes of a process data header (IEC 61375-2-3).
 pub const PD_HEAD: usize = 40;
 
-/// The most bytes of payload that a process data telegram carries.
+/// The most bytes of payload that a process data telegram carries (IEC 61375-2-3).
 pub const PD_PAYLOAD_MAX: usize = 1432;
 
-/// The bytes of the longest process data telegram: a header and the longest payload.
+/// The length in bytes of the longest process data telegram, a header and the longest payload
+/// (IEC 61375-2-3).
 pub const PD_TELEGRAM_MAX: usize = 1472;
 
-/// The message types of process data; the telegram carries the two letters in ASCII.
+const _: () = prove!(PD_TELEGRAM_MAX == PD_HEAD + PD_PAYLOAD_MAX);
+
+/// The message types of process data (IEC 61375-2-3); a telegram carries the two letters in ASCII.
 #[derive(Clone, Copy, Debug, PartialEq, Eq, Hash)]
 pub enum PdKind {
     /// `Pd`, data that a publisher sends in its cycle.
@@ -42,20 +45,21 @@ pub enum PdKind {
     Error,
 }
 
-/// The fields of a process data header that a node chooses; the others follow from the standard and the payload.
+/// The fields of a process data header that a node chooses (IEC 61375-2-3); the others follow from
+/// the standard and the payload. Numbers are in host order.
 #[derive(Clone, Copy, Debug, PartialEq, Eq, Hash)]
 pub struct PdHead {
     /// sequenceCounter: one more with each telegram of its sender, modulo 2^32.
     pub counter: u32,
-    /// msgType.
+    /// msgType: what kind of telegram this is.
     pub kind: PdKind,
     /// comId: what data this is.
     pub com_id: u32,
-    /// etbTopoCnt and opTrnTopoCnt: the topology counts for which the telegram is valid.
+    /// etbTopoCnt and opTrnTopoCnt: the counts for which the telegram is valid, each 0 for any.
     pub topo: Topo,
-    /// replyComId: of a pull request, the comId that it asks for.
+    /// replyComId: of a pull request, the comId that it asks for, 0 for its own.
     pub reply_com_id: u32,
-    /// replyIpAddress: of a pull request, where the reply is to be sent; 0 is its sender.
+    /// replyIpAddress: of a pull request, where the reply is to be sent, 0 for its sender.
     pub reply_ip: Ip,
 }
 

@@ -2,7 +2,9 @@
 
 ghost use Rattle.std.specs.Prelude.{◌≤◌};
 
-use crate::{HeadFault, PD_TELEGRAM_MAX, PdHead, PdKind, pd_length, read_pd, write_pd};
+use crate::{
+    HeadFault, PD_PAYLOAD_MAX, PD_TELEGRAM_MAX, PdHead, PdKind, pd_length, read_pd, write_pd,
+};
 use std::test::Fail;
 use trdp_base::{Ip, Topo};
 
@@ -61,8 +63,73 @@ fn telegrams_are_written(rt: HostRuntime) {
     assert_eq!(rt; room, REQUEST);
 }
 
+#[test]
+fn a_longest_telegram_is_written_and_read(rt: HostRuntime) -> Result<(), Fail> {
+    let payload = [7; PD_PAYLOAD_MAX];
+    let mut room = [0xff; PD_TELEGRAM_MAX];
+    assert_eq!(rt; write_pd(&DATA_HEAD, &payload, &mut room), 1472);
+    assert_eq!(rt; read_pd(&room)?.payload, payload.as_slice());
+    Ok(())
+}
+
+/// The telegram of comId 100 with two other bytes at an offset, its frame check, and what is read
+/// of it: the length of its payload.
+struct Changed {
+    offset: usize,
+    bytes: [u8; 2],
+    check: [u8; 4],
+    read: Result<usize, HeadFault>,
+}
+
+static CHANGED: [Changed; 7] = [
+    // Another type under the old frame check.
+    Changed {
+        offset: 6,
+        bytes: [0x50, 0x72],
+        check: [0xec, 0x17, 0x9c, 0x94],
+        read: Err(HeadFault::Fcs),
+    },
+    // The frame check with its highest byte first.
+    Changed {
+        offset: 6,
+        bytes: [0x50, 0x64],
+        check: [0x94, 0x9c, 0x17, 0xec],
+        read: Err(HeadFault::Fcs),
+    },
+    Changed {
+        offset: 4,
+        bytes: [2, 0],
+        check: [0x53, 0x1f, 0x83, 0x5d],
+        read: Err(HeadFault::Version),
+    },
+    Changed {
+        offset: 4,
+        bytes: [1, 0xff],
+        check: [0x64, 0x13, 0xce, 0x33],
+        read: Ok(2),
+    },
+    Changed {
+        offset: 6,
+        bytes: [0x4d, 0x6e],
+        check: [0x2d, 0x2d, 0x36, 0x79],
+        read: Err(HeadFault::Kind),
+    },
+    Changed {
+        offset: 22,
+        bytes: [0, 4],
+        check: [0x31, 0xc8, 0x79, 0x34],
+        read: Ok(4),
+    },
+    Changed {
+        offset: 22,
+        bytes: [0, 5],
+        check: [0xb4, 0x11, 0xef, 0xe9],
+        read: Err(HeadFault::Length),
+    },
+];
+
 /// The telegram of comId 100 with other bytes at an offset, and with another frame check.
-fn changed(offset: usize, bytes: [u8; 2], check: [u8; 4]) -> [u8; 44]
+fn data_with(offset: usize, bytes: [u8; 2], check: [u8; 4]) -> [u8; 44]
     requires { offset ≤ 38 }
 {
     let mut telegram = DATA;
@@ -73,39 +140,37 @@ fn changed(offset: usize, bytes: [u8; 2], check: [u8; 4]) -> [u8; 44]
 }
 
 #[test]
-fn faults_are_named(rt: HostRuntime) {
-    for (offset, bytes, check, fault) in [
-        (6, [0x50, 0x64], [0x94, 0x9c, 0x17, 0xec], HeadFault::Fcs),
-        (4, [2, 0], [0x53, 0x1f, 0x83, 0x5d], HeadFault::Version),
-        (6, [0x4d, 0x6e], [0x2d, 0x2d, 0x36, 0x79], HeadFault::Kind),
-        (22, [0, 5], [0xb4, 0x11, 0xef, 0xe9], HeadFault::Length),
-    ] {
+fn changed_telegrams_have_their_faults(rt: HostRuntime) {
+    for row in &CHANGED {
+        let offset = row.offset;
         assert!(rt; offset <= 38);
-        assert_eq!(rt;
-            read_pd(&changed(offset, bytes, check)).err(),
-            Some(fault),
-            "at {offset}"
-        );
+        let telegram = data_with(offset, row.bytes, row.check);
+        let read = read_pd(&telegram).map(|view| view.payload.len());
+        assert_eq!(rt; read, row.read, "at {offset}");
     }
-    assert_eq!(rt; read_pd(&DATA[..39]).err(), Some(HeadFault::Short));
-    assert_eq!(rt;
-        read_pd(&[0; PD_TELEGRAM_MAX + 1]).err(),
-        Some(HeadFault::TooLong)
-    );
+}
+
+/// What is read of so many zeros.
+fn fault_of_zeros(length: usize) -> Option<HeadFault>
+    requires { length ≤ 1473 }
+{
+    let zeros = [0; PD_TELEGRAM_MAX + 1];
+    let (front, _) = zeros.split_at(length);
+    read_pd(front).err()
 }
 
 #[test]
-fn other_minor_versions_and_padding_are_accepted(rt: HostRuntime) -> Result<(), Fail> {
-    let minor = changed(4, [1, 0xff], [0x64, 0x13, 0xce, 0x33]);
-    assert_eq!(rt; read_pd(&minor)?.payload, [0x0a, 0x0b].as_slice());
-    let whole = changed(22, [0, 4], [0x31, 0xc8, 0x79, 0x34]);
-    assert_eq!(rt; read_pd(&whole)?.payload, [0x0a, 0x0b, 0, 0].as_slice());
-    Ok(())
+fn telegrams_have_40_to_1472_bytes(rt: HostRuntime) {
+    assert_eq!(rt; fault_of_zeros(39), Some(HeadFault::Short));
+    assert_eq!(rt; fault_of_zeros(40), Some(HeadFault::Fcs));
+    assert_eq!(rt; fault_of_zeros(1472), Some(HeadFault::Fcs));
+    assert_eq!(rt; fault_of_zeros(1473), Some(HeadFault::TooLong));
 }
 
 #[test]
 fn lengths_are_multiples_of_four(rt: HostRuntime) {
     assert_eq!(rt; pd_length(0), 40);
-    assert_eq!(rt; pd_length(2), 44);
+    assert_eq!(rt; pd_length(1), 44);
+    assert_eq!(rt; pd_length(4), 44);
     assert_eq!(rt; pd_length(1432), 1472);
 }

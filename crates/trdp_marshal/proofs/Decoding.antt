@@ -50,20 +50,3 @@ whole_found found t (b ∷ bs) e some = absurd (false≢true (sym (ap (λ (o : O
 pub decoded : (registry : List DatasetModel) (id : ℕ) (bytes : List ℕ) (t : ItemModel) (rest : List ℕ) → dataset_at registry 5 id bytes ≡ Some (t, rest) → is_some (reading registry id bytes) ≡ true → reading registry id bytes ≡ Some t
 unfolding reading
 decoded registry id bytes t rest e some = whole_found (dataset_at registry 5 id bytes) t rest e some
-
--- the test by which bytes are refused
-fault_of : Bool → Bool → Option MarshalFault
-fault_of known spelled = cond known (cond spelled None (Some Shape)) (Some NoDataset)
-
-shape_by : (known spelled : Bool) → fault_of known spelled ≡ Some Shape → spelled ≡ true → ⊥
-unfolding fault_of
-shape_by true true e held = absurd (none-some _ e)
-shape_by true false e held = false≢true held
-shape_by false spelled e held = cc e
-
--- where no item is found, none spells the bytes
-pub shape_only : {X : Type 0} (registry : List DatasetModel) (id : ℕ) (bytes : List ℕ) (result : Result X MarshalFault) → IsBytes bytes → Answers result (decode_fault registry id bytes) → result ≡ Err Shape → ¬ IsSpelled registry id bytes
-unfolding decode_fault fault_of
-shape_only {X} registry id bytes result fits answers same = λ spelled.
-    let expected : decode_fault registry id bytes ≡ Some Shape = subst (λ (r : Result X MarshalFault). Answers r (decode_fault registry id bytes)) same answers in
-    shape_by (has_items registry id) (is_some (reading registry id bytes)) expected ((reading_if_spelled registry id bytes fits).1 spelled)

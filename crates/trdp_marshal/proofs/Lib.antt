@@ -7,4 +7,5 @@ pub mod Building
 pub mod Decoding
 pub mod Measuring
 pub mod Writing
+pub mod Refusing
 pub mod Zeros

@@ -17,7 +17,8 @@ use Rattle.trdp_marshal.specs.Items.{ItemModel, ItemModels, unsigned, signed, ti
 use Rattle.trdp_marshal.specs.Numbers.{IsBytes, IsNumber}
 use Rattle.trdp_marshal.specs.Spells.{Relation, Joins, SpellsUnsigned, SpellsSigned, SpellsTime48, SpellsTime64, SpellsForm, SpellsRepeated, SpellsList, SpellsEntry, SpellsEntries, SpellsElements, SpellsDataset, Spells, IsSpelled, Fits}
 use Rattle.trdp_marshal.specs.Spelling.{Speller, joined, number_spelling, unsigned_spelling, signed_spelling, time48_spelling, time64_spelling, form_spelling, repeated_spelling, list_spelling, entry_spelling, entries_spelling, elements_spelling, dataset_spelling, spelling}
-use Rattle.trdp_marshal.specs.Reading.{reading, is_fitting}
+use Rattle.trdp_marshal.specs.Reading.{reading}
+use Rattle.trdp_marshal.specs.Laws.{OneSpelling, OneItem, SpelledIsComputed, ComputedIsSpelled, SpelledIsRead, ReadIsSpelled, FittingIsFit}
 use Rattle.trdp_marshal.proofs.Numbers.{bytes_of_number, number_fits, number_bytes}
 use Rattle.trdp_marshal.proofs.Codecs.{joined_some, signed_again, signed_only, read_is_spelled, spelled_is_read}
 
@@ -254,24 +255,24 @@ dataset_computed registry (suc depth) id =
       from = elements_from (SpellsForm (SpellsDataset registry depth)) (form_spelling (dataset_spelling registry depth)) forms (elements_of registry id);
     }
 
-pub spelled : (registry : List DatasetModel) (id : ℕ) (t : ItemModel) (bytes : List ℕ) → Spells registry id t bytes → spelling registry id t ≡ Some bytes
+pub spelled : SpelledIsComputed
 unfolding Spells spelling
 spelled registry id t bytes h = (dataset_computed registry 5 id).to t bytes h
 
-pub spells : (registry : List DatasetModel) (id : ℕ) (t : ItemModel) (bytes : List ℕ) → spelling registry id t ≡ Some bytes → Spells registry id t bytes
+pub spells : ComputedIsSpelled
 unfolding Spells spelling
 spells registry id t bytes e = (dataset_computed registry 5 id).from t bytes e
 
-pub one_spelling : (registry : List DatasetModel) (id : ℕ) (t : ItemModel) (first second : List ℕ) → Spells registry id t first → Spells registry id t second → first ≡ second
+pub one_spelling : OneSpelling
 one_spelling registry id t first second one two = same_Some _ _ (sym (spelled registry id t first one) ∙ spelled registry id t second two)
 
-pub spelled_reads : (registry : List DatasetModel) (id : ℕ) (t : ItemModel) (bytes : List ℕ) → Spells registry id t bytes → reading registry id bytes ≡ Some t
+pub spelled_reads : SpelledIsRead
 spelled_reads registry id t bytes h = spelled_is_read registry id t bytes (spelled registry id t bytes h)
 
-pub read_spells : (registry : List DatasetModel) (id : ℕ) (t : ItemModel) (bytes : List ℕ) → IsBytes bytes → reading registry id bytes ≡ Some t → Spells registry id t bytes
+pub read_spells : ReadIsSpelled
 read_spells registry id t bytes fits e = spells registry id t bytes (read_is_spelled registry id t bytes fits e)
 
-pub one_item : (registry : List DatasetModel) (id : ℕ) (first second : ItemModel) (bytes : List ℕ) → Spells registry id first bytes → Spells registry id second bytes → first ≡ second
+pub one_item : OneItem
 one_item registry id first second bytes one two = same_Some _ _ (sym (spelled_reads registry id first bytes one) ∙ spelled_reads registry id second bytes two)
 
 some_of : {A : Type 0} (found : Option A) → IsTrue (is_some found) → (x : A) × (found ≡ Some x)
@@ -293,5 +294,5 @@ fitting_by : (registry : List DatasetModel) (id : ℕ) (bytes : List ℕ) (b : B
 fitting_by registry id bytes true test fits = (λ held. inl (eqb-true _ _ test), λ either. refl)
 fitting_by registry id bytes false test fits = fits_other registry id bytes (is_some (reading registry id bytes)) (λ nothing. false≢true (sym test ∙ eq-eqb _ _ nothing)) fits refl
 
-pub fitting : (registry : List DatasetModel) (id : ℕ) (bytes : List ℕ) → IsBytes bytes → IsTrue (is_fitting registry id bytes) ↔ Fits registry id bytes
+pub fitting : FittingIsFit
 fitting registry id bytes fits = fitting_by registry id bytes (id == 0) refl fits

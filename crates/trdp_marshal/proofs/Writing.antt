@@ -10,9 +10,15 @@ use Rattle.trdp_marshal.specs.declared.item.Item.{Item}
 use Rattle.trdp_dataset.specs.Datasets.{DatasetModel}
 use Rattle.trdp_marshal.specs.Items.{ItemModel, none, model_of, models_in}
 use Rattle.trdp_marshal.specs.Spelling.{Speller, joined, repeated_spelling, dataset_spelling, spelling}
-use Rattle.trdp_marshal.specs.Lengths.{measured, Appends, Continues}
+use Rattle.trdp_marshal.specs.Lengths.{measured, Appends}
 use Rattle.trdp_marshal.specs.Faults.{has_items, Answers, length_fault, encode_fault}
 use Rattle.trdp_marshal.proofs.Codecs.{joined_some}
+
+-- what is still to be written once part of a whole spelling stands behind the start
+abbrev pub Continues : Option (List ℕ) → List ℕ → Option (List ℕ) → List ℕ → Type 0
+Continues all start left now =
+    (text : List ℕ) → all ≡ Some text
+    → (rest : List ℕ) × (left ≡ Some rest) × (now ++ rest ≡ start ++ text)
 
 -- a spelling of two parts
 abbrev pub Splits : Option (List ℕ) → Option (List ℕ) → Option (List ℕ) → Type 0

@@ -1,6 +1,6 @@
 -- The zero value is spelled by zero bytes.
 use Rattle.std.proofs.Common.{◌≡◌, eqb-true, one-mul, Bool, true, false, ◌+◌, ◌*◌, ◌==◌, ℕ, zero, suc, pos, cond, List, [], ◌∷◌, Option, Some, None, refl, sym, ap, ◌∙◌, arith}
-use Rattle.std.specs.Prelude.{replicate, unwrap_or, IsTrue}
+use Rattle.std.specs.Prelude.{replicate, unwrap_or}
 use Rattle.std.proofs.lemmas.List.{replicate-append-replicate}
 use Rattle.trdp_dataset.specs.declared.element.Width.{Width}
 use Rattle.trdp_dataset.specs.declared.element.Width.TheVariants.{One, Two, Four, Eight}
@@ -8,12 +8,11 @@ use Rattle.trdp_dataset.specs.declared.element.Form.{Form}
 use Rattle.trdp_dataset.specs.declared.element.Form.TheVariants.{Unsigned, Signed, Time48, Time64, Nested}
 use Rattle.trdp_dataset.specs.declared.element.Element.{Element}
 use Rattle.trdp_dataset.specs.Elements.{width_len, form_of}
-use Rattle.trdp_dataset.specs.Datasets.{DatasetModel, elements_of, is_known, passes, all_pass}
-use Rattle.trdp_dataset.specs.Registries.{IsRegistry}
+use Rattle.trdp_dataset.specs.Datasets.{DatasetModel, elements_of, passes, all_pass}
 use Rattle.trdp_marshal.specs.Items.{ItemModel, unsigned, signed, time48, time64, list, count_of, items_in}
 use Rattle.trdp_marshal.specs.Spelling.{Speller, joined, number_spelling, unsigned_spelling, signed_spelling, time48_spelling, time64_spelling, form_spelling, repeated_spelling, list_spelling, entry_spelling, entries_spelling, elements_spelling, dataset_spelling, spelling}
 use Rattle.trdp_marshal.specs.Zero.{form_zero, copies, entry_zero, entries_zero, dataset_zero, zero_of}
-use Rattle.trdp_marshal.specs.Spells.{Spells}
+use Rattle.trdp_marshal.specs.Laws.{ZeroIsSpelled}
 use Rattle.trdp_dataset.specs.ZeroSizes.{form_size, entries_size, dataset_size, zero_size}
 use Rattle.trdp_dataset.specs.Depths.{is_within, elements_pass}
 use Rattle.trdp_marshal.proofs.Spellings.{spells}
@@ -131,6 +130,6 @@ dataset_zeros registry (suc depth) id pass =
     found_zeros (form_spelling (dataset_spelling registry depth)) (form_zero (dataset_zero registry depth)) (form_size (dataset_size registry depth)) (is_within registry depth) (form_count (dataset_zero registry depth) (dataset_count registry depth))
     (form_zeros registry depth (dataset_zeros registry depth)) (elements_of registry id) pass
 
-pub zero_spelled : (registry : List DatasetModel) (id : ℕ) → IsRegistry registry → IsTrue (is_known registry id) → Spells registry id (zero_of registry id) (replicate (zero_size registry id) 0)
+pub zero_spelled : ZeroIsSpelled
 unfolding spelling zero_of zero_size
 zero_spelled registry id sound known = spells registry id _ _ (dataset_zeros registry 5 id (sound.deep id known))

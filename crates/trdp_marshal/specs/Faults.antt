@@ -7,14 +7,17 @@ use Rattle.trdp_marshal.specs.Items.{ItemModel}
 use Rattle.trdp_marshal.specs.Reading.{reading}
 use Rattle.trdp_marshal.specs.Spelling.{spelling}
 
--- a dataset whose payloads are items: one that is known, and not dataset 0, of which any bytes are a payload
+-- a dataset whose payloads are items: one that is known, and not dataset 0, of which any bytes
+-- are a payload
 abbrev pub has_items : List DatasetModel → ℕ → Bool
 has_items registry id = not (id == 0) && is_known registry id
 
 -- why bytes have no item: the dataset has none, or they are those of none
 unfoldable pub decode_fault : List DatasetModel → ℕ → List ℕ → Option MarshalFault
 decode_fault registry id bytes =
-    if has_items registry id then (if is_some (reading registry id bytes) then None else Some Shape) else Some NoDataset
+    if has_items registry id
+    then (if is_some (reading registry id bytes) then None else Some Shape)
+    else Some NoDataset
 
 -- why bytes are not sent: there are none, or more than 65388
 abbrev pub length_fault : Option (List ℕ) → Option MarshalFault
@@ -31,7 +34,8 @@ abbrev pub FaultIs : MarshalFault → Option MarshalFault → Type 0
 FaultIs OutOfMemory expected = expected ≡ None
 FaultIs fault expected = expected ≡ Some fault
 
--- a call succeeds or runs out of memory exactly where no fault is expected, and else answers the one that is
+-- a call succeeds or runs out of memory exactly where no fault is expected, and else answers the
+-- one that is
 abbrev pub Answers : {X : Type 0} → Result X MarshalFault → Option MarshalFault → Type 0
 Answers (Ok x) expected = expected ≡ None
 Answers (Err fault) expected = FaultIs fault expected

@@ -6,3 +6,4 @@ pub mod Reading
 pub mod Lengths
 pub mod Faults
 pub mod Zero
+pub mod Laws

@@ -16,7 +16,8 @@ Reader A = List ℕ → Option (A × List ℕ)
 
 -- the number in the first k bytes, the highest first, if there are so many
 unfoldable pub number_at : ℕ → Reader ℕ
-number_at k bytes = if nat_lt (length bytes) k then None else Some (big_number k bytes, drop k bytes)
+number_at k bytes =
+    if nat_lt (length bytes) k then None else Some (big_number k bytes, drop k bytes)
 
 -- an unsigned number
 unfoldable pub unsigned_at : ℕ → Reader ItemModel
@@ -68,7 +69,8 @@ list_at read k bytes = do
 
 -- the entry of an element: one value, or a list
 unfoldable pub entry_at : Reader ItemModel → ℕ → ℕ → Reader ItemModel
-entry_at read size count bytes = if size == 1 then read bytes else list_at read (items_in size count) bytes
+entry_at read size count bytes =
+    if size == 1 then read bytes else list_at read (items_in size count) bytes
 
 -- the entries of elements, one of each
 unfoldable pub entries_at : (Form → Reader ItemModel) → List Element → ℕ → Reader ItemModels
@@ -101,7 +103,8 @@ whole (Some (t, (b ∷ bs))) = None
 unfoldable pub reading : List DatasetModel → ℕ → List ℕ → Option ItemModel
 reading registry id bytes = whole (dataset_at registry 5 id bytes)
 
--- what is seen where no value is built: the number that counts the next entry's items, and the bytes after the value
+-- what is seen where no value is built: the number that counts the next entry's items, and the
+-- bytes after the value
 abbrev pub counted : Option (ItemModel × List ℕ) → Option (ℕ × List ℕ)
 counted found = option_map (λ x. (count_of x.0, x.1)) found
 
@@ -109,6 +112,7 @@ counted found = option_map (λ x. (count_of x.0, x.1)) found
 abbrev pub skipped : {A : Type 0} → Option (A × List ℕ) → Option (List ℕ)
 skipped found = option_map (λ x. x.1) found
 
--- whether bytes are a payload of the dataset: any are of dataset 0, else they are those of some item
+-- whether bytes are a payload of the dataset: any are of dataset 0, else they are those of some
+-- item
 abbrev pub is_fitting : List DatasetModel → ℕ → List ℕ → Bool
 is_fitting registry id bytes = (id == 0) || is_some (reading registry id bytes)

@@ -33,20 +33,25 @@ unfoldable pub unsigned_spelling : ℕ → Speller ItemModel
 unsigned_spelling k (unsigned n) = number_spelling k n
 unsigned_spelling k _ = None
 
--- a number as two's complement: below half of all numbers that fit in k bytes, or at least minus half
+-- a number as two's complement: below half of all numbers that fit in k bytes, or at least minus
+-- half
 unfoldable pub signed_spelling : ℕ → Speller ItemModel
-signed_spelling k (signed (pos n)) = if nat_lt n (256 ^ k / 2) then Some (big_bytes k n) else None
-signed_spelling k (signed (negsuc n)) = if nat_lt n (256 ^ k / 2) then Some (big_bytes k (256 ^ k - 1 - n)) else None
+signed_spelling k (signed (pos n)) =
+    if nat_lt n (256 ^ k / 2) then Some (big_bytes k n) else None
+signed_spelling k (signed (negsuc n)) =
+    if nat_lt n (256 ^ k / 2) then Some (big_bytes k (256 ^ k - 1 - n)) else None
 signed_spelling k _ = None
 
 -- seconds in 4 bytes and ticks in 2
 unfoldable pub time48_spelling : Speller ItemModel
-time48_spelling (time48 seconds ticks) = joined (number_spelling 4 seconds) (number_spelling 2 ticks)
+time48_spelling (time48 seconds ticks) =
+    joined (number_spelling 4 seconds) (number_spelling 2 ticks)
 time48_spelling _ = None
 
 -- seconds in 4 bytes and microseconds in 4
 unfoldable pub time64_spelling : Speller ItemModel
-time64_spelling (time64 seconds micros) = joined (number_spelling 4 seconds) (number_spelling 4 micros)
+time64_spelling (time64 seconds micros) =
+    joined (number_spelling 4 seconds) (number_spelling 4 micros)
 time64_spelling _ = None
 
 -- one value of a type, where those of nested datasets are given
@@ -71,18 +76,22 @@ list_spelling spell k _ = None
 
 -- the entry of an element: one value, or a list
 unfoldable pub entry_spelling : Speller ItemModel → ℕ → ℕ → Speller ItemModel
-entry_spelling spell size count t = if size == 1 then spell t else list_spelling spell (items_in size count) t
+entry_spelling spell size count t =
+    if size == 1 then spell t else list_spelling spell (items_in size count) t
 
 -- the entries of elements, one of each
-unfoldable pub entries_spelling : (Form → Speller ItemModel) → List Element → ℕ → Speller ItemModels
+unfoldable pub entries_spelling : (Form → Speller ItemModel) → List Element → ℕ
+    → Speller ItemModels
 entries_spelling spell [] count none = Some []
 entries_spelling spell [] count (more t ts) = None
 entries_spelling spell (e ∷ es) count none = None
 entries_spelling spell (e ∷ es) count (more t ts) =
-    joined (entry_spelling (spell (form_of e.kind)) e.size count t) (entries_spelling spell es (count_of t) ts)
+    joined (entry_spelling (spell (form_of e.kind)) e.size count t)
+    (entries_spelling spell es (count_of t) ts)
 
 -- the list of the entries of these elements
-unfoldable pub elements_spelling : (Form → Speller ItemModel) → Option (List Element) → Speller ItemModel
+unfoldable pub elements_spelling : (Form → Speller ItemModel) → Option (List Element)
+    → Speller ItemModel
 elements_spelling spell (Some es) (list ts) = entries_spelling spell es 0 ts
 elements_spelling spell _ _ = None
 

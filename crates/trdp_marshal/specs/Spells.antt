@@ -1,5 +1,5 @@
 -- Which bytes an item of a dataset is sent as.
-use Rattle.std.specs.Prelude.{◌≡◌, ◌⊎◌, ◌≢◌, ◌++◌, ℕ, zero, suc, List, [], ◌∷◌, Option, Some}
+use Rattle.std.specs.Prelude.{◌≡◌, ◌⊎◌, ◌≢◌, ◌<◌, ◌++◌, ℕ, zero, suc, List, [], ◌∷◌, Option, Some, length}
 use Rattle.trdp_dataset.specs.declared.element.Form.{Form}
 use Rattle.trdp_dataset.specs.declared.element.Form.TheVariants.{Unsigned, Signed, Time48, Time64, Nested}
 use Rattle.trdp_dataset.specs.declared.element.Element.{Element}
@@ -49,7 +49,8 @@ unfoldable pub SpellsRepeated : Relation ItemModel → ℕ → Relation ItemMode
 SpellsRepeated Single zero none bytes = bytes ≡ []
 SpellsRepeated Single zero (more item items) bytes = ⊥
 SpellsRepeated Single (suc k) none bytes = ⊥
-SpellsRepeated Single (suc k) (more item items) bytes = Joins (Single item) (SpellsRepeated Single k items) bytes
+SpellsRepeated Single (suc k) (more item items) bytes =
+    Joins (Single item) (SpellsRepeated Single k items) bytes
 
 -- a list of exactly k values
 unfoldable pub SpellsList : Relation ItemModel → ℕ → Relation ItemModel
@@ -59,7 +60,8 @@ SpellsList Single k _ bytes = ⊥
 -- the entry of an element: one value at size 1, else a list
 unfoldable pub SpellsEntry : Relation ItemModel → ℕ → ℕ → Relation ItemModel
 SpellsEntry Single size count item bytes =
-    ((size ≡ 1) × Single item bytes) ⊎ ((size ≢ 1) × SpellsList Single (items_in size count) item bytes)
+    ((size ≡ 1) × Single item bytes)
+    ⊎ ((size ≢ 1) × SpellsList Single (items_in size count) item bytes)
 
 -- the entries of elements, one of each, one after the other
 unfoldable pub SpellsEntries : (Form → Relation ItemModel) → List Element → ℕ → Relation ItemModels
@@ -67,10 +69,12 @@ SpellsEntries Single [] count none bytes = bytes ≡ []
 SpellsEntries Single [] count (more item items) bytes = ⊥
 SpellsEntries Single (e ∷ es) count none bytes = ⊥
 SpellsEntries Single (e ∷ es) count (more item items) bytes =
-    Joins (SpellsEntry (Single (form_of e.kind)) e.size count item) (SpellsEntries Single es (count_of item) items) bytes
+    Joins (SpellsEntry (Single (form_of e.kind)) e.size count item)
+    (SpellsEntries Single es (count_of item) items) bytes
 
 -- the list of the entries of a dataset's elements; an unknown dataset has no value
-unfoldable pub SpellsElements : (Form → Relation ItemModel) → Option (List Element) → Relation ItemModel
+unfoldable pub SpellsElements : (Form → Relation ItemModel) → Option (List Element)
+    → Relation ItemModel
 SpellsElements Single (Some es) (list items) bytes = SpellsEntries Single es 0 items bytes
 SpellsElements Single _ _ bytes = ⊥
 
@@ -91,3 +95,12 @@ IsSpelled registry id bytes = (item : ItemModel) × Spells registry id item byte
 -- a payload of the dataset: any bytes of dataset 0, else those of some item
 abbrev pub Fits : List DatasetModel → ℕ → List ℕ → Type 0
 Fits registry id bytes = (id ≡ 0) ⊎ IsSpelled registry id bytes
+
+-- some bytes are those of the item
+abbrev pub HasBytes : List DatasetModel → ℕ → ItemModel → Type 0
+HasBytes registry id item = (bytes : List ℕ) × Spells registry id item bytes
+
+-- the item has more bytes than one message carries
+abbrev pub IsTooLong : List DatasetModel → ℕ → ItemModel → Type 0
+IsTooLong registry id item =
+    (bytes : List ℕ) × Spells registry id item bytes × (65388 < length bytes)

@@ -27,13 +27,15 @@ entry_zero item size = if size == 1 then item else list (copies size item)
 -- the entries of elements, one of each
 unfoldable pub entries_zero : (Form → ItemModel) → List Element → ItemModels
 entries_zero value [] = none
-entries_zero value (e ∷ es) = more (entry_zero (value (form_of e.kind)) e.size) (entries_zero value es)
+entries_zero value (e ∷ es) =
+    more (entry_zero (value (form_of e.kind)) e.size) (entries_zero value es)
 
 -- the zero value of a dataset down to a depth
 unfoldable pub dataset_zero : List DatasetModel → ℕ → ℕ → ItemModel
 dataset_zero registry zero id = list none
 dataset_zero registry (suc depth) id =
-    list (entries_zero (form_zero (dataset_zero registry depth)) (unwrap_or (elements_of registry id) []))
+    list (entries_zero (form_zero (dataset_zero registry depth))
+    (unwrap_or (elements_of registry id) []))
 
 -- the zero value of a dataset, which nests no deeper than 5
 unfoldable pub zero_of : List DatasetModel → ℕ → ItemModel

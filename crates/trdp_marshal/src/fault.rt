@@ -7,16 +7,16 @@ use thiserror::Error;
 #[derive(Clone, Copy, Debug, PartialEq, Eq, Error)]
 pub enum MarshalFault {
     /// No dataset has that identifier, or it is 0, of which any bytes are a payload.
-    #[error("NoDataset")]
+    #[error("no dataset with items has that identifier")]
     NoDataset,
     /// The item is no value of the dataset, or the bytes are those of none.
-    #[error("Shape")]
+    #[error("the item is no value of the dataset, or the bytes are those of none")]
     Shape,
     /// The item has more than 65,388 bytes, the most that one message carries.
-    #[error("TooLong")]
+    #[error("the item has more than 65,388 bytes")]
     TooLong,
     /// There is no memory for the answer.
-    #[error("OutOfMemory")]
+    #[error("there is no memory for the answer")]
     OutOfMemory,
 }
 

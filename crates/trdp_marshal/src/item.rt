@@ -11,7 +11,8 @@ pub enum Item {
     S(i64),
     /// A TIMEDATE48: seconds and ticks of 1/65536 second.
     T48(u32, u16),
-    /// A TIMEDATE64: seconds and microseconds. Every 32-bit value of either half is accepted (profile).
+    /// A TIMEDATE64: seconds and microseconds. Every 32-bit value of either half is accepted
+    /// (profile).
     T64(u32, u32),
     /// The values of an array, or the entries of a dataset's elements, in order.
     List(Vec<Item>),
@@ -21,8 +22,12 @@ impl Item {
     ghost use Rattle.std.specs.Prelude.{◌≡◌, option_map, IfOk};
     ghost use Rattle.trdp_marshal.specs.Items.{model_of, models_in, count_of, list, models_under};
 
-    /// An equal item in memory of its own. The one error is want of memory. It calls itself as deep as the item
-    /// nests: that of a dataset nests no deeper than its registry lets it.
+    /// An equal item in memory of its own. It calls itself as deep as the item nests: that of a
+    /// dataset nests no deeper than its registry lets it.
+    ///
+    /// # Errors
+    ///
+    /// The one error is that there is no memory for the copy.
     pub fn try_clone(&self, alloc: Global) -> Result<Item, AllocError>
         ensures equal { IfOk result (λ copy. model_of copy ≡ model_of self.now) }
     {
@@ -60,7 +65,8 @@ impl Item {
 
     /// The items of a list; None where it is none.
     pub(crate) fn items(&self) -> Option<&[Item]>
-        ensures { option_map (λ items. models_in items.now) result ≡ models_under (model_of self.now) }
+        ensures { option_map (λ items. models_in items.now) result
+            ≡ models_under (model_of self.now) }
     {
         match self {
             Item::List(items) => Some(items.as_slice()),

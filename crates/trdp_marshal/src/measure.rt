@@ -59,7 +59,8 @@ fn measure_time64(item: &Item) -> Option<usize>
     }
 }
 
-/// The length that stands for all that are too long: one more than the most bytes that one message carries.
+/// The length that stands for all that are too long: one more than the most bytes that one
+/// message carries.
 pub(crate) const TOO_LONG: usize = 65_389;
 
 /// The sum of two lengths, or `TOO_LONG` where it is greater.
@@ -99,7 +100,8 @@ fn measure_repeated(
     items: &[Item],
 ) -> Option<usize>
     ensures { result
-        ≡ measured (repeated_spelling (form_spelling (dataset_spelling registry.now depth) form) count (models_in items.now)) }
+        ≡ measured (repeated_spelling (form_spelling (dataset_spelling registry.now depth) form)
+        count (models_in items.now)) }
 {
     if items.len() as u64 != count {
         return None;
@@ -122,7 +124,9 @@ fn measure_entry(
     item: &Item,
 ) -> Option<usize>
     ensures { result
-        ≡ measured (entry_spelling (form_spelling (dataset_spelling registry.now depth) (form_of element.kind)) element.size count (model_of item.now)) }
+        ≡ measured (entry_spelling
+        (form_spelling (dataset_spelling registry.now depth) (form_of element.kind))
+        element.size count (model_of item.now)) }
 {
     let form = element.kind.form();
     if element.size == 1 {
@@ -144,7 +148,8 @@ fn measure_entries(
     items: &[Item],
 ) -> Option<usize>
     ensures { result
-        ≡ measured (entries_spelling (form_spelling (dataset_spelling registry.now depth)) elements.now 0 (models_in items.now)) }
+        ≡ measured (entries_spelling (form_spelling (dataset_spelling registry.now depth))
+        elements.now 0 (models_in items.now)) }
 {
     if elements.len() != items.len() {
         return None;
@@ -160,7 +165,8 @@ fn measure_entries(
     Some(total)
 }
 
-/// How many bytes an item of a dataset down to a depth has, or `TOO_LONG` for more; None where it has none.
+/// How many bytes an item of a dataset down to a depth has, or `TOO_LONG` for more; None where
+/// it has none.
 #[cycle(measure)]
 pub(crate) fn measure_dataset(registry: &Registry, depth: u8, id: u32, item: &Item) -> Option<usize>
     ensures { result ≡ measured (dataset_spelling registry.now depth id (model_of item.now)) }

@@ -11,7 +11,8 @@ use trdp_dataset::{Element, Width};
 /// How deep datasets nest at most, which the registry sees to (profile).
 pub(crate) const DEPTH: u8 = 5;
 
-/// The big-endian number in the first `len` bytes, and the bytes after them; None where there are fewer.
+/// The big-endian number in the first `len` bytes, and the bytes after them; None where there
+/// are fewer.
 #[tactic(auto, unfolding(crate::specs::Reading::number_at), using(crate::proofs::Numbers::number_fits))]
 pub(crate) fn number(len: usize, bytes: &[u8]) -> Option<(u64, &[u8])>
     requires low { 1 ≤ len }
@@ -26,7 +27,8 @@ pub(crate) fn number(len: usize, bytes: &[u8]) -> Option<(u64, &[u8])>
     Some((BigEndian::read_uint(bytes, len), rest))
 }
 
-/// Half of how many numbers there are of that width: as a signed number, one from there on is negative.
+/// Half of how many numbers there are of that width: as a signed number, one from there on is
+/// negative.
 pub(crate) fn half(width: Width) -> u64
     ensures half { 256 ^ width_len width ≡ 2 * result }
     ensures bound { result ≤ 2 ^ 63 }

@@ -1,209 +1,165 @@
 //! Whether bytes are a payload of a dataset. Nothing is built, and no memory is taken.
 
-ghost use Rattle.std.specs.Prelude.{◌≡◌, ◌≤◌, ◌<◌, ◌*◌, ◌↔◌, option_map, IsTrue, IfSome, is_some};
-ghost use Rattle.trdp_dataset.specs.Elements.{form_of};
+ghost use Rattle.std.specs.Prelude.{◌≡◌, ◌↔◌, ℕ, ◌*◌, true, false, drop, option_map, IsTrue, is_some};
+ghost use Rattle.trdp_dataset.specs.Elements.{form_of, is_count};
+ghost use Rattle.trdp_dataset.specs.Datasets.{passes, all_pass, all_counted};
+ghost use Rattle.trdp_dataset.specs.Depths.{is_within};
+ghost use Rattle.trdp_dataset.specs.Registries.{IsRegistry};
+ghost use Rattle.trdp_marshal.specs.Items.{ItemModel};
 ghost use Rattle.trdp_marshal.specs.Spells.{Fits};
 ghost use Rattle.trdp_marshal.specs.Faults.{has_items};
-ghost use Rattle.trdp_marshal.specs.Lengths.{fixed_size, rest_after};
-ghost use Rattle.trdp_marshal.specs.Reading.{unsigned_at, signed_at, time48_at, time64_at, form_at, repeated_at, entry_at, entries_at, dataset_at, counted, skipped, reading, is_fitting};
+ghost use Rattle.trdp_marshal.specs.Lengths.{rest_after, starts_counted};
+ghost use Rattle.trdp_marshal.specs.Reading.{Reader, form_at, repeated_at, entry_at, entries_at, dataset_at, counted, skipped, reading, is_fitting};
 
 use crate::number::{DEPTH, item_count, number};
 use trdp_dataset::{Element, Form, Registry};
 
-/// Past an unsigned number: it counts the items of an array after it.
-#[tactic(auto, unfolding(crate::specs::Reading::unsigned_at))]
-fn skip_unsigned(len: usize, bytes: &[u8]) -> Option<(u64, &[u8])>
-    requires low { 1 ≤ len }
-    requires high { len ≤ 8 }
-    ensures { option_map (λ x. (x.0, x.1.now)) result ≡ counted (unsigned_at len bytes.now) }
-{
-    let (n, rest) = number(len, bytes)?;
-    Some((n, rest))
-}
-
-/// Past a signed number.
-#[tactic(auto, unfolding(crate::specs::Reading::signed_at))]
-fn skip_signed(len: usize, bytes: &[u8]) -> Option<(u64, &[u8])>
-    requires low { 1 ≤ len }
-    requires high { len ≤ 8 }
-    ensures { option_map (λ x. (x.0, x.1.now)) result ≡ counted (signed_at len bytes.now) }
-{
-    let (_, rest) = number(len, bytes)?;
-    Some((0, rest))
-}
-
-/// Past seconds and ticks.
-#[tactic(auto, unfolding(crate::specs::Reading::time48_at))]
-fn skip_time48(bytes: &[u8]) -> Option<(u64, &[u8])>
-    ensures { option_map (λ x. (x.0, x.1.now)) result ≡ counted (time48_at bytes.now) }
-{
-    let (_, rest) = number(4, bytes)?;
-    let (_, rest) = number(2, rest)?;
-    Some((0, rest))
-}
-
-/// Past seconds and microseconds.
-#[tactic(auto, unfolding(crate::specs::Reading::time64_at))]
-fn skip_time64(bytes: &[u8]) -> Option<(u64, &[u8])>
-    ensures { option_map (λ x. (x.0, x.1.now)) result ≡ counted (time64_at bytes.now) }
-{
-    let (_, rest) = number(4, bytes)?;
-    let (_, rest) = number(4, rest)?;
-    Some((0, rest))
-}
-
-/// Past one value of a type.
-#[cycle(skip)]
-#[tactic(auto, unfolding(crate::specs::Reading::form_at))]
-fn skip_form<'a>(
-    registry: &Registry,
-    depth: u8,
-    form: Form,
-    bytes: &'a [u8],
-) -> Option<(u64, &'a [u8])>
-    ensures { option_map (λ x. (x.0, x.1.now)) result
-        ≡ counted (form_at (dataset_at registry.now depth) form bytes.now) }
-{
-    match form {
-        Form::Unsigned(width) => skip_unsigned(width.len(), bytes),
-        Form::Signed(width) => skip_signed(width.len(), bytes),
-        Form::Time48 => skip_time48(bytes),
-        Form::Time64 => skip_time64(bytes),
-        Form::Nested(id) => skip_dataset(registry, depth, id, bytes),
-    }
-}
-
-/// How many bytes each value of a type takes; None for a nested dataset, whose values may differ.
-fn fixed_size(form: Form) -> Option<usize>
-    ensures value { result ≡ fixed_size form }
-    ensures bound { IfSome result (λ size. 0 < size) }
-{
-    match form {
-        Form::Unsigned(width) | Form::Signed(width) => Some(width.len()),
-        Form::Time48 => Some(6),
-        Form::Time64 => Some(8),
-        Form::Nested(_) => None,
-    }
-}
-
-/// Past so many values of so many bytes each; None where there are fewer bytes.
+/// Past so many values of so many bytes each, which aren't looked at; None where there are fewer
+/// bytes.
 #[tactic(auto, unfolding(crate::specs::Lengths::rest_after))]
 fn skip_fixed(size: usize, count: u64, bytes: &[u8]) -> Option<&[u8]>
-    requires { 0 < size }
     ensures { option_map (λ rest. rest.now) result ≡ rest_after (count * size) bytes.now }
 {
-    if count > (bytes.len() / size) as u64 {
+    let len = count.checked_mul(size as u64)?;
+    if len > bytes.len() as u64 {
         return None;
     }
-    let (_, rest) = bytes.split_at(count as usize * size);
+    let (_, rest) = bytes.split_at(len as usize);
     Some(rest)
 }
 
-/// Past so many values of a type, one after the other. Each has a byte, so a count beyond the bytes stops there.
+/// Whether there is an element of that index and it is an array of size 0, whose items the entry
+/// before it counts.
+fn is_counted(elements: &[Element], index: usize) -> bool
+    ensures { result ≡ starts_counted (drop index elements.now) }
+{
+    match elements.get(index) {
+        Some(element) => element.size == 0,
+        None => false,
+    }
+}
+
+/// The number in the entry of an element that counts items, and the bytes after it.
+fn read_count(element: Element, bytes: &[u8]) -> Option<(u64, &[u8])>
+    requires { is_count element ≡ true }
+    ensures { (nested : ℕ → Reader ItemModel) (count : ℕ)
+        → option_map (λ x. (x.0, x.1.now)) result
+        ≡ counted (entry_at (form_at nested (form_of element.kind)) element.size count bytes.now) }
+{
+    match element.kind.form() {
+        Form::Unsigned(width) => number(width.len(), bytes),
+        _ => None,
+    }
+}
+
+/// Past so many values of a type, one after the other. Those of a basic type aren't looked at.
 #[cycle(skip)]
-fn skip_repeated<'a>(
+fn skip_values<'a>(
     registry: &Registry,
     depth: u8,
     form: Form,
     count: u64,
     bytes: &'a [u8],
 ) -> Option<&'a [u8]>
+    requires sound { IsRegistry registry.now }
+    requires deep { passes (is_within registry.now depth) form ≡ true }
     ensures { option_map (λ rest. rest.now) result
         ≡ skipped (repeated_at (form_at (dataset_at registry.now depth) form) count bytes.now) }
 {
-    if let Some(size) = fixed_size(form) {
+    match form {
+        Form::Unsigned(width) => skip_fixed(width.len(), count, bytes),
+        Form::Signed(width) => skip_fixed(width.len(), count, bytes),
+        Form::Time48 => skip_fixed(6, count, bytes),
+        Form::Time64 => skip_fixed(8, count, bytes),
+        Form::Nested(id) => skip_datasets(registry, depth, id, count, bytes),
+    }
+}
+
+/// Past so many values of a dataset that nests at most so deep, which is looked up once for all of
+/// them. Each has a byte, so that a count beyond the bytes stops there.
+#[cycle(skip)]
+fn skip_datasets<'a>(
+    registry: &Registry,
+    depth: u8,
+    id: u32,
+    count: u64,
+    bytes: &'a [u8],
+) -> Option<&'a [u8]>
+    requires sound { IsRegistry registry.now }
+    requires deep { is_within registry.now depth id ≡ true }
+    ensures { option_map (λ rest. rest.now) result
+        ≡ skipped (repeated_at (dataset_at registry.now depth id) count bytes.now) }
+{
+    if let Some(size) = registry.fixed_size(id) {
         return skip_fixed(size, count, bytes);
     }
+    let elements = registry.elements(id).unwrap();
     let mut rest = bytes;
     for _ in 0..count {
-        let (_, next) = skip_form(registry, depth, form, rest)?;
-        rest = next;
+        rest = skip_elements(registry, depth - 1, elements, rest)?;
     }
     Some(rest)
 }
 
-/// Past the entry of an element, where the entry before it counts `count` items.
+/// Past the entries of elements. A number in them is read only where it counts the items of the
+/// entry after it.
 #[cycle(skip)]
-fn skip_entry<'a>(
-    registry: &Registry,
-    depth: u8,
-    element: Element,
-    count: u64,
-    bytes: &'a [u8],
-) -> Option<(u64, &'a [u8])>
-    ensures { option_map (λ x. (x.0, x.1.now)) result
-        ≡ counted (entry_at (form_at (dataset_at registry.now depth) (form_of element.kind)) element.size count bytes.now) }
-{
-    let form = element.kind.form();
-    if element.size == 1 {
-        return skip_form(registry, depth, form, bytes);
-    }
-    let count = item_count(element, count);
-    let rest = skip_repeated(registry, depth, form, count, bytes)?;
-    Some((0, rest))
-}
-
-/// Past the entries of elements.
-#[cycle(skip)]
-fn skip_entries<'a>(
+fn skip_elements<'a>(
     registry: &Registry,
     depth: u8,
     elements: &[Element],
     bytes: &'a [u8],
 ) -> Option<&'a [u8]>
+    requires sound { IsRegistry registry.now }
+    requires deep { all_pass (is_within registry.now depth) elements.now ≡ true }
+    requires counted { all_counted false elements.now ≡ true }
     ensures { option_map (λ rest. rest.now) result
         ≡ skipped (entries_at (form_at (dataset_at registry.now depth)) elements.now 0 bytes.now) }
 {
     let mut count = 0;
     let mut rest = bytes;
-    for element in elements {
-        let (number, next) = skip_entry(registry, depth, *element, count, rest)?;
-        count = number;
-        rest = next;
+    for (i, element) in elements.iter().enumerate() {
+        if is_counted(elements, i + 1) {
+            let (number, next) = read_count(*element, rest)?;
+            count = number;
+            rest = next;
+        } else {
+            let values = item_count(*element, count);
+            rest = skip_values(registry, depth, element.kind.form(), values, rest)?;
+        }
     }
     Some(rest)
 }
 
-/// Past a value of a dataset that nests at most so deep.
-#[cycle(skip)]
-fn skip_dataset<'a>(
-    registry: &Registry,
-    depth: u8,
-    id: u32,
-    bytes: &'a [u8],
-) -> Option<(u64, &'a [u8])>
-    ensures { option_map (λ x. (x.0, x.1.now)) result
-        ≡ counted (dataset_at registry.now depth id bytes.now) }
-{
-    if depth == 0 {
-        return None;
-    }
-    let elements = registry.elements(id)?;
-    let rest = skip_entries(registry, depth - 1, elements, bytes)?;
-    Some((0, rest))
-}
-
-/// Whether the payloads of a dataset are items: where the registry has it, and it is not dataset 0.
+/// Whether the payloads of a dataset are items: where the registry has it, and it is not dataset
+/// 0.
 pub(crate) fn has_items(registry: &Registry, id: u32) -> bool
     ensures { result ≡ has_items registry.now id }
 {
     id != 0 && registry.has(id)
 }
 
-/// Whether the bytes are those of an item of a dataset that the registry has.
-#[tactic(auto, unfolding(crate::specs::Reading::reading), using(crate::proofs::Steps::whole_taken, crate::proofs::Steps::whole_nowhere))]
+/// Whether the bytes are those of an item of a dataset that the registry has. Where all its values
+/// take as many bytes, only their number is looked at.
 pub(crate) fn fits_dataset(registry: &Registry, id: u32, bytes: &[u8]) -> bool
     ensures { result ≡ is_some (reading registry.now id bytes.now) }
 {
-    match skip_dataset(registry, DEPTH, id, bytes) {
-        Some((_, rest)) => rest.is_empty(),
+    registry.sound();
+    if let Some(size) = registry.fixed_size(id) {
+        return bytes.len() == size;
+    }
+    let Some(elements) = registry.elements(id) else {
+        return false;
+    };
+    match skip_elements(registry, DEPTH - 1, elements, bytes) {
+        Some(rest) => rest.is_empty(),
         None => false,
     }
 }
 
-/// Whether the bytes are a payload of the dataset: any are of dataset 0, none are of an unknown dataset, and
-/// else they must be those of some item, with none left over. No item is built and no memory taken; a count
-/// that stands in the bytes is believed no further than the bytes go.
+/// Whether the bytes are a payload of the dataset: any are of dataset 0, none are of an unknown
+/// dataset, and else they must be those of some item, with none left over. No item is built and no
+/// memory taken; a count that stands in the bytes is believed no further than the bytes go.
 pub fn fits(registry: &Registry, id: u32, bytes: &[u8]) -> bool
     ensures value { result ≡ is_fitting registry.now id bytes.now }
     ensures meaning { IsTrue result ↔ Fits registry.now id bytes.now }

@@ -1,12 +1,12 @@
 //! Items from bytes.
 
-ghost use Rattle.std.specs.Prelude.{◌≡◌, ◌≤◌, ◌<◌, ◌^◌, IfOk, Some, Err};
+ghost use Rattle.std.specs.Prelude.{◌≡◌, ◌≤◌, ◌<◌, ◌^◌, ◌↔◌, IfOk, IsTrue, Some, Err};
 ghost use Rattle.trdp_dataset.specs.Elements.{width_len, form_of};
 ghost use Rattle.trdp_marshal.specs.Items.{model_of, models_in};
 ghost use Rattle.trdp_marshal.specs.Numbers.{signed_number};
 ghost use Rattle.trdp_marshal.specs.Spells.{Spells, IsSpelled};
 ghost use Rattle.trdp_marshal.specs.Reading.{number_at, unsigned_at, signed_at, time48_at, time64_at, form_at, repeated_at, entry_at, entries_at, dataset_at, reading};
-ghost use Rattle.trdp_marshal.specs.Faults.{Gives, Answers, decode_fault};
+ghost use Rattle.trdp_marshal.specs.Faults.{has_items, Gives, Answers, decode_fault};
 
 use crate::fault::MarshalFault;
 use crate::item::Item;
@@ -103,7 +103,8 @@ fn read_form<'a>(
     }
 }
 
-/// So many values of a type, one after the other. The list grows as they are read, not by the count.
+/// So many values of a type, one after the other. The list grows as they are read, not by the
+/// count.
 #[cycle(read)]
 fn read_repeated<'a>(
     alloc: Global,
@@ -137,7 +138,8 @@ fn read_entry<'a>(
     bytes: &'a [u8],
 ) -> Result<(Item, &'a [u8]), MarshalFault>
     ensures { Gives (λ x. (model_of x.0, x.1.now)) result
-        (entry_at (form_at (dataset_at registry.now depth) (form_of element.kind)) element.size count bytes.now) }
+        (entry_at (form_at (dataset_at registry.now depth) (form_of element.kind))
+        element.size count bytes.now) }
 {
     let form = element.kind.form();
     if element.size == 1 {
@@ -196,10 +198,34 @@ fn read_dataset<'a>(
     }
 }
 
-/// The item of a dataset that these bytes spell. Nothing is reserved by a count that stands in the bytes.
+/// What [`decode`] answers. The bytes are looked at before memory is taken.
+fn decoded(
+    alloc: Global,
+    registry: &Registry,
+    id: u32,
+    bytes: &[u8],
+) -> Result<Item, MarshalFault>
+    ensures value { IfOk result (λ item. Spells registry.now id (model_of item) bytes.now) }
+    ensures reading { IfOk result (λ item. reading registry.now id bytes.now
+        ≡ Some (model_of item)) }
+    ensures fault { Answers result (decode_fault registry.now id bytes.now) }
+{
+    if !has_items(registry, id) {
+        return Err(MarshalFault::NoDataset);
+    }
+    if !fits_dataset(registry, id, bytes) {
+        return Err(MarshalFault::Shape);
+    }
+    let (item, _) = read_dataset(alloc, registry, DEPTH, id, bytes)?;
+    Ok(item)
+}
+
+/// The item of a dataset that these bytes spell, packed as IEC 61375-2-3 sends them. Nothing is
+/// reserved by a count that stands in the bytes.
 ///
 /// # Errors
 ///
+/// The first two are found before memory is taken, in this order:
 /// - `NoDataset`: no dataset has that identifier, or it is 0, of which any bytes are a payload.
 /// - `Shape`: the bytes are those of no item: too few, or some left over.
 /// - `OutOfMemory`: there is no memory for the item.
@@ -212,15 +238,11 @@ pub fn decode(
     ensures value { IfOk result (λ item. Spells registry.now id (model_of item) bytes.now) }
     ensures reading { IfOk result (λ item. reading registry.now id bytes.now
         ≡ Some (model_of item)) }
-    ensures shape { result ≡ Err MarshalFault.Shape → ¬ IsSpelled registry.now id bytes.now }
+    ensures unknown { (result ≡ Err MarshalFault.NoDataset)
+        ↔ (¬ IsTrue (has_items registry.now id)) }
+    ensures shape { (result ≡ Err MarshalFault.Shape)
+        ↔ (IsTrue (has_items registry.now id) × ¬ IsSpelled registry.now id bytes.now) }
     ensures fault { Answers result (decode_fault registry.now id bytes.now) }
 {
-    if !has_items(registry, id) {
-        return Err(MarshalFault::NoDataset);
-    }
-    if !fits_dataset(registry, id, bytes) {
-        return Err(MarshalFault::Shape);
-    }
-    let (item, _) = read_dataset(alloc, registry, DEPTH, id, bytes)?;
-    Ok(item)
+    decoded(alloc, registry, id, bytes)
 }

@@ -4,6 +4,8 @@ use std::process::Abort;
 use std::test::Fail;
 use trdp_dataset::{ConfigFault, Registry};
 
+/// Datasets of one length (1004, 1005) and with arrays of a counted size, of which 1006 has one of
+/// values that have one themselves, and 1007 one of values of one length.
 const DATASETS: &[u8] = br#"
 [[dataset]]
 id = 1001
@@ -17,6 +19,15 @@ element = [{ type = "UINT32" }, { type = "UINT8", size = 0 }]
 [[dataset]]
 id = 1004
 element = [{ type = "TIMEDATE64" }, { type = "CHAR8", size = 2 }, { type = "INT64" }]
+[[dataset]]
+id = 1005
+element = [{ type = 1004, size = 2 }]
+[[dataset]]
+id = 1006
+element = [{ type = "BOOL8", size = 3 }, { type = "UINT16" }, { type = 1001, size = 0 }]
+[[dataset]]
+id = 1007
+element = [{ type = "UINT8" }, { type = 1004, size = 0 }, { type = "INT32" }]
 "#;
 
 fn registry(alloc: Global) -> Result<Registry, ConfigFault> {
@@ -60,6 +71,14 @@ fn long(alloc: Global, count: u32) -> Result<Item, AllocError> {
     pair(alloc, Item::U(u64::from(count)), Item::List(array))
 }
 
+/// The 65,388 bytes of the longest value of dataset 1003: 65,384 as the count, and as many sevens.
+fn longest_bytes(alloc: Global) -> Result<Vec<u8>, AllocError> {
+    let mut bytes = Vec::new(alloc);
+    bytes.extend_from_slice(b"\0\0\xff\x68")?;
+    bytes.resize(65_388, 7)?;
+    Ok(bytes)
+}
+
 /// The item is spelled by these bytes, and its clone is equal to it.
 fn spells(
     rt: &impl Abort,
@@ -77,35 +96,6 @@ fn spells(
     let copy = item.try_clone(alloc)?;
     assert!(rt; copy == *item, "at {id}");
     Ok(())
-}
-
-fn refuses(rt: &impl Abort, alloc: Global, registry: &Registry, id: u32, bytes: &[u8]) {
-    assert!(rt; !fits(registry, id, bytes), "at {id}");
-    let fault = decode(alloc, registry, id, bytes).err();
-    assert_eq!(rt; fault, Some(MarshalFault::Shape), "at {id}");
-}
-
-fn encode_fault(alloc: Global, registry: &Registry, id: u32, item: &Item) -> Option<MarshalFault> {
-    encode(alloc, registry, id, item).err()
-}
-
-/// Why this first entry and an empty array are no value of dataset 1001.
-fn fault_of(
-    alloc: Global,
-    registry: &Registry,
-    first: Item,
-) -> Result<Option<MarshalFault>, AllocError> {
-    let item = uncounted(alloc, first)?;
-    Ok(encode_fault(alloc, registry, 1001, &item))
-}
-
-fn encoded_length(
-    alloc: Global,
-    registry: &Registry,
-    count: u32,
-) -> Result<Result<usize, MarshalFault>, AllocError> {
-    let item = long(alloc, count)?;
-    Ok(encode(alloc, registry, 1003, &item).map(|bytes| bytes.len()))
 }
 
 #[test]
@@ -137,52 +127,108 @@ fn spells_times_and_texts(rt: HostRuntime) -> Result<(), Fail> {
 }
 
 #[test]
-fn refuses_bytes(rt: HostRuntime) -> Result<(), Fail> {
+fn spells_the_longest_item(rt: HostRuntime) -> Result<(), Fail> {
     let alloc = rt.alloc();
     let registry = registry(alloc)?;
-    refuses(&rt, alloc, &registry, 1001, b"\x02\0");
-    refuses(&rt, alloc, &registry, 1001, b"\x01\0\x01\0");
-    refuses(&rt, alloc, &registry, 1001, b"");
-    refuses(&rt, alloc, &registry, 1003, b"\xff\xff\xff\xff\0\0\0\0");
+    let item = long(alloc, 65_384)?;
+    let bytes = longest_bytes(alloc)?;
+    spells(&rt, alloc, &registry, 1003, &item, &bytes)
+}
+
+#[test]
+fn refuses_a_longer_item(rt: HostRuntime) -> Result<(), Fail> {
+    let alloc = rt.alloc();
+    let registry = registry(alloc)?;
+    let item = long(alloc, 65_385)?;
+    let fault = encode(alloc, &registry, 1003, &item).err();
+    assert_eq!(rt; fault, Some(MarshalFault::TooLong));
+    Ok(())
+}
+
+/// Datasets and bytes that may be their payload, and why these have no item.
+static PAYLOADS: [(u32, &[u8], Option<MarshalFault>); 17] = [
+    (5, b"\x02\0", Some(MarshalFault::NoDataset)),
+    (1001, b"", Some(MarshalFault::Shape)),
+    (1001, b"\x02\0", Some(MarshalFault::Shape)),
+    (1001, b"\x01\0\x01\0", Some(MarshalFault::Shape)),
+    (1003, b"\xff\xff\xff\xff\0\0\0\0", Some(MarshalFault::Shape)),
+    (1004, b"seventeen bytes..", Some(MarshalFault::Shape)),
+    (1004, b"eighteen bytes ...", None),
+    (1004, b"nineteen bytes ....", Some(MarshalFault::Shape)),
+    (1005, b"thirty-five bytes, all of them text", Some(MarshalFault::Shape)),
+    (1005, b"thirty-six bytes, all of them texts.", None),
+    (1006, b"any\0\x02\x01\0\x01\0", None),
+    (1006, b"any\0\x02\x01\0\x01", Some(MarshalFault::Shape)),
+    (1006, b"any\0\x01\x01\0\x01\0", Some(MarshalFault::Shape)),
+    (1006, b"any\xff\xff\0\0\0", Some(MarshalFault::Shape)),
+    (1007, b"\x01eighteen bytes ...last", None),
+    (1007, b"\x02eighteen bytes ...last", Some(MarshalFault::Shape)),
+    (1007, b"\0last", None),
+];
+
+/// The bytes are a payload and have an item, or neither.
+fn judges(
+    rt: &impl Abort,
+    alloc: Global,
+    registry: &Registry,
+    id: u32,
+    bytes: &[u8],
+    fault: Option<MarshalFault>,
+) {
+    assert_eq!(rt; fits(registry, id, bytes), fault.is_none(), "at {id}");
+    assert_eq!(rt; decode(alloc, registry, id, bytes).err(), fault, "at {id}");
+}
+
+#[test]
+fn judges_bytes(rt: HostRuntime) -> Result<(), Fail> {
+    let alloc = rt.alloc();
+    let registry = registry(alloc)?;
+    for (id, bytes, fault) in &PAYLOADS {
+        judges(&rt, alloc, &registry, *id, bytes, *fault);
+    }
     Ok(())
 }
 
 #[test]
-fn knows_no_other_dataset(rt: HostRuntime) -> Result<(), Fail> {
+fn takes_any_bytes_of_dataset_0(rt: HostRuntime) -> Result<(), Fail> {
     let alloc = rt.alloc();
     let registry = registry(alloc)?;
-    assert!(rt; fits(&registry, 0, b"\x02\0"));
-    assert!(rt; !fits(&registry, 5, b"\x02\0"));
-    for id in [0, 5] {
-        let fault = decode(alloc, &registry, id, b"\x02\0").err();
-        assert_eq!(rt; fault, Some(MarshalFault::NoDataset), "at {id}");
-        let fault = encode_fault(alloc, &registry, id, &Item::U(2));
-        assert_eq!(rt; fault, Some(MarshalFault::NoDataset), "at {id}");
-    }
+    assert!(rt; fits(&registry, 0, b"any"));
+    let fault = decode(alloc, &registry, 0, b"any").err();
+    assert_eq!(rt; fault, Some(MarshalFault::NoDataset));
     Ok(())
+}
+
+/// First entries that with an empty array are no value of a dataset, and why not.
+static REFUSED: [(u32, u64, MarshalFault); 5] = [
+    (0, 0, MarshalFault::NoDataset),
+    (5, 0, MarshalFault::NoDataset),
+    (1001, 1, MarshalFault::Shape),
+    (1001, 256, MarshalFault::Shape),
+    (1001, u64::MAX, MarshalFault::Shape),
+];
+
+/// Why this first entry and an empty array are no value of a dataset.
+fn fault_of(
+    alloc: Global,
+    registry: &Registry,
+    id: u32,
+    first: Item,
+) -> Result<Option<MarshalFault>, AllocError> {
+    let item = uncounted(alloc, first)?;
+    Ok(encode(alloc, registry, id, &item).err())
 }
 
 #[test]
 fn refuses_items(rt: HostRuntime) -> Result<(), Fail> {
     let alloc = rt.alloc();
     let registry = registry(alloc)?;
-    for first in [1, 256, u64::MAX] {
-        let fault = fault_of(alloc, &registry, Item::U(first))?;
-        assert_eq!(rt; fault, Some(MarshalFault::Shape), "at {first}");
+    for (id, first, fault) in &REFUSED {
+        let found = fault_of(alloc, &registry, *id, Item::U(*first))?;
+        assert_eq!(rt; found, Some(*fault), "at {id}");
     }
-    let fault = fault_of(alloc, &registry, Item::S(0))?;
-    assert_eq!(rt; fault, Some(MarshalFault::Shape));
-    Ok(())
-}
-
-#[test]
-fn refuses_long_items(rt: HostRuntime) -> Result<(), Fail> {
-    let alloc = rt.alloc();
-    let registry = registry(alloc)?;
-    let longest = encoded_length(alloc, &registry, 65_384)?;
-    assert_eq!(rt; longest, Ok(65_388));
-    let longer = encoded_length(alloc, &registry, 65_385)?;
-    assert_eq!(rt; longer, Err(MarshalFault::TooLong));
+    let found = fault_of(alloc, &registry, 1001, Item::S(0))?;
+    assert_eq!(rt; found, Some(MarshalFault::Shape));
     Ok(())
 }
 

@@ -1,13 +1,13 @@
 //! Bytes of items.
 
-ghost use Rattle.std.specs.Prelude.{◌≡◌, ◌≤◌, ◌++◌, length, IfOk, OnOk, Some};
+ghost use Rattle.std.specs.Prelude.{◌≡◌, ◌≤◌, ◌↔◌, ◌++◌, length, IfOk, OnOk, Some, Err, IsTrue};
 ghost use Rattle.byteorder.specs.Endian.{big_bytes};
 ghost use Rattle.trdp_dataset.specs.Elements.{width_len, form_of};
 ghost use Rattle.trdp_marshal.specs.Items.{model_of, models_in};
 ghost use Rattle.trdp_marshal.specs.Spelling.{unsigned_spelling, signed_spelling, time48_spelling, time64_spelling, form_spelling, repeated_spelling, entry_spelling, entries_spelling, dataset_spelling, spelling};
-ghost use Rattle.trdp_marshal.specs.Spells.{Spells};
+ghost use Rattle.trdp_marshal.specs.Spells.{Spells, HasBytes, IsTooLong};
 ghost use Rattle.trdp_marshal.specs.Lengths.{Appends};
-ghost use Rattle.trdp_marshal.specs.Faults.{Answers, encode_fault};
+ghost use Rattle.trdp_marshal.specs.Faults.{has_items, Answers, encode_fault};
 
 use crate::code::{signed_code, unsigned_code};
 use crate::fault::MarshalFault;
@@ -84,8 +84,8 @@ fn write_time64(item: &Item, out: &mut Vec<u8>) -> Result<(), AllocError>
     }
 }
 
-/// One value of a type. Like the functions below, it writes nothing of use where the item is no such value: its
-/// caller has measured the whole item first.
+/// One value of a type. Like the functions below, it writes nothing of use where the item is no
+/// such value: its caller has measured the whole item first.
 #[cycle(write)]
 #[tactic(auto, unfolding(crate::specs::Spelling::form_spelling))]
 fn write_form(
@@ -119,7 +119,8 @@ fn write_repeated(
     out: &mut Vec<u8>,
 ) -> Result<(), AllocError>
     ensures { OnOk result
-        (Appends (repeated_spelling (form_spelling (dataset_spelling registry.now depth) form) count (models_in items.now))
+        (Appends (repeated_spelling (form_spelling (dataset_spelling registry.now depth) form)
+        count (models_in items.now))
         out.old.items out.new.items) }
 {
     for item in items {
@@ -139,7 +140,9 @@ fn write_entry(
     out: &mut Vec<u8>,
 ) -> Result<(), AllocError>
     ensures { OnOk result
-        (Appends (entry_spelling (form_spelling (dataset_spelling registry.now depth) (form_of element.kind)) element.size count (model_of item.now))
+        (Appends (entry_spelling
+        (form_spelling (dataset_spelling registry.now depth) (form_of element.kind))
+        element.size count (model_of item.now))
         out.old.items out.new.items) }
 {
     let form = element.kind.form();
@@ -164,7 +167,8 @@ fn write_entries(
 ) -> Result<(), AllocError>
     requires { length elements.now ≡ length items.now }
     ensures { OnOk result
-        (Appends (entries_spelling (form_spelling (dataset_spelling registry.now depth)) elements.now 0 (models_in items.now))
+        (Appends (entries_spelling (form_spelling (dataset_spelling registry.now depth))
+        elements.now 0 (models_in items.now))
         out.old.items out.new.items) }
 {
     let mut count = 0;
@@ -206,17 +210,8 @@ fn write_dataset(
     }
 }
 
-/// The bytes of an item of a dataset, at most 65,388.
-///
-/// # Errors
-///
-/// Each is found before memory is taken, in this order:
-/// - `NoDataset`: no dataset has that identifier, or it is 0, of which any bytes are a payload.
-/// - `Shape`: the item is no value of the dataset: an entry is of another kind or out of its type's range, or a
-///   list has not as many items as it should, for an array of size 0 as the entry before it says.
-/// - `TooLong`: there are more than 65,388 bytes.
-/// - `OutOfMemory`: there is no memory for the bytes.
-pub fn encode(
+/// What [`encode`] answers. The item is measured before memory is taken.
+fn encoded(
     alloc: Global,
     registry: &Registry,
     id: u32,
@@ -241,4 +236,35 @@ pub fn encode(
         }
         None => Err(MarshalFault::Shape),
     }
+}
+
+/// The bytes of an item of a dataset, at most 65,388, packed as IEC 61375-2-3 sends them.
+///
+/// # Errors
+///
+/// Each is found before memory is taken, in this order:
+/// - `NoDataset`: no dataset has that identifier, or it is 0, of which any bytes are a payload.
+/// - `Shape`: the item is no value of the dataset: an entry is of another kind or out of its
+///   type's range, or a list has not as many items as it should, for an array of size 0 as the
+///   entry before it says.
+/// - `TooLong`: there are more than 65,388 bytes.
+/// - `OutOfMemory`: there is no memory for the bytes.
+pub fn encode(
+    alloc: Global,
+    registry: &Registry,
+    id: u32,
+    item: &Item,
+) -> Result<Vec<u8>, MarshalFault>
+    ensures value { IfOk result (λ bytes. Spells registry.now id (model_of item.now) bytes.items) }
+    ensures spelling { IfOk result (λ bytes. spelling registry.now id (model_of item.now)
+        ≡ Some bytes.items) }
+    ensures unknown { (result ≡ Err MarshalFault.NoDataset)
+        ↔ (¬ IsTrue (has_items registry.now id)) }
+    ensures shape { (result ≡ Err MarshalFault.Shape)
+        ↔ (IsTrue (has_items registry.now id) × ¬ HasBytes registry.now id (model_of item.now)) }
+    ensures long { (result ≡ Err MarshalFault.TooLong)
+        ↔ (IsTrue (has_items registry.now id) × IsTooLong registry.now id (model_of item.now)) }
+    ensures fault { Answers result (encode_fault registry.now id (model_of item.now)) }
+{
+    encoded(alloc, registry, id, item)
 }

@@ -1,3 +1,4 @@
+pub mod Payloads
 pub mod Effects
 pub mod Due
 pub mod Publishers

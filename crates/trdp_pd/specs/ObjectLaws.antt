@@ -1,10 +1,12 @@
--- What is true of every object, from its kinds.
+-- What is true of every object, from its kinds: proofs for the trait of all objects.
+-- They stand here because what a trait's implementation names in src/ may stand in specs/ alone.
 use Rattle.std.proofs.Common.{◌≡◌, Bool, false, ap}
 use Rattle.trdp_filter.specs.declared.globals.Globals.{Globals}
 use Rattle.trdp_filter.specs.Telegrams.{TelegramModel}
 use Rattle.trdp_pd.specs.declared.object.Taken.TheVariants.{Nothing as NotTaken}
 use Rattle.trdp_pd.specs.declared.any_object.AnyObject.{AnyObject}
-use Rattle.trdp_pd.specs.declared.any_object.AnyObject.TheVariants.{Publisher, Subscription, Requester}
+use Rattle.trdp_pd.specs.declared.any_object.AnyObject.TheVariants.{Publisher, Subscription}
+use Rattle.trdp_pd.specs.declared.any_object.AnyObject.TheVariants.{Requester}
 use Rattle.trdp_pd.specs.Effects.{Taking, taking_as}
 use Rattle.trdp_pd.specs.Due.{is_due_by}
 use Rattle.trdp_pd.specs.Publishers.{PublisherState}
@@ -12,18 +14,32 @@ use Rattle.trdp_pd.specs.Subscriptions.{SubscriptionState}
 use Rattle.trdp_pd.specs.Requesters.{RequesterState}
 use Rattle.trdp_pd.specs.Objects.{due_of, is_addressed, taking, firing}
 use Rattle.trdp_pd.specs.PublisherLaws.{publisher_taking-unaddressed, publisher_due-firing}
-use Rattle.trdp_pd.specs.SubscriptionLaws.{subscription_taking-unaddressed, subscription_due-firing}
+use Rattle.trdp_pd.specs.SubscriptionLaws.{subscription_taking-unaddressed}
+use Rattle.trdp_pd.specs.SubscriptionLaws.{subscription_due-firing}
 use Rattle.trdp_pd.specs.RequesterLaws.{requester_taking-unaddressed, requester_due-firing}
 
 -- a telegram that isn't addressed to an object changes nothing
-pub taking-unaddressed : (object : AnyObject) (telegram : TelegramModel) (g : Globals) (fits : Bool) → is_addressed object telegram g ≡ false → taking object telegram g fits ≡ record { object = object; taken = NotTaken }
-taking-unaddressed (Publisher p) telegram g fits not = ap (λ (t : Taking PublisherState). taking_as Publisher t) (publisher_taking-unaddressed p telegram g fits not)
-taking-unaddressed (Subscription s) telegram g fits not = ap (λ (t : Taking SubscriptionState). taking_as Subscription t) (subscription_taking-unaddressed s telegram g fits not)
-taking-unaddressed (Requester r) telegram g fits not =
-    ap (λ (t : Taking RequesterState). taking_as Requester t) (requester_taking-unaddressed r telegram g fits not)
+pub taking-unaddressed :
+    (object : AnyObject) (telegram : TelegramModel) (globals : Globals) (fits : Bool)
+    → is_addressed object telegram globals ≡ false
+    → taking object telegram globals fits ≡ record { object = object; taken = NotTaken }
+taking-unaddressed (Publisher p) telegram globals fits not =
+    ap
+    (λ (t : Taking PublisherState). taking_as Publisher t)
+    (publisher_taking-unaddressed p telegram globals fits not)
+taking-unaddressed (Subscription s) telegram globals fits not =
+    ap
+    (λ (t : Taking SubscriptionState). taking_as Subscription t)
+    (subscription_taking-unaddressed s telegram globals fits not)
+taking-unaddressed (Requester r) telegram globals fits not =
+    ap
+    (λ (t : Taking RequesterState). taking_as Requester t)
+    (requester_taking-unaddressed r telegram globals fits not)
 
 -- an object that fired isn't due by now
-pub due-firing : (object : AnyObject) (g : Globals) → is_due_by g.now (due_of (firing object g).object) ≡ false
-due-firing (Publisher p) g = publisher_due-firing p g
-due-firing (Subscription s) g = subscription_due-firing s g
-due-firing (Requester r) g = requester_due-firing r g
+pub due-firing :
+    (object : AnyObject) (globals : Globals)
+    → is_due_by globals.now (due_of (firing object globals).object) ≡ false
+due-firing (Publisher p) globals = publisher_due-firing p globals
+due-firing (Subscription s) globals = subscription_due-firing s globals
+due-firing (Requester r) globals = requester_due-firing r globals

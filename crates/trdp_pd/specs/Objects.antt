@@ -5,13 +5,18 @@ use Rattle.trdp_filter.specs.Telegrams.{TelegramModel}
 use Rattle.trdp_pd.specs.declared.object.Taken.{Taken}
 use Rattle.trdp_pd.specs.declared.object.Fired.{Fired}
 use Rattle.trdp_pd.specs.declared.any_object.AnyObject.{AnyObject}
-use Rattle.trdp_pd.specs.declared.any_object.AnyObject.TheVariants.{Publisher, Subscription, Requester}
+use Rattle.trdp_pd.specs.declared.any_object.AnyObject.TheVariants.{Publisher, Subscription}
+use Rattle.trdp_pd.specs.declared.any_object.AnyObject.TheVariants.{Requester}
 use Rattle.trdp_pd.specs.Effects.{Taking, Firing, taking_as, firing_as}
-use Rattle.trdp_pd.specs.Publishers.{publisher_due, publisher_addressed, publisher_taking, publisher_firing}
-use Rattle.trdp_pd.specs.Subscriptions.{subscription_addressed, subscription_taking, subscription_firing}
-use Rattle.trdp_pd.specs.Requesters.{requester_due, requester_addressed, requester_taking, requester_firing}
+use Rattle.trdp_pd.specs.Publishers.{publisher_due, publisher_addressed, publisher_taking}
+use Rattle.trdp_pd.specs.Publishers.{publisher_firing}
+use Rattle.trdp_pd.specs.Subscriptions.{subscription_addressed, subscription_taking}
+use Rattle.trdp_pd.specs.Subscriptions.{subscription_firing}
+use Rattle.trdp_pd.specs.Requesters.{requester_due, requester_addressed, requester_taking}
+use Rattle.trdp_pd.specs.Requesters.{requester_firing}
 
--- the place of the object's kind in the order of the quotas: publishers come first, then subscriptions, then requesters
+-- the index of the object's kind among the quotas: publishers come first, then subscriptions, then
+-- requesters
 abbrev pub kind_of : AnyObject → ℕ
 kind_of (Publisher p) = 0
 kind_of (Subscription s) = 1
@@ -25,34 +30,37 @@ due_of (Requester r) = requester_due r
 
 -- the telegram is for the object
 abbrev pub is_addressed : AnyObject → TelegramModel → Globals → Bool
-is_addressed (Publisher p) telegram g = publisher_addressed p telegram g
-is_addressed (Subscription s) telegram g = subscription_addressed s telegram g
-is_addressed (Requester r) telegram g = requester_addressed r telegram g
+is_addressed (Publisher p) telegram globals = publisher_addressed p telegram globals
+is_addressed (Subscription s) telegram globals = subscription_addressed s telegram globals
+is_addressed (Requester r) telegram globals = requester_addressed r telegram globals
 
 -- the object once it was handed a telegram, and what it did with it
 abbrev pub taking : AnyObject → TelegramModel → Globals → Bool → Taking AnyObject
-taking (Publisher p) telegram g fits = taking_as Publisher (publisher_taking p telegram g fits)
-taking (Subscription s) telegram g fits = taking_as Subscription (subscription_taking s telegram g fits)
-taking (Requester r) telegram g fits = taking_as Requester (requester_taking r telegram g fits)
+taking (Publisher p) telegram globals fits =
+    taking_as Publisher (publisher_taking p telegram globals fits)
+taking (Subscription s) telegram globals fits =
+    taking_as Subscription (subscription_taking s telegram globals fits)
+taking (Requester r) telegram globals fits =
+    taking_as Requester (requester_taking r telegram globals fits)
 
 -- the object after it was handed a telegram
 abbrev pub after_taking : AnyObject → TelegramModel → Globals → Bool → AnyObject
-after_taking object telegram g fits = (taking object telegram g fits).object
+after_taking object telegram globals fits = (taking object telegram globals fits).object
 
 -- what the object did with the telegram
 abbrev pub taken : AnyObject → TelegramModel → Globals → Bool → Taken
-taken object telegram g fits = (taking object telegram g fits).taken
+taken object telegram globals fits = (taking object telegram globals fits).taken
 
 -- the object once it fired, and what it did
 abbrev pub firing : AnyObject → Globals → Firing AnyObject
-firing (Publisher p) g = firing_as Publisher (publisher_firing p g)
-firing (Subscription s) g = firing_as Subscription (subscription_firing s g)
-firing (Requester r) g = firing_as Requester (requester_firing r g)
+firing (Publisher p) globals = firing_as Publisher (publisher_firing p globals)
+firing (Subscription s) globals = firing_as Subscription (subscription_firing s globals)
+firing (Requester r) globals = firing_as Requester (requester_firing r globals)
 
 -- the object after it fired
 abbrev pub after_firing : AnyObject → Globals → AnyObject
-after_firing object g = (firing object g).object
+after_firing object globals = (firing object globals).object
 
 -- what the object does as it fires
 abbrev pub fired : AnyObject → Globals → Fired
-fired object g = (firing object g).fired
+fired object globals = (firing object globals).fired

@@ -1,8 +1,10 @@
 -- A publisher and its moment.
-use Rattle.std.specs.Prelude.{ℕ, ◌+◌, ◌-◌, ◌*◌, ◌/◌, ◌%◌, ◌^◌, List, Option, Some, None, Bool, true, false, is_some, ◌==◌, ◌&&◌, ◌||◌, if◌then◌else◌}
+use Rattle.std.specs.Prelude.{ℕ, ◌+◌, ◌-◌, ◌*◌, ◌/◌, ◌%◌, ◌^◌, List, Option, Some, None, Bool}
+use Rattle.std.specs.Prelude.{true, false, is_some, ◌==◌, ◌&&◌, ◌||◌, if◌then◌else◌}
 use Rattle.trdp_head.specs.declared.pd.PdHead.{PdHead}
 use Rattle.trdp_head.specs.declared.pd.PdKind.{PdKind}
-use Rattle.trdp_head.specs.declared.pd.PdKind.TheVariants.{Data as DataKind, PullReply, PullRequest}
+use Rattle.trdp_head.specs.declared.pd.PdKind.TheVariants.{Data as DataKind, PullReply}
+use Rattle.trdp_head.specs.declared.pd.PdKind.TheVariants.{PullRequest}
 use Rattle.trdp_filter.specs.declared.globals.Globals.{Globals}
 use Rattle.trdp_filter.specs.Counts.{topo_valid}
 use Rattle.trdp_filter.specs.Globals.{leads}
@@ -12,7 +14,8 @@ use Rattle.trdp_pd.specs.declared.object.Taken.TheVariants.{Nothing as NotTaken,
 use Rattle.trdp_pd.specs.declared.object.Fired.TheVariants.{Nothing, Data}
 use Rattle.trdp_pd.specs.Effects.{Taking, Firing}
 
--- a publisher: what it is to send, when it is next due, its value if it has one, and the counter of its next telegram
+-- a publisher: what it is to send, when it is next due, its value if it has one, and the counter
+-- of its next telegram
 pub record PublisherState : Type 0 where
   pub terms : PublisherTerms
   pub due : ℕ
@@ -27,12 +30,16 @@ published terms now = record { terms = terms; due = now + terms.cycle; value = N
 abbrev pub publisher_due : PublisherState → Option ℕ
 publisher_due p = if p.terms.cycle == 0 then None else Some p.due
 
--- leave to send: it has a value, the node leads its group if it has one, and its topology counts match the node's
+-- leave to send: it has a value, the node leads its group if it has one, and its topology counts
+-- match the node's
 abbrev pub may_send : PublisherState → Globals → Bool
-may_send p g =
-    is_some p.value && (p.terms.group == 0 || leads g.led p.terms.group) && topo_valid p.terms.topo g.topo
+may_send p globals =
+    is_some p.value
+    && (p.terms.group == 0 || leads globals.led p.terms.group)
+    && topo_valid p.terms.topo globals.topo
 
--- no catching up: the first of its moments after now, in whole cycles from the one that it was due at
+-- no catching up: the first of its moments after now, in whole cycles from the one that it was due
+-- at
 abbrev pub next_due : PublisherState → ℕ → ℕ
 next_due p now = p.due + ((now - p.due) / p.terms.cycle + 1) * p.terms.cycle
 
@@ -40,7 +47,8 @@ next_due p now = p.due + ((now - p.due) / p.terms.cycle + 1) * p.terms.cycle
 abbrev pub next_counter : ℕ → ℕ
 next_counter counter = (counter + 1) % 2 ^ 32
 
--- the header of the next telegram, as one of this type: the publisher's counter, comId and counts, and no reply fields
+-- the header of the next telegram, as one of this type: the publisher's counter, comId and counts,
+-- and no reply fields
 abbrev pub head_as : PdKind → PublisherState → PdHead
 head_as kind p = record {
   counter = p.counter;
@@ -59,12 +67,16 @@ data_head p = head_as DataKind p
 abbrev pub reply_head : PublisherState → PdHead
 reply_head p = head_as PullReply p
 
--- cyclic sending: at most one telegram; the counter goes up by one modulo 2^32 exactly where one is sent
+-- cyclic sending: at most one telegram; the counter goes up by one modulo 2^32 exactly where one
+-- is sent
 abbrev pub publisher_firing : PublisherState → Globals → Firing PublisherState
-publisher_firing p g =
-    if may_send p g
-    then record { object = record p { due = next_due p g.now; counter = next_counter p.counter }; fired = Data (data_head p) }
-    else record { object = record p { due = next_due p g.now }; fired = Nothing }
+publisher_firing p globals =
+    if may_send p globals
+    then record {
+      object = record p { due = next_due p globals.now; counter = next_counter p.counter };
+      fired = Data (data_head p);
+    }
+    else record { object = record p { due = next_due p globals.now }; fired = Nothing }
 
 -- the message type that asks for a value
 unfoldable pub asks_for_value : PdKind → Bool
@@ -75,22 +87,30 @@ asks_for_value _ = false
 unfoldable pub asked_com_id : PdHead → ℕ
 asked_com_id head = if head.reply_com_id == 0 then head.com_id else head.reply_com_id
 
--- the telegram is a pull request that asks for the publisher's comId, with counts that match the publisher's
+-- the telegram is a pull request that asks for the publisher's comId, with counts that match the
+-- publisher's
 unfoldable pub is_asked : PublisherState → PdHead → Bool
 is_asked p head =
-    asks_for_value head.kind && asked_com_id head == p.terms.com_id && topo_valid head.topo p.terms.topo
+    asks_for_value head.kind
+    && asked_com_id head == p.terms.com_id
+    && topo_valid head.topo p.terms.topo
 
 -- what the telegrams for a publisher are
 abbrev pub publisher_addressed : PublisherState → TelegramModel → Globals → Bool
-publisher_addressed p (PdIs src dst telegram) g = is_asked p telegram.head
+publisher_addressed p (PdIs src dst telegram) globals = is_asked p telegram.head
 
 -- the publisher answers the pull request: it is asked, and it may send
 unfoldable pub is_answered : PublisherState → PdHead → Globals → Bool
-is_answered p head g = is_asked p head && may_send p g
+is_answered p head globals = is_asked p head && may_send p globals
 
--- pull answer: one telegram out of the cycle, which is counted like those of the cycle and leaves the due moment
-abbrev pub publisher_taking : PublisherState → TelegramModel → Globals → Bool → Taking PublisherState
-publisher_taking p (PdIs src dst telegram) g fits =
-    if is_answered p telegram.head g
-    then record { object = record p { counter = next_counter p.counter }; taken = Pulled (reply_head p) }
+-- pull answer: one telegram out of the cycle, which is counted like those of the cycle and leaves
+-- the due moment
+abbrev pub publisher_taking :
+    PublisherState → TelegramModel → Globals → Bool → Taking PublisherState
+publisher_taking p (PdIs src dst telegram) globals fits =
+    if is_answered p telegram.head globals
+    then record {
+      object = record p { counter = next_counter p.counter };
+      taken = Pulled (reply_head p);
+    }
     else record { object = p; taken = NotTaken }

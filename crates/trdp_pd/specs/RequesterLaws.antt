@@ -1,15 +1,22 @@
--- Laws of a requester.
+-- What is true of every requester: the proofs that it gives to the trait of all objects.
+-- They stand here because what a trait's implementation names in src/ may stand in specs/ alone.
 use Rattle.std.specs.Prelude.{◌≡◌, Bool, false, refl}
 use Rattle.trdp_filter.specs.declared.globals.Globals.{Globals}
 use Rattle.trdp_filter.specs.Telegrams.{TelegramModel}
 use Rattle.trdp_pd.specs.declared.object.Taken.TheVariants.{Nothing as NotTaken}
 use Rattle.trdp_pd.specs.Due.{is_due_by}
-use Rattle.trdp_pd.specs.Requesters.{RequesterState, requester_due, requester_addressed, requester_taking, requester_firing}
+use Rattle.trdp_pd.specs.Requesters.{RequesterState, requester_due, requester_addressed}
+use Rattle.trdp_pd.specs.Requesters.{requester_taking, requester_firing}
 
 -- no telegram changes a requester
-pub requester_taking-unaddressed : (r : RequesterState) (telegram : TelegramModel) (g : Globals) (fits : Bool) → requester_addressed r telegram g ≡ false → requester_taking r telegram g fits ≡ record { object = r; taken = NotTaken }
-requester_taking-unaddressed r telegram g fits not = refl
+pub requester_taking-unaddressed :
+    (r : RequesterState) (telegram : TelegramModel) (globals : Globals) (fits : Bool)
+    → requester_addressed r telegram globals ≡ false
+    → requester_taking r telegram globals fits ≡ record { object = r; taken = NotTaken }
+requester_taking-unaddressed r telegram globals fits not = refl
 
 -- a requester isn't due
-pub requester_due-firing : (r : RequesterState) (g : Globals) → is_due_by g.now (requester_due (requester_firing r g).object) ≡ false
-requester_due-firing r g = refl
+pub requester_due-firing :
+    (r : RequesterState) (globals : Globals)
+    → is_due_by globals.now (requester_due (requester_firing r globals).object) ≡ false
+requester_due-firing r globals = refl

@@ -45,12 +45,13 @@ requester_due r = None
 
 -- no telegram is for a requester
 abbrev pub requester_addressed : RequesterState → TelegramModel → Globals → Bool
-requester_addressed r telegram g = false
+requester_addressed r telegram globals = false
 
 -- a requester takes no telegram
-abbrev pub requester_taking : RequesterState → TelegramModel → Globals → Bool → Taking RequesterState
-requester_taking r telegram g fits = record { object = r; taken = NotTaken }
+abbrev pub requester_taking :
+    RequesterState → TelegramModel → Globals → Bool → Taking RequesterState
+requester_taking r telegram globals fits = record { object = r; taken = NotTaken }
 
 -- a requester does nothing by itself
 abbrev pub requester_firing : RequesterState → Globals → Firing RequesterState
-requester_firing r g = record { object = r; fired = Nothing }
+requester_firing r globals = record { object = r; fired = Nothing }

@@ -1,5 +1,7 @@
 -- A subscription, its telegrams and its supervision.
-use Rattle.std.specs.Prelude.{◌≡◌, ℕ, ◌+◌, ◌-◌, ◌%◌, ◌^◌, List, length, replicate, Option, Some, None, Bool, true, false, not, nat_lt, ◌==◌, ◌&&◌, if◌then◌else◌}
+use Rattle.std.specs.Prelude.{◌≡◌, ◌⊎◌, ℕ, ◌+◌, ◌-◌, ◌%◌, ◌^◌, List, length, replicate, Option}
+use Rattle.std.specs.Prelude.{Some, None, Bool, true, false, not, nat_lt, ◌==◌, ◌&&◌}
+use Rattle.std.specs.Prelude.{if◌then◌else◌}
 use Rattle.trdp_base.specs.declared.place.Ip.{Ip}
 use Rattle.trdp_base.specs.declared.place.Place.{Place}
 use Rattle.trdp_head.specs.declared.pd.PdHead.{PdHead}
@@ -14,15 +16,17 @@ use Rattle.trdp_pd.specs.declared.terms.Behaviour.{Behaviour}
 use Rattle.trdp_pd.specs.declared.terms.Behaviour.TheVariants.{Zero, Keep}
 use Rattle.trdp_pd.specs.declared.terms.SubscriptionTerms.{SubscriptionTerms}
 use Rattle.trdp_pd.specs.declared.terms.ValueState.{ValueState}
-use Rattle.trdp_pd.specs.declared.terms.ValueState.TheVariants.{Never, Valid, Silent as SilentState}
+use Rattle.trdp_pd.specs.declared.terms.ValueState.TheVariants.{Never, Valid}
+use Rattle.trdp_pd.specs.declared.terms.ValueState.TheVariants.{Silent as SilentState}
 use Rattle.trdp_pd.specs.declared.terms.Latest.{Latest}
 use Rattle.trdp_pd.specs.declared.object.Taken.{Taken}
 use Rattle.trdp_pd.specs.declared.object.Taken.TheVariants.{Nothing, Stored, Alive}
 use Rattle.trdp_pd.specs.declared.object.Fired.TheVariants.{Silent}
 use Rattle.trdp_pd.specs.Effects.{Taking, Firing}
 
--- a subscription: its terms, the size of its dataset's zero value, its deadline if it has one, how good its value is, the
--- counter that it shows, the latest telegram that it took unless it timed out since, and its value
+-- a subscription: its terms, the size of its dataset's zero value, its deadline if it has one, how
+-- good its value is, the counter that it shows, the latest telegram that it took unless it timed
+-- out since, and its value
 pub record SubscriptionState : Type 0 where
   pub terms : SubscriptionTerms
   pub zero_size : ℕ
@@ -36,16 +40,21 @@ pub record SubscriptionState : Type 0 where
 unfoldable pub deadline_from : ℕ → ℕ → Option ℕ
 deadline_from supervision now = if supervision == 0 then None else Some (now + supervision)
 
+-- the length of the first value: that of the dataset's zero value, which is given, and 0 for
+-- dataset 0, which has none
+unfoldable pub first_size : SubscriptionTerms → ℕ → ℕ
+first_size terms zero_size = if terms.dataset == 0 then 0 else zero_size
+
 -- a new subscription shows the dataset's zero value and counter 0, and is supervised from now on
 abbrev pub subscribed : SubscriptionTerms → ℕ → ℕ → SubscriptionState
 subscribed terms zero_size now = record {
   terms = terms;
-  zero_size = zero_size;
+  zero_size = first_size terms zero_size;
   deadline = deadline_from terms.supervision now;
   state = Never;
   counter = 0;
   latest = None;
-  value = replicate zero_size 0;
+  value = replicate (first_size terms zero_size) 0;
 }
 
 -- the message types that carry a value
@@ -54,7 +63,8 @@ carries_value Data = true
 carries_value PullReply = true
 carries_value _ = false
 
--- stale: of the source address and message type of the latest accepted telegram, and less than 16 behind it modulo 2^32
+-- stale: of the source address and message type of the latest accepted telegram, and less than 16
+-- behind it modulo 2^32
 unfoldable pub is_stale : Option Latest → Ip → PdHead → Bool
 is_stale None source head = false
 is_stale (Some latest) source head =
@@ -63,15 +73,18 @@ is_stale (Some latest) source head =
 
 -- the telegram is data or a pull reply, and the filter passes it
 unfoldable pub is_for : SubscriptionState → Place → Place → PdHead → Globals → Bool
-is_for s src dst head g = carries_value head.kind && pd_passes s.terms.filter src dst head g.topo
+is_for s src dst head globals =
+    carries_value head.kind && pd_passes s.terms.filter src dst head globals.topo
 
--- acceptance: the telegram is for the subscription, its payload fits the dataset, and it isn't stale
+-- acceptance: the telegram is for the subscription, its payload fits the dataset, and it isn't
+-- stale
 unfoldable pub is_accepted : SubscriptionState → Place → Place → PdHead → Globals → Bool → Bool
-is_accepted s src dst head g fits = is_for s src dst head g && fits && not (is_stale s.latest src.ip head)
+is_accepted s src dst head globals fits =
+    is_for s src dst head globals && fits && not (is_stale s.latest src.ip head)
 
 -- what the telegrams for a subscription are
 abbrev pub subscription_addressed : SubscriptionState → TelegramModel → Globals → Bool
-subscription_addressed s (PdIs src dst telegram) g = is_for s src dst telegram.head g
+subscription_addressed s (PdIs src dst telegram) globals = is_for s src dst telegram.head globals
 
 -- an accepted telegram sets value, counter, memory and state, and the supervision time begins anew
 abbrev pub storing : SubscriptionState → Place → PdTelegram → ℕ → SubscriptionState
@@ -79,7 +92,11 @@ storing s src telegram now = record s {
   deadline = deadline_from s.terms.supervision now;
   state = Valid;
   counter = telegram.head.counter;
-  latest = Some (record { source = src.ip; kind = telegram.head.kind; counter = telegram.head.counter });
+  latest = Some (record {
+    source = src.ip;
+    kind = telegram.head.kind;
+    counter = telegram.head.counter;
+  });
   value = telegram.payload;
 }
 
@@ -89,13 +106,15 @@ taken_in SilentState = Alive
 taken_in _ = Stored
 
 -- reception: an accepted telegram is stored, any other changes nothing
-abbrev pub subscription_taking : SubscriptionState → TelegramModel → Globals → Bool → Taking SubscriptionState
-subscription_taking s (PdIs src dst telegram) g fits =
-    if is_accepted s src dst telegram.head g fits
-    then record { object = storing s src telegram g.now; taken = taken_in s.state }
+abbrev pub subscription_taking :
+    SubscriptionState → TelegramModel → Globals → Bool → Taking SubscriptionState
+subscription_taking s (PdIs src dst telegram) globals fits =
+    if is_accepted s src dst telegram.head globals fits
+    then record { object = storing s src telegram globals.now; taken = taken_in s.state }
     else record { object = s; taken = Nothing }
 
--- the value after a time-out: kept, or the dataset's zero value, or for dataset 0 as many zeros as it had bytes
+-- the value after a time-out: kept, or the dataset's zero value, or for dataset 0 as many zeros as
+-- it had bytes
 unfoldable pub value_after_time_out : SubscriptionTerms → ℕ → List ℕ → List ℕ
 value_after_time_out terms zero_size value = by_behaviour terms.behaviour
   where
@@ -103,9 +122,10 @@ value_after_time_out terms zero_size value = by_behaviour terms.behaviour
     by_behaviour Keep = value
     by_behaviour Zero = replicate (if terms.dataset == 0 then length value else zero_size) 0
 
--- supervision time-out: silent, with no deadline and no memory until the next accepted telegram; the counter stays
+-- supervision time-out: silent, with no deadline and no memory until the next accepted telegram;
+-- the counter stays
 abbrev pub subscription_firing : SubscriptionState → Globals → Firing SubscriptionState
-subscription_firing s g = record {
+subscription_firing s globals = record {
   object = record s {
     deadline = None;
     state = SilentState;
@@ -115,8 +135,17 @@ subscription_firing s g = record {
   fired = Silent;
 }
 
--- the subscription took the telegram, one of its own comId: its value is good and is the telegram's payload
-pub record HasTaken (s : SubscriptionState) (telegram : TelegramModel) (after : SubscriptionState) : Type 0 where
+-- the telegram carries a value: it is data, or the reply to a pull request
+abbrev pub IsOfValue : TelegramModel → Type 0
+IsOfValue (PdIs src dst telegram) = (telegram.head.kind ≡ Data) ⊎ (telegram.head.kind ≡ PullReply)
+
+-- the subscription took the telegram, data or a pull reply of its own comId whose payload fits its
+-- dataset: its value is good and is the telegram's payload
+pub record HasTaken
+    (s : SubscriptionState) (telegram : TelegramModel) (is_fit : Bool) (after : SubscriptionState)
+    : Type 0 where
+  pub kind : IsOfValue telegram
   pub com_id : com_id_of telegram ≡ s.terms.filter.com_id
+  pub fits : is_fit ≡ true
   pub state : after.state ≡ Valid
   pub value : after.value ≡ payload_of telegram

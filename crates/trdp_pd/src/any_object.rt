@@ -12,13 +12,16 @@ use trdp_filter::{Globals, Telegram};
 /// An object of any kind.
 #[derive(Drop)]
 pub enum AnyObject {
+    /// It sends process data in its cycle, and where it is asked for it.
     Publisher(Publisher),
+    /// It keeps the latest process data of one comId.
     Subscription(Subscription),
+    /// It asks for process data.
     Requester(Requester),
 }
 
 impl AnyObject {
-    /// The place of its kind in the order of the quotas: 0 for publishers, 1 for subscriptions, 2 for
+    /// The index of its kind among the quotas: 0 for publishers, 1 for subscriptions, 2 for
     /// requesters.
     pub fn kind(&self) -> usize
         ensures kind { result ≡ kind_of self.now }

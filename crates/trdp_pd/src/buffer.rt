@@ -6,54 +6,65 @@ use std::alloc::{AllocError, Global};
 use std::marker::Model;
 use trdp_head::PD_PAYLOAD_MAX;
 
-/// A payload of at most 1432 bytes, in a list that never grows.
+/// A payload of at most 1432 bytes, in memory that is taken once.
 #[derive(Drop)]
 pub struct PayloadBuffer {
-    bytes: Vec<u8>,
+    /// 1432 bytes, which the payload overwrites from the front.
+    room: Vec<u8>,
+    /// The length of the payload in bytes, 0 to 1432; what the room holds behind it counts for
+    /// nothing.
+    size: usize,
 }
 
 impl Model for PayloadBuffer {
-    ghost use Rattle.std.specs.Prelude.{List, ℕ, ◌≤◌, vec_capacity, vec_len};
+    ghost use Rattle.std.specs.Prelude.{◌≡◌, ◌≤◌, take, vec_capacity, vec_len};
+    ghost use Rattle.trdp_pd.specs.Payloads.{PayloadState};
 
-    ghost Value = { List ℕ };
+    ghost Value = { PayloadState };
 
-    ghost view = { λ b. b.bytes.items };
+    ghost view = { λ b. record { bytes = take b.size b.room.items; room = vec_capacity b.room } };
 
-    ghost invariant = { λ b. (1432 ≤ vec_capacity b.bytes) × (vec_len b.bytes ≤ 1432) };
+    ghost invariant = { λ b. (vec_len b.room ≡ 1432) × (b.size ≤ 1432) };
 }
 
 impl PayloadBuffer {
     /// An empty payload, with the memory for the longest.
+    ///
+    /// # Errors
+    /// [`AllocError`] where there is no memory for it.
     pub fn new(alloc: Global) -> Result<PayloadBuffer, AllocError>
-        ensures { IfOk result (λ payload. payload ≡ []) }
+        ensures bytes { IfOk result (λ payload. payload.bytes ≡ []) }
+        ensures room { IfOk result (λ payload. 1432 ≤ payload.room) }
     {
-        let bytes = Vec::with_capacity(alloc, PD_PAYLOAD_MAX)?;
-        Ok(PayloadBuffer { bytes })
+        let room = Vec::from_elem(alloc, 0, PD_PAYLOAD_MAX)?;
+        Ok(PayloadBuffer { room, size: 0 })
     }
 
     /// The payload.
     pub fn bytes(&self) -> &[u8]
-        ensures value { result.now ≡ self.now }
+        ensures value { result.now ≡ self.now.bytes }
         ensures within { length result.now ≤ 1432 }
     {
-        &self.bytes
+        &self.room[..self.size]
     }
 
     /// Replaces the payload by these bytes.
     pub fn set(&mut self, bytes: &[u8])
         requires { length bytes.now ≤ 1432 }
-        ensures { self.new ≡ bytes.now }
+        ensures { self.new ≡ record self.old { bytes = bytes.now } }
     {
-        self.bytes.clear();
-        let _ = self.bytes.extend_from_slice(bytes);
+        let (payload, _) = self.room.split_at_mut(bytes.len());
+        payload.copy_from_slice(bytes);
+        self.size = bytes.len();
     }
 
     /// Replaces the payload by that many zeros.
-    pub fn set_zeros(&mut self, n: usize)
-        requires { n ≤ 1432 }
-        ensures { self.new ≡ replicate n 0 }
+    pub fn set_zeros(&mut self, size: usize)
+        requires { size ≤ 1432 }
+        ensures { self.new ≡ record self.old { bytes = replicate size 0 } }
     {
-        self.bytes.clear();
-        let _ = self.bytes.resize(n, 0);
+        let (payload, _) = self.room.split_at_mut(size);
+        payload.fill(0);
+        self.size = size;
     }
 }

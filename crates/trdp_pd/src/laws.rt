@@ -1,33 +1,29 @@
-//! What is true of every object, whatever came before.
+//! What is true of every object, whatever came before, beside the two laws of the trait
+//! [`Object`].
 
 ghost use Rattle.std.specs.Prelude.{◌≡◌, ℕ, ◌⊎◌, Bool, true, false, IsSome};
 ghost use Rattle.trdp_head.specs.declared.pd.PdHead.{PdHead};
 ghost use Rattle.trdp_filter.specs.declared.globals.Globals.{Globals};
 ghost use Rattle.trdp_filter.specs.Telegrams.{TelegramModel};
 ghost use Rattle.trdp_pd.specs.declared.any_object.AnyObject.{AnyObject};
-ghost use Rattle.trdp_pd.specs.declared.object.Taken.TheVariants.{Nothing as NotTaken};
 ghost use Rattle.trdp_pd.specs.declared.terms.PublisherTerms.{PublisherTerms};
 ghost use Rattle.trdp_pd.specs.declared.terms.SubscriptionTerms.{SubscriptionTerms};
 ghost use Rattle.trdp_pd.specs.Due.{is_due_by};
-ghost use Rattle.trdp_pd.specs.Publishers.{PublisherState, published, publisher_due, publisher_taking, publisher_firing};
-ghost use Rattle.trdp_pd.specs.Subscriptions.{SubscriptionState, HasTaken, subscribed, subscription_taking, subscription_firing};
-ghost use Rattle.trdp_pd.specs.Objects.{kind_of, due_of, is_addressed, taking, after_taking, after_firing};
+ghost use Rattle.trdp_pd.specs.Publishers.{PublisherState, published, publisher_due};
+ghost use Rattle.trdp_pd.specs.Publishers.{publisher_taking, publisher_firing};
+ghost use Rattle.trdp_pd.specs.Subscriptions.{SubscriptionState, HasTaken, subscribed};
+ghost use Rattle.trdp_pd.specs.Subscriptions.{subscription_taking, subscription_firing};
+ghost use Rattle.trdp_pd.specs.Objects.{kind_of, due_of, after_taking, after_firing};
 
 use crate::object::{Fired, Taken};
 use crate::terms::ValueState;
 
-/// A telegram that isn't addressed to an object changes nothing.
-pub fn unaddressed_changes_nothing()
-    ensures { (object : AnyObject) (telegram : TelegramModel) (g : Globals) (fits : Bool)
-        → is_addressed object telegram g ≡ false
-        → taking object telegram g fits ≡ record { object = object; taken = NotTaken } }
-{}
-
 /// An object keeps its kind.
 pub fn kind_stays()
-    ensures taken { (object : AnyObject) (telegram : TelegramModel) (g : Globals) (fits : Bool)
-        → kind_of (after_taking object telegram g fits) ≡ kind_of object }
-    ensures fired { (object : AnyObject) (g : Globals) → kind_of (after_firing object g) ≡ kind_of object }
+    ensures taken { (object : AnyObject) (telegram : TelegramModel) (globals : Globals)
+        (fits : Bool) → kind_of (after_taking object telegram globals fits) ≡ kind_of object }
+    ensures fired { (object : AnyObject) (globals : Globals)
+        → kind_of (after_firing object globals) ≡ kind_of object }
 {}
 
 /// A new object is due later than now, if ever.
@@ -38,60 +34,63 @@ pub fn new_is_later()
         → is_due_by now (subscribed terms zero_size now).deadline ≡ false }
 {}
 
-/// An object that fired is due later than now, if ever; so it fires at most once at a moment.
-pub fn fired_is_later()
-    ensures { (object : AnyObject) (g : Globals) → is_due_by g.now (due_of (after_firing object g)) ≡ false }
-{}
-
-/// A telegram makes no object due: if the object was due later than now or never, it is so afterwards.
+/// A telegram makes no object due: if the object was due later than now or never, it is so
+/// afterwards.
 pub fn taken_stays_later()
-    ensures { (object : AnyObject) (telegram : TelegramModel) (g : Globals) (fits : Bool)
-        → is_due_by g.now (due_of object) ≡ false
-        → is_due_by g.now (due_of (after_taking object telegram g fits)) ≡ false }
+    ensures { (object : AnyObject) (telegram : TelegramModel) (globals : Globals) (fits : Bool)
+        → is_due_by globals.now (due_of object) ≡ false
+        → is_due_by globals.now (due_of (after_taking object telegram globals fits)) ≡ false }
 {}
 
-/// Neither a telegram nor a moment changes what a publisher is to send, or its value; and no telegram moves its due
-/// moment.
+/// Neither a telegram nor a moment changes what a publisher is to send, or its value; and no
+/// telegram moves its due moment.
 pub fn publisher_keeps()
-    ensures taken_publication { (p : PublisherState) (telegram : TelegramModel) (g : Globals) (fits : Bool)
-        → (publisher_taking p telegram g fits).object.terms ≡ p.terms }
-    ensures taken_value { (p : PublisherState) (telegram : TelegramModel) (g : Globals) (fits : Bool)
-        → (publisher_taking p telegram g fits).object.value ≡ p.value }
-    ensures taken_due { (p : PublisherState) (telegram : TelegramModel) (g : Globals) (fits : Bool)
-        → (publisher_taking p telegram g fits).object.due ≡ p.due }
-    ensures fired_publication { (p : PublisherState) (g : Globals)
-        → (publisher_firing p g).object.terms ≡ p.terms }
-    ensures fired_value { (p : PublisherState) (g : Globals) → (publisher_firing p g).object.value ≡ p.value }
+    ensures taken_terms { (p : PublisherState) (telegram : TelegramModel) (globals : Globals)
+        (fits : Bool) → (publisher_taking p telegram globals fits).object.terms ≡ p.terms }
+    ensures taken_value { (p : PublisherState) (telegram : TelegramModel) (globals : Globals)
+        (fits : Bool) → (publisher_taking p telegram globals fits).object.value ≡ p.value }
+    ensures taken_due { (p : PublisherState) (telegram : TelegramModel) (globals : Globals)
+        (fits : Bool) → (publisher_taking p telegram globals fits).object.due ≡ p.due }
+    ensures fired_terms { (p : PublisherState) (globals : Globals)
+        → (publisher_firing p globals).object.terms ≡ p.terms }
+    ensures fired_value { (p : PublisherState) (globals : Globals)
+        → (publisher_firing p globals).object.value ≡ p.value }
 {}
 
 /// What a publisher sends has its comId, and it sends nothing before it has a value.
 pub fn publisher_sends_its_own()
-    ensures pulled_com_id { (p : PublisherState) (telegram : TelegramModel) (g : Globals) (fits : Bool) (head : PdHead)
-        → (publisher_taking p telegram g fits).taken ≡ Taken.Pulled head
+    ensures pulled_com_id { (p : PublisherState) (telegram : TelegramModel) (globals : Globals)
+        (fits : Bool) (head : PdHead)
+        → (publisher_taking p telegram globals fits).taken ≡ Taken.Pulled head
         → head.com_id ≡ p.terms.com_id }
-    ensures pulled_value { (p : PublisherState) (telegram : TelegramModel) (g : Globals) (fits : Bool) (head : PdHead)
-        → (publisher_taking p telegram g fits).taken ≡ Taken.Pulled head → IsSome p.value }
-    ensures fired_com_id { (p : PublisherState) (g : Globals) (head : PdHead)
-        → (publisher_firing p g).fired ≡ Fired.Data head → head.com_id ≡ p.terms.com_id }
-    ensures fired_value { (p : PublisherState) (g : Globals) (head : PdHead)
-        → (publisher_firing p g).fired ≡ Fired.Data head → IsSome p.value }
+    ensures pulled_value { (p : PublisherState) (telegram : TelegramModel) (globals : Globals)
+        (fits : Bool) (head : PdHead)
+        → (publisher_taking p telegram globals fits).taken ≡ Taken.Pulled head → IsSome p.value }
+    ensures fired_com_id { (p : PublisherState) (globals : Globals) (head : PdHead)
+        → (publisher_firing p globals).fired ≡ Fired.Data head → head.com_id ≡ p.terms.com_id }
+    ensures fired_value { (p : PublisherState) (globals : Globals) (head : PdHead)
+        → (publisher_firing p globals).fired ≡ Fired.Data head → IsSome p.value }
 {}
 
 /// Neither a telegram nor a moment changes what a subscription takes.
 pub fn subscription_keeps()
-    ensures taken { (s : SubscriptionState) (telegram : TelegramModel) (g : Globals) (fits : Bool)
-        → (subscription_taking s telegram g fits).object.terms ≡ s.terms }
-    ensures fired { (s : SubscriptionState) (g : Globals) → (subscription_firing s g).object.terms ≡ s.terms }
+    ensures taken { (s : SubscriptionState) (telegram : TelegramModel) (globals : Globals)
+        (fits : Bool) → (subscription_taking s telegram globals fits).object.terms ≡ s.terms }
+    ensures fired { (s : SubscriptionState) (globals : Globals)
+        → (subscription_firing s globals).object.terms ≡ s.terms }
 {}
 
-/// The value of a subscription is good only as the payload of a telegram that it took.
+/// The value of a subscription is good only as the payload of a telegram that it took: of data or
+/// a pull reply, of its own comId, and fitting its dataset.
 ///
-/// A new one is `Never`, a telegram leaves it as it was or is taken, and a time-out makes it `Silent`.
+/// A new one is `Never`, a telegram leaves it as it was or is taken, and a time-out makes it
+/// `Silent`.
 pub fn subscription_shows_what_it_took()
     ensures new { (terms : SubscriptionTerms) (zero_size now : ℕ)
         → (subscribed terms zero_size now).state ≡ ValueState.Never }
-    ensures taken { (s : SubscriptionState) (telegram : TelegramModel) (g : Globals) (fits : Bool)
-        → ((subscription_taking s telegram g fits).object ≡ s) ⊎ HasTaken s telegram (subscription_taking s telegram g fits).object }
-    ensures fired { (s : SubscriptionState) (g : Globals)
-        → (subscription_firing s g).object.state ≡ ValueState.Silent }
+    ensures taken { (s : SubscriptionState) (telegram : TelegramModel) (globals : Globals)
+        (fits : Bool) → ((subscription_taking s telegram globals fits).object ≡ s)
+        ⊎ HasTaken s telegram fits (subscription_taking s telegram globals fits).object }
+    ensures fired { (s : SubscriptionState) (globals : Globals)
+        → (subscription_firing s globals).object.state ≡ ValueState.Silent }
 {}

@@ -1,7 +1,8 @@
 //! The process data objects of a slot: publishers, subscriptions and requesters.
 //!
-//! Each object is one state, and what a telegram or a moment does to it is a function of this state, the telegram and
-//! the node's globals alone. The constructors take the memory of one payload; nothing later takes any.
+//! Each object is one state, and what a telegram or a moment does to it is a function of this
+//! state, the telegram and the node's globals alone. The constructors take the memory of one
+//! payload; nothing later takes any.
 #![tactic(auto)]
 
 mod any_object;
@@ -15,9 +16,8 @@ mod terms;
 
 pub use any_object::AnyObject;
 pub use laws::{
-    fired_is_later, kind_stays, new_is_later, publisher_keeps, publisher_sends_its_own,
-    subscription_keeps, subscription_shows_what_it_took, taken_stays_later,
-    unaddressed_changes_nothing,
+    kind_stays, new_is_later, publisher_keeps, publisher_sends_its_own, subscription_keeps,
+    subscription_shows_what_it_took, taken_stays_later,
 };
 pub use object::{Fired, Object, Taken};
 pub use publisher::Publisher;

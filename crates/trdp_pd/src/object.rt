@@ -44,7 +44,8 @@ pub trait Object {
     /// The telegram is for the object.
     ghost is_addressed: { Self → TelegramModel → Globals → Bool };
 
-    /// The object once it was handed a telegram, which fits its dataset or doesn't, and what it did with it.
+    /// The object once it was handed a telegram, which fits its dataset or doesn't, and what it
+    /// did with it.
     ghost taking: { Self → TelegramModel → Globals → Bool → Taking Self };
 
     /// The object once it fired, and what it did.
@@ -62,8 +63,10 @@ pub trait Object {
     fn take(&mut self, telegram: &Telegram<'_>, globals: &Globals, fits: bool) -> Taken
         requires limit { IsWithinLimit (telegram_model telegram.now) }
         requires now { globals.now.now ≤ last_moment }
-        ensures state { self.new ≡ (taking self.old (telegram_model telegram.now) globals.entry.now fits).object }
-        ensures outcome { result ≡ (taking self.old (telegram_model telegram.now) globals.entry.now fits).taken };
+        ensures state { self.new
+            ≡ (taking self.old (telegram_model telegram.now) globals.entry.now fits).object }
+        ensures outcome { result
+            ≡ (taking self.old (telegram_model telegram.now) globals.entry.now fits).taken };
 
     /// Lets it act once its due moment has come.
     fn fire(&mut self, globals: &Globals) -> Fired
@@ -73,9 +76,11 @@ pub trait Object {
         ensures outcome { result ≡ (firing self.old globals.entry.now).fired };
 
     /// A telegram that isn't addressed to the object changes nothing.
-    ghost unaddressed: { (x : Self) (telegram : TelegramModel) (g : Globals) (fits : Bool)
-        → is_addressed x telegram g ≡ false → taking x telegram g fits ≡ record { object = x; taken = NotTaken } };
+    ghost unaddressed: { (x : Self) (telegram : TelegramModel) (globals : Globals) (fits : Bool)
+        → is_addressed x telegram globals ≡ false
+        → taking x telegram globals fits ≡ record { object = x; taken = NotTaken } };
 
     /// An object that fired isn't due by now.
-    ghost later: { (x : Self) (g : Globals) → is_due_by g.now (due_of (firing x g).object) ≡ false };
+    ghost later: { (x : Self) (globals : Globals)
+        → is_due_by globals.now (due_of (firing x globals).object) ≡ false };
 }

@@ -16,10 +16,15 @@ use trdp_head::{PdHead, PdKind};
 /// A publisher, with room for the longest value.
 #[derive(Drop)]
 pub struct Publisher {
+    /// What it is to send, to whom and how often; never changed.
     terms: PublisherTerms,
+    /// When its cycle is next due, in microseconds; looked at for a cycle above 0 alone.
     due: u64,
+    /// The bytes of its value; empty before the first put.
     buffer: PayloadBuffer,
+    /// Whether a value was put: a value may be empty.
     has_value: bool,
+    /// The sequence counter that its next telegram carries, data or pull reply.
     counter: u32,
 }
 
@@ -29,7 +34,12 @@ impl Model for Publisher {
 
     ghost Value = { PublisherState };
 
-    ghost view = { λ p. record { terms = p.terms; due = p.due; value = if p.has_value then Some p.buffer else None; counter = p.counter } };
+    ghost view = { λ p. record {
+      terms = p.terms;
+      due = p.due;
+      value = if p.has_value then Some p.buffer.bytes else None;
+      counter = p.counter;
+    } };
 
     ghost invariant = { λ p. p.due ≤ 2 ^ 63 };
 }
@@ -58,11 +68,13 @@ fn asked_com_id(head: &PdHead) -> u32
 }
 
 impl Publisher {
-    ghost use Rattle.trdp_pd.specs.Publishers.{PublisherState, published, may_send, is_asked, is_answered, head_as, next_counter};
+    ghost use Rattle.trdp_pd.specs.Publishers.{PublisherState, published, may_send, is_asked};
+    ghost use Rattle.trdp_pd.specs.Publishers.{is_answered, head_as, next_counter};
 
     /// A publisher without a value, first due one cycle after `now`, in microseconds (profile).
     ///
-    /// Its one error is want of memory for its buffer.
+    /// # Errors
+    /// [`AllocError`] where there is no memory for the longest value.
     pub fn new(alloc: Global, terms: &PublisherTerms, now: u64) -> Result<Publisher, AllocError>
         requires { now ≤ last_moment }
         ensures { IfOk result (λ p. p ≡ published terms.now now) }
@@ -78,7 +90,7 @@ impl Publisher {
         })
     }
 
-    /// Gives it a new value.
+    /// Gives it a new value of at most 1432 bytes.
     pub fn put(&mut self, bytes: &[u8])
         requires { length bytes.now ≤ 1432 }
         ensures { self.new ≡ record self.old { value = Some bytes.now } }
@@ -120,7 +132,8 @@ impl Publisher {
         self.terms.to
     }
 
-    /// Whether it may send: it has a value, the node leads its group, and its topology counts match the node's.
+    /// Whether it may send: it has a value, the node leads its group, and its topology counts
+    /// match the node's.
     fn may_send(&self, globals: &Globals) -> bool
         ensures { result ≡ may_send self.now globals.entry.now }
     {
@@ -130,7 +143,8 @@ impl Publisher {
             && topo_valid(self.terms.topo, globals.topo)
     }
 
-    /// Whether the telegram is a pull request for its comId, with topology counts that match its own.
+    /// Whether the telegram is a pull request for its comId, with topology counts that match its
+    /// own.
     #[tactic(auto, unfolding(crate::specs::Publishers::is_asked))]
     fn is_asked(&self, head: &PdHead) -> bool
         ensures { result ≡ is_asked self.now head.now }
@@ -167,8 +181,10 @@ impl Publisher {
 }
 
 impl Object for Publisher {
-    ghost use Rattle.trdp_pd.specs.Publishers.{publisher_due, publisher_addressed, publisher_taking, publisher_firing};
-    ghost use Rattle.trdp_pd.specs.PublisherLaws.{publisher_taking-unaddressed, publisher_due-firing};
+    ghost use Rattle.trdp_pd.specs.Publishers.{publisher_due, publisher_addressed};
+    ghost use Rattle.trdp_pd.specs.Publishers.{publisher_taking, publisher_firing};
+    ghost use Rattle.trdp_pd.specs.PublisherLaws.{publisher_taking-unaddressed};
+    ghost use Rattle.trdp_pd.specs.PublisherLaws.{publisher_due-firing};
 
     ghost due_of = { publisher_due };
 

@@ -12,7 +12,9 @@ use trdp_head::{PdHead, PdKind};
 /// A requester.
 #[derive(Drop)]
 pub struct Requester {
+    /// What it asks for, and whom; never changed.
     terms: RequesterTerms,
+    /// The sequence counter that its next pull request carries.
     counter: u32,
 }
 
@@ -77,8 +79,10 @@ impl Requester {
 }
 
 impl Object for Requester {
-    ghost use Rattle.trdp_pd.specs.Requesters.{requester_due, requester_addressed, requester_taking, requester_firing};
-    ghost use Rattle.trdp_pd.specs.RequesterLaws.{requester_taking-unaddressed, requester_due-firing};
+    ghost use Rattle.trdp_pd.specs.Requesters.{requester_due, requester_addressed};
+    ghost use Rattle.trdp_pd.specs.Requesters.{requester_taking, requester_firing};
+    ghost use Rattle.trdp_pd.specs.RequesterLaws.{requester_taking-unaddressed};
+    ghost use Rattle.trdp_pd.specs.RequesterLaws.{requester_due-firing};
 
     ghost due_of = { requester_due };
 

@@ -2,7 +2,8 @@
 
 ghost use Rattle.std.specs.Prelude.{◌≡◌, ℕ, ◌≤◌, length, IfOk};
 ghost use Rattle.trdp_base.specs.Moments.{last_moment};
-ghost use Rattle.trdp_pd.specs.Subscriptions.{deadline_from, carries_value, is_stale, taken_in};
+ghost use Rattle.trdp_pd.specs.Subscriptions.{first_size, deadline_from, carries_value, is_stale};
+ghost use Rattle.trdp_pd.specs.Subscriptions.{taken_in};
 
 use crate::buffer::PayloadBuffer;
 use crate::object::{Fired, Object, Taken};
@@ -19,12 +20,22 @@ const STALE_WINDOW: u32 = 16;
 /// A subscription, with room for the longest value.
 #[derive(Drop)]
 pub struct Subscription {
+    /// What it takes, and for how long a value is good; never changed.
     terms: SubscriptionTerms,
+    /// The length of its dataset's zero value in bytes, 0 to 1432; 0 for dataset 0, which has
+    /// none; never changed.
     zero_size: usize,
+    /// When its value times out, in microseconds; None for a supervision time of 0, and from a
+    /// time-out to the next telegram that it takes.
     deadline: Option<u64>,
+    /// How good its value is.
     state: ValueState,
+    /// The sequence counter of the latest telegram that it took; 0 before the first.
     counter: u32,
+    /// The latest telegram that it took, for comparison with the next one; None before the first,
+    /// and from a time-out to the next one that it takes.
     latest: Option<Latest>,
+    /// The bytes of its value: of the latest telegram that it took, or zeros.
     value: PayloadBuffer,
 }
 
@@ -34,12 +45,31 @@ impl Model for Subscription {
 
     ghost Value = { SubscriptionState };
 
-    ghost view = { λ s. record { terms = s.terms; zero_size = s.zero_size; deadline = s.deadline; state = s.state; counter = s.counter; latest = s.latest; value = s.value } };
+    ghost view = { λ s. record {
+      terms = s.terms;
+      zero_size = s.zero_size;
+      deadline = s.deadline;
+      state = s.state;
+      counter = s.counter;
+      latest = s.latest;
+      value = s.value.bytes;
+    } };
 
     ghost invariant = { λ s. s.zero_size ≤ 1432 };
 }
 
-/// The deadline of a supervision time that begins now.
+/// The length of a new subscription's value in bytes: that of its dataset's zero value, which is
+/// given, and 0 for dataset 0, whatever is given.
+#[tactic(auto, unfolding(crate::specs::Subscriptions::first_size))]
+fn first_size(terms: &SubscriptionTerms, zero_size: usize) -> usize
+    requires { zero_size ≤ 1432 }
+    ensures size { result ≡ first_size terms.now zero_size }
+    ensures within { result ≤ 1432 }
+{
+    if terms.dataset == 0 { 0 } else { zero_size }
+}
+
+/// The deadline of a supervision time that begins now, in microseconds; None for one of 0.
 #[tactic(auto, unfolding(crate::specs::Subscriptions::deadline_from))]
 fn deadline_from(supervision: u32, now: u64) -> Option<u64>
     requires { now ≤ last_moment }
@@ -91,13 +121,18 @@ fn taken_in(state: ValueState) -> Taken
 
 impl Subscription {
     ghost use Rattle.trdp_head.specs.PdTelegrams.{PdTelegram};
-    ghost use Rattle.trdp_pd.specs.Subscriptions.{SubscriptionState, subscribed, is_for, is_accepted, storing, value_after_time_out};
+    ghost use Rattle.trdp_pd.specs.Subscriptions.{SubscriptionState, subscribed, is_for};
+    ghost use Rattle.trdp_pd.specs.Subscriptions.{is_accepted, storing, value_after_time_out};
     ghost use Rattle.trdp_pd.specs.Peeks.{peek_model, shown};
 
-    /// A subscription that shows the zero value of its dataset, supervised from `now` on, in microseconds (profile).
+    /// A subscription that shows the zero value of its dataset, supervised from `now` on, in
+    /// microseconds (profile).
     ///
-    /// `zero_size` is the number of bytes of that zero value, and 0 for dataset 0. Its one error is want of memory for
-    /// its buffer.
+    /// `zero_size` is the number of bytes of that zero value; for dataset 0, whose values are any
+    /// bytes, it counts for nothing and the value is empty.
+    ///
+    /// # Errors
+    /// [`AllocError`] where there is no memory for the longest value.
     pub fn new(
         alloc: Global,
         terms: &SubscriptionTerms,
@@ -108,6 +143,7 @@ impl Subscription {
         requires now { now ≤ last_moment }
         ensures { IfOk result (λ s. s ≡ subscribed terms.now zero_size now) }
     {
+        let zero_size = first_size(terms, zero_size);
         let mut value = PayloadBuffer::new(alloc)?;
         value.set_zeros(zero_size);
         Ok(Subscription {
@@ -167,7 +203,8 @@ impl Subscription {
     fn store(&mut self, src: Place, view: &PdView<'_>, now: u64)
         requires limit { length view.now.payload.now ≤ 1432 }
         requires now { now ≤ last_moment }
-        ensures { self.new ≡ storing self.old src (record { head = view.now.head; payload = view.now.payload.now }) now }
+        ensures { self.new ≡ storing self.old src
+            (record { head = view.now.head; payload = view.now.payload.now }) now }
     {
         self.deadline = deadline_from(self.terms.supervision, now);
         self.state = ValueState::Valid;
@@ -183,7 +220,9 @@ impl Subscription {
     /// What a time-out does to the value.
     #[tactic(auto, unfolding(crate::specs::Subscriptions::value_after_time_out))]
     fn time_out_value(&mut self)
-        ensures { self.new ≡ record self.old { value = value_after_time_out self.old.terms self.old.zero_size self.old.value } }
+        ensures { self.new ≡ record self.old {
+          value = value_after_time_out self.old.terms self.old.zero_size self.old.value;
+        } }
     {
         match self.terms.behaviour {
             Behaviour::Keep => {}
@@ -200,8 +239,10 @@ impl Subscription {
 }
 
 impl Object for Subscription {
-    ghost use Rattle.trdp_pd.specs.Subscriptions.{subscription_addressed, subscription_taking, subscription_firing};
-    ghost use Rattle.trdp_pd.specs.SubscriptionLaws.{subscription_taking-unaddressed, subscription_due-firing};
+    ghost use Rattle.trdp_pd.specs.Subscriptions.{subscription_addressed, subscription_taking};
+    ghost use Rattle.trdp_pd.specs.Subscriptions.{subscription_firing};
+    ghost use Rattle.trdp_pd.specs.SubscriptionLaws.{subscription_taking-unaddressed};
+    ghost use Rattle.trdp_pd.specs.SubscriptionLaws.{subscription_due-firing};
 
     ghost due_of = { λ s. s.deadline };
 

@@ -11,9 +11,11 @@ pub struct PublisherTerms {
     pub com_id: u32,
     /// The dataset that each value is one of; 0 for any bytes.
     pub dataset: u32,
-    /// Microseconds from one telegram to the next: 1,000 or more, or 0 for a publisher that is never due (profile).
+    /// Microseconds from one telegram to the next: 1,000 or more, or 0 for a publisher that is
+    /// never due (profile).
     pub cycle: u32,
-    /// The redundancy group, 1 to 255, which the node must lead for the publisher to send; 0 for none (profile).
+    /// The redundancy group, 1 to 255, which the node must lead for the publisher to send; 0 for
+    /// none (profile).
     pub group: u8,
     /// The topology counts that the telegrams carry.
     pub topo: Topo,
@@ -52,7 +54,8 @@ pub struct SubscriptionTerms {
     pub filter: PdFilter,
     /// The dataset that each value is one of; 0 for any bytes.
     pub dataset: u32,
-    /// Microseconds after which a value that isn't renewed times out: 1,000 or more, or 0 for never (profile).
+    /// Microseconds after which a value that isn't renewed times out: 1,000 or more, or 0 for
+    /// never (profile).
     pub supervision: u32,
     /// What a time-out does to the value.
     pub behaviour: Behaviour,

@@ -1,6 +1,6 @@
-//! Worked examples.
+//! Worked examples: what objects do, telegram by telegram and moment by moment.
 
-ghost use Rattle.std.specs.Prelude.{◌≡◌, ◌≤◌, length};
+ghost use Rattle.std.specs.Prelude.{◌≤◌};
 ghost use Rattle.trdp_base.specs.Moments.{last_moment};
 
 use crate::{
@@ -9,7 +9,7 @@ use crate::{
 };
 use std::process::Abort;
 use std::test::Fail;
-use trdp_base::{Ip, MOMENT_MAX, Place, Topo};
+use trdp_base::{Ip, Place, Topo};
 use trdp_filter::{Globals, Groups, PdFilter, Telegram};
 use trdp_head::{PdHead, PdKind, PdView};
 
@@ -20,22 +20,199 @@ const HERE: Place = Place {
     port: 17224,
 };
 
-const X: Place = Place {
-    ip: Ip(0x0a00_0002),
-    port: 17224,
-};
+const X: Ip = Ip(0x0a00_0002);
 
-fn at(now: u64) -> Globals
-    ensures { result.now ≡ now }
-{
-    Globals {
-        now,
+const Y: Ip = Ip(0x0a00_0003);
+
+/// Where publishers and requesters send to.
+const THERE: Place = Place { ip: X, port: 17224 };
+
+/// What happens; each telegram has comId 100.
+#[derive(Clone, Copy)]
+enum Happens {
+    /// A moment comes.
+    Moment,
+    /// Data comes from this address with this counter.
+    Data(Ip, u32),
+    /// A pull reply comes from this address with this counter.
+    Reply(Ip, u32),
+    /// A pull request comes, which asks for this comId; 0 for its own.
+    Request(u32),
+}
+
+/// What an object does then.
+#[derive(Clone, Copy, Debug, PartialEq, Eq)]
+enum Does {
+    /// The telegram isn't for it, or it isn't due.
+    Nothing,
+    /// The telegram is for it, or it is due, and it tells nothing.
+    Quiet,
+    /// It takes the value.
+    Stored,
+    /// It takes the value, and was silent before.
+    Alive,
+    /// Its time runs out.
+    Silent,
+    /// It sends data with this counter.
+    Data(u32),
+    /// It sends a pull reply with this counter.
+    Reply(u32),
+    /// It sends what no object does.
+    Wrong,
+}
+
+/// The moment in microseconds, what happens then, and what the object does.
+type Row = (u32, Happens, Does);
+
+/// The counters of the stale window, and types and sources that differ from the latest.
+static WINDOW: [Row; 9] = [
+    (0, Happens::Data(X, 3), Does::Stored),
+    (0, Happens::Data(X, 4_294_967_295), Does::Quiet),
+    (0, Happens::Data(X, 4_294_967_284), Does::Quiet),
+    (0, Happens::Data(X, 4_294_967_283), Does::Stored),
+    (0, Happens::Data(X, 0), Does::Stored),
+    (0, Happens::Reply(X, 0), Does::Stored),
+    (0, Happens::Data(X, 0), Does::Stored),
+    (0, Happens::Data(Y, 0), Does::Stored),
+    (0, Happens::Request(0), Does::Nothing),
+];
+
+/// A supervision time of 50,000 microseconds that runs out.
+static SILENCE: [Row; 8] = [
+    (0, Happens::Data(X, 20), Does::Stored),
+    (0, Happens::Data(X, 20), Does::Quiet),
+    (0, Happens::Data(X, 5), Does::Quiet),
+    (0, Happens::Data(X, 4), Does::Stored),
+    (0, Happens::Data(X, 7), Does::Stored),
+    (49_999, Happens::Moment, Does::Nothing),
+    (50_000, Happens::Moment, Does::Silent),
+    (60_000, Happens::Moment, Does::Nothing),
+];
+
+/// The latest telegram again, after that.
+static AGAIN: [Row; 1] = [(60_000, Happens::Data(X, 7), Does::Alive)];
+
+/// A cycle of 100,000 microseconds, missed moments, and pull requests between.
+static CYCLE: [Row; 7] = [
+    (350_000, Happens::Moment, Does::Data(0)),
+    (399_999, Happens::Moment, Does::Nothing),
+    (400_000, Happens::Moment, Does::Data(1)),
+    (400_000, Happens::Request(0), Does::Reply(2)),
+    (450_000, Happens::Request(200), Does::Nothing),
+    (450_000, Happens::Request(100), Does::Reply(3)),
+    (500_000, Happens::Moment, Does::Data(4)),
+];
+
+/// The same cycle in group 3 while the node follows.
+static FOLLOWS: [Row; 2] = [
+    (100_000, Happens::Moment, Does::Quiet),
+    (100_000, Happens::Request(0), Does::Quiet),
+];
+
+/// And once it leads.
+static LEADS: [Row; 3] = [
+    (100_000, Happens::Request(0), Does::Reply(0)),
+    (199_999, Happens::Moment, Does::Nothing),
+    (200_000, Happens::Moment, Does::Data(1)),
+];
+
+/// A requester is never due, and no telegram is for it.
+static REQUESTER: [Row; 2] = [
+    (0, Happens::Request(0), Does::Nothing),
+    (4_294_967_295, Happens::Moment, Does::Nothing),
+];
+
+/// A header of comId 100.
+fn head(kind: PdKind, counter: u32) -> PdHead {
+    PdHead {
+        counter,
+        kind,
+        com_id: 100,
         topo: ANY,
-        led: Groups::none(),
+        reply_com_id: 0,
+        reply_ip: Ip(0),
     }
 }
 
-fn terms(supervision: u32, behaviour: Behaviour) -> SubscriptionTerms {
+/// What it is to send under this header.
+fn sends(head: &PdHead) -> Does {
+    match head.kind {
+        PdKind::Data => Does::Data(head.counter),
+        PdKind::PullReply => Does::Reply(head.counter),
+        PdKind::PullRequest | PdKind::Error => Does::Wrong,
+    }
+}
+
+/// What the object does with a telegram from that address.
+fn hand<O: Object>(object: &mut O, globals: &Globals, ip: Ip, head: PdHead) -> Does
+    requires { globals.now.now ≤ last_moment }
+{
+    let telegram = Telegram::Pd {
+        src: Place { ip, port: 17224 },
+        dst: HERE,
+        view: PdView {
+            head,
+            payload: b"\x01\x02",
+        },
+    };
+    if !object.addressed(&telegram, globals) {
+        return Does::Nothing;
+    }
+    match object.take(&telegram, globals, true) {
+        Taken::Nothing => Does::Quiet,
+        Taken::Stored => Does::Stored,
+        Taken::Alive => Does::Alive,
+        Taken::Pulled(head) => sends(&head),
+    }
+}
+
+/// What the object does at a moment.
+fn act<O: Object>(object: &mut O, globals: &Globals) -> Does
+    requires { globals.now.now ≤ last_moment }
+{
+    match object.due() {
+        Some(due) if due <= globals.now => match object.fire(globals) {
+            Fired::Nothing => Does::Quiet,
+            Fired::Data(head) => sends(&head),
+            Fired::Silent => Does::Silent,
+        },
+        _ => Does::Nothing,
+    }
+}
+
+/// What the object does when this happens.
+fn answer<O: Object>(object: &mut O, globals: &Globals, happens: Happens) -> Does
+    requires { globals.now.now ≤ last_moment }
+{
+    match happens {
+        Happens::Moment => act(object, globals),
+        Happens::Data(ip, counter) => hand(object, globals, ip, head(PdKind::Data, counter)),
+        Happens::Reply(ip, counter) => hand(object, globals, ip, head(PdKind::PullReply, counter)),
+        Happens::Request(reply_com_id) => {
+            let mut head = head(PdKind::PullRequest, 0);
+            head.reply_com_id = reply_com_id;
+            hand(object, globals, X, head)
+        }
+    }
+}
+
+/// The object goes through these rows, in a node that leads group 3 or doesn't.
+fn live<O: Object>(rt: &impl Abort, object: &mut O, leads: bool, rows: &[Row]) {
+    let mut led = Groups::none();
+    led.set(3, leads);
+    for (now, happens, wanted) in rows {
+        let globals = Globals {
+            now: u64::from(*now),
+            topo: ANY,
+            led,
+        };
+        let done = answer(object, &globals, *happens);
+        assert_eq!(rt; done, *wanted, "at {now}");
+    }
+}
+
+/// What a subscription to comId 100 and any bytes takes.
+fn subscribed(supervision: u32, behaviour: Behaviour) -> SubscriptionTerms {
     SubscriptionTerms {
         filter: PdFilter {
             com_id: 100,
@@ -50,223 +227,79 @@ fn terms(supervision: u32, behaviour: Behaviour) -> SubscriptionTerms {
     }
 }
 
-fn head(kind: PdKind, counter: u32) -> PdHead {
-    PdHead {
-        counter,
-        kind,
+/// What a publisher of comId 100 and any bytes sends.
+fn published(group: u8) -> PublisherTerms {
+    PublisherTerms {
         com_id: 100,
+        dataset: 0,
+        cycle: 100_000,
+        group,
         topo: ANY,
-        reply_com_id: 0,
-        reply_ip: Ip(0),
-    }
-}
-
-/// Hands a telegram of comId 100 from X to the object, which is to be addressed by it.
-fn hand<O: Object>(
-    rt: &impl Abort,
-    object: &mut O,
-    now: u64,
-    kind: PdKind,
-    counter: u32,
-    payload: &[u8],
-) -> Taken
-    requires now { now ≤ last_moment }
-    requires limit { length payload.now ≤ 1432 }
-{
-    let view = PdView {
-        head: head(kind, counter),
-        payload,
-    };
-    let telegram = Telegram::Pd {
-        src: X,
-        dst: HERE,
-        view,
-    };
-    let globals = at(now);
-    assert!(rt; object.addressed(&telegram, &globals));
-    object.take(&telegram, &globals, true)
-}
-
-/// What the object does at a moment; nothing before it is due.
-fn moment<O: Object>(object: &mut O, now: u64) -> Option<Fired>
-    requires { now ≤ last_moment }
-{
-    let globals = at(now);
-    match object.due() {
-        None => None,
-        Some(due) => {
-            if due <= now {
-                Some(object.fire(&globals))
-            } else {
-                None
-            }
-        }
+        to: THERE,
     }
 }
 
 #[test]
 fn stale_window(rt: HostRuntime) -> Result<(), Fail> {
-    let mut s = Subscription::new(rt.alloc(), &terms(0, Behaviour::Zero), 0, 0)?;
-    for (counter, want) in [
-        (3, Taken::Stored),
-        (4_294_967_295, Taken::Nothing),
-        (4_294_967_284, Taken::Nothing),
-        (4_294_967_283, Taken::Stored),
-        (0, Taken::Stored),
-    ] {
-        let taken = hand(&rt, &mut s, 0, PdKind::Data, counter, b"\x01");
-        assert_eq!(rt; taken, want, "at {counter}");
-    }
+    let mut s = Subscription::new(rt.alloc(), &subscribed(0, Behaviour::Zero), 0, 0)?;
+    live(&rt, &mut s, false, &WINDOW);
     Ok(())
 }
 
 #[test]
-fn types_are_compared_with_the_latest_alone(rt: HostRuntime) -> Result<(), Fail> {
-    let mut s = Subscription::new(rt.alloc(), &terms(0, Behaviour::Zero), 0, 0)?;
-    for kind in [PdKind::Data, PdKind::PullReply, PdKind::Data] {
-        assert_eq!(rt; hand(&rt, &mut s, 0, kind, 7, b"\x01"), Taken::Stored);
-    }
-    Ok(())
-}
-
-#[test]
-fn new_objects(rt: HostRuntime) -> Result<(), Fail> {
-    let s = Subscription::new(rt.alloc(), &terms(0, Behaviour::Zero), 1, 0)?;
+fn new_subscription(rt: HostRuntime) -> Result<(), Fail> {
+    let mut terms = subscribed(0, Behaviour::Zero);
+    terms.dataset = 1001;
+    let s = Subscription::new(rt.alloc(), &terms, 1432, 0)?;
     let peek = s.peek();
-    assert_eq!(rt; peek.state, ValueState::Never);
-    assert_eq!(rt; peek.counter, 0);
-    assert_eq!(rt; peek.bytes, b"\x00".as_slice());
-    assert_eq!(rt; s.com_id(), 100);
-    assert_eq!(rt; s.dataset(), 0);
-    let p = Publisher::new(rt.alloc(), &terms(100_000), 0)?;
-    assert!(rt; p.value().is_none());
-    assert_eq!(rt; p.com_id(), 100);
-    assert_eq!(rt; p.dataset(), 0);
-    assert_eq!(rt; p.to(), X);
+    assert_eq!(rt; (peek.state, peek.counter), (ValueState::Never, 0));
+    assert_eq!(rt; peek.bytes, [0; 1432].as_slice());
+    assert_eq!(rt; (s.com_id(), s.dataset()), (100, 1001));
+    Ok(())
+}
+
+/// The subscription goes through a time-out, and then shows these bytes.
+fn time_out(rt: &impl Abort, s: &mut Subscription, bytes: &[u8]) {
+    live(rt, s, false, &SILENCE);
+    let peek = s.peek();
+    assert_eq!(rt; (peek.state, peek.counter), (ValueState::Silent, 7));
+    assert_eq!(rt; peek.bytes, bytes);
+    live(rt, s, false, &AGAIN);
+}
+
+#[test]
+fn time_out_with_zero(rt: HostRuntime) -> Result<(), Fail> {
+    let mut s = Subscription::new(rt.alloc(), &subscribed(50_000, Behaviour::Zero), 0, 0)?;
+    time_out(&rt, &mut s, b"\x00\x00");
     Ok(())
 }
 
 #[test]
-fn time_out(rt: HostRuntime) -> Result<(), Fail> {
-    let wanted: [(Behaviour, &[u8]); 2] = [
-        (Behaviour::Zero, b"\x00\x00"),
-        (Behaviour::Keep, b"\x01\x02"),
-    ];
-    for (behaviour, bytes) in wanted {
-        let mut s = Subscription::new(rt.alloc(), &terms(50_000, behaviour), 0, 0)?;
-        assert_eq!(rt;
-            hand(&rt, &mut s, 0, PdKind::Data, 7, b"\x01\x02"),
-            Taken::Stored
-        );
-        assert_eq!(rt; moment(&mut s, 49_999), None);
-        assert_eq!(rt; moment(&mut s, 50_000), Some(Fired::Silent));
-        assert_eq!(rt; moment(&mut s, 60_000), None);
-        let peek = s.peek();
-        assert_eq!(rt; peek.state, ValueState::Silent);
-        assert_eq!(rt; peek.counter, 7);
-        assert_eq!(rt; peek.bytes, bytes);
-        let taken = hand(&rt, &mut s, 60_000, PdKind::Data, 7, b"\x01\x02");
-        assert_eq!(rt; taken, Taken::Alive);
-    }
+fn time_out_with_keep(rt: HostRuntime) -> Result<(), Fail> {
+    let mut s = Subscription::new(rt.alloc(), &subscribed(50_000, Behaviour::Keep), 0, 0)?;
+    time_out(&rt, &mut s, b"\x01\x02");
     Ok(())
-}
-
-#[test]
-fn counters_before_and_after_a_time_out(rt: HostRuntime) -> Result<(), Fail> {
-    let mut s = Subscription::new(rt.alloc(), &terms(50_000, Behaviour::Keep), 0, 0)?;
-    for (counter, want) in [
-        (20, Taken::Stored),
-        (20, Taken::Nothing),
-        (5, Taken::Nothing),
-        (4, Taken::Stored),
-    ] {
-        let taken = hand(&rt, &mut s, 0, PdKind::Data, counter, b"\x01");
-        assert_eq!(rt; taken, want, "at {counter}");
-    }
-    assert_eq!(rt; moment(&mut s, 50_000), Some(Fired::Silent));
-    let taken = hand(&rt, &mut s, 50_000, PdKind::Data, 0, b"\x01");
-    assert_eq!(rt; taken, Taken::Alive);
-    Ok(())
-}
-
-fn terms(cycle: u32) -> PublisherTerms {
-    PublisherTerms {
-        com_id: 100,
-        dataset: 0,
-        cycle,
-        group: 0,
-        topo: ANY,
-        to: X,
-    }
 }
 
 #[test]
 fn cycle(rt: HostRuntime) -> Result<(), Fail> {
-    let mut p = Publisher::new(rt.alloc(), &terms(100_000), 0)?;
+    let mut p = Publisher::new(rt.alloc(), &published(0), 0)?;
+    assert!(rt; p.value().is_none());
     p.put(b"\x0a\x0b");
     assert_eq!(rt; p.value(), Some(b"\x0a\x0b".as_slice()));
+    assert_eq!(rt; (p.com_id(), p.dataset(), p.to()), (100, 0, THERE));
     let mut object = AnyObject::Publisher(p);
     assert_eq!(rt; object.kind(), 0);
-    let sent = moment(&mut object, 350_000);
-    assert_eq!(rt; sent, Some(Fired::Data(head(PdKind::Data, 0))));
-    assert_eq!(rt; moment(&mut object, 399_999), None);
-    let sent = moment(&mut object, 400_000);
-    assert_eq!(rt; sent, Some(Fired::Data(head(PdKind::Data, 1))));
-    Ok(())
-}
-
-/// A pull request for comId 100 from X, handed to the object.
-fn pull_request<O: Object>(object: &mut O, globals: &Globals, reply_com_id: u32) -> (bool, Taken)
-    requires { globals.now.now ≤ last_moment }
-{
-    let mut head = head(PdKind::PullRequest, 0);
-    head.reply_com_id = reply_com_id;
-    let view = PdView { head, payload: b"" };
-    let telegram = Telegram::Pd {
-        src: X,
-        dst: HERE,
-        view,
-    };
-    let addressed = object.addressed(&telegram, globals);
-    (addressed, object.take(&telegram, globals, true))
-}
-
-#[test]
-fn pull_reply_between_two_cycles(rt: HostRuntime) -> Result<(), Fail> {
-    let mut p = Publisher::new(rt.alloc(), &terms(100_000), 0)?;
-    p.put(b"\x0a");
-    let sent = moment(&mut p, 100_000);
-    assert_eq!(rt; sent, Some(Fired::Data(head(PdKind::Data, 0))));
-    let pulled = pull_request(&mut p, &at(100_000), 0);
-    assert_eq!(rt; pulled, (true, Taken::Pulled(head(PdKind::PullReply, 1))));
-    let sent = moment(&mut p, 200_000);
-    assert_eq!(rt; sent, Some(Fired::Data(head(PdKind::Data, 2))));
+    live(&rt, &mut object, false, &CYCLE);
     Ok(())
 }
 
 #[test]
-fn asked_com_id(rt: HostRuntime) -> Result<(), Fail> {
-    let mut p = Publisher::new(rt.alloc(), &terms(0), 0)?;
+fn group(rt: HostRuntime) -> Result<(), Fail> {
+    let mut p = Publisher::new(rt.alloc(), &published(3), 0)?;
     p.put(b"\x0a");
-    assert_eq!(rt; pull_request(&mut p, &at(0), 200), (false, Taken::Nothing));
-    let pulled = pull_request(&mut p, &at(0), 100);
-    assert_eq!(rt; pulled, (true, Taken::Pulled(head(PdKind::PullReply, 0))));
-    Ok(())
-}
-
-#[test]
-fn follower_is_silent(rt: HostRuntime) -> Result<(), Fail> {
-    let mut terms = terms(100_000);
-    terms.group = 3;
-    let mut p = Publisher::new(rt.alloc(), &terms, 0)?;
-    p.put(b"\x0a");
-    assert_eq!(rt; moment(&mut p, 100_000), Some(Fired::Nothing));
-    let mut globals = at(100_000);
-    assert_eq!(rt; pull_request(&mut p, &globals, 0), (true, Taken::Nothing));
-    globals.led.set(3, true);
-    let pulled = pull_request(&mut p, &globals, 0);
-    assert_eq!(rt; pulled, (true, Taken::Pulled(head(PdKind::PullReply, 0))));
-    assert_eq!(rt; p.due(), Some(200_000));
+    live(&rt, &mut p, false, &FOLLOWS);
+    live(&rt, &mut p, true, &LEADS);
     Ok(())
 }
 
@@ -277,18 +310,12 @@ fn pull(rt: HostRuntime) {
         reply_com_id: 0,
         reply_ip: Ip(0),
         topo: ANY,
-        to: X,
+        to: THERE,
     });
     assert_eq!(rt; r.pull(), head(PdKind::PullRequest, 0));
     assert_eq!(rt; r.pull(), head(PdKind::PullRequest, 1));
-    assert_eq!(rt; r.com_id(), 100);
-    assert_eq!(rt; r.topo(), ANY);
-    assert_eq!(rt; r.to(), X);
+    assert_eq!(rt; (r.com_id(), r.topo(), r.to()), (100, ANY, THERE));
     let mut object = AnyObject::Requester(r);
     assert_eq!(rt; object.kind(), 2);
-    assert_eq!(rt;
-        pull_request(&mut object, &at(0), 0),
-        (false, Taken::Nothing)
-    );
-    assert_eq!(rt; moment(&mut object, MOMENT_MAX), None);
+    live(&rt, &mut object, false, &REQUESTER);
 }

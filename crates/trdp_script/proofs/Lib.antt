@@ -1,1 +1,11 @@
+pub mod FieldLemmas
+pub mod FormLemmas
+pub mod LineLists
+pub mod Orders
+pub mod Playing
+pub mod Results
+pub mod Steps
 pub mod TextLengths
+pub mod Turns
+pub mod WordLemmas
+pub mod Writing

@@ -1,25 +1,54 @@
--- What a line says.
-use Rattle.std.specs.Prelude.{◌≡◌, ℕ, List, Option, Some, None, Result, Ok, Err, length, nat_lt, if◌then◌else◌}
-use Rattle.trdp_engine.specs.Events.{EventModel, MomentIs, CallIs, PublishCall, PutCall}
+-- What a line of a script says.
+use Rattle.std.specs.Prelude.{◌≡◌, ℕ, ◌==◌, List, [], ◌∷◌, length, nat_lt, nat_eq, Bool, true, Option, Some, None, Result, Ok, Err, if◌then◌else◌, find}
+use Rattle.trdp_engine.specs.Events.{EventModel, MomentIs, TopologyIs, RoleIs, DatagramIs, CallIs, PutCall, call_model}
+use Rattle.trdp_script.specs.Forms.{LineForm, forms, has_keywords, event_in}
+use Rattle.trdp_script.specs.Words.{words_of}
+use Rattle.trdp_script.specs.declared.fault.LineFault.{LineFault}
+use Rattle.trdp_script.specs.declared.fault.LineFault.TheVariants.{TooLong, Unknown, Count, BadWord, OutOfMemory}
 use Rattle.trdp_script.specs.declared.line.Line.{Line}
-use Rattle.trdp_script.specs.declared.line.Line.TheVariants.{Skipped, Moment, Publish, Put}
-use Rattle.trdp_script.specs.declared.line.LineFault.{LineFault}
-use Rattle.trdp_script.specs.declared.line.LineFault.TheVariants.{TooLong, Unknown, Count, BadWord, OutOfMemory}
+use Rattle.trdp_script.specs.declared.line.Line.TheVariants.{Skipped, Moment, Topology, Role, Datagram, Put, Call}
 
--- the event of a line; none where it is skipped
+-- the line is empty or begins with `#`
+abbrev pub is_skipped : List ℕ → Bool
+is_skipped [] = true
+is_skipped (byte ∷ bytes) = byte == 35
+
+-- an event that the words of a form give; none where one of them is bad
+abbrev pub event_or_fault : Option EventModel → Result (Option EventModel) LineFault
+event_or_fault (Some event) = Ok (Some event)
+event_or_fault None = Err BadWord
+
+-- what words say that have the keywords of that form; none: of no form
+unfoldable pub words_say : Option LineForm → List (List ℕ) → Result (Option EventModel) LineFault
+words_say None words = Err Unknown
+words_say (Some form) words =
+    if nat_eq (length words) (length form.parts)
+    then event_or_fault (event_in form words)
+    else Err Count
+
+-- the form whose keywords the words have
+unfoldable pub form_of : List (List ℕ) → Option LineForm
+form_of words = find (λ form. has_keywords form.parts words) forms
+
+-- the event of a line without its end, none where it is skipped, or the first of its faults
+unfoldable pub line_of : List ℕ → Result (Option EventModel) LineFault
+line_of text =
+    if nat_lt 140000 (length text) then Err TooLong
+    else (if is_skipped text then Ok None else words_say (form_of (words_of text)) (words_of text))
+
+-- the event of a line that was read; none where it is skipped
 abbrev pub event_of : Line → Option EventModel
 event_of Skipped = None
 event_of (Moment t) = Some (MomentIs t)
-event_of (Publish slot terms) = Some (CallIs slot (PublishCall terms))
+event_of (Topology topo) = Some (TopologyIs topo)
+event_of (Role group leader) = Some (RoleIs group leader)
+event_of (Datagram protocol src dst bytes) = Some (DatagramIs protocol src dst bytes.items)
 event_of (Put slot handle bytes) = Some (CallIs slot (PutCall handle bytes.items))
+event_of (Call slot call) = Some (CallIs slot (call_model call))
 
--- the event of a line without its end, none where it is skipped, or its first fault
-unfoldable pub line_of : List ℕ → Result (Option EventModel) LineFault
-line_of text = if nat_lt 140000 (length text) then Err TooLong else Err Unknown
-
--- a line was read: it has this event or this fault, and a line without a fault may lack memory
+-- what was read is what the line says, or memory ran out where nothing else is wrong
 abbrev pub Reads : Result (Option EventModel) LineFault → Result Line LineFault → Type 0
 Reads (Ok event) (Ok line) = event_of line ≡ event
 Reads (Ok event) (Err fault) = fault ≡ OutOfMemory
-Reads (Err fault) (Err other) = other ≡ fault
 Reads (Err fault) (Ok line) = ⊥
+Reads (Err fault) (Err other) = other ≡ fault

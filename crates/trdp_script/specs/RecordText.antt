@@ -7,15 +7,13 @@ use Rattle.trdp_base.specs.NumberText.{text_of_number}
 use Rattle.trdp_pd.specs.Peeks.{PeekModel}
 use Rattle.trdp_pd.specs.declared.terms.ValueState.{ValueState}
 use Rattle.trdp_pd.specs.declared.terms.ValueState.TheVariants.{Never, Valid, Silent}
-use Rattle.trdp_engine.specs.Records.{AnswerModel, HandleIs, DoneIs, ValueIs, RefusedIs, Content, Answers, Indicates, Sends, RecordModel}
+use Rattle.trdp_engine.specs.Records.{AnswerModel, HandleIs, DoneIs, ValueIs, RefusedIs, IndicationModel, SilentIs, AliveIs, Content, Answers, Indicates, Sends, RecordModel}
 use Rattle.trdp_engine.specs.declared.fault.NodeFault.{NodeFault}
 use Rattle.trdp_engine.specs.declared.fault.NodeFault.TheVariants.{NoSlot, Past, TooLate, NoGroup, OutOfMemory}
 use Rattle.trdp_engine.specs.declared.fault.Refusal.{Refusal}
 use Rattle.trdp_engine.specs.declared.fault.Refusal.TheVariants.{NoHandle, WrongKind, State, Cycle, Timeout, Expected, Status, Range, NoDataset, TooLong, Shape, SessionOpen, Quota, Exhausted}
-use Rattle.trdp_script.specs.declared.line.LineFault.{LineFault}
-use Rattle.trdp_script.specs.declared.line.LineFault.TheVariants.{TooLong as LineTooLong, Unknown, Count, BadWord, OutOfMemory as NoLineMemory}
-use Rattle.trdp_engine.specs.declared.record.Indication.{Indication}
-use Rattle.trdp_engine.specs.declared.record.Indication.TheVariants.{Silent as FellSilent, Alive}
+use Rattle.trdp_script.specs.declared.fault.LineFault.{LineFault}
+use Rattle.trdp_script.specs.declared.fault.LineFault.TheVariants.{TooLong as LineTooLong, Unknown, Count, BadWord, OutOfMemory as NoLineMemory}
 use Rattle.trdp_engine.specs.declared.record.Protocol.{Protocol}
 use Rattle.trdp_engine.specs.declared.record.Protocol.TheVariants.{Pd, Md}
 
@@ -71,9 +69,9 @@ text_of_answer (ValueIs peek) = text_of_peek peek
 text_of_answer (RefusedIs refusal) = codes " refused " ++ name_of_refusal refusal
 
 -- the words of what happened to a subscription, with a space before each
-unfoldable pub text_of_indication : Indication → List ℕ
-text_of_indication (FellSilent handle) = codes " silent " ++ text_of_number handle
-text_of_indication (Alive handle) = codes " alive " ++ text_of_number handle
+unfoldable pub text_of_indication : IndicationModel → List ℕ
+text_of_indication (SilentIs handle) = codes " silent " ++ text_of_number handle
+text_of_indication (AliveIs handle) = codes " alive " ++ text_of_number handle
 
 -- the words before a telegram's destination
 abbrev pub words_of_send : Protocol → List ℕ

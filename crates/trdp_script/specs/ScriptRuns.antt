@@ -5,7 +5,7 @@ use Rattle.trdp_dataset.specs.Configs.{ConfigModel}
 use Rattle.trdp_engine.specs.NodeStates.{opened_node}
 use Rattle.trdp_script.specs.declared.script.ScriptFault.{ScriptFault}
 use Rattle.trdp_script.specs.declared.script.ScriptFault.TheVariants.{Line, Read, Write, OutOfMemory}
-use Rattle.trdp_script.specs.declared.line.LineFault.{LineFault}
+use Rattle.trdp_script.specs.declared.fault.LineFault.{LineFault}
 use Rattle.trdp_script.specs.ScriptText.{script_events, script_fault, script_text, events_text}
 
 -- what is told of the first n events of a script was written

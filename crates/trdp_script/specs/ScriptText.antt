@@ -10,7 +10,7 @@ use Rattle.trdp_engine.specs.Records.{RecordModel, labelled}
 use Rattle.trdp_engine.specs.Slots.{SlotState}
 use Rattle.trdp_engine.specs.Alone.{refused_as, globals_after, slot_after, records_after}
 use Rattle.trdp_engine.specs.NodeStates.{NodeState, opened_node}
-use Rattle.trdp_script.specs.declared.line.LineFault.{LineFault}
+use Rattle.trdp_script.specs.declared.fault.LineFault.{LineFault}
 use Rattle.trdp_script.specs.Lines.{line_of}
 use Rattle.trdp_script.specs.RecordText.{text_of_record, text_of_fault}
 
@@ -32,17 +32,22 @@ abbrev pub node_unless : Option NodeFault → NodeState → EventModel → NodeS
 node_unless (Some fault) node event = node
 node_unless None node event = record node {
   globals = globals_after node.globals event;
-  slots = slots_after node.setup node.globals event 0 node.slots;
+  slots = slots_after node.config node.globals event 0 node.slots;
 }
 
 -- the node after an event
 abbrev pub node_after : NodeState → EventModel → NodeState
 node_after node event = node_unless (refused_as (length node.slots) node.globals event) node event
 
+-- the node after events, one after another
+abbrev pub nodes_after : NodeState → List EventModel → NodeState
+nodes_after node [] = node
+nodes_after node (event ∷ events) = nodes_after (node_after node event) events
+
 -- what is told of an event with this fault, or of the records of one with none
 abbrev pub text_unless : Option NodeFault → NodeState → EventModel → List ℕ
 text_unless (Some fault) node event = text_of_fault fault
-text_unless None node event = slots_text node.setup node.globals event 0 node.slots
+text_unless None node event = slots_text node.config node.globals event 0 node.slots
 
 -- what is told of an event
 abbrev pub event_text : NodeState → EventModel → List ℕ

@@ -1,19 +1,26 @@
-//! The text form of a node: lines that say events, and lines that tell of records.
+//! The text form of a node: lines that say events, lines that tell of records, and scripts of such lines.
 #![tactic(auto)]
 
+mod fault;
+mod field;
+mod form;
 mod input;
 mod line;
 mod names;
 mod output;
 mod play;
 mod print;
+mod read;
 mod script;
 mod words;
 
-pub use line::{Line, LineFault, read_line};
+pub use fault::LineFault;
+pub use line::{LINE_MAX, Line, read_line};
 pub use names::{fault_name, line_fault_name, refusal_name, state_name};
 pub use print::print_record;
 pub use script::{ScriptFault, run_script};
 
+#[cfg(test)]
+mod run_tests;
 #[cfg(test)]
 mod tests;

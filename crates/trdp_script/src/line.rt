@@ -1,38 +1,19 @@
 //! What one line of a script says.
 
-ghost use Rattle.std.specs.Prelude.{◌≡◌, ◌<◌, ◌≤◌, ◌↔◌, ◌⊎◌, length, option_map, Ok, Err, IfOk, IfErr};
+ghost use Rattle.std.specs.Prelude.{◌≡◌, option_map};
 ghost use Rattle.trdp_engine.specs.Events.{event_model};
-ghost use Rattle.trdp_script.specs.Lines.{Reads, line_of, event_of};
+ghost use Rattle.trdp_script.specs.Lines.{line_of, words_say, form_of, is_skipped as skipped, event_of, Reads};
+ghost use Rattle.trdp_script.specs.WordsLeft.{words_left};
 
+use crate::fault::LineFault;
+use crate::form::Form;
 use crate::words::Words;
 use std::alloc::Global;
-use thiserror::Error;
-use trdp_base::{Place, TextFault, Topo, read_hex, read_number, read_place};
-use trdp_engine::{Call, Event};
-use trdp_pd::PublisherTerms;
+use trdp_base::{Place, Topo};
+use trdp_engine::{Call, Event, Protocol};
 
 /// The longest line, in bytes without its end (profile).
 pub const LINE_MAX: usize = 140_000;
-
-/// Why a line says nothing that can be done: the first of these that applies (profile).
-#[derive(Clone, Copy, Debug, PartialEq, Eq, Error)]
-pub enum LineFault {
-    /// The line is longer than [`LINE_MAX`] bytes.
-    #[error("the line has more than 140,000 bytes")]
-    TooLong = 1,
-    /// The first word, or the third after `call`, is missing or isn't known.
-    #[error("the line begins with no words that are known")]
-    Unknown = 2,
-    /// The number of words isn't the one that the first and the third ask for.
-    #[error("the line has too many or too few words")]
-    Count = 3,
-    /// A word isn't the written form of a value in its range.
-    #[error("a word of the line is no value in its range")]
-    BadWord = 4,
-    /// The line is good, and there is no memory for its bytes.
-    #[error("there is no memory for the line")]
-    OutOfMemory = 5,
-}
 
 /// What a good line says.
 #[derive(Debug, Drop)]
@@ -41,30 +22,56 @@ pub enum Line {
     Skipped,
     /// Time has come to that moment, in microseconds.
     Moment(u64),
-    /// The slot calls for a publisher.
-    Publish {
-        slot: u16,
-        terms: PublisherTerms,
+    /// The train's network has these topology counts.
+    Topology(Topo),
+    /// The node is the leader of that redundancy group, or a follower in it.
+    Role {
+        group: u8,
+        leader: bool,
     },
-    /// The slot gives the publisher of that handle a new value.
+    /// These bytes came in over the protocol's port, from one place to another.
+    Datagram {
+        protocol: Protocol,
+        src: Place,
+        dst: Place,
+        bytes: Vec<u8>,
+    },
+    /// The application in the slot gives the publisher of that handle a new value.
     Put {
         slot: u16,
         handle: u32,
         bytes: Vec<u8>,
     },
+    /// The application in the slot makes another call, which carries no bytes.
+    Call {
+        slot: u16,
+        call: Call<'static>,
+    },
 }
 
 impl Line {
-    /// The event of the line; None where it is skipped.
+    /// The event of the line; None where the line is skipped.
     pub fn event(&self) -> Option<Event<'_>>
         ensures { option_map event_model result ≡ event_of self.now }
     {
         match self {
             Line::Skipped => None,
-            Line::Moment(t) => Some(Event::Moment(*t)),
-            Line::Publish { slot, terms } => Some(Event::Call {
-                slot: *slot,
-                call: Call::Publish(*terms),
+            Line::Moment(moment) => Some(Event::Moment(*moment)),
+            Line::Topology(topo) => Some(Event::Topology(*topo)),
+            Line::Role { group, leader } => Some(Event::Role {
+                group: *group,
+                leader: *leader,
+            }),
+            Line::Datagram {
+                protocol,
+                src,
+                dst,
+                bytes,
+            } => Some(Event::Datagram {
+                protocol: *protocol,
+                src: *src,
+                dst: *dst,
+                bytes,
             }),
             Line::Put {
                 slot,
@@ -77,154 +84,49 @@ impl Line {
                     bytes,
                 },
             }),
+            Line::Call { slot, call } => Some(Event::Call {
+                slot: *slot,
+                call: *call,
+            }),
         }
     }
 }
 
-/// The three kinds of line that are known, with the word that names the slot.
-#[derive(Clone, Copy)]
-enum Form<'a> {
-    Moment,
-    Publish { slot: &'a [u8] },
-    Put { slot: &'a [u8] },
-}
-
-impl<'a> Form<'a> {
-    /// The form that the first word tells, and after `call` the third. The words up to it are used up.
-    fn of(words: &mut Words<'a>) -> Option<Form<'a>> {
-        match words.next_word()? {
-            b"moment" => Some(Form::Moment),
-            b"call" => {
-                let slot = words.next_word()?;
-                match words.next_word()? {
-                    b"publish" => Some(Form::Publish { slot }),
-                    b"put" => Some(Form::Put { slot }),
-                    _ => None,
-                }
-            }
-            _ => None,
-        }
-    }
-
-    /// How many words a line of this form has.
-    fn word_count(self) -> usize {
-        match self {
-            Form::Moment => 2,
-            Form::Publish { .. } => 10,
-            Form::Put { .. } => 5,
-        }
-    }
-}
-
-/// Reads a line, which comes without its end.
+/// Reads a line, which comes without its end: what it says, or the first of its faults (profile).
 ///
-/// The fault is the first that applies; want of memory is found when nothing else is wrong.
+/// A line that is empty or begins with `#` is skipped, unless it is too long. A line that carries
+/// bytes takes memory for them, once; no other line takes any.
+///
+/// # Errors
+/// Every [`LineFault`], in their order. Want of memory is found when nothing else is wrong.
+#[tactic(auto, unfolding(crate::specs::Lines::line_of))]
 pub fn read_line(alloc: Global, text: &[u8]) -> Result<Line, LineFault>
     ensures meaning { Reads (line_of text.now) result }
 {
     if text.len() > LINE_MAX {
         return Err(LineFault::TooLong);
     }
-    if matches!(text, [] | [b'#', ..]) {
+    if is_skipped(text) {
         return Ok(Line::Skipped);
     }
-    let mut words = Words::of(text);
-    let count = words.count();
-    let form = Form::of(&mut words).ok_or(LineFault::Unknown)?;
-    if count != form.word_count() {
+    read_words(alloc, Words::of(text))
+}
+
+/// Whether a line is empty or begins with `#`.
+fn is_skipped(text: &[u8]) -> bool
+    ensures { result ≡ skipped text.now }
+{
+    matches!(text, [] | [b'#', ..])
+}
+
+/// Reads the words of a line.
+#[tactic(auto, unfolding(crate::specs::Lines::words_say))]
+fn read_words(alloc: Global, words: Words<'_>) -> Result<Line, LineFault>
+    ensures { Reads (words_say (form_of (words_left words.entry)) (words_left words.entry)) result }
+{
+    let form = Form::of(words).ok_or(LineFault::Unknown)?;
+    if words.count() != form.word_count() {
         return Err(LineFault::Count);
     }
-    match form {
-        Form::Moment => read_moment(words),
-        Form::Publish { slot } => read_publish(slot, words),
-        Form::Put { slot } => read_put(alloc, slot, words),
-    }
-}
-
-/// Reads the words behind `moment`.
-fn read_moment(mut words: Words<'_>) -> Result<Line, LineFault>
-    ensures { IfErr result (λ fault. fault ≡ LineFault.BadWord) }
-{
-    Ok(Line::Moment(next_number(&mut words, u64::MAX)?))
-}
-
-/// Reads the words behind `publish`.
-fn read_publish(slot: &[u8], mut words: Words<'_>) -> Result<Line, LineFault>
-    ensures { IfErr result (λ fault. fault ≡ LineFault.BadWord) }
-{
-    let slot = number_of(slot, u64::from(u16::MAX))? as u16;
-    let com_id = next_u32(&mut words)?;
-    let dataset = next_u32(&mut words)?;
-    let cycle = next_u32(&mut words)?;
-    let group = next_number(&mut words, u64::from(u8::MAX))? as u8;
-    let etb = next_u32(&mut words)?;
-    let op_trn = next_u32(&mut words)?;
-    let to = next_place(&mut words)?;
-    Ok(Line::Publish {
-        slot,
-        terms: PublisherTerms {
-            com_id,
-            dataset,
-            cycle,
-            group,
-            topo: Topo { etb, op_trn },
-            to,
-        },
-    })
-}
-
-/// Reads the words behind `put`.
-fn read_put(alloc: Global, slot: &[u8], mut words: Words<'_>) -> Result<Line, LineFault>
-    ensures { IfErr result (λ fault. (fault ≡ LineFault.BadWord) ⊎ (fault ≡ LineFault.OutOfMemory)) }
-{
-    let slot = number_of(slot, u64::from(u16::MAX))? as u16;
-    let handle = next_u32(&mut words)?;
-    let word = words.next_word().ok_or(LineFault::BadWord)?;
-    match read_hex(alloc, word) {
-        Ok(bytes) => Ok(Line::Put {
-            slot,
-            handle,
-            bytes,
-        }),
-        Err(TextFault::BadText) => Err(LineFault::BadWord),
-        Err(TextFault::OutOfMemory) => Err(LineFault::OutOfMemory),
-    }
-}
-
-/// The number of 32 bits that the next word is.
-fn next_u32(words: &mut Words<'_>) -> Result<u32, LineFault>
-    ensures { IfErr result (λ fault. fault ≡ LineFault.BadWord) }
-{
-    Ok(next_number(words, u64::from(u32::MAX))? as u32)
-}
-
-/// The number that the next word is.
-fn next_number(words: &mut Words<'_>, max: u64) -> Result<u64, LineFault>
-    ensures within { IfOk result (λ number. number ≤ max) }
-    ensures fault { IfErr result (λ fault. fault ≡ LineFault.BadWord) }
-{
-    let word = words.next_word().ok_or(LineFault::BadWord)?;
-    number_of(word, max)
-}
-
-/// The number of at most `max` that a word is.
-fn number_of(word: &[u8], max: u64) -> Result<u64, LineFault>
-    ensures within { IfOk result (λ number. number ≤ max) }
-    ensures fault { IfErr result (λ fault. fault ≡ LineFault.BadWord) }
-{
-    match read_number(word, max) {
-        Ok(number) => Ok(number),
-        Err(_) => Err(LineFault::BadWord),
-    }
-}
-
-/// The place that the next word is.
-fn next_place(words: &mut Words<'_>) -> Result<Place, LineFault>
-    ensures { IfErr result (λ fault. fault ≡ LineFault.BadWord) }
-{
-    let word = words.next_word().ok_or(LineFault::BadWord)?;
-    match read_place(word) {
-        Ok(place) => Ok(place),
-        Err(_) => Err(LineFault::BadWord),
-    }
+    form.read(alloc, words)
 }

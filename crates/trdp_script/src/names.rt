@@ -4,7 +4,7 @@ ghost use Rattle.std.specs.Prelude.{◌≡◌, ◌≤◌, length};
 ghost use Rattle.trdp_script.specs.RecordText.{name_of_fault, name_of_refusal, name_of_state};
 ghost use Rattle.trdp_script.specs.RecordText.{name_of_line_fault};
 
-use crate::line::LineFault;
+use crate::fault::LineFault;
 use trdp_engine::{NodeFault, Refusal};
 use trdp_pd::ValueState;
 

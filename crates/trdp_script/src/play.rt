@@ -1,15 +1,16 @@
 //! An event's way through the node, and the text of what the node gives.
 
-ghost use Rattle.std.specs.Prelude.{◌≡◌, ◌≤◌, ◌++◌, [], length, filter, ◌==◌, map, OnOk, OnErr, IsTrue, ℕ};
+ghost use Rattle.std.specs.Prelude.{◌≡◌, ◌≤◌, ◌++◌, [], length, filter, ◌==◌, map, OnOk, OnErr, ℕ, true};
 ghost use Rattle.std.specs.List.{flat_map};
 ghost use Rattle.trdp_engine.specs.Events.{event_model};
 ghost use Rattle.trdp_script.specs.RecordText.{text_of_record};
 ghost use Rattle.trdp_script.specs.ScriptText.{event_text, node_after};
-ghost use Rattle.trdp_script.specs.SlotOrder.{IsRising, by_slot};
+ghost use Rattle.trdp_engine.specs.Records.{record_model};
+ghost use Rattle.trdp_script.specs.SlotOrder.{IsRising, by_slot, slot_text};
 
 use crate::print::{print_fault, print_record};
 use std::alloc::AllocError;
-use trdp_engine::{Event, Node, NodeFault, Outbox};
+use trdp_engine::{Event, Node, NodeFault, Outbox, Record};
 
 /// The number of slots that a node has at most (profile).
 const SLOTS_MAX: u16 = 16;
@@ -53,7 +54,7 @@ fn push_records(text: &mut Vec<u8>, records: &Outbox) -> Result<(), AllocError>
 
 /// Whether no record is of a lower slot than one before it.
 fn is_rising(records: &Outbox) -> bool
-    ensures { IsTrue result → IsRising 0 16 records.now.records }
+    ensures { result ≡ true → IsRising 0 16 records.now.records }
 {
     let mut slot = 0;
     for i in 0..records.len() {
@@ -71,8 +72,9 @@ fn push_all(text: &mut Vec<u8>, records: &Outbox) -> Result<(), AllocError>
         ≡ text.old.items ++ flat_map text_of_record records.now.records) }
 {
     for i in 0..records.len() {
-        if let Some(record) = records.get(i) {
-            print_record(text, &record)?;
+        match records.get(i) {
+            Some(record) => print_record(text, &record)?,
+            None => {}
         }
     }
     Ok(())
@@ -96,9 +98,21 @@ fn push_slot(text: &mut Vec<u8>, records: &Outbox, slot: u16) -> Result<(), Allo
 {
     for i in 0..records.len() {
         match records.get(i) {
-            Some(record) if record.slot == slot => print_record(text, &record)?,
-            _ => {}
+            Some(record) => print_of_slot(text, &record, slot)?,
+            None => {}
         }
     }
     Ok(())
+}
+
+/// Appends the line of a record, if it is one of the slot.
+fn print_of_slot(text: &mut Vec<u8>, record: &Record<'_>, slot: u16) -> Result<(), AllocError>
+    ensures { OnOk result (text.new.items ≡ text.old.items
+        ++ slot_text slot (record_model «record».now)) }
+{
+    if record.slot == slot {
+        print_record(text, record)
+    } else {
+        Ok(())
+    }
 }

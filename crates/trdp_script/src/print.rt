@@ -7,7 +7,7 @@ ghost use Rattle.trdp_base.specs.NumberText.{text_of_number};
 ghost use Rattle.trdp_base.specs.declared.number.TheConstants.{NUMBER_LENGTH};
 ghost use Rattle.trdp_base.specs.declared.address.TheConstants.{PLACE_LENGTH};
 ghost use Rattle.trdp_pd.specs.Peeks.{peek_model};
-ghost use Rattle.trdp_engine.specs.Records.{record_model, content_model, answer_model};
+ghost use Rattle.trdp_engine.specs.Records.{record_model, content_model, answer_model, indication_model};
 ghost use Rattle.trdp_script.specs.declared.print.TheConstants.{CONTENT_ROOM};
 ghost use Rattle.trdp_script.specs.RecordText.{text_of_peek, text_of_answer, text_of_indication, words_of_send, text_of_send, text_of_content, text_of_record, text_of_fault, bytes_of, answer_bytes};
 
@@ -29,12 +29,14 @@ const LINE_ROOM: usize = NUMBER_LENGTH + CONTENT_ROOM + 1;
 ///
 /// # Errors
 /// `AllocError` where that room is refused; the list's items are as before.
+#[tactic(auto, unfolding(crate::specs::RecordText::text_of_record))]
 pub fn print_record(text: &mut Vec<u8>, record: &Record<'_>) -> Result<(), AllocError>
     ensures ok { OnOk result (text.new.items
         ≡ text.old.items ++ text_of_record (record_model «record».now)) }
     ensures err { OnErr result (text.new.items ≡ text.old.items) }
 {
-    text.reserve(LINE_ROOM + 2 * bytes_in(&record.what).len())?;
+    let digits = 2 * bytes_in(&record.what).len();
+    text.reserve(digits.saturating_add(LINE_ROOM))?;
     put_number(text, u64::from(record.slot));
     put_content(text, &record.what);
     put_word(text, b"\n");
@@ -69,6 +71,7 @@ fn bytes_in<'a>(what: &What<'a>) -> &'a [u8]
 }
 
 /// Appends what a record says, with a space before it, to a list that has room for it.
+#[tactic(auto, unfolding(crate::specs::RecordText::text_of_content))]
 fn put_content(text: &mut Vec<u8>, what: &What<'_>)
     requires room { vec_len text.old + (CONTENT_ROOM + 2 * length (bytes_of (content_model what.now)))
         ≤ vec_capacity text.old }
@@ -93,9 +96,9 @@ fn put_content(text: &mut Vec<u8>, what: &What<'_>)
 fn put_answer(text: &mut Vec<u8>, answer: Answer<'_>)
     requires room { vec_len text.old + (CONTENT_ROOM + 2 * length (answer_bytes (answer_model answer)))
         ≤ vec_capacity text.old }
-    ensures items { text.new.items ≡ text.old.items ++ text_of_answer (answer_model answer) }
+    ensures items { text.new.items ≡ text.old.items ++ text_of_answer (answer_model answer.entry) }
     ensures len { vec_len text.new
-        ≤ vec_len text.old + (CONTENT_ROOM + 2 * length (answer_bytes (answer_model answer))) }
+        ≤ vec_len text.old + (CONTENT_ROOM + 2 * length (answer_bytes (answer_model answer.entry))) }
     ensures capacity { vec_capacity text.old ≤ vec_capacity text.new }
 {
     match answer {
@@ -117,9 +120,9 @@ fn put_answer(text: &mut Vec<u8>, answer: Answer<'_>)
 fn put_peek(text: &mut Vec<u8>, peek: Peek<'_>)
     requires room { vec_len text.old + (CONTENT_ROOM + 2 * length peek.bytes.now)
         ≤ vec_capacity text.old }
-    ensures items { text.new.items ≡ text.old.items ++ text_of_peek (peek_model peek) }
+    ensures items { text.new.items ≡ text.old.items ++ text_of_peek (peek_model peek.entry) }
     ensures len { vec_len text.new
-        ≤ vec_len text.old + (CONTENT_ROOM + 2 * length peek.bytes.now) }
+        ≤ vec_len text.old + (CONTENT_ROOM + 2 * length peek.entry.bytes.now) }
     ensures capacity { vec_capacity text.old ≤ vec_capacity text.new }
 {
     put_word(text, b" value ");
@@ -134,7 +137,8 @@ fn put_peek(text: &mut Vec<u8>, peek: Peek<'_>)
 #[tactic(auto, unfolding(crate::specs::RecordText::text_of_indication))]
 fn put_indication(text: &mut Vec<u8>, indication: Indication)
     requires room { vec_len text.old + CONTENT_ROOM ≤ vec_capacity text.old }
-    ensures items { text.new.items ≡ text.old.items ++ text_of_indication indication }
+    ensures items { text.new.items ≡ text.old.items
+        ++ text_of_indication (indication_model indication) }
     ensures len { vec_len text.new ≤ vec_len text.old + CONTENT_ROOM }
     ensures capacity { vec_capacity text.old ≤ vec_capacity text.new }
 {

@@ -1,6 +1,6 @@
 //! A node that a test holds in its own hands, and leads by lines.
 
-use crate::stand_in::{print_record, read_line};
+use trdp_script::{print_record, read_line};
 use std::alloc::Global;
 use std::process::Abort;
 use std::test::Fail;

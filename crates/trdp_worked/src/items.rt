@@ -2,7 +2,7 @@
 
 use crate::bench::Bench;
 use crate::play::CONFIG;
-use crate::stand_in::print_record;
+use trdp_script::print_record;
 use std::alloc::Global;
 use std::process::Abort;
 use std::test::Fail;

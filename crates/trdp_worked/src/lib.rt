@@ -24,8 +24,6 @@ mod publishers;
 #[cfg(test)]
 mod pulls;
 #[cfg(test)]
-mod stand_in;
-#[cfg(test)]
 mod subscriptions;
 #[cfg(test)]
 mod telegrams;

@@ -1,7 +1,7 @@
 //! Lines and their ends, and the longest ones.
 
 use crate::play::play;
-use crate::stand_in::{LineFault, ScriptFault, read_line};
+use trdp_script::{LineFault, ScriptFault, read_line};
 use std::alloc::Global;
 use std::test::Fail;
 

@@ -1,6 +1,6 @@
 //! Plays scripts over one configuration, and compares what they give.
 
-use crate::stand_in::{ScriptFault, run_script};
+use trdp_script::{ScriptFault, run_script};
 use std::alloc::Global;
 use std::process::Abort;
 use std::test::Fail;

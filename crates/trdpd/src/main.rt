@@ -22,6 +22,7 @@
 #![tactic(auto)]
 
 mod command;
+mod config_names;
 mod line;
 mod lines;
 mod names;

@@ -4,7 +4,7 @@ ghost use Rattle.std.specs.Prelude.{◌≡◌, ◌++◌, OnOk, codes};
 ghost use Rattle.trdp_base.specs.AddressText.{text_of_place};
 ghost use Rattle.trdp_base.specs.HexText.{text_of_hex};
 ghost use Rattle.trdp_pd.specs.Peeks.{peek_model};
-ghost use Rattle.trdp_engine.specs.Records.{record_model, answer_model};
+ghost use Rattle.trdp_engine.specs.Records.{record_model, answer_model, indication_model};
 ghost use Rattle.trdpd.specs.RecordText.{text_of_peek, text_of_answer, text_of_indication, words_of_send, text_of_record, text_of_fault};
 
 use crate::names::{fault_name, refusal_name, state_name};
@@ -88,7 +88,7 @@ fn push_peek(text: &mut Vec<u8>, peek: Peek<'_>) -> Result<(), AllocError>
 /// Appends what happened to a subscription, with a space before it.
 #[tactic(auto, unfolding(crate::specs::RecordText::text_of_indication))]
 fn push_indication(text: &mut Vec<u8>, indication: Indication) -> Result<(), AllocError>
-    ensures { OnOk result (text.new.items ≡ text.old.items ++ text_of_indication indication) }
+    ensures { OnOk result (text.new.items ≡ text.old.items ++ text_of_indication (indication_model indication)) }
 {
     match indication {
         Indication::Silent(handle) => {

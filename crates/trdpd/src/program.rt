@@ -7,6 +7,7 @@ ghost use Rattle.trdpd.specs.Faults.{IsFaultAt, IsConfig, IsConfigFault, IsRunFa
 ghost use Rattle.trdpd.specs.Written.{PartlyWrites};
 ghost use Rattle.trdpd.specs.declared.program.ScriptFault.TheVariants.{OutOfMemory};
 
+use crate::config_names::ConfigFaultText;
 use crate::line::{LineFault, read_line};
 use crate::lines::{line_buffer, next_line};
 use crate::print::{push_fault, push_records};
@@ -20,7 +21,7 @@ use trdp_engine::{Event, Node, NodeFault, Outbox};
 #[derive(Clone, Copy, Debug, PartialEq, Eq, Error)]
 pub enum ScriptFault {
     /// The configuration isn't taken.
-    #[error("config fault {0}")]
+    #[error("{}", ConfigFaultText(*.0))]
     Config(ConfigFault),
     /// The configuration's file can't be read.
     #[error("config fault Unreadable")]

@@ -77,10 +77,14 @@ fn faultless_kind(bytes: &[u8]) -> Result<PdKind, HeadFault>
 
 /// The process data telegram in the bytes, whose payload it lends (IEC 61375-2-3).
 ///
-/// Errors, the first that holds: `Short` below 40 bytes, `TooLong` above 1472, `Fcs` where bytes 36 to 39 are not the
-/// frame check of the 36 before them, `Version` where byte 4 is not 1, `Kind` where the type is not one of [`PdKind`],
-/// `Length` where the dataset is longer than what follows the header. Byte 5, the reserved field and what follows the
-/// dataset are ignored. Which tests are made, and in which order, is the profile's choice.
+/// Byte 5, the reserved field and what follows the dataset are ignored. Which tests are made, and
+/// in which order, is the profile's choice.
+///
+/// # Errors
+/// The first that holds: [`HeadFault::Short`] below 40 bytes, [`HeadFault::TooLong`] above 1472,
+/// [`HeadFault::Fcs`] where bytes 36 to 39 are not the frame check of the 36 before them,
+/// [`HeadFault::Version`] where byte 4 is not 1, [`HeadFault::Kind`] where the type is not one of
+/// [`PdKind`], [`HeadFault::Length`] where the dataset is longer than what follows the header.
 pub fn read_pd(bytes: &[u8]) -> Result<PdView<'_>, HeadFault>
     ensures telegram { IfOk result (λ view. IsPdTelegram bytes.now view.head view.payload.now) }
     ensures exact { (head : PdHead) (payload : List ℕ) → IsPdTelegram bytes.now head payload

@@ -13,8 +13,8 @@ use crate::pd::{PD_HEAD, PdHead, PdKind, layout};
 /// The protocol version 1.0.
 const PROTOCOL_VERSION: u16 = 0x0100;
 
-/// The bytes of a telegram with so many bytes of payload: 40 and the payload rounded up to a multiple of four.
-/// At most 1432 bytes of payload.
+/// The length in bytes of a telegram with so many bytes of payload, 0 to 1432: 40, and the payload
+/// rounded up to a multiple of four (IEC 61375-2-3).
 pub fn pd_length(payload: usize) -> usize
     requires { payload ≤ 1432 }
     ensures { result ≡ pd_length_of payload }
@@ -55,13 +55,15 @@ fn put_head(room: &mut [u8], head: PdHead, payload: u32)
 
 /// Writes the telegram at the front of the room, and answers its length (IEC 61375-2-3).
 ///
-/// The payload has at most 1432 bytes, and the room at least the length that [`pd_length`] says; what lies behind the
-/// telegram in the room stays. The version is 0x0100, the reserved field and the padding are 0.
+/// The payload has at most 1432 bytes, and the room at least the length that [`pd_length`] says;
+/// what lies behind the telegram in the room stays. The version is 0x0100, the reserved field and
+/// the padding are 0.
 pub fn write_pd(head: &PdHead, payload: &[u8], room: &mut [u8]) -> usize
     requires payload { length payload.now ≤ 1432 }
     requires room { pd_length_of (length payload.now) ≤ length room.old }
     ensures length { result ≡ pd_length_of (length payload.now) }
-    ensures written { room.new ≡ pd_bytes head.now payload.now ++ drop (pd_length_of (length payload.now)) room.old }
+    ensures written { room.new ≡ pd_bytes head.now payload.now
+        ++ drop (pd_length_of (length payload.now)) room.old }
     ensures read_back { IsPdTelegram (pd_bytes head.now payload.now) head.now payload.now }
 {
     let end = pd_length(payload.len());

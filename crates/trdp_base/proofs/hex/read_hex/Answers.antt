@@ -9,12 +9,12 @@ returns-then-not-is_in_pairs-clause-bad c =
     let pairs = c.if-not-is_in_pairs.ensures.1 in
     (λ _ hex. no_text c.args.text.now (λ e. false≢true (dash e)) (λ e. false≢true (pairs e)) hex, λ _. refl)
 
-pub returns-in-Ok-clause-found : goal.returns-in-Ok-clause-found
-returns-in-Ok-clause-found c = λ bytes fits e.
+pub returns-clause-found : goal.returns-clause-found
+returns-clause-found c = λ bytes fits e.
     let pairs = c.if-not-is_in_pairs.ensures.0 refl in
-    read_alone c.args.text.now c.in-Ok.bytes.items bytes pairs c.in-Ok.ensures.pairs c.in-Ok.ensures.bytes fits e
+    read_alone c.args.text.now _ bytes pairs c.in_ok-bytes_of_pairs.ensures.pairs c.in_ok-bytes_of_pairs.ensures.bytes fits e
 
-pub returns-in-Err-clause-bad : goal.returns-in-Err-clause-bad
-returns-in-Err-clause-bad c =
+pub returns-in_err-bytes_of_pairs-clause-bad : goal.returns-in_err-bytes_of_pairs-clause-bad
+returns-in_err-bytes_of_pairs-clause-bad c =
     let pairs = c.if-not-is_in_pairs.ensures.0 refl in
     (λ same _. search rules, λ none. absurd (none (pairs_are_text c.args.text.now pairs)))

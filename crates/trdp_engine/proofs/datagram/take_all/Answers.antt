@@ -9,7 +9,7 @@ loop-entry-preserved c =
     let entry = rw (← c.entry-item.is) at c.take.ensures.entry in
     let room = rw (← c.entry-item.is) at c.take.ensures.row_room in
     let bytes = rw (← c.entry-item.is) at c.take.ensures.byte_room in
-    let m = turn c.args.setup.now (telegram_model c.args.telegram.now) c.args.g.now c.args.s c.args.objects.now.items c.loop-entry.entry-items c.loop-entry.entry-index c.entry-item.result c.loop-entry.out.records c.take.new.out.records c.loop-entry.invariant.items (omega arith) c.entry-item.is told in
+    let m = turn c.args.config.now (telegram_model c.args.telegram.now) c.args.globals.now c.args.s c.args.objects.now.items c.loop-entry.entry-items c.loop-entry.entry-index c.entry-item.result c.loop-entry.out.records c.take.new.out.records c.loop-entry.invariant.items (omega arith) c.entry-item.is told in
     record {
       items = rw entry m.items;
       told = m.told ∙ c.loop-entry.invariant.told;

@@ -9,8 +9,8 @@ use Rattle.trdp_engine.proofs.datagram.take_all.Given as goal
 -- those before the index have had the telegram, and the others not yet
 abbrev pub invariant-loop-entry : goal.invariant-loop-entry
 invariant-loop-entry l = record {
-  items : l.entry-items ≡ map (entry_after_telegram l.setup (telegram_model l.telegram) l.g) (take l.entry-index l.fn.objects.items) ++ drop l.entry-index l.fn.objects.items;
-  told : l.out.records ++ labelled l.s (flat_map (records_taking l.setup (telegram_model l.telegram) l.g) (drop l.entry-index l.fn.objects.items)) ≡ l.fn.out.records ++ labelled l.s (flat_map (records_taking l.setup (telegram_model l.telegram) l.g) l.fn.objects.items);
-  rows : length (filter (is_for_entry (telegram_model l.telegram) l.g) (drop l.entry-index l.fn.objects.items)) ≤ l.out.row_room;
-  bytes : PD_TELEGRAM_MAX * length (filter (is_for_entry (telegram_model l.telegram) l.g) (drop l.entry-index l.fn.objects.items)) ≤ l.out.byte_room;
+  items : l.entry-items ≡ map (entry_after_telegram l.config (telegram_model l.telegram) l.globals) (take l.entry-index l.fn.objects.items) ++ drop l.entry-index l.fn.objects.items;
+  told : l.out.records ++ labelled l.s (flat_map (records_taking l.config (telegram_model l.telegram) l.globals) (drop l.entry-index l.fn.objects.items)) ≡ l.fn.out.records ++ labelled l.s (flat_map (records_taking l.config (telegram_model l.telegram) l.globals) l.fn.objects.items);
+  rows : length (filter (is_for_entry (telegram_model l.telegram) l.globals) (drop l.entry-index l.fn.objects.items)) ≤ l.out.row_room;
+  bytes : PD_TELEGRAM_MAX * length (filter (is_for_entry (telegram_model l.telegram) l.globals) (drop l.entry-index l.fn.objects.items)) ≤ l.out.byte_room;
 }

@@ -4,12 +4,12 @@ use Rattle.trdp_engine.proofs.moment.fire_all.Goals as goal
 
 pub loop-at-smaller : goal.loop-at-smaller
 loop-at-smaller c =
-    let m = turn c.args.g.now c.args.s c.loop-at.objects.items c.fire_at.new.objects.items c.loop-at.out.records c.fire_at.new.out.records c.in-Some.at c.loop-at.invariant.rising (rw c.deref.ensures.value at c.in-Some.ensures) c.fire_at.ensures.items c.fire_at.ensures.records in
+    let m = turn c.args.globals.now c.args.s c.loop-at.objects.items c.fire_at.new.objects.items c.loop-at.out.records c.fire_at.new.out.records c.in-Some.at c.loop-at.invariant.rising (rw c.deref.ensures.value at c.in-Some.ensures) c.fire_at.ensures.items c.fire_at.ensures.records in
     omega (arith, m.count)
 
 pub loop-at-preserved : goal.loop-at-preserved
 loop-at-preserved c =
-    let m = turn c.args.g.now c.args.s c.loop-at.objects.items c.fire_at.new.objects.items c.loop-at.out.records c.fire_at.new.out.records c.in-Some.at c.loop-at.invariant.rising (rw c.deref.ensures.value at c.in-Some.ensures) c.fire_at.ensures.items c.fire_at.ensures.records in
+    let m = turn c.args.globals.now c.args.s c.loop-at.objects.items c.fire_at.new.objects.items c.loop-at.out.records c.fire_at.new.out.records c.in-Some.at c.loop-at.invariant.rising (rw c.deref.ensures.value at c.in-Some.ensures) c.fire_at.ensures.items c.fire_at.ensures.records in
     record {
       rising = m.rising;
       items = m.items ∙ c.loop-at.invariant.items;
@@ -20,4 +20,4 @@ loop-at-preserved c =
     }
 
 pub returns-clause-items : goal.returns-clause-items
-returns-clause-items c = sym (none_fires c.args.g.now c.loop-at.objects.items (rw c.deref.ensures.value at c.in_default.ensures)) ∙ c.loop-at.invariant.items
+returns-clause-items c = sym (none_fires c.args.globals.now c.loop-at.objects.items (rw c.deref.ensures.value at c.in_default.ensures)) ∙ c.loop-at.invariant.items

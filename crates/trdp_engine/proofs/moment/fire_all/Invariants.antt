@@ -10,12 +10,12 @@ use Rattle.trdp_engine.proofs.moment.fire_all.Given as goal
 abbrev pub invariant-loop-at : goal.invariant-loop-at
 invariant-loop-at l = record {
   rising : IsRising l.objects.items;
-  items : map (entry_after_moment l.g) l.objects.items ≡ map (entry_after_moment l.g) l.fn.objects.items;
-  told : l.out.records ++ labelled l.s (flat_map (records_firing l.g) (in_order (filter (is_due l.g.now) l.objects.items))) ≡ l.fn.out.records ++ labelled l.s (flat_map (records_firing l.g) (in_order (filter (is_due l.g.now) l.fn.objects.items)));
+  items : map (entry_after_moment l.globals) l.objects.items ≡ map (entry_after_moment l.globals) l.fn.objects.items;
+  told : l.out.records ++ labelled l.s (flat_map (records_firing l.globals) (in_order (filter (is_due l.globals.now) l.objects.items))) ≡ l.fn.out.records ++ labelled l.s (flat_map (records_firing l.globals) (in_order (filter (is_due l.globals.now) l.fn.objects.items)));
   capacity : vec_capacity l.objects ≡ vec_capacity l.fn.objects;
-  rows : length (filter (is_due l.g.now) l.objects.items) ≤ l.out.row_room;
-  bytes : PD_TELEGRAM_MAX * length (filter (is_due l.g.now) l.objects.items) ≤ l.out.byte_room;
+  rows : length (filter (is_due l.globals.now) l.objects.items) ≤ l.out.row_room;
+  bytes : PD_TELEGRAM_MAX * length (filter (is_due l.globals.now) l.objects.items) ≤ l.out.byte_room;
 }
 
 abbrev pub decreases-loop-at : goal.decreases-loop-at
-decreases-loop-at l = length (filter (is_due l.g.now) l.objects.items)
+decreases-loop-at l = length (filter (is_due l.globals.now) l.objects.items)

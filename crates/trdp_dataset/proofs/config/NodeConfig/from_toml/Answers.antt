@@ -1,14 +1,13 @@
 use Rattle.std.proofs.Common.{◌≡◌, Ok, refl, ap, ◌∙◌, subst}
 use Rattle.std.proofs.Common.{◌++◌}
 use Rattle.toml.specs.View.{table_view}
-use Rattle.trdp_dataset.specs.Places.{PlaceModel, node_places, slot_places, all_places}
-use Rattle.trdp_dataset.specs.Seen.{places_seen}
+use Rattle.trdp_dataset.specs.Positions.{PositionModel, node_positions, slot_positions, all_positions}
+use Rattle.trdp_dataset.specs.Seen.{positions_seen}
 use Rattle.trdp_dataset.specs.Faults.{IsFaultOf, Answers, fault_in}
 use Rattle.trdp_dataset.specs.Configs.{datasets_in, config_in, config_fault_of, config_of}
 use Rattle.trdp_dataset.proofs.Answering.{err_answers, err_alone}
 use Rattle.std.proofs.Common.{List, None}
-use Rattle.trdp_dataset.proofs.Filled.{some_slot}
-use Rattle.trdp_dataset.proofs.SlotNumbers.{slots_good, slots_few}
+use Rattle.trdp_dataset.proofs.SlotNumbers.{slots_counted}
 use Rattle.trdp_dataset.proofs.Meaning.{reads}
 use Rattle.trdp_dataset.proofs.config.NodeConfig.from_toml.Goals as goal
 
@@ -17,13 +16,13 @@ unfolding config_fault_of
 returns-in_err-registry c =
     let top = table_view c.in_ok-top.top in
     let ds = datasets_in top in
-    let same = ap places_seen c.deref.ensures.value ∙ c.in_ok-places.ensures in
+    let same = ap positions_seen c.deref.ensures.value ∙ c.in_ok-positions.ensures in
     let result = c.from_residual-in_err-registry.result in
     let fault = c.in_err-registry.field-0.0 in
-    let expected = subst (λ places. IsFaultOf fault (fault_in places ds)) same c.in_err-registry.ensures.answers in
+    let expected = subst (λ positions. IsFaultOf fault (fault_in positions ds)) same c.in_err-registry.ensures.answers in
     record {
-      reads = reads config_of (all_places top) ds (config_in top) c.args.bytes.now top result c.in_ok-top.ensures.0 c.in_ok-top.ensures.1 refl (err_alone result (λ x. x ≡ config_in top) c.from_residual-in_err-registry.ensures.0)
-          (err_answers result fault (fault_in (all_places top) ds) c.from_residual-in_err-registry.ensures.1 expected);
+      reads = reads config_of (all_positions top) ds (config_in top) c.args.bytes.now top result c.in_ok-top.ensures.0 c.in_ok-top.ensures.1 refl (err_alone result (λ x. x ≡ config_in top) c.from_residual-in_err-registry.ensures.0)
+          (err_answers result fault (fault_in (all_positions top) ds) c.from_residual-in_err-registry.ensures.1 expected);
     }
 
 pub returns : goal.returns
@@ -31,30 +30,30 @@ unfolding config_fault_of
 returns c =
     let top = table_view c.in_ok-top.top in
     let ds = datasets_in top in
-    let same = ap places_seen c.deref.ensures.value ∙ c.in_ok-places.ensures in
-    let none = subst (λ places. Answers (fault_in places ds) (Ok c.in_ok-registry.registry)) same c.in_ok-registry.ensures.answers in
+    let same = ap positions_seen c.deref.ensures.value ∙ c.in_ok-positions.ensures in
+    let none = subst (λ positions. Answers (fault_in positions ds) (Ok c.in_ok-registry.registry)) same c.in_ok-registry.ensures.answers in
     record {
-      reads = reads config_of (all_places top) ds (config_in top) c.args.bytes.now top (Ok c.config_in.result) c.in_ok-top.ensures.0 c.in_ok-top.ensures.1 refl c.config_in.ensures.value none;
+      reads = reads config_of (all_positions top) ds (config_in top) c.args.bytes.now top (Ok c.config_in.result) c.in_ok-top.ensures.0 c.in_ok-top.ensures.1 refl c.config_in.ensures.value none;
     }
 
 pub load-requires : goal.load-requires
-unfolding all_places
+unfolding all_positions
 load-requires c =
     let top = table_view c.in_ok-top.top in
-    record { covers = (node_places top ++ slot_places top, ap places_seen c.deref.ensures.value ∙ c.in_ok-places.ensures) }
+    record { covers = (node_positions top ++ slot_positions top, ap positions_seen c.deref.ensures.value ∙ c.in_ok-positions.ensures) }
 
 pub config_in-requires-clause-some : goal.config_in-requires-clause-some
-unfolding all_places
+unfolding all_positions
 config_in-requires-clause-some c =
     let top = table_view c.in_ok-top.top in
-    let same = ap places_seen c.deref.ensures.value ∙ c.in_ok-places.ensures in
-    let none = subst (λ (places : List PlaceModel). fault_in places (datasets_in top) ≡ None) same c.in_ok-registry.ensures.answers in
-    some_slot top (slots_good top (datasets_in top) none)
+    let same = ap positions_seen c.deref.ensures.value ∙ c.in_ok-positions.ensures in
+    let none = subst (λ (positions : List PositionModel). fault_in positions (datasets_in top) ≡ None) same c.in_ok-registry.ensures.answers in
+    (slots_counted top (datasets_in top) none).0
 
 pub config_in-requires-clause-few : goal.config_in-requires-clause-few
-unfolding all_places
+unfolding all_positions
 config_in-requires-clause-few c =
     let top = table_view c.in_ok-top.top in
-    let same = ap places_seen c.deref.ensures.value ∙ c.in_ok-places.ensures in
-    let none = subst (λ (places : List PlaceModel). fault_in places (datasets_in top) ≡ None) same c.in_ok-registry.ensures.answers in
-    slots_few top (datasets_in top) none
+    let same = ap positions_seen c.deref.ensures.value ∙ c.in_ok-positions.ensures in
+    let none = subst (λ (positions : List PositionModel). fault_in positions (datasets_in top) ≡ None) same c.in_ok-registry.ensures.answers in
+    (slots_counted top (datasets_in top) none).1

@@ -1,7 +1,7 @@
 use Rattle.std.proofs.Common.{List, [], refl, ap, ◌∙◌, subst}
 use Rattle.toml.specs.View.{table_view}
-use Rattle.trdp_dataset.specs.Places.{PlaceModel, dataset_places}
-use Rattle.trdp_dataset.specs.Seen.{places_seen}
+use Rattle.trdp_dataset.specs.Positions.{PositionModel, dataset_positions}
+use Rattle.trdp_dataset.specs.Seen.{positions_seen}
 use Rattle.trdp_dataset.specs.Faults.{Answers, fault_in}
 use Rattle.trdp_dataset.specs.Configs.{datasets_in, registry_fault_of, registry_of}
 use Rattle.trdp_dataset.proofs.Meaning.{reads}
@@ -12,11 +12,11 @@ unfolding registry_fault_of
 returns c =
     let top = table_view c.in_ok-top.top in
     let ds = datasets_in top in
-    let same = ap places_seen c.deref.ensures.value ∙ c.in_ok-places.ensures in
+    let same = ap positions_seen c.deref.ensures.value ∙ c.in_ok-positions.ensures in
     record {
-      reads = reads registry_of (dataset_places top) ds ds c.args.bytes.now top c.load.result c.in_ok-top.ensures.0 c.in_ok-top.ensures.1 refl c.load.ensures.value
-          (subst (λ (places : List PlaceModel). Answers (fault_in places ds) c.load.result) same c.load.ensures.answers);
+      reads = reads registry_of (dataset_positions top) ds ds c.args.bytes.now top c.load.result c.in_ok-top.ensures.0 c.in_ok-top.ensures.1 refl c.load.ensures.value
+          (subst (λ (positions : List PositionModel). Answers (fault_in positions ds) c.load.result) same c.load.ensures.answers);
     }
 
 pub load-requires : goal.load-requires
-load-requires c = record { covers = ([], ap places_seen c.deref.ensures.value ∙ c.in_ok-places.ensures) }
+load-requires c = record { covers = ([], ap positions_seen c.deref.ensures.value ∙ c.in_ok-positions.ensures) }

@@ -1,4 +1,5 @@
 use Rattle.std.proofs.Common.{arith, refl, ◌∙◌}
+use Rattle.std.proofs.lemmas.Option.{slice_get-get_or, slice_get_past}
 use Rattle.trdp_engine.specs.declared.event.Event.TheVariants.{Moment}
 use Rattle.trdp_engine.proofs.Runs.{one_event, so_far, one_more, at_start}
 use Rattle.trdp_engine.proofs.Steps.{appends_none, appends_more}
@@ -7,7 +8,7 @@ use Rattle.trdp_engine.proofs.node.Node.run.Goals as goal
 pub loop-event-init : goal.loop-event-init
 loop-event-init c = record {
   taken = refl;
-  setup = refl;
+  config = refl;
   count = refl;
   runs = λ s slot is. at_start c.args.self.now c.args.out.now.records s slot is;
   appends = appends_none c.args.self.now.slots c.args.out.now.records c.args.out.now.records refl;
@@ -16,11 +17,11 @@ loop-event-init c = record {
 pub loop-event-preserved : goal.loop-event-preserved
 loop-event-preserved c = record {
   taken = omega arith;
-  setup = c.step-result.ensures.setup ∙ c.loop-event.invariant.setup;
+  config = c.step-result.ensures.config ∙ c.loop-event.invariant.config;
   count = c.step-result.ensures.count ∙ c.loop-event.invariant.count;
   runs = λ s slot is.
       rw (one_more c.args.events.now c.loop-event.event-index (Moment 0) c.loop-event-test.true)
-      (one_event c.args.self.now c.loop-event.self c.step-result.new.self c.args.out.now.records c.loop-event.out.records c.step-result.new.out.records _ _ s slot _ c.step-result.result c.loop-event.invariant.setup refl c.step-result.ensures.fault (c.is_out_of_memory.ensures.no c.if-is_out_of_memory.false) c.step-result.ensures.kept c.step-result.ensures.unrecorded c.step-result.ensures.globals c.step-result.ensures.steps (c.loop-event.invariant.runs s slot is));
+      (one_event c.args.self.now c.loop-event.self c.step-result.new.self c.args.out.now.records c.loop-event.out.records c.step-result.new.out.records _ _ s slot _ c.step-result.result c.loop-event.invariant.config refl c.step-result.ensures.fault (c.is_out_of_memory.ensures.no c.if-is_out_of_memory.false) c.step-result.ensures.kept c.step-result.ensures.unrecorded c.step-result.ensures.globals c.step-result.ensures.steps (c.loop-event.invariant.runs s slot is));
   appends = appends_more c.args.self.now.slots c.loop-event.self.slots _ _ _ c.loop-event.invariant.count c.loop-event.invariant.appends c.step-result.ensures.appends;
 }
 
@@ -33,3 +34,12 @@ returns-then-is_out_of_memory-clause-alone c = λ s slot is.
 
 pub returns-clause-alone : goal.returns-clause-alone
 returns-clause-alone c = λ s slot is. rw c.loop-event.invariant.taken (so_far _ _ _ _ _ s slot (c.loop-event.invariant.runs s slot is))
+
+pub returns-then-is_out_of_memory-clause-stops : goal.returns-then-is_out_of_memory-clause-stops
+returns-then-is_out_of_memory-clause-stops c =
+    let memory = c.is_out_of_memory.ensures.yes c.if-is_out_of_memory.true in
+    let kept = rw memory at c.step-result.ensures.kept in
+    rw (c.loop-event.invariant.taken, kept, slice_get-get_or c.args.events.now c.loop-event.event-index (Moment 0) c.loop-event-test.true) (c.step-result.ensures.memory memory)
+
+pub returns-clause-stops : goal.returns-clause-stops
+returns-clause-stops c = rw (c.loop-event.invariant.taken, slice_get_past c.args.events.now c.loop-event.event-index (omega arith)) tt

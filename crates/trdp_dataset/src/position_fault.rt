@@ -1,0 +1,136 @@
+//! The fault of a position of a key, and of all positions of a file the fault that counts.
+
+ghost use Rattle.std.specs.Prelude.{◌≡◌, map};
+ghost use Rattle.toml.specs.View.{view};
+ghost use Rattle.trdp_dataset.specs.Keys.{wanted_by};
+ghost use Rattle.trdp_dataset.specs.Values.{natural_in};
+ghost use Rattle.trdp_dataset.specs.Seen.{position_seen, positions_seen};
+ghost use Rattle.trdp_dataset.specs.Faults.{wrong_unless, count_fault, tables_fault, quota_fault, bad_unless, identifier_fault, kind_fault, value_fault, fault_at, least_fault};
+
+use crate::fault::{ConfigFault, least_of_two};
+use crate::key::{Key, Wanted};
+use crate::position::Position;
+use crate::value::{address, identifier, is_real, is_tables, items, kind, natural};
+use toml::Value;
+
+/// The value of a key has to be of the key's kind.
+fn wrong_unless(key: Key, is_right: bool) -> Option<ConfigFault>
+    ensures value { result ≡ wrong_unless key is_right }
+{
+    if is_right {
+        None
+    } else {
+        Some(ConfigFault::WrongType(key))
+    }
+}
+
+/// The fault of an array of so many tables, of which the key allows at most so many.
+fn count_fault(key: Key, most: u16, count: usize) -> Option<ConfigFault>
+    ensures value { result ≡ count_fault key most count }
+{
+    if key.is_required() && count == 0 {
+        Some(ConfigFault::Missing(key))
+    } else if count > usize::from(most) {
+        Some(ConfigFault::TooMany)
+    } else {
+        None
+    }
+}
+
+/// The fault of what stands where an array of at most so many tables is wanted.
+fn tables_fault(key: Key, most: u16, value: &Value) -> Option<ConfigFault>
+    ensures value { result ≡ tables_fault key most (view value.now) }
+{
+    if is_tables(value) {
+        count_fault(key, most, items(value).len())
+    } else {
+        Some(ConfigFault::WrongType(key))
+    }
+}
+
+/// The fault of what stands where a quota of at most so many is wanted.
+fn quota_fault(key: Key, most: u16, value: &Value) -> Option<ConfigFault>
+    ensures value { result ≡ quota_fault key most (natural_in (view value.now)) }
+{
+    match natural(value) {
+        Some(number) if number > u64::from(most) => Some(ConfigFault::TooMany),
+        Some(_) => None,
+        None => Some(ConfigFault::WrongType(key)),
+    }
+}
+
+/// An identifier has to be in range, and a type has to be known.
+fn bad_unless(is_good: bool) -> Option<ConfigFault>
+    ensures value { result ≡ bad_unless is_good }
+{
+    if is_good {
+        None
+    } else {
+        Some(ConfigFault::BadId)
+    }
+}
+
+/// The fault of what stands where the identifier of a dataset is wanted.
+fn identifier_fault(key: Key, value: &Value) -> Option<ConfigFault>
+    ensures value { result ≡ identifier_fault key (view value.now) }
+{
+    if value.is_integer() {
+        bad_unless(identifier(value).is_some())
+    } else {
+        Some(ConfigFault::WrongType(key))
+    }
+}
+
+/// The fault of what stands where the type of an element is wanted.
+fn kind_fault(key: Key, value: &Value) -> Option<ConfigFault>
+    ensures value { result ≡ kind_fault key (view value.now) }
+{
+    if !value.is_str() && !value.is_integer() {
+        Some(ConfigFault::WrongType(key))
+    } else if is_real(value) {
+        Some(ConfigFault::Real)
+    } else {
+        bad_unless(kind(value).is_some())
+    }
+}
+
+/// The fault of a value at a key, by what the key wants.
+fn value_fault(key: Key, value: &Value) -> Option<ConfigFault>
+    ensures value { result ≡ value_fault key (wanted_by key) (view value.now) }
+{
+    let wanted = key.wanted();
+    match wanted {
+        Wanted::Table => wrong_unless(key, value.is_table()),
+        Wanted::Tables(most) => tables_fault(key, most, value),
+        Wanted::Address => wrong_unless(key, address(value).is_some()),
+        Wanted::Number(..) => wrong_unless(key, wanted.number(value).is_some()),
+        Wanted::Quota(most) => quota_fault(key, most, value),
+        Wanted::Identifier(..) => identifier_fault(key, value),
+        Wanted::Kind => kind_fault(key, value),
+    }
+}
+
+impl Position<'_> {
+    /// The fault of this position.
+    fn fault(&self) -> Option<ConfigFault>
+        ensures value { result ≡ fault_at (position_seen self.now) }
+    {
+        match self.value {
+            Some(value) => value_fault(self.key, value),
+            None if self.key.is_required() => Some(ConfigFault::Missing(self.key)),
+            None => None,
+        }
+    }
+}
+
+/// Of the faults of all positions the one of the lowest number, and of several of that number the
+/// first.
+pub(crate) fn least_fault(positions: &[Position<'_>]) -> Option<ConfigFault>
+    ensures value { result ≡ least_fault (map fault_at (positions_seen positions.now)) }
+{
+    let mut least = None;
+    for position in positions {
+        least = least_of_two(least, position.fault());
+    }
+    least
+}

@@ -1,0 +1,213 @@
+-- The forms that a line of a script can have, each with its words, its fields and its event.
+use Rattle.std.specs.Prelude.{ℕ, ◌^◌, ◌-◌, ◌&&◌, List, [], ◌∷◌, Bool, true, Option, Some, codes, if◌then◌else◌}
+use Rattle.std.specs.Option.{option_and_then}
+use Rattle.std.specs.Str.{bytes_eq}
+use Rattle.trdp_base.specs.declared.place.Ip.{Ip}
+use Rattle.trdp_base.specs.declared.place.Place.{Place}
+use Rattle.trdp_pd.specs.declared.terms.Behaviour.{Behaviour}
+use Rattle.trdp_pd.specs.declared.terms.Behaviour.TheVariants.{Zero, Keep}
+use Rattle.trdp_engine.specs.Events.{CallModel, PublishCall, PutCall, UnpublishCall, SubscribeCall, GetCall, UnsubscribeCall, OpenPullCall, PullCall, ClosePullCall, EventModel, MomentIs, TopologyIs, RoleIs, DatagramIs, CallIs}
+use Rattle.trdp_engine.specs.declared.record.Protocol.{Protocol}
+use Rattle.trdp_engine.specs.declared.record.Protocol.TheVariants.{Pd, Md}
+use Rattle.trdp_script.specs.Words.{first_word, other_words, number_of_word, ip_of_word, place_of_word, bytes_of_word, choice_of_word}
+
+-- what one word of a line is to be
+pub data Part : Type 0 where
+  Keyword : (word : List ℕ) → Part
+  NumberField : (max : ℕ) → Part
+  AddressField : Part
+  PlaceField : Part
+  BytesField : Part
+  ChoiceField : (first second : List ℕ) → Part
+
+-- what is made from the value of a field: nothing is taken from a keyword
+abbrev pub From : Part → Type 0 → Type 0
+From (Keyword word) Made = Made
+From (NumberField max) Made = ℕ → Made
+From AddressField Made = Ip → Made
+From PlaceField Made = Place → Made
+From BytesField Made = List ℕ → Made
+From (ChoiceField first second) Made = Bool → Made
+
+-- an event, made from the value of each field in their order
+abbrev pub EventFrom : List Part → Type 0
+EventFrom [] = EventModel
+EventFrom (part ∷ parts) = From part (EventFrom parts)
+
+-- a form: its words from the first to the last, and the event that it means
+pub record LineForm : Type 0 where
+  pub parts : List Part
+  pub event : EventFrom parts
+
+-- numbers of 8, 16, 32 and 64 bits
+abbrev pub number_8 : Part
+number_8 = NumberField (2 ^ 8 - 1)
+
+abbrev pub number_16 : Part
+number_16 = NumberField (2 ^ 16 - 1)
+
+abbrev pub number_32 : Part
+number_32 = NumberField (2 ^ 32 - 1)
+
+abbrev pub number_64 : Part
+number_64 = NumberField (2 ^ 64 - 1)
+
+-- moment T
+abbrev pub moment_form : LineForm
+moment_form = record { parts = Keyword (codes "moment") ∷ number_64 ∷ []; event = λ t. MomentIs t }
+
+-- topology ETB OPTRN
+abbrev pub topology_form : LineForm
+topology_form = record {
+  parts = Keyword (codes "topology") ∷ number_32 ∷ number_32 ∷ [];
+  event = λ etb op_trn. TopologyIs (record { etb = etb; op_trn = op_trn });
+}
+
+-- role GROUP leader|follower
+abbrev pub role_form : LineForm
+role_form = record {
+  parts = Keyword (codes "role") ∷ number_8 ∷ ChoiceField (codes "leader") (codes "follower") ∷ [];
+  event = λ group leader. RoleIs group leader;
+}
+
+-- the protocol's word, SRC, DST and HEX
+abbrev pub datagram_form : List ℕ → Protocol → LineForm
+datagram_form word protocol = record {
+  parts = Keyword word ∷ PlaceField ∷ PlaceField ∷ BytesField ∷ [];
+  event = λ src dst bytes. DatagramIs protocol src dst bytes;
+}
+
+-- pd SRC DST HEX
+abbrev pub pd_form : LineForm
+pd_form = datagram_form (codes "pd") Pd
+
+-- md SRC DST HEX
+abbrev pub md_form : LineForm
+md_form = datagram_form (codes "md") Md
+
+-- call SLOT, the call's word and its fields
+abbrev pub call_form : List ℕ → (fields : List Part) → (ℕ → EventFrom fields) → LineForm
+call_form word fields event = record {
+  parts = Keyword (codes "call") ∷ number_16 ∷ Keyword word ∷ fields;
+  event = event;
+}
+
+-- call SLOT, the word of a call of the object with that handle, and HANDLE
+abbrev pub handle_form : List ℕ → (ℕ → CallModel) → LineForm
+handle_form word call =
+    call_form word (number_32 ∷ []) (λ slot handle. CallIs slot (call handle))
+
+-- call SLOT publish COMID DATASET CYCLE GROUP ETB OPTRN TO
+abbrev pub publish_form : LineForm
+publish_form =
+    call_form (codes "publish")
+    (number_32 ∷ number_32 ∷ number_32 ∷ number_8 ∷ number_32 ∷ number_32 ∷ PlaceField ∷ [])
+    (λ slot com_id dataset cycle group etb op_trn to. CallIs slot (PublishCall (record {
+      com_id = com_id;
+      dataset = dataset;
+      cycle = cycle;
+      group = group;
+      topo = record { etb = etb; op_trn = op_trn };
+      to = to;
+    })))
+
+-- call SLOT put HANDLE HEX
+abbrev pub put_form : LineForm
+put_form =
+    call_form (codes "put") (number_32 ∷ BytesField ∷ [])
+    (λ slot handle bytes. CallIs slot (PutCall handle bytes))
+
+-- call SLOT unpublish HANDLE
+abbrev pub unpublish_form : LineForm
+unpublish_form = handle_form (codes "unpublish") (λ handle. UnpublishCall handle)
+
+-- what a time-out does to the value
+abbrev pub behaviour_of : Bool → Behaviour
+behaviour_of zero = if zero then Zero else Keep
+
+-- call SLOT subscribe COMID DATASET LOW HIGH DEST ETB OPTRN TIME zero|keep
+abbrev pub subscribe_form : LineForm
+subscribe_form =
+    call_form (codes "subscribe")
+    (number_32 ∷ number_32 ∷ AddressField ∷ AddressField ∷ AddressField ∷ number_32 ∷ number_32
+    ∷ number_32 ∷ ChoiceField (codes "zero") (codes "keep") ∷ [])
+    (λ slot com_id dataset low high dest etb op_trn supervision zero. CallIs slot (SubscribeCall (record {
+      filter = record {
+        com_id = com_id;
+        low = low;
+        high = high;
+        dest = dest;
+        topo = record { etb = etb; op_trn = op_trn };
+      };
+      dataset = dataset;
+      supervision = supervision;
+      behaviour = behaviour_of zero;
+    })))
+
+-- call SLOT get HANDLE
+abbrev pub get_form : LineForm
+get_form = handle_form (codes "get") (λ handle. GetCall handle)
+
+-- call SLOT unsubscribe HANDLE
+abbrev pub unsubscribe_form : LineForm
+unsubscribe_form = handle_form (codes "unsubscribe") (λ handle. UnsubscribeCall handle)
+
+-- call SLOT openpull COMID REPLYCOMID REPLYIP ETB OPTRN TO
+abbrev pub open_pull_form : LineForm
+open_pull_form =
+    call_form (codes "openpull")
+    (number_32 ∷ number_32 ∷ AddressField ∷ number_32 ∷ number_32 ∷ PlaceField ∷ [])
+    (λ slot com_id reply_com_id reply_ip etb op_trn to. CallIs slot (OpenPullCall (record {
+      com_id = com_id;
+      reply_com_id = reply_com_id;
+      reply_ip = reply_ip;
+      topo = record { etb = etb; op_trn = op_trn };
+      to = to;
+    })))
+
+-- call SLOT pull HANDLE
+abbrev pub pull_form : LineForm
+pull_form = handle_form (codes "pull") (λ handle. PullCall handle)
+
+-- call SLOT closepull HANDLE
+abbrev pub close_pull_form : LineForm
+close_pull_form = handle_form (codes "closepull") (λ handle. ClosePullCall handle)
+
+-- all forms
+unfoldable pub forms : List LineForm
+forms =
+    moment_form ∷ topology_form ∷ role_form ∷ pd_form ∷ md_form ∷ publish_form ∷ put_form
+    ∷ unpublish_form ∷ subscribe_form ∷ get_form ∷ unsubscribe_form ∷ open_pull_form ∷ pull_form
+    ∷ close_pull_form ∷ []
+
+-- whether the keywords stand among the words where they are to stand
+unfoldable pub has_keywords : List Part → List (List ℕ) → Bool
+has_keywords [] words = true
+has_keywords (Keyword word ∷ parts) words =
+    bytes_eq (first_word words) word && has_keywords parts (other_words words)
+has_keywords (_ ∷ parts) words = has_keywords parts (other_words words)
+
+-- the event, where each field's word is the written form of a value in its range
+unfoldable pub event_of_words : (parts : List Part) → EventFrom parts → List (List ℕ) → Option EventModel
+event_of_words [] event words = Some event
+event_of_words (Keyword word ∷ parts) event words =
+    event_of_words parts event (other_words words)
+event_of_words (NumberField max ∷ parts) event words =
+    option_and_then (λ number. event_of_words parts (event number) (other_words words))
+    (number_of_word max (first_word words))
+event_of_words (AddressField ∷ parts) event words =
+    option_and_then (λ ip. event_of_words parts (event ip) (other_words words))
+    (ip_of_word (first_word words))
+event_of_words (PlaceField ∷ parts) event words =
+    option_and_then (λ place. event_of_words parts (event place) (other_words words))
+    (place_of_word (first_word words))
+event_of_words (BytesField ∷ parts) event words =
+    option_and_then (λ bytes. event_of_words parts (event bytes) (other_words words))
+    (bytes_of_word (first_word words))
+event_of_words (ChoiceField first second ∷ parts) event words =
+    option_and_then (λ choice. event_of_words parts (event choice) (other_words words))
+    (choice_of_word first second (first_word words))
+
+-- the event that words say by a form; none where one of them is bad
+abbrev pub event_in : LineForm → List (List ℕ) → Option EventModel
+event_in form words = event_of_words form.parts form.event words

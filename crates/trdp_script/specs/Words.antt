@@ -1,0 +1,88 @@
+-- The words of a line, and the values that words are the written forms of.
+use Rattle.std.specs.Prelude.{◌≡◌, ℕ, ◌+◌, ◌*◌, ◌^◌, ◌==◌, ◌&&◌, nat_lt, nat_le, List, [], ◌∷◌, map, Bool, true, false, Option, Some, None, if◌then◌else◌}
+use Rattle.std.specs.Char.{digit_value}
+use Rattle.std.specs.Int.Digits.{number_from_digits}
+use Rattle.std.specs.List.{slice_split, list_all}
+use Rattle.std.specs.Str.{bytes_eq}
+use Rattle.std.specs.Str.Parse.{digits_value}
+use Rattle.trdp_base.specs.AddressText.{text_of_ip, text_of_place}
+use Rattle.trdp_base.specs.HexText.{text_of_hex}
+use Rattle.trdp_base.specs.NumberText.{text_of_number}
+use Rattle.trdp_base.specs.declared.place.Ip.{Ip}
+use Rattle.trdp_base.specs.declared.place.Place.{Place}
+use Rattle.trdp_script.specs.declared.fault.LineFault.{LineFault}
+use Rattle.trdp_script.specs.declared.fault.LineFault.TheVariants.{BadWord, OutOfMemory}
+
+-- the words of a line, which stand apart by exactly one space: between two spaces stands an empty word
+unfoldable pub words_of : List ℕ → List (List ℕ)
+words_of line = slice_split (λ byte. byte == 32) line
+
+-- the first word; an empty one where there is none
+unfoldable pub first_word : List (List ℕ) → List ℕ
+first_word [] = []
+first_word (word ∷ words) = word
+
+-- the words behind the first
+unfoldable pub other_words : List (List ℕ) → List (List ℕ)
+other_words [] = []
+other_words (word ∷ words) = words
+
+-- the value, if it may stand here and the word is its written form
+unfoldable pub if_written : {A : Type 0} → (A → List ℕ) → List ℕ → Bool → A → Option A
+if_written text_of word may_stand value =
+    if may_stand && bytes_eq (text_of value) word then Some value else None
+
+-- the number of at most `max` whose written form the word is
+unfoldable pub number_of_word : ℕ → List ℕ → Option ℕ
+number_of_word max word =
+    let number = digits_value 10 word in
+    if_written text_of_number word (nat_le number max) number
+
+-- the address that numbers joined by dots show
+unfoldable pub ip_shown : List ℕ → Ip
+ip_shown word = record {
+  0 = number_from_digits 256 (map (digits_value 10) (slice_split (λ byte. byte == 46) word));
+}
+
+-- the address whose written form the word is
+unfoldable pub ip_of_word : List ℕ → Option Ip
+ip_of_word word =
+    let ip = ip_shown word in
+    if_written text_of_ip word (nat_lt ip.0 (2 ^ 32)) ip
+
+-- the place that an address, a colon and a number show
+unfoldable pub place_shown : List ℕ → Place
+place_shown word =
+    let parts = slice_split (λ byte. byte == 58) word in record {
+      ip = ip_shown (first_word parts);
+      port = digits_value 10 (first_word (other_words parts));
+    }
+
+-- the place whose written form the word is
+unfoldable pub place_of_word : List ℕ → Option Place
+place_of_word word =
+    let place = place_shown word in
+    if_written text_of_place word (nat_lt place.ip.0 (2 ^ 32) && nat_lt place.port (2 ^ 16)) place
+
+-- the bytes that pairs of hexadecimal digits show
+unfoldable pub bytes_shown : List ℕ → List ℕ
+bytes_shown [] = []
+bytes_shown (high ∷ []) = []
+bytes_shown (high ∷ low ∷ digits) =
+    (16 * digit_value high + digit_value low) ∷ bytes_shown digits
+
+-- the bytes whose written form the word is
+unfoldable pub bytes_of_word : List ℕ → Option (List ℕ)
+bytes_of_word word =
+    let bytes = bytes_shown word in
+    if_written text_of_hex word (list_all (λ byte. nat_lt byte 256) bytes) bytes
+
+-- whether the word is the first of two, if it is one of them
+unfoldable pub choice_of_word : List ℕ → List ℕ → List ℕ → Option Bool
+choice_of_word first second word =
+    if bytes_eq word first then Some true else (if bytes_eq word second then Some false else None)
+
+-- why the bytes of a word weren't read: it isn't the written form of any, or else memory ran out
+abbrev pub IsBytesFault : Option (List ℕ) → LineFault → Type 0
+IsBytesFault None fault = fault ≡ BadWord
+IsBytesFault (Some bytes) fault = fault ≡ OutOfMemory

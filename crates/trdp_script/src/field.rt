@@ -1,0 +1,143 @@
+//! The values that words are the written forms of.
+
+ghost use Rattle.std.specs.Prelude.{◌≡◌, ◌<◌, ◌≤◌, ◌^◌, ◌-◌, IfOk, IfErr, IfSome};
+ghost use Rattle.trdp_script.specs.Words.{first_word, other_words, number_of_word, ip_of_word, place_of_word, bytes_of_word, choice_of_word, IsBytesFault};
+ghost use Rattle.trdp_script.specs.WordsLeft.{words_left};
+
+use crate::fault::LineFault;
+use crate::words::Words;
+use std::alloc::Global;
+use trdp_base::{Ip, Place, TextFault, read_hex, read_ip, read_number, read_place};
+
+impl Words<'_> {
+    /// The number of 8 bits that the next word is.
+    pub(crate) fn next_u8(&mut self) -> Option<u8>
+        ensures value { result ≡ number_of_word (2 ^ 8 - 1) (first_word (words_left self.old)) }
+        ensures rest { words_left self.new ≡ other_words (words_left self.old) }
+    {
+        let number = number_of(self.next_word(), u64::from(u8::MAX))?;
+        Some(number as u8)
+    }
+
+    /// The number of 16 bits that the next word is.
+    pub(crate) fn next_u16(&mut self) -> Option<u16>
+        ensures value { result ≡ number_of_word (2 ^ 16 - 1) (first_word (words_left self.old)) }
+        ensures rest { words_left self.new ≡ other_words (words_left self.old) }
+    {
+        let number = number_of(self.next_word(), u64::from(u16::MAX))?;
+        Some(number as u16)
+    }
+
+    /// The number of 32 bits that the next word is.
+    pub(crate) fn next_u32(&mut self) -> Option<u32>
+        ensures value { result ≡ number_of_word (2 ^ 32 - 1) (first_word (words_left self.old)) }
+        ensures rest { words_left self.new ≡ other_words (words_left self.old) }
+    {
+        let number = number_of(self.next_word(), u64::from(u32::MAX))?;
+        Some(number as u32)
+    }
+
+    /// The number of 64 bits that the next word is.
+    pub(crate) fn next_u64(&mut self) -> Option<u64>
+        ensures value { result ≡ number_of_word (2 ^ 64 - 1) (first_word (words_left self.old)) }
+        ensures rest { words_left self.new ≡ other_words (words_left self.old) }
+    {
+        number_of(self.next_word(), u64::MAX)
+    }
+
+    /// The address that the next word is.
+    pub(crate) fn next_ip(&mut self) -> Option<Ip>
+        ensures value { result ≡ ip_of_word (first_word (words_left self.old)) }
+        ensures rest { words_left self.new ≡ other_words (words_left self.old) }
+    {
+        ip_of(self.next_word())
+    }
+
+    /// The place that the next word is.
+    pub(crate) fn next_place(&mut self) -> Option<Place>
+        ensures value { result ≡ place_of_word (first_word (words_left self.old)) }
+        ensures rest { words_left self.new ≡ other_words (words_left self.old) }
+    {
+        place_of(self.next_word())
+    }
+
+    /// Whether the next word is the first of two, if it is one of them.
+    pub(crate) fn next_choice(&mut self, first: &[u8], second: &[u8]) -> Option<bool>
+        ensures value { result
+            ≡ choice_of_word first.now second.now (first_word (words_left self.old)) }
+        ensures rest { words_left self.new ≡ other_words (words_left self.old) }
+    {
+        choice_of(self.next_word(), first, second)
+    }
+
+    /// The bytes that the next word is.
+    ///
+    /// # Errors
+    /// `BadWord` where the word isn't the written form of bytes, which is found before memory is
+    /// taken; `OutOfMemory`.
+    pub(crate) fn next_bytes(&mut self, alloc: Global) -> Result<Vec<u8>, LineFault>
+        ensures value { IfOk result (λ bytes.
+            bytes_of_word (first_word (words_left self.old)) ≡ Some bytes.items) }
+        ensures fault { IfErr result (λ fault.
+            IsBytesFault (bytes_of_word (first_word (words_left self.old))) fault) }
+    {
+        bytes_of(alloc, self.next_word())
+    }
+}
+
+/// The number of at most `max` that a word is.
+fn number_of(word: &[u8], max: u64) -> Option<u64>
+    ensures value { result ≡ number_of_word max word.now }
+    ensures within { IfSome result (λ number. number ≤ max) }
+{
+    match read_number(word, max) {
+        Ok(number) => Some(number),
+        Err(_) => None,
+    }
+}
+
+/// The address that a word is.
+fn ip_of(word: &[u8]) -> Option<Ip>
+    ensures { result ≡ ip_of_word word.now }
+{
+    match read_ip(word) {
+        Ok(ip) => Some(ip),
+        Err(_) => None,
+    }
+}
+
+/// The place that a word is.
+fn place_of(word: &[u8]) -> Option<Place>
+    ensures { result ≡ place_of_word word.now }
+{
+    match read_place(word) {
+        Ok(place) => Some(place),
+        Err(_) => None,
+    }
+}
+
+/// Whether a word is the first of two, if it is one of them.
+#[tactic(auto, unfolding(crate::specs::Words::choice_of_word))]
+fn choice_of(word: &[u8], first: &[u8], second: &[u8]) -> Option<bool>
+    ensures { result ≡ choice_of_word first.now second.now word.now }
+{
+    if word == first {
+        Some(true)
+    } else if word == second {
+        Some(false)
+    } else {
+        None
+    }
+}
+
+/// The bytes that a word is.
+fn bytes_of(alloc: Global, word: &[u8]) -> Result<Vec<u8>, LineFault>
+    ensures value { IfOk result (λ bytes. bytes_of_word word.now ≡ Some bytes.items) }
+    ensures fault { IfErr result (λ fault. IsBytesFault (bytes_of_word word.now) fault) }
+{
+    match read_hex(alloc, word) {
+        Ok(bytes) => Ok(bytes),
+        Err(TextFault::BadText) => Err(LineFault::BadWord),
+        Err(TextFault::OutOfMemory) => Err(LineFault::OutOfMemory),
+    }
+}
