@@ -1,11 +1,11 @@
 //! A node that a test holds in its own hands, and leads by lines.
 
-use trdp_script::{print_record, read_line};
 use std::alloc::Global;
 use std::process::Abort;
 use std::test::Fail;
 use trdp_dataset::NodeConfig;
 use trdp_engine::{Node, Outbox};
+use trdp_script::{print_record, read_line};
 
 /// A node, with the records that it has given.
 #[derive(Drop)]

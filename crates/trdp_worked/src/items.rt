@@ -2,13 +2,13 @@
 
 use crate::bench::Bench;
 use crate::play::CONFIG;
-use trdp_script::print_record;
 use std::alloc::Global;
 use std::process::Abort;
 use std::test::Fail;
 use trdp_base::{Ip, Place};
 use trdp_engine::{Answer, Event, NodeFault, PeekFault, Protocol, Record, ValueFault, What};
 use trdp_marshal::Item;
+use trdp_script::print_record;
 
 /// The item of a number n and of n numbers of 1 to 250, which n counts.
 fn counted(alloc: Global, n: u16) -> Result<Item, Fail> {

@@ -1,9 +1,9 @@
 //! Lines and their ends, and the longest ones.
 
 use crate::play::play;
-use trdp_script::{LineFault, ScriptFault, read_line};
 use std::alloc::Global;
 use std::test::Fail;
+use trdp_script::{LineFault, ScriptFault, read_line};
 
 /// A script, with what it gives and how it ends.
 struct Ended {

@@ -1,10 +1,10 @@
 //! Plays scripts over one configuration, and compares what they give.
 
-use trdp_script::{ScriptFault, run_script};
 use std::alloc::Global;
 use std::process::Abort;
 use std::test::Fail;
 use trdp_dataset::NodeConfig;
+use trdp_script::{ScriptFault, run_script};
 
 /// Two slots of four publishers, four subscriptions and one requester, and two datasets: a count and so many numbers of 16
 /// bits; and a signed number, a time of 48 bits and a value of the first dataset.
