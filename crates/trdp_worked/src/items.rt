@@ -10,15 +10,19 @@ use trdp_engine::{Answer, Event, NodeFault, PeekFault, Protocol, Record, ValueFa
 use trdp_marshal::Item;
 use trdp_script::print_record;
 
-/// The item of a number n and of n numbers of 1 to 250, which n counts.
-fn counted(alloc: Global, n: u16) -> Result<Item, Fail> {
+/// The item of n numbers of 1 to 250.
+fn numbers(alloc: Global, n: u16) -> Result<Item, Fail> {
     let mut numbers = Vec::new(alloc);
     for index in 0..n {
         numbers.push(Item::U(u64::from(index % 250) + 1))?;
     }
-    let mut items = Vec::new(alloc);
-    items.push(Item::U(u64::from(n)))?;
-    items.push(Item::List(numbers))?;
+    Ok(Item::List(numbers))
+}
+
+/// The item of a number n and of n numbers, which it counts.
+fn counted(alloc: Global, n: u16) -> Result<Item, Fail> {
+    let numbers = numbers(alloc, n)?;
+    let items = Vec::from_array(alloc, [Item::U(u64::from(n)), numbers])?;
     Ok(Item::List(items))
 }
 
@@ -188,12 +192,17 @@ static SHOWINGS: [Showing; 4] = [
     },
 ];
 
-/// The line of what the subscription of handle 1 shows.
-fn line_shown(bench: &Bench, alloc: Global) -> Result<Vec<u8>, Fail> {
+/// Asserts that the subscription of handle 1 shows what that line of a call `get` says.
+fn shows_line(
+    rt: &(impl Abort + AllocGlobal),
+    bench: &Bench,
+    line: &'static str,
+) -> Result<(), Fail> {
     let what = What::Answer(Answer::Value(bench.node.peek(0, 1)?));
-    let mut line = Vec::new(alloc);
-    print_record(&mut line, &Record { slot: 0, what })?;
-    Ok(line)
+    let mut text = Vec::new(rt.alloc());
+    print_record(&mut text, &Record { slot: 0, what })?;
+    assert_eq!(rt; str::from_utf8(&text)?, line);
+    Ok(())
 }
 
 /// Whether the subscription of that handle shows an item of so many numbers.
@@ -206,8 +215,7 @@ fn shows_item(bench: &Bench, alloc: Global, handle: u32, count: u16) -> Result<b
 fn subscriptions_show_bytes_and_their_item(rt: HostRuntime) -> Result<(), Fail> {
     for row in &SHOWINGS {
         let bench = Bench::after(rt.alloc(), CONFIG, row.lines)?;
-        let line = line_shown(&bench, rt.alloc())?;
-        assert_eq!(rt; line.as_slice(), row.peek.as_bytes());
+        shows_line(&rt, &bench, row.peek)?;
         assert!(rt; shows_item(&bench, rt.alloc(), 1, row.count)?);
     }
     Ok(())
