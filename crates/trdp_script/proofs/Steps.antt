@@ -499,7 +499,7 @@ last_bad old new v w text r is bare some came =
     (subst (λ (l : List ℕ). LineComesTo old.player new.player v w old.number (line_of l) r) is came)
 
 -- a line's fault is never want of memory
-NeverMemory : Result (Option EventModel) LineFault → Type 0
+abbrev NeverMemory : Result (Option EventModel) LineFault → Type 0
 NeverMemory meaning = meaning ≡ Err NoMemory → ⊥
 
 never_said : (form : Option LineForm) (words : List (List ℕ)) → NeverMemory (words_say form words)
@@ -523,9 +523,9 @@ never_memory text is = never_long (nat_lt 140000 (length text)) (is_skipped text
 
 -- a good line for which there is no memory
 pub memory_came : (p : Player) (w : Option (List ℕ)) (n : ℕ) (text : List ℕ) (bad : LineFault) → bad ≡ NoMemory → Reads (line_of text) (Err bad) → LineComesTo p p w w n (line_of text) (Err OutOfMemory)
+unfolding LineComesTo
 memory_came p w n text bad is reads = memory_of (line_of text) (never_memory text) reads
   where
     memory_of : (meaning : Result (Option EventModel) LineFault) → NeverMemory meaning → Reads meaning (Err bad) → LineComesTo p p w w n meaning (Err OutOfMemory)
-    unfolding LineComesTo
     memory_of (Ok event) never reads = passes_nothing w p.output.items
     memory_of (Err fault) never reads = absurd (never (ap (λ f. Err f) (sym reads ∙ is)))

@@ -16,7 +16,7 @@ mod words;
 
 pub use fault::LineFault;
 pub use line::{LINE_MAX, Line, read_line};
-pub use names::{fault_name, line_fault_name, refusal_name, state_name};
+pub use names::line_fault_name;
 pub use print::print_record;
 pub use script::{ScriptFault, run_script};
 

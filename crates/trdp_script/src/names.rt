@@ -8,11 +8,8 @@ use crate::fault::LineFault;
 use trdp_engine::{NodeFault, Refusal};
 use trdp_pd::ValueState;
 
-/// The length of the longest of these words, in bytes.
-pub(crate) const NAME_LENGTH: usize = 11;
-
 /// The word for a node's fault.
-pub fn fault_name(fault: NodeFault) -> &'static [u8]
+pub(crate) fn fault_name(fault: NodeFault) -> &'static [u8]
     ensures word { result.now ≡ name_of_fault fault }
     ensures length { length result.now ≤ 11 }
 {
@@ -26,7 +23,7 @@ pub fn fault_name(fault: NodeFault) -> &'static [u8]
 }
 
 /// The word for a refusal.
-pub fn refusal_name(refusal: Refusal) -> &'static [u8]
+pub(crate) fn refusal_name(refusal: Refusal) -> &'static [u8]
     ensures word { result.now ≡ name_of_refusal refusal }
     ensures length { length result.now ≤ 11 }
 {
@@ -49,7 +46,7 @@ pub fn refusal_name(refusal: Refusal) -> &'static [u8]
 }
 
 /// The word for how good a subscription's value is.
-pub fn state_name(state: ValueState) -> &'static [u8]
+pub(crate) fn state_name(state: ValueState) -> &'static [u8]
     ensures word { result.now ≡ name_of_state state }
     ensures length { length result.now ≤ 11 }
 {
@@ -61,15 +58,14 @@ pub fn state_name(state: ValueState) -> &'static [u8]
 }
 
 /// The word for a line's fault.
-pub fn line_fault_name(fault: LineFault) -> &'static [u8]
-    ensures word { result.now ≡ name_of_line_fault fault }
-    ensures length { length result.now ≤ 11 }
+pub fn line_fault_name(fault: LineFault) -> &'static str
+    ensures { result.now ≡ name_of_line_fault fault }
 {
     match fault {
-        LineFault::TooLong => b"TooLong",
-        LineFault::Unknown => b"Unknown",
-        LineFault::Count => b"Count",
-        LineFault::BadWord => b"BadWord",
-        LineFault::OutOfMemory => b"OutOfMemory",
+        LineFault::TooLong => "TooLong",
+        LineFault::Unknown => "Unknown",
+        LineFault::Count => "Count",
+        LineFault::BadWord => "BadWord",
+        LineFault::OutOfMemory => "OutOfMemory",
     }
 }

@@ -211,12 +211,18 @@ fn shows_item(bench: &Bench, alloc: Global, handle: u32, count: u16) -> Result<b
     Ok(bench.node.value_of(alloc, 0, handle)? == item)
 }
 
+/// Asserts that the subscription shows what the row says.
+fn shows(rt: &(impl Abort + AllocGlobal), row: &'static Showing) -> Result<(), Fail> {
+    let bench = Bench::after(rt.alloc(), CONFIG, row.lines)?;
+    shows_line(rt, &bench, row.peek)?;
+    assert!(rt; shows_item(&bench, rt.alloc(), 1, row.count)?);
+    Ok(())
+}
+
 #[test]
 fn subscriptions_show_bytes_and_their_item(rt: HostRuntime) -> Result<(), Fail> {
     for row in &SHOWINGS {
-        let bench = Bench::after(rt.alloc(), CONFIG, row.lines)?;
-        shows_line(&rt, &bench, row.peek)?;
-        assert!(rt; shows_item(&bench, rt.alloc(), 1, row.count)?);
+        shows(&rt, row)?;
     }
     Ok(())
 }

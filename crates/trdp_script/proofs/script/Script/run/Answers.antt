@@ -52,3 +52,14 @@ returns g c = record {
   run = λ input is. comes_stopped _ _ _ _ input _ Read
       (reading_stops c.loop-read.self _ Read c.loop-read.invariant.reading (λ rest there. read_stops _ _ rest Read refl) input is);
 }
+
+pub loop-read-preserved : goal.loop-read-preserved
+loop-read-preserved g c =
+    let written = reading_written c.write_out.new.self _ c.loop-read.invariant.reading c.in_default.ensures.ok (c.write_out.ensures.sound c.loop-read.invariant.reading.sound) in
+    let read = subst (λ (l : List ℕ). Consumes (g.R.Read.remaining c.loop-read.reader) (g.R.Read.remaining c.read_piece.new.reader) l) (sym c.split_at.ensures.front) c.in-Ok.ensures.bytes.0 in
+    record {
+      reading = reading_more c.take_piece.new.self _ _ c.split_at.result.0.now written read c.in_default-take_piece.ensures.ok c.in_default-take_piece.ensures.sound;
+      number = omega (arith, c.write_out.ensures.number, c.loop-read.invariant.number, c.loop-read.invariant.room, c.in-Ok.ensures.within, c.in-Ok.ensures.length, c.split_at.ensures.front_len, c.in_default-take_piece.ensures.number);
+      room = omega (arith, c.in-Ok.ensures.length, c.loop-read.invariant.room);
+      some = omega (arith, c.in-Ok.ensures.length, c.loop-read.invariant.some);
+    }
