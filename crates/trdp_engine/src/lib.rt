@@ -24,8 +24,6 @@ mod reception;
 mod record;
 mod shown;
 mod slot;
-#[cfg(test)]
-mod tests;
 mod value;
 
 pub use event::{Call, Event};
