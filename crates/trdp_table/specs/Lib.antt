@@ -1,0 +1,5 @@
+pub mod Kinds
+pub mod Tables
+pub mod Lending
+pub mod SlotLaws
+pub mod SlotKept
