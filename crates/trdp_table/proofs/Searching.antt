@@ -5,6 +5,7 @@ use Rattle.std.specs.Result.{result_ok}
 use Rattle.std.specs.List.Sorted.{IsSearchInRange, IsBinarySearchResult, IsNonDecreasingBy}
 use Rattle.std.specs.Ordering.{nat_cmp, ordering_index}
 use Rattle.std.proofs.lemmas.Cmp.{ranked}
+use Rattle.std.proofs.lemmas.Option.{slice_get_within, get_or_from_slice_get}
 use Rattle.std.proofs.lemmas.Bool.{cases_lt}
 use Rattle.std.proofs.lemmas.Bool.Decides.{nat_tests}
 use Rattle.trdp_table.specs.Tables.{Keyed, by_handle}
@@ -69,3 +70,9 @@ searched xs h rising (Err i) within parted = record {
     either j d lt same (inr above) =
         let more : h < (get_or xs j d).handle = ranked _ h _ (sym ((parted (comparisons_rise xs h rising)).1 j d above lt)) in
         omega (arith, more, same)
+
+pub by_handle_get : (xs : List Keyed) (i : ℕ) (e : Keyed) → IsRising xs → slice_get xs i ≡ Some e → by_handle e.handle xs ≡ Some e
+by_handle_get xs i e rising at =
+    let lt : i < length xs = slice_get_within xs i e at in
+    let is : get_or xs i e ≡ e = get_or_from_slice_get xs i e e at in
+    sym (by_handle_at xs e.handle i e rising lt (ap (λ (k : Keyed). k.handle) is)) ∙ at

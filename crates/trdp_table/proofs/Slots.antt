@@ -103,10 +103,10 @@ IsSlotTable-add slot key object is none = record {
   rising = IsRising-push slot.next slot.objects _ is.below is.rising refl;
   below = AllBelow-push slot.next slot.objects _ is.below refl;
   full = λ kind.
-    let added = count_of-push kind slot.objects (new_object slot.next key object) in
-    let lt = below_quota slot (kind_of object) none in
-    let le = is.full kind in
-    either kind (is_same_kind (kind_of object) kind) refl added lt le;
+      let added = count_of-push kind slot.objects (new_object slot.next key object) in
+      let lt = below_quota slot (kind_of object) none in
+      let le = is.full kind in
+      either kind (is_same_kind (kind_of object) kind) refl added lt le;
 }
   where
     either : (kind : Kind) (b : Bool) → is_same_kind (kind_of object) kind ≡ b → count_of kind (slot.objects ++ new_object slot.next key object ∷ []) ≡ count_of kind slot.objects + one_if (is_same_kind (kind_of object) kind) → count_of (kind_of object) slot.objects < slice_index slot.quotas (kind_index (kind_of object)) → count_of kind slot.objects ≤ slice_index slot.quotas (kind_index kind) → count_of kind (slot.objects ++ new_object slot.next key object ∷ []) ≤ slice_index slot.quotas (kind_index kind)
@@ -178,8 +178,8 @@ IsKept-add slot numbers more capacity key object is none one = record {
   sound = IsSlotTable-add slot key object is.sound none;
   limited = is.limited;
   counted = λ kind.
-    let added = count_of-push kind slot.objects (new_object slot.next key object) in
-    omega (arith, added, one kind, is.counted kind);
+      let added = count_of-push kind slot.objects (new_object slot.next key object) in
+      omega (arith, added, one kind, is.counted kind);
   room = is.room;
 }
 
@@ -199,7 +199,7 @@ filter_above a h (x ∷ es) le above =
     let other : (x.handle == h) ≡ false = (let lt : a < x.handle = above.0 in grind (arith, nat_tests)) in
     rw (other, filter_above a h es le above.1) refl
 
-above_get : (h : ℕ) (es : List Keyed) (i : ℕ) (e : Keyed) → AllAbove h es → slice_get es i ≡ Some e → h < e.handle
+pub above_get : (h : ℕ) (es : List Keyed) (i : ℕ) (e : Keyed) → AllAbove h es → slice_get es i ≡ Some e → h < e.handle
 above_get h [] i e above at = absurd (cc)
 above_get h (x ∷ es) zero e above at = let same : x ≡ e = same_Some x e at in let handle : x.handle ≡ e.handle = ap (λ (k : Keyed). k.handle) same in omega (arith, above.0, handle)
 above_get h (x ∷ es) (suc i) e above at = above_get h es i e above.1 at
@@ -235,8 +235,8 @@ IsKept-remove slot numbers fewer capacity h i e is gone one = record {
   sound = IsSlotTable-without h slot is.sound;
   limited = is.limited;
   counted = λ kind.
-    let counts = rw gone.rest at gone.counts kind in
-    omega (arith, counts, one kind, is.counted kind);
+      let counts = rw gone.rest at gone.counts kind in
+      omega (arith, counts, one kind, is.counted kind);
   room = is.room;
 }
 

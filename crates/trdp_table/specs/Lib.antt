@@ -3,3 +3,4 @@ pub mod Tables
 pub mod Lending
 pub mod SlotLaws
 pub mod SlotKept
+pub mod TableKept

@@ -28,7 +28,7 @@ pub record IsSlotTable (slot : SlotTable) : Type 0 where
   pub rising : IsRising slot.objects
   pub below : AllBelow slot.next slot.objects
   pub full : (kind : Kind)
-    → count_of kind slot.objects ≤ slice_index slot.quotas (kind_index kind)
+      → count_of kind slot.objects ≤ slice_index slot.quotas (kind_index kind)
 
 -- a table is of at most sixteen slots, and each key belongs to one object
 pub record IsTable (table : TableState) : Type 0 where

@@ -11,11 +11,11 @@ mod fault;
 mod kind;
 mod search;
 mod slot;
-
-
-
+mod table;
+#[cfg(test)]
+mod tests;
 
 pub use fault::TableFault;
 pub use kind::Kind;
-
+pub use table::Table;
 pub use trdp_pd::AnyObject;

@@ -48,8 +48,8 @@ impl Model for Slot {
     ghost view = { λ s. record { quotas = s.quotas; next = s.next; objects = s.entries.items } };
 
     ghost invariant = { λ s. IsKept
-      (record { quotas = s.quotas; next = s.next; objects = s.entries.items })
-      s.counts.numbers (vec_capacity s.entries) };
+        (record { quotas = s.quotas; next = s.next; objects = s.entries.items })
+        s.counts.numbers (vec_capacity s.entries) };
 }
 
 /// How many objects the quotas allow together, at most 1,536.
@@ -66,6 +66,8 @@ fn room_of(quotas: Quotas) -> usize
 }
 
 impl Slot {
+    ghost use Rattle.trdp_table.specs.Lending.{LendsOfSlot};
+
     /// An empty slot.
     ///
     /// # Errors
@@ -113,13 +115,33 @@ impl Slot {
         self.key_at(index)
     }
 
-    /// The object of that handle.
-    pub fn get(&self, handle: u32) -> Option<&AnyObject>
-        ensures { option_copied result
-            ≡ option_map (λ keyed. keyed.object) (by_handle handle self.now.objects) }
+    /// The object of that index.
+    pub fn object_at(&self, index: usize) -> &AnyObject
+        requires { index < length self.now.objects }
+        ensures { Some result.now
+            ≡ option_map (λ keyed. keyed.object) (slice_get self.now.objects index) }
     {
-        let index = self.index_of(handle)?;
-        Some(self.entries[index].object())
+        self.entries[index].object()
+    }
+
+    /// The handle of its object of that index.
+    pub fn handle_at(&self, index: usize) -> u32
+        requires { index < length self.now.objects }
+        ensures { Some result
+            ≡ option_map (λ keyed. keyed.handle) (slice_get self.now.objects index) }
+    {
+        self.entries[index].handle()
+    }
+
+    /// Lends its object of that index alone.
+    pub fn object_mut(&mut self, index: usize) -> &mut AnyObject
+        requires { index < length self.old.objects }
+        ensures* writes_back { sem 𝓛 (LendsOfSlot self.entry index result) }
+        ensures value { Some result.now
+            ≡ option_map (λ keyed. keyed.object) (slice_get self.old.objects index) }
+    {
+        let entry = &mut self.entries[index];
+        entry.object_mut()
     }
 
     /// Why it takes no further object of a kind: its quota is used up, or its handles are.

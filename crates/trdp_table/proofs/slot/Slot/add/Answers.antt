@@ -13,4 +13,4 @@ invariant_of-self c =
     let slot : SlotTable = record { quotas = c.self.inside.quotas; next = c.self.inside.next; objects = c.self.inside.entries.items } in
     let one = rw (c.kind.ensures, c.new-entry.ensures) at c.add.ensures in
     rw (c.push_reserved.ensures.items, c.push_reserved.ensures.capacity, c.new-entry.ensures, c.next_handle.ensures, ← c.self.view_is)
-      (IsKept-add slot _ _ _ c.args.key c.args.object c.self.invariant (rw (← c.self.view_is) at c.requires) one)
+    (IsKept-add slot _ _ _ c.args.key c.args.object c.self.invariant (rw (← c.self.view_is) at c.requires) one)

@@ -17,7 +17,7 @@ invariant_of-self c =
     let slot : SlotTable = record { quotas = c.self.inside.quotas; next = c.self.inside.next; objects = c.self.inside.entries.items } in
     let out = gone c.args.handle c.in_ok-index.index slot.objects c.remove-entry.result c.self.invariant.sound.rising (rw (← c.self.view_is) at c.in_ok-index.ensures.found) c.remove-entry.ensures.value in
     rw (c.remove-entry.ensures.items, c.remove-entry.ensures.capacity, out.rest)
-      (IsKept-remove slot _ _ _ _ _ c.remove-entry.result c.self.invariant out (rw c.kind.ensures at c.remove.ensures))
+    (IsKept-remove slot _ _ _ _ _ c.remove-entry.result c.self.invariant out (rw c.kind.ensures at c.remove.ensures))
 
 pub returns-clause-object : goal.returns-clause-object
 returns-clause-object c =
