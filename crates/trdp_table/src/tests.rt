@@ -9,8 +9,8 @@ use trdp_pd::{Publisher, PublisherTerms};
 /// What is done to a slot.
 #[derive(Clone, Copy)]
 enum Does {
-    /// A publisher is added, and this is the answer.
-    Add(Result<u32, TableFault>),
+    /// A publisher of this comId is added, and this is the answer.
+    Add(u32, Result<u32, TableFault>),
     /// The object of this handle is removed, which there is or isn't.
     Remove(u32, bool),
     /// The next handle becomes at least this.
@@ -19,21 +19,21 @@ enum Does {
 
 /// One publisher in slot 0, two in slots 1 and 2.
 static ROWS: [(u16, Does); 15] = [
-    (0, Does::Add(Ok(1))),
-    (0, Does::Add(Err(TableFault::Quota))),
+    (0, Does::Add(100, Ok(1))),
+    (0, Does::Add(101, Err(TableFault::Quota))),
     (0, Does::Remove(1, true)),
     (0, Does::Remove(1, false)),
-    (0, Does::Add(Ok(2))),
-    (1, Does::Add(Ok(1))),
-    (2, Does::Add(Ok(1))),
-    (1, Does::Add(Ok(2))),
-    (2, Does::Add(Ok(2))),
-    (2, Does::Add(Err(TableFault::Quota))),
+    (0, Does::Add(102, Ok(2))),
+    (1, Does::Add(103, Ok(1))),
+    (2, Does::Add(104, Ok(1))),
+    (1, Does::Add(105, Ok(2))),
+    (2, Does::Add(106, Ok(2))),
+    (2, Does::Add(107, Err(TableFault::Quota))),
     (2, Does::Remove(1, true)),
     (2, Does::Raise(4_294_967_295)),
-    (2, Does::Add(Ok(4_294_967_295))),
+    (2, Does::Add(108, Ok(4_294_967_295))),
     (2, Does::Remove(2, true)),
-    (2, Does::Add(Err(TableFault::Exhausted))),
+    (2, Does::Add(109, Err(TableFault::Exhausted))),
 ];
 
 /// What a publisher of a comId sends, and where to.
@@ -104,12 +104,10 @@ fn handles_and_quotas(rt: HostRuntime) -> Result<(), Fail> {
     let one = Quotas::new([1, 0, 0, 0, 0, 0]).ok_or("no quotas")?;
     let two = Quotas::new([2, 0, 0, 0, 0, 0]).ok_or("no quotas")?;
     let mut table = Table::new(rt.alloc(), &[one, two, two])?;
-    let mut com_id = 100;
     for (slot, does) in &ROWS {
         assert!(rt; usize::from(*slot) < table.slots());
-        com_id += 1;
         match *does {
-            Does::Add(wanted) => {
+            Does::Add(com_id, wanted) => {
                 let object = AnyObject::Publisher(Publisher::new(rt.alloc(), &terms(com_id), 0)?);
                 add(&rt, &mut table, *slot, object, com_id, wanted);
             }
