@@ -1,5 +1,5 @@
 -- A key is that of one object: its slot and its handle tell it from all others.
-use Rattle.std.proofs.Common.{◌≡◌, ◌≢◌, ℕ, zero, suc, ◌+◌, ◌*◌, ◌<◌, ◌≤◌, List, [], ◌∷◌, ◌++◌, length, map, flat_map, get_or, set, Option, Some, None, Bool, true, false, cond, refl, ◌∙◌, sym, ap, subst, arith}
+use Rattle.std.proofs.Common.{◌≡◌, ◌≢◌, ℕ, zero, suc, ◌+◌, ◌*◌, ◌<◌, List, [], ◌∷◌, ◌++◌, map, set, Option, Some, None, Bool, true, false, refl, ◌∙◌, sym, ap, subst, arith}
 use Rattle.std.specs.Prelude.{slice_get, ◌==◌}
 use Rattle.std.specs.Option.{option_or}
 use Rattle.std.specs.List.{IsDistinct, AllByRecursion}
@@ -7,11 +7,11 @@ use Rattle.std.proofs.lemmas.Option.{same_Some, none-some}
 use Rattle.std.proofs.lemmas.Bool.Decides.{nat_tests}
 use Rattle.std.proofs.lemmas.List.Folds.{find-append}
 use Rattle.trdp_pd.specs.declared.any_object.AnyObject.{AnyObject}
-use Rattle.trdp_table.specs.Tables.{Keyed, SlotTable, slot_in, all_objects, by_handle, by_key, keyed_with, slot_with}
+use Rattle.trdp_table.specs.Tables.{Keyed, SlotTable, slot_in, all_objects, by_handle, by_key, keyed_with, slot_with, keyed_with_at, with_other_at}
 use Rattle.trdp_table.specs.SlotLaws.{AllAbove, AllBelow, IsRising}
 use Rattle.trdp_table.specs.TableKept.{AllKeyed}
 use Rattle.trdp_table.specs.Lending.{with_other, objects_with, slot_with_at}
-use Rattle.trdp_table.proofs.Slots.{above_get, handle_found}
+use Rattle.trdp_table.proofs.Slots.{above_get}
 
 -- the slots from number b on are keyed
 abbrev pub AllKeyedFrom : ℕ → List SlotTable → Type 0
@@ -192,3 +192,22 @@ changed_from b (suc s) i w (x ∷ xs) e keyed rising at =
     in_slot c t [] keyed at = absurd (cc)
     in_slot c zero (y ∷ ys) keyed at = let there = key_found c i y.objects e keyed.0 at in (omega (arith, there.0), there.1)
     in_slot c (suc t) (y ∷ ys) keyed at = let there = in_slot (suc c) t ys keyed.1 at in (omega (arith, there.0), there.1)
+
+-- In a slot, the object of a key and that of its handle are one.
+
+same_exchange : (s h key : ℕ) (w : AnyObject) (es : List Keyed) → AllKeyed s es → key ≡ s * 4294967296 + h → map (keyed_with key w) es ≡ map (keyed_with_at h w) es
+same_exchange s h key w [] keyed is = refl
+same_exchange s h key w (e ∷ es) keyed is =
+    let of : e.key ≡ s * 4294967296 + e.handle = keyed.0.0 in
+    let tests : (e.key == key) ≡ (e.handle == h) = grind (arith, nat_tests) in
+    rw (tests, same_exchange s h key w es keyed.1 is) refl
+
+pub exchanged_from : (b t h key : ℕ) (w : AnyObject) (slots : List SlotTable) → AllKeyedFrom b slots → key ≡ (b + t) * 4294967296 + h → h < 4294967296 → map (slot_with key w) slots ≡ set slots t (with_other_at h w (slot_in t slots))
+exchanged_from b t h key w [] keyed is lt = refl
+exchanged_from b zero h key w (x ∷ xs) keyed is lt =
+    let here : key ≡ b * 4294967296 + h = omega (arith, is) in
+    rw (same_exchange b h key w x.objects keyed.0 here, unchanged_all key w xs (none_from (suc b) b h key xs keyed.1 here lt (omega arith))) refl
+exchanged_from b (suc t) h key w (x ∷ xs) keyed is lt =
+    let there : key ≡ (suc b + t) * 4294967296 + h = omega (arith, is) in
+    let none : by_key key x.objects ≡ None = other_slot b (b + suc t) h key x.objects keyed.0 is lt (λ e. absurd (omega (arith, e))) in
+    rw (unchanged_slot key w x.objects none, exchanged_from (suc b) t h key w xs keyed.1 there lt) refl

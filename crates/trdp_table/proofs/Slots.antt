@@ -1,17 +1,17 @@
 -- What is true of each slot stays true as objects come and go.
-use Rattle.std.proofs.Common.{◌≡◌, ◌≢◌, ℕ, zero, suc, ◌+◌, ◌<◌, ◌≤◌, max, List, [], ◌∷◌, ◌++◌, length, get_or, map, Option, Some, None, Bool, true, false, cond, not, refl, ◌∙◌, sym, ap, arith}
-use Rattle.std.specs.Prelude.{slice_index, slice_get, count_by, filter, ◌==◌, nat_le, nat_lt, option_map}
+use Rattle.std.proofs.Common.{◌≡◌, ℕ, zero, suc, ◌+◌, ◌<◌, ◌≤◌, max, List, [], ◌∷◌, ◌++◌, length, get_or, Some, None, Bool, true, false, cond, not, refl, ◌∙◌, sym, ap, arith}
+use Rattle.std.specs.Prelude.{slice_index, slice_get, count_by, filter, ◌==◌}
 use Rattle.std.specs.List.{remove}
 use Rattle.std.proofs.lemmas.Option.{same_Some, none-some, slice_get_read}
 use Rattle.std.proofs.lemmas.Bool.Decides.{nat_tests}
-use Rattle.std.proofs.lemmas.List.Sums.{sum_by-cons, sum_by-append}
+use Rattle.std.proofs.lemmas.List.Sums.{sum_by-cons}
 use Rattle.trdp_pd.specs.declared.any_object.AnyObject.{AnyObject}
 use Rattle.trdp_table.specs.declared.kind.Kind.{Kind}
 use Rattle.trdp_table.specs.declared.kind.Kind.TheVariants.{Publisher, Subscription, Requester, Listener, Caller, Replier}
 use Rattle.trdp_table.specs.Kinds.{kind_index, kind_of, is_same_kind}
 use Rattle.trdp_table.specs.Tables.{Keyed, SlotTable, last_handle, by_handle, count_of, refusal, new_object, with_object, without, with_next}
-use Rattle.trdp_table.specs.SlotLaws.{AllAbove, AllBelow, IsRising, IsSlotTable}
-use Rattle.trdp_table.specs.SlotKept.{all_quotas, IsKept, IsIndexOf}
+use Rattle.trdp_table.specs.SlotLaws.{AllAbove, AllBelow, IsRising, AreLimited, object_limit, IsSlotTable}
+use Rattle.trdp_table.specs.SlotKept.{IsKept, IsIndexOf}
 
 abbrev one_if : Bool → ℕ
 one_if b = cond b 1 0
@@ -89,16 +89,18 @@ below_quota slot kind none = grind (arith, nat_tests)
 pub handles_left : (slot : SlotTable) (kind : Kind) → refusal slot kind ≡ None → slot.next ≤ last_handle
 handles_left slot kind none = grind (arith, nat_tests)
 
-pub IsSlotTable-opened : (quotas : List ℕ) → IsSlotTable (record { quotas = quotas; next = 1; objects = [] })
-IsSlotTable-opened quotas = record {
+pub IsSlotTable-opened : (quotas : List ℕ) → AreLimited quotas → IsSlotTable (record { quotas = quotas; next = 1; objects = [] })
+IsSlotTable-opened quotas limited = record {
   handles = omega arith;
   rising = tt;
   below = tt;
+  limited = limited;
   full = λ kind. omega arith;
 }
 
 pub IsSlotTable-add : (slot : SlotTable) (key : ℕ) (object : AnyObject) → IsSlotTable slot → refusal slot (kind_of object) ≡ None → IsSlotTable (with_object key object slot)
 IsSlotTable-add slot key object is none = record {
+  limited = is.limited;
   handles = let left = handles_left slot (kind_of object) none in omega (arith, left);
   rising = IsRising-push slot.next slot.objects _ is.below is.rising refl;
   below = AllBelow-push slot.next slot.objects _ is.below refl;
@@ -120,6 +122,7 @@ IsSlotTable-add slot key object is none = record {
 
 pub IsSlotTable-without : (handle : ℕ) (slot : SlotTable) → IsSlotTable slot → IsSlotTable (without handle slot)
 IsSlotTable-without handle slot is = record {
+  limited = is.limited;
   handles = is.handles;
   rising = IsRising-filter (λ keyed. not (keyed.handle == handle)) slot.objects is.rising;
   below = AllBelow-filter (λ keyed. not (keyed.handle == handle)) slot.next slot.objects is.below;
@@ -128,6 +131,7 @@ IsSlotTable-without handle slot is = record {
 
 pub IsSlotTable-next : (next : ℕ) (slot : SlotTable) → next ≤ last_handle → IsSlotTable slot → IsSlotTable (with_next next slot)
 IsSlotTable-next next slot le is = record {
+  limited = is.limited;
   handles = omega (arith, is.handles);
   rising = is.rising;
   below = AllBelow-more slot.next (max slot.next next) slot.objects (omega arith) is.below;
@@ -150,6 +154,14 @@ length-kinds (e ∷ es) =
     by_kinds Listener = refl
     by_kinds Caller = refl
     by_kinds Replier = refl
+
+-- a slot has at most as many objects as all quotas can allow
+pub few_objects : (slot : SlotTable) → IsSlotTable slot → length slot.objects ≤ object_limit
+few_objects slot is =
+    let all = length-kinds slot.objects in
+    let f = is.full in
+    let l = is.limited in
+    omega (arith, all, f Publisher, f Subscription, f Requester, f Listener, f Caller, f Replier, l Publisher, l Subscription, l Requester, l Listener, l Caller, l Replier)
 
 -- a slot that takes an object has room for it
 pub has_room : (slot : SlotTable) (numbers : List ℕ) (capacity : ℕ) (object : AnyObject) → IsKept slot numbers capacity → refusal slot (kind_of object) ≡ None → length slot.objects < capacity
@@ -176,7 +188,6 @@ HasOneMore kind numbers more = (other : Kind) → slice_index more (kind_index o
 pub IsKept-add : (slot : SlotTable) (numbers more : List ℕ) (capacity key : ℕ) (object : AnyObject) → IsKept slot numbers capacity → refusal slot (kind_of object) ≡ None → HasOneMore (kind_of object) numbers more → IsKept (with_object key object slot) more capacity
 IsKept-add slot numbers more capacity key object is none one = record {
   sound = IsSlotTable-add slot key object is.sound none;
-  limited = is.limited;
   counted = λ kind.
       let added = count_of-push kind slot.objects (new_object slot.next key object) in
       omega (arith, added, one kind, is.counted kind);
@@ -186,7 +197,6 @@ IsKept-add slot numbers more capacity key object is none one = record {
 pub IsKept-next : (slot : SlotTable) (numbers : List ℕ) (capacity next : ℕ) → next ≤ last_handle → IsKept slot numbers capacity → IsKept (with_next next slot) numbers capacity
 IsKept-next slot numbers capacity next le is = record {
   sound = IsSlotTable-next next slot le is.sound;
-  limited = is.limited;
   counted = is.counted;
   room = is.room;
 }
@@ -233,7 +243,6 @@ removed h (suc i) (x ∷ es) e rising at is =
 pub IsKept-remove : (slot : SlotTable) (numbers fewer : List ℕ) (capacity h i : ℕ) (e : Keyed) → IsKept slot numbers capacity → Removed h i slot.objects e → HasOneMore e.kind fewer numbers → IsKept (without h slot) fewer capacity
 IsKept-remove slot numbers fewer capacity h i e is gone one = record {
   sound = IsSlotTable-without h slot is.sound;
-  limited = is.limited;
   counted = λ kind.
       let counts = rw gone.rest at gone.counts kind in
       omega (arith, counts, one kind, is.counted kind);

@@ -1,22 +1,23 @@
 -- What is true of each table stays true.
-use Rattle.std.proofs.Common.{◌≡◌, ◌≢◌, ◌⊎◌, inl, inr, ℕ, zero, suc, ◌+◌, ◌*◌, ◌/◌, ◌%◌, ◌<◌, ◌≤◌, Bool, true, false, cond, not, IsSome, List, [], ◌∷◌, ◌++◌, length, map, get_or, set, Option, Some, None, refl, ◌∙◌, sym, ap, subst, arith}
+use Rattle.std.proofs.Common.{◌≡◌, inl, inr, ℕ, zero, suc, ◌+◌, ◌*◌, ◌<◌, ◌≤◌, Bool, true, false, cond, not, IsSome, All, take, List, [], ◌∷◌, ◌++◌, length, map, get_or, set, Option, Some, None, refl, ◌∙◌, sym, ap, subst, arith}
 use Rattle.std.specs.Prelude.{slice_get, option_map, filter, ◌==◌}
-use Rattle.std.proofs.lemmas.List.{get_or_default, get_or_past, get_or-set_same, get_or-set_other, length-set, length-map}
+use Rattle.std.proofs.lemmas.List.{take_more, map-append, get_or_default, get_or_past, get_or-set_same, get_or-set_other, length-set, length-map}
+use Rattle.std.proofs.lemmas.List.Elements.{All-get_or}
 use Rattle.std.proofs.lemmas.Bool.{cases_eq, cases_lt}
 use Rattle.std.proofs.lemmas.Bool.Decides.{nat_tests}
-use Rattle.std.proofs.lemmas.Option.{slice_get_read, same_Some}
+use Rattle.std.proofs.lemmas.Option.{same_Some}
 use Rattle.std.proofs.Math.ListN.{get_or-map}
 use Rattle.trdp_pd.specs.declared.any_object.AnyObject.{AnyObject}
 use Rattle.trdp_table.specs.declared.kind.Kind.{Kind}
 use Rattle.trdp_table.specs.Kinds.{kind_of}
-use Rattle.trdp_table.specs.Tables.{Keyed, SlotTable, TableState, last_handle, slot_limit, opened_slot, slot_in, all_objects, by_handle, by_key, count_of, refusal, with_object, without, with_next, changed_at, new_object, exchanged, Adds}
-use Rattle.trdp_table.specs.SlotLaws.{AllAbove, AllBelow, IsRising, IsSlotTable, IsTable}
+use Rattle.trdp_table.specs.Tables.{Keyed, SlotTable, TableState, last_handle, slot_limit, opened_slot, slot_in, all_objects, by_handle, by_key, count_of, refusal, with_object, without, with_next, changed_at, new_object, exchanged, with_other_at, Adds}
+use Rattle.trdp_table.specs.SlotLaws.{AllAbove, AllBelow, IsRising, AreLimited, IsSlotTable, IsTable}
 use Rattle.trdp_table.specs.TableKept.{AllKeyed, IsKeptTable, IsAt}
 use Rattle.trdp_table.specs.SlotKept.{IsIndexOf, IsKept}
 use Rattle.trdp_table.specs.Lending.{with_other, objects_with, slot_with_at}
-use Rattle.trdp_table.proofs.Slots.{count_of-cons, IsSlotTable-opened, IsSlotTable-add, IsSlotTable-without, IsSlotTable-next, handles_left, handle_found}
+use Rattle.trdp_table.proofs.Slots.{count_of-cons, IsSlotTable-opened, IsSlotTable-add, IsSlotTable-without, IsSlotTable-next, handles_left, handle_found, few_objects}
 use Rattle.trdp_table.proofs.Searching.{by_handle_get}
-use Rattle.trdp_table.proofs.Keys.{AllKeyedFrom, keyed_from, distinct_from, key_by_handle, by_key_from, by_handle_below, changed_from}
+use Rattle.trdp_table.proofs.Keys.{AllKeyedFrom, keyed_from, distinct_from, key_by_handle, by_key_from, by_handle_below, changed_from, exchanged_from}
 
 -- the slot of a number, as it is read
 pub slot_read : (table : TableState) (s : ℕ) (x : SlotTable) → s < length table → x ≡ get_or table s x → slot_in s table ≡ x
@@ -29,6 +30,7 @@ pub IsTable-kept : (table : TableState) → IsKeptTable table → IsTable table
 IsTable-kept table is = record {
   few = is.few;
   slots = is.slots;
+  objects = λ s. few_objects (slot_in s table) (is.slots s);
   keys = distinct_from 0 table (keyed_table table is) (λ s. (is.slots s).rising);
 }
 
@@ -142,6 +144,7 @@ count_of-with kind (e ∷ es) (suc i) w =
 
 IsSlotTable-with : (slot : SlotTable) (i : ℕ) (w : AnyObject) → IsSlotTable slot → IsSlotTable (slot_with_at slot i w)
 IsSlotTable-with slot i w is = record {
+  limited = is.limited;
   handles = is.handles;
   rising = IsRising-with slot.objects i w is.rising;
   below = AllBelow-with slot.next slot.objects i w is.below;
@@ -151,7 +154,6 @@ IsSlotTable-with slot i w is = record {
 pub IsKept-with : (slot : SlotTable) (numbers : List ℕ) (capacity i : ℕ) (w : AnyObject) → IsKept slot numbers capacity → IsKept (slot_with_at slot i w) numbers capacity
 IsKept-with slot numbers capacity i w is = record {
   sound = IsSlotTable-with slot i w is.sound;
-  limited = is.limited;
   counted = λ kind. rw (count_of-with kind slot.objects i w) (is.counted kind);
   room = is.room;
 }
@@ -192,12 +194,21 @@ exchanged_at table key s i w is at = found_at (slice_get (slot_in s table).objec
         let same : e.key ≡ key = key_found_is key (all_objects table) e (sym at.found ∙ is_o) in
         changed_from 0 s i w table e (keyed_table table is) (is.slots s).rising is_o ∙ ap (λ (k : ℕ). exchanged k table w) same
 
-pub opened_kept : (quotas : List (List ℕ)) → length quotas ≤ slot_limit → IsKeptTable (map opened_slot quotas)
-opened_kept quotas le = record {
+pub opened_kept : (quotas : List (List ℕ)) → length quotas ≤ slot_limit → All AreLimited quotas → IsKeptTable (map opened_slot quotas)
+opened_kept quotas le limited = record {
   few = let l = length-map quotas opened_slot in omega (arith, l, le);
-  slots = λ s. subst (λ (slot : SlotTable). IsSlotTable slot) (sym (get_or-map opened_slot quotas s [])) (IsSlotTable-opened (get_or quotas s []));
+  slots = λ s. subst (λ (slot : SlotTable). IsSlotTable slot) (sym (get_or-map opened_slot quotas s [])) (IsSlotTable-opened (get_or quotas s []) (limits s));
   keyed = λ s. subst (λ (slot : SlotTable). AllKeyed s slot.objects) (sym (get_or-map opened_slot quotas s [])) tt;
 }
+  where
+    none_limited : AreLimited []
+    none_limited kind = omega arith
+
+    limits : (s : ℕ) → AreLimited (get_or quotas s [])
+    limits s = elim (cases_lt s (length quotas)) [
+      | inl lt ↦ All-get_or AreLimited quotas s [] lt limited
+      | inr past ↦ subst (λ (q : List ℕ). AreLimited q) (sym (get_or_past quotas s [] past)) none_limited
+    ]
 
 -- the object of a key has the slot and the handle of where it stands
 pub owned : (table : TableState) (key s i handle : ℕ) → IsKeptTable table → IsAt key s i table → Some handle ≡ option_map (λ keyed. keyed.handle) (slice_get (slot_in s table).objects i) → by_handle handle (slot_in s table).objects ≡ by_key key (all_objects table)
@@ -209,3 +220,20 @@ owned table key s i handle is at of = either (slice_get (slot_in s table).object
         let same : handle ≡ e.handle = same_Some handle e.handle of in
         ap (λ (h : ℕ). by_handle h (slot_in s table).objects) same
         ∙ (by_handle_get (slot_in s table).objects i e (is.slots s).rising is_o ∙ (sym is_o ∙ at.found))
+
+-- the object of an index is that of its handle
+pub listed : (table : TableState) → IsKeptTable table → (s index : ℕ) (keyed : Keyed) → slice_get (slot_in s table).objects index ≡ Some keyed → by_handle keyed.handle (slot_in s table).objects ≡ Some keyed
+listed table is s index keyed at = by_handle_get (slot_in s table).objects index keyed (is.slots s).rising at
+
+-- the object of a handle becomes another one, and no other
+pub exchanged_alone : (table : TableState) → IsKeptTable table → (s handle : ℕ) (keyed : Keyed) (object : AnyObject) → by_handle handle (slot_in s table).objects ≡ Some keyed → exchanged keyed.key table object ≡ changed_at s (with_other_at handle object) table
+exchanged_alone table is s handle keyed object found =
+    let key = key_by_handle s handle (slot_in s table).objects keyed (is.keyed s) found in
+    let same : keyed.handle ≡ handle = handle_found handle (slot_in s table).objects keyed found in
+    let of : keyed.key ≡ s * 4294967296 + handle = omega (arith, key.0, same) in
+    exchanged_from 0 s handle keyed.key object table (keyed_table table is) (omega (arith, of)) (omega (arith, key.1, same))
+
+-- one slot more is opened
+pub opened_more : (quotas : List (List ℕ)) (i : ℕ) (q : List ℕ) → i < length quotas → q ≡ get_or quotas i q → map opened_slot (take i quotas) ++ opened_slot q ∷ [] ≡ map opened_slot (take (i + 1) quotas)
+opened_more quotas i q lt is =
+    sym (ap (λ (qs : List (List ℕ)). map opened_slot qs) (take_more quotas i q lt ∙ ap (λ (x : List ℕ). take i quotas ++ x ∷ []) (sym is)) ∙ map-append opened_slot (take i quotas) (q ∷ []))

@@ -15,7 +15,6 @@ all_quotas quotas =
 -- the numbers by kind are those of the slot's objects, and the list has room for all
 pub record IsKept (slot : SlotTable) (numbers : List ℕ) (capacity : ℕ) : Type 0 where
   pub sound : IsSlotTable slot
-  pub limited : (kind : Kind) → slice_index slot.quotas (kind_index kind) ≤ 256
   pub counted : (kind : Kind) → slice_index numbers (kind_index kind) ≡ count_of kind slot.objects
   pub room : all_quotas slot.quotas ≤ capacity
 

@@ -108,3 +108,13 @@ slot_with key object slot = record slot { objects = map (keyed_with key object) 
 -- the table once the object of a key became another one, under the same handle, key and kind
 abbrev pub exchanged : ℕ → TableState → AnyObject → TableState
 exchanged key table object = map (slot_with key object) table
+
+-- an object under its handle, key and kind, become another one if it is that of the handle
+abbrev pub keyed_with_at : ℕ → AnyObject → Keyed → Keyed
+keyed_with_at handle object keyed =
+    if keyed.handle == handle then record keyed { object = object } else keyed
+
+-- a slot whose object of a handle, if it has one, became another one
+abbrev pub with_other_at : ℕ → AnyObject → SlotTable → SlotTable
+with_other_at handle object slot =
+    record slot { objects = map (keyed_with_at handle object) slot.objects }

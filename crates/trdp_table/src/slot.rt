@@ -9,6 +9,7 @@ ghost use Rattle.trdp_table.specs.declared.kind.Kind.{Kind};
 ghost use Rattle.trdp_table.specs.Kinds.{kind_index, kind_of};
 ghost use Rattle.trdp_table.specs.Tables.{opened_slot, refusal, last_handle, by_handle};
 ghost use Rattle.trdp_table.specs.Tables.{with_object, without, with_next};
+ghost use Rattle.trdp_table.specs.SlotLaws.{AreLimited, object_limit};
 ghost use Rattle.trdp_table.specs.SlotKept.{all_quotas, IsIndexOf};
 
 use crate::counts::KindCounts;
@@ -55,7 +56,7 @@ impl Model for Slot {
 /// How many objects the quotas allow together, at most 1,536.
 fn room_of(quotas: Quotas) -> usize
     ensures room { result ≡ all_quotas quotas }
-    ensures limited { (kind : Kind) → slice_index quotas (kind_index kind) ≤ 256 }
+    ensures limited { AreLimited quotas }
 {
     usize::from(quotas.get(Kind::Publisher.index()))
         + usize::from(quotas.get(Kind::Subscription.index()))
@@ -73,7 +74,8 @@ impl Slot {
     /// # Errors
     /// [`AllocError`] where there is no memory for all objects that the quotas allow.
     pub fn new(alloc: Global, quotas: Quotas) -> Result<Slot, AllocError>
-        ensures { IfOk result (λ slot. slot ≡ opened_slot quotas) }
+        ensures slot { IfOk result (λ slot. slot ≡ opened_slot quotas) }
+        ensures limited { AreLimited quotas }
     {
         let entries = Vec::with_capacity(alloc, room_of(quotas))?;
         Ok(Slot {
@@ -84,9 +86,10 @@ impl Slot {
         })
     }
 
-    /// How many objects it has.
+    /// How many objects it has, at most 1,536.
     pub fn count(&self) -> usize
-        ensures { result ≡ length self.now.objects }
+        ensures count { result ≡ length self.now.objects }
+        ensures within { result ≤ object_limit }
     {
         self.entries.len()
     }

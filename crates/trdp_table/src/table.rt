@@ -3,13 +3,16 @@
 ghost use Rattle.std.specs.Prelude.{◌≡◌, ℕ, ◌+◌, ◌*◌, ◌<◌, ◌≤◌, length, map, Some, None, IfOk, IfErr};
 ghost use Rattle.std.specs.Prelude.{OnOk, OnErr, IfSome, is_some, slice_get, option_map};
 ghost use Rattle.std.specs.Prelude.{option_copied};
+ghost use Rattle.std.specs.Prelude.{All};
 ghost use Rattle.std.specs.Option.{option_copied_mut};
 ghost use Rattle.std.specs.Borrow.{sem};
+ghost use Rattle.trdp_pd.specs.declared.any_object.AnyObject.{AnyObject};
 ghost use Rattle.trdp_table.specs.Kinds.{kind_of};
 ghost use Rattle.trdp_table.specs.Tables.{Keyed, slot_limit, last_handle, opened_slot, slot_in};
 ghost use Rattle.trdp_table.specs.Tables.{all_objects, by_handle, by_key, refusal, Adds};
 ghost use Rattle.trdp_table.specs.Tables.{changed_at, without, with_next};
-ghost use Rattle.trdp_table.specs.SlotLaws.{IsTable};
+ghost use Rattle.trdp_table.specs.Tables.{exchanged, with_other_at};
+ghost use Rattle.trdp_table.specs.SlotLaws.{AreLimited, object_limit, IsTable};
 ghost use Rattle.trdp_table.specs.TableKept.{IsAt};
 
 use crate::fault::TableFault;
@@ -60,7 +63,8 @@ fn key_of(slot: u16, handle: u32) -> usize
 
 /// An empty slot for each of the quotas.
 fn opened(alloc: Global, quotas: &[Quotas]) -> Result<Vec<Slot>, AllocError>
-    ensures { IfOk result (λ slots. slots.items ≡ map opened_slot quotas.now) }
+    ensures slots { IfOk result (λ slots. slots.items ≡ map opened_slot quotas.now) }
+    ensures limited { OnOk result (All AreLimited quotas.now) }
 {
     let mut slots = Vec::with_capacity(alloc, quotas.len())?;
     for slot_quotas in quotas {
@@ -91,10 +95,11 @@ impl Table {
         self.slots.len()
     }
 
-    /// How many objects a slot has.
+    /// How many objects a slot has, at most 1,536.
     pub fn count(&self, slot: u16) -> usize
         requires { slot < length self.now }
-        ensures { result ≡ length (slot_in slot self.now).objects }
+        ensures count { result ≡ length (slot_in slot self.now).objects }
+        ensures within { result ≤ object_limit }
     {
         self.slots[usize::from(slot)].count()
     }
@@ -247,13 +252,20 @@ impl Table {
 
 impl Table {
     /// What holds of every table: a law for callers, which does nothing when it runs. Handles rise,
-    /// quotas are kept, each key belongs to one object, and what is found under a handle is what
-    /// its key gives.
+    /// quotas are kept, and no key is that of two objects. The object of a handle, or of an index,
+    /// is the one that its key gives; where it becomes another one, all other objects stay.
     pub fn sound(&self)
         ensures sound { IsTable self.now }
         ensures found { (s handle : ℕ) (keyed : Keyed)
             → by_handle handle (slot_in s self.now).objects ≡ Some keyed
             → by_key keyed.key (all_objects self.now) ≡ Some keyed }
+        ensures listed { (s index : ℕ) (keyed : Keyed)
+            → slice_get (slot_in s self.now).objects index ≡ Some keyed
+            → by_handle keyed.handle (slot_in s self.now).objects ≡ Some keyed }
+        ensures exchanged { (s handle : ℕ) (keyed : Keyed) (object : AnyObject)
+            → by_handle handle (slot_in s self.now).objects ≡ Some keyed
+            → exchanged keyed.key self.now object
+            ≡ changed_at s (with_other_at handle object) self.now }
     {
         let _ = &self.slots;
     }

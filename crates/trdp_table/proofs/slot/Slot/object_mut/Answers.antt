@@ -1,4 +1,4 @@
-use Rattle.std.proofs.Common.{refl, ◌≡◌, ◌<◌, length, rules}
+use Rattle.std.proofs.Common.{refl, ◌<◌, length, rules}
 use Rattle.std.proofs.lemmas.Option.{slice_get_read}
 use Rattle.trdp_table.specs.Tables.{SlotTable}
 use Rattle.trdp_table.proofs.Tables.{set_object, IsKept-with}

@@ -1,4 +1,4 @@
-use Rattle.std.proofs.Common.{◌≡◌, List, refl, ap}
+use Rattle.std.proofs.Common.{List, refl, ap}
 use Rattle.trdp_table.specs.Tables.{Keyed, SlotTable}
 use Rattle.trdp_table.proofs.Slots.{same_without, gone, some_of_kind, IsKept-remove}
 use Rattle.trdp_table.proofs.slot.Slot.remove.Goals as goal

@@ -1,4 +1,4 @@
-use Rattle.std.proofs.Common.{◌≡◌, ◌<◌, ◌+◌, ◌*◌, length, refl, arith}
+use Rattle.std.proofs.Common.{◌≡◌, ◌<◌, ◌+◌, ◌*◌, length, refl}
 use Rattle.trdp_table.specs.Tables.{slot_in}
 use Rattle.trdp_table.proofs.Tables.{slot_read, IsKeptTable-add, adds}
 use Rattle.trdp_table.proofs.table.Table.install.Goals as goal

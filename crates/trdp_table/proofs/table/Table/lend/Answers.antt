@@ -1,4 +1,4 @@
-use Rattle.std.proofs.Common.{refl, ◌≡◌, ap, sym, ◌∙◌}
+use Rattle.std.proofs.Common.{refl}
 use Rattle.trdp_table.proofs.Tables.{slot_read, exchanged_at, IsKeptTable-with}
 use Rattle.trdp_table.proofs.table.Table.lend.Goals as goal
 

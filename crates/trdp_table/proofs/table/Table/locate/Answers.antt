@@ -1,4 +1,4 @@
-use Rattle.std.proofs.Common.{◌≡◌, ◌+◌, ◌*◌, ◌/◌, ◌%◌, ◌<◌, ◌≤◌, length, arith, rules, ◌∙◌}
+use Rattle.std.proofs.Common.{◌≡◌, ◌+◌, ◌*◌, ◌/◌, ◌%◌, ◌<◌, ◌≤◌, length, arith, ◌∙◌}
 use Rattle.trdp_table.proofs.Tables.{slot_read, by_key_of, is_at, nowhere}
 use Rattle.trdp_table.proofs.table.Table.locate.Goals as goal
 

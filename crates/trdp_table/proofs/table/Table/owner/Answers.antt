@@ -1,4 +1,3 @@
-use Rattle.std.proofs.Common.{◌≡◌, refl, ap, sym, ◌∙◌}
 use Rattle.trdp_table.proofs.Tables.{slot_read, owned}
 use Rattle.trdp_table.proofs.table.Table.owner.Goals as goal
 

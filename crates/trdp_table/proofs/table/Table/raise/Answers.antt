@@ -1,4 +1,4 @@
-use Rattle.std.proofs.Common.{◌<◌, ◌≤◌, length, arith, rules}
+use Rattle.std.proofs.Common.{◌<◌, ◌≤◌, length, arith}
 use Rattle.trdp_table.specs.Tables.{last_handle}
 use Rattle.trdp_table.proofs.Tables.{slot_read, IsKeptTable-next}
 use Rattle.trdp_table.proofs.table.Table.raise.Goals as goal
