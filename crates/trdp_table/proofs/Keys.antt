@@ -8,7 +8,7 @@ use Rattle.std.proofs.lemmas.Bool.Decides.{nat_tests}
 use Rattle.std.proofs.lemmas.List.Folds.{find-append}
 use Rattle.trdp_pd.specs.declared.any_object.AnyObject.{AnyObject}
 use Rattle.trdp_table.specs.Tables.{Keyed, SlotTable, slot_in, all_objects, by_handle, by_key, keyed_with, slot_with, keyed_with_at, with_other_at}
-use Rattle.trdp_table.specs.SlotLaws.{AllAbove, AllBelow, IsRising}
+use Rattle.trdp_table.specs.TableLaws.{AllAbove, AllBelow, IsRising}
 use Rattle.trdp_table.specs.TableKept.{AllKeyed}
 use Rattle.trdp_table.specs.Lending.{with_other, objects_with, slot_with_at}
 use Rattle.trdp_table.proofs.Slots.{above_get}

@@ -9,7 +9,7 @@ use Rattle.std.proofs.lemmas.Option.{slice_get_within, get_or_from_slice_get}
 use Rattle.std.proofs.lemmas.Bool.{cases_lt}
 use Rattle.std.proofs.lemmas.Bool.Decides.{nat_tests}
 use Rattle.trdp_table.specs.Tables.{Keyed, by_handle}
-use Rattle.trdp_table.specs.SlotLaws.{AllAbove, IsRising}
+use Rattle.trdp_table.specs.TableLaws.{AllAbove, IsRising}
 use Rattle.trdp_table.specs.SlotKept.{IsIndexOf}
 
 above_at : (h : ℕ) (xs : List Keyed) (i : ℕ) (d : Keyed) → AllAbove h xs → i < length xs → h < (get_or xs i d).handle

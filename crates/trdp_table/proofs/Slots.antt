@@ -10,7 +10,7 @@ use Rattle.trdp_table.specs.declared.kind.Kind.{Kind}
 use Rattle.trdp_table.specs.declared.kind.Kind.TheVariants.{Publisher, Subscription, Requester, Listener, Caller, Replier}
 use Rattle.trdp_table.specs.Kinds.{kind_index, kind_of, is_same_kind}
 use Rattle.trdp_table.specs.Tables.{Keyed, SlotTable, last_handle, by_handle, count_of, refusal, new_object, with_object, without, with_next}
-use Rattle.trdp_table.specs.SlotLaws.{AllAbove, AllBelow, IsRising, AreLimited, object_limit, IsSlotTable}
+use Rattle.trdp_table.specs.TableLaws.{AllAbove, AllBelow, IsRising, AreLimited, object_limit, IsSlotTable}
 use Rattle.trdp_table.specs.SlotKept.{IsKept, IsIndexOf}
 
 abbrev one_if : Bool → ℕ

@@ -11,7 +11,7 @@ use Rattle.trdp_pd.specs.declared.any_object.AnyObject.{AnyObject}
 use Rattle.trdp_table.specs.declared.kind.Kind.{Kind}
 use Rattle.trdp_table.specs.Kinds.{kind_of}
 use Rattle.trdp_table.specs.Tables.{Keyed, SlotTable, TableState, last_handle, slot_limit, opened_slot, slot_in, all_objects, by_handle, by_key, count_of, refusal, with_object, without, with_next, changed_at, new_object, exchanged, with_other_at, Adds}
-use Rattle.trdp_table.specs.SlotLaws.{AllAbove, AllBelow, IsRising, AreLimited, IsSlotTable, IsTable}
+use Rattle.trdp_table.specs.TableLaws.{AllAbove, AllBelow, IsRising, AreLimited, IsSlotTable, IsTable}
 use Rattle.trdp_table.specs.TableKept.{AllKeyed, IsKeptTable, IsAt}
 use Rattle.trdp_table.specs.SlotKept.{IsIndexOf, IsKept}
 use Rattle.trdp_table.specs.Lending.{with_other, objects_with, slot_with_at}

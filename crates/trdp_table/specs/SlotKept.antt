@@ -4,7 +4,7 @@ use Rattle.std.specs.Prelude.{◌≡◌, ℕ, ◌+◌, ◌<◌, ◌≤◌, List,
 use Rattle.trdp_table.specs.declared.kind.Kind.{Kind}
 use Rattle.trdp_table.specs.Kinds.{kind_index}
 use Rattle.trdp_table.specs.Tables.{Keyed, SlotTable, count_of, by_handle}
-use Rattle.trdp_table.specs.SlotLaws.{IsSlotTable}
+use Rattle.trdp_table.specs.TableLaws.{IsSlotTable}
 
 -- all objects that the quotas allow together
 abbrev pub all_quotas : List ℕ → ℕ

@@ -2,7 +2,7 @@
 use Rattle.std.specs.Prelude.{◌≡◌, ℕ, ◌+◌, ◌*◌, ◌<◌, ◌≤◌, List, [], ◌∷◌, length, slice_get}
 use Rattle.trdp_table.specs.Tables.{Keyed, TableState, slot_limit}
 use Rattle.trdp_table.specs.Tables.{slot_in, by_key, all_objects}
-use Rattle.trdp_table.specs.SlotLaws.{IsSlotTable}
+use Rattle.trdp_table.specs.TableLaws.{IsSlotTable}
 
 -- each key is the slot and the handle, as one number: unique over all slots and for ever
 abbrev pub AllKeyed : ℕ → List Keyed → Type 0

@@ -2,7 +2,7 @@
 
 ghost use Rattle.std.specs.Prelude.{◌≡◌, IfSome, None};
 ghost use Rattle.trdp_table.specs.Tables.{by_handle};
-ghost use Rattle.trdp_table.specs.SlotLaws.{IsRising};
+ghost use Rattle.trdp_table.specs.TableLaws.{IsRising};
 ghost use Rattle.trdp_table.specs.SlotKept.{IsIndexOf};
 
 use crate::entry::Entry;

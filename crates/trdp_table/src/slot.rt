@@ -1,15 +1,12 @@
 //! The objects of one slot.
 
 ghost use Rattle.std.specs.Prelude.{◌≡◌, ◌+◌, ◌<◌, ◌≤◌, length, Some, None, IfOk, IfSome};
-ghost use Rattle.std.specs.Prelude.{slice_get, slice_index, option_map, option_copied};
-ghost use Rattle.std.specs.Prelude.{vec_len, vec_capacity};
+ghost use Rattle.std.specs.Prelude.{slice_get, option_map};
 ghost use Rattle.std.specs.Borrow.{sem};
-ghost use Rattle.trdp_base.specs.QuotaLimits.{quota_limit};
-ghost use Rattle.trdp_table.specs.declared.kind.Kind.{Kind};
-ghost use Rattle.trdp_table.specs.Kinds.{kind_index, kind_of};
+ghost use Rattle.trdp_table.specs.Kinds.{kind_of};
 ghost use Rattle.trdp_table.specs.Tables.{opened_slot, refusal, last_handle, by_handle};
 ghost use Rattle.trdp_table.specs.Tables.{with_object, without, with_next};
-ghost use Rattle.trdp_table.specs.SlotLaws.{AreLimited, object_limit};
+ghost use Rattle.trdp_table.specs.TableLaws.{AreLimited, object_limit};
 ghost use Rattle.trdp_table.specs.SlotKept.{all_quotas, IsIndexOf};
 
 use crate::counts::KindCounts;
@@ -94,14 +91,14 @@ impl Slot {
         self.entries.len()
     }
 
-    /// The key of its object of that index, by rising handle from 0.
+    /// The key of its object of that index, by rising handle from 0; None past the last one.
     pub fn key_at(&self, index: usize) -> Option<usize>
         ensures { result ≡ option_map (λ keyed. keyed.key) (slice_get self.now.objects index) }
     {
         self.entries.get(index).map(|entry| entry.key())
     }
 
-    /// The index of its object of that handle.
+    /// The index of its object of that handle; None where there is none.
     pub fn index_of(&self, handle: u32) -> Option<usize>
         ensures found { IfSome result (IsIndexOf handle self.now.objects) }
         ensures absent { result ≡ None → by_handle handle self.now.objects ≡ None }
@@ -109,7 +106,7 @@ impl Slot {
         index_of(&self.entries, handle)
     }
 
-    /// The key of its object of that handle.
+    /// The key of its object of that handle; None where there is none.
     pub fn find(&self, handle: u32) -> Option<usize>
         ensures { result
             ≡ option_map (λ keyed. keyed.key) (by_handle handle self.now.objects) }
@@ -179,7 +176,7 @@ impl Slot {
         self.entries.push_reserved(entry);
     }
 
-    /// Takes out the object of that handle.
+    /// Takes out the object of that handle; None where there is none.
     pub fn remove(&mut self, handle: u32) -> Option<AnyObject>
         ensures object { result
             ≡ option_map (λ keyed. keyed.object) (by_handle handle self.old.objects) }

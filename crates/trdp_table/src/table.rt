@@ -1,18 +1,17 @@
 //! The table of objects of all slots.
 
-ghost use Rattle.std.specs.Prelude.{◌≡◌, ℕ, ◌+◌, ◌*◌, ◌<◌, ◌≤◌, length, map, Some, None, IfOk, IfErr};
-ghost use Rattle.std.specs.Prelude.{OnOk, OnErr, IfSome, is_some, slice_get, option_map};
-ghost use Rattle.std.specs.Prelude.{option_copied};
-ghost use Rattle.std.specs.Prelude.{All};
+ghost use Rattle.std.specs.Prelude.{◌≡◌, ℕ, ◌+◌, ◌*◌, ◌<◌, ◌≤◌, length, map, All, Some, None};
+ghost use Rattle.std.specs.Prelude.{IfOk, IfErr, OnOk, OnErr, IfSome, is_some, slice_get};
+ghost use Rattle.std.specs.Prelude.{option_map, option_copied};
 ghost use Rattle.std.specs.Option.{option_copied_mut};
 ghost use Rattle.std.specs.Borrow.{sem};
 ghost use Rattle.trdp_pd.specs.declared.any_object.AnyObject.{AnyObject};
 ghost use Rattle.trdp_table.specs.Kinds.{kind_of};
-ghost use Rattle.trdp_table.specs.Tables.{Keyed, slot_limit, last_handle, opened_slot, slot_in};
+ghost use Rattle.trdp_table.specs.Tables.{Keyed, slot_limit, opened_slot, slot_in};
 ghost use Rattle.trdp_table.specs.Tables.{all_objects, by_handle, by_key, refusal, Adds};
-ghost use Rattle.trdp_table.specs.Tables.{changed_at, without, with_next};
-ghost use Rattle.trdp_table.specs.Tables.{exchanged, with_other_at};
-ghost use Rattle.trdp_table.specs.SlotLaws.{AreLimited, object_limit, IsTable};
+ghost use Rattle.trdp_table.specs.Tables.{changed_at, without, with_next, exchanged};
+ghost use Rattle.trdp_table.specs.Tables.{with_other_at};
+ghost use Rattle.trdp_table.specs.TableLaws.{AreLimited, object_limit, IsTable};
 ghost use Rattle.trdp_table.specs.TableKept.{IsAt};
 
 use crate::fault::TableFault;
@@ -113,7 +112,7 @@ impl Table {
         self.slots[usize::from(slot)].key_at(index)
     }
 
-    /// The key of a slot's object of that handle.
+    /// The key of a slot's object of that handle; None where the slot has none.
     pub fn find(&self, slot: u16, handle: u32) -> Option<usize>
         requires { slot < length self.now }
         ensures { result
@@ -123,7 +122,7 @@ impl Table {
         self.slots[usize::from(slot)].find(handle)
     }
 
-    /// Where the object of that key stands.
+    /// Where the object of that key stands; None where no slot has one.
     fn locate(&self, key: usize) -> Option<Location>
         ensures found { IfSome result (λ at. IsAt key at.slot at.index self.now) }
         ensures absent { result ≡ None → by_key key (all_objects self.now) ≡ None }
@@ -137,7 +136,7 @@ impl Table {
         Some(Location { slot, index })
     }
 
-    /// The object of that key.
+    /// The object of that key; None where no slot has one.
     pub fn get(&self, key: usize) -> Option<&AnyObject>
         ensures { option_copied result
             ≡ option_map (λ keyed. keyed.object) (by_key key (all_objects self.now)) }
@@ -146,7 +145,7 @@ impl Table {
         Some(self.slots[location.slot].object_at(location.index))
     }
 
-    /// The slot and the handle of the object of that key.
+    /// The slot and the handle of the object of that key; None where no slot has one.
     pub fn owner(&self, key: usize) -> Option<(u16, u32)>
         ensures owner { IfSome result
             (λ owner. by_handle owner.1 (slot_in owner.0 self.now).objects
@@ -202,7 +201,8 @@ impl Table {
         }
     }
 
-    /// Takes a slot's object of that handle out of the table; all other objects keep their keys.
+    /// Takes a slot's object of that handle out of the table; all other objects keep their keys. None
+    /// where the slot has no such object; nothing has changed.
     pub fn remove(&mut self, slot: u16, handle: u32) -> Option<AnyObject>
         requires { slot < length self.old }
         ensures object { result
@@ -236,8 +236,8 @@ impl Table {
         row.object_mut(location.index)
     }
 
-    /// Lends the object of that key alone. Whatever becomes of it, its handle and its key stay, and
-    /// it counts for its quota under the kind that it was added with.
+    /// Lends the object of that key alone; None where no slot has one. Whatever becomes of it, its
+    /// handle and its key stay, and it counts for its quota under the kind that it was added with.
     pub fn get_mut(&mut self, key: usize) -> Option<&mut AnyObject>
         ensures* writes_back { sem 𝓛 (LendsAtKey self.entry key result) }
         ensures value { option_copied_mut result

@@ -116,6 +116,7 @@ fn handles_and_quotas(rt: HostRuntime) -> Result<(), Fail> {
             }
             Does::Raise(next) => table.raise(*slot, next),
         }
+        table.sound();
     }
     Ok(())
 }

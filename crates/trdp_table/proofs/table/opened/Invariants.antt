@@ -1,6 +1,6 @@
 use Rattle.std.proofs.Common.{◌≡◌, ◌≤◌, length, map, take, vec_capacity, All}
 use Rattle.trdp_table.specs.Tables.{opened_slot}
-use Rattle.trdp_table.specs.SlotLaws.{AreLimited}
+use Rattle.trdp_table.specs.TableLaws.{AreLimited}
 use Rattle.trdp_table.proofs.table.opened.Given as goal
 
 abbrev pub invariant-loop-slot_quotas : goal.invariant-loop-slot_quotas

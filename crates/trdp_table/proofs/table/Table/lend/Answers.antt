@@ -7,7 +7,7 @@ invariant_of-self-lent c = λ w.
     let table = c.self.inside.slots.items in
     let at = rw (← c.self.view_is) at c.requires in
     let row = slot_read table c.args.location.slot c.index_mut-row.result.now at.slot c.index_mut-row.ensures.value in
-    rw (← row) (IsKeptTable-with table c.args.location.slot c.args.location.index w c.self.invariant at.slot)
+    rw (← row) (IsKeptTable-with table c.args.location.slot _ w c.self.invariant at.slot)
 
 pub returns : goal.returns
 returns c =
