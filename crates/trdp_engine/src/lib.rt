@@ -24,6 +24,7 @@ mod reception;
 mod record;
 mod shown;
 mod slot;
+mod slots;
 #[cfg(test)]
 mod tests;
 mod value;
