@@ -62,8 +62,8 @@ fn take(
         * length (filter (is_for_entry (telegram_model telegram.now) globals.now) (entry.old ∷ []))
         ≤ out.old.byte_room }
     ensures entry { entry.new
-        ≡ entry_after_telegram (setup_of config.now) (telegram_model telegram.now) globals.entry.now
-        entry.old }
+        ≡ entry_after_telegram (setup_of config.now) (telegram_model telegram.now)
+        globals.entry.now entry.old }
     ensures records { out.new.records
         ≡ out.old.records
         ++ labelled s
@@ -110,8 +110,9 @@ pub fn take_all(
         * length (filter (is_for_entry (telegram_model telegram.now) globals.now)
         objects.old.items) ≤ out.old.byte_room }
     ensures items { objects.new.items
-        ≡ map (entry_after_telegram (setup_of config.now) (telegram_model telegram.now) globals.entry.now)
-        objects.old.items }
+        ≡ map
+        (entry_after_telegram (setup_of config.now) (telegram_model telegram.now)
+        globals.entry.now) objects.old.items }
     ensures records { out.new.records
         ≡ out.old.records
         ++ labelled s

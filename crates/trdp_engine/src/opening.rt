@@ -52,11 +52,13 @@ impl Slot {
         terms: &SubscriptionTerms,
     ) -> Result<usize, Refusal>
         ensures refused { IfErr result
-            (λ refusal. subscribe_refusal (setup_of config.now) self.now terms.now ≡ Some refusal) }
+            (λ refusal. subscribe_refusal (setup_of config.now) self.now terms.now
+            ≡ Some refusal) }
         ensures accepted { IfOk result
             (λ size. subscribe_refusal (setup_of config.now) self.now terms.now ≡ None) }
         ensures opens { IfOk result (λ size. opening_refusal self.now 1 ≡ None) }
-        ensures size { IfOk result (λ size. size ≡ zero_size_of (setup_of config.now) terms.now.dataset) }
+        ensures size { IfOk result
+            (λ size. size ≡ zero_size_of (setup_of config.now) terms.now.dataset) }
         ensures within { IfOk result (λ size. size ≤ 1432) }
     {
         if !is_span(terms.supervision) {
@@ -88,7 +90,8 @@ impl Slot {
     ) -> Result<PlainAnswer, AllocError>
         requires { globals.now.now ≤ last_moment }
         ensures outcome { IfOk result
-            (λ answer. called (setup_of config.now) self.old globals.entry.now (PublishCall terms.now)
+            (λ answer.
+            called (setup_of config.now) self.old globals.entry.now (PublishCall terms.now)
             ≡ answered self.new (plain_answer_model answer)) }
         ensures kept { OnErr result (self.new ≡ self.old) }
     {
@@ -112,7 +115,8 @@ impl Slot {
     ) -> Result<PlainAnswer, AllocError>
         requires { globals.now.now ≤ last_moment }
         ensures outcome { IfOk result
-            (λ answer. called (setup_of config.now) self.old globals.entry.now (SubscribeCall terms.now)
+            (λ answer.
+            called (setup_of config.now) self.old globals.entry.now (SubscribeCall terms.now)
             ≡ answered self.new (plain_answer_model answer)) }
         ensures kept { OnErr result (self.new ≡ self.old) }
     {

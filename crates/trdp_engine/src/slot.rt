@@ -150,7 +150,8 @@ impl Slot {
 
     /// Gives the publisher of that handle a new value.
     fn put(&mut self, config: &NodeConfig, handle: u32, bytes: &[u8]) -> PlainAnswer
-        ensures { put_unless (put_refusal (setup_of config.now) bytes.now (entry_of handle self.old.objects))
+        ensures { put_unless
+            (put_refusal (setup_of config.now) bytes.now (entry_of handle self.old.objects))
             self.old handle bytes.now ≡ answered self.new (plain_answer_model result) }
     {
         match put_in(&mut self.objects, config, handle, bytes) {
@@ -176,11 +177,12 @@ impl Slot {
             (entry_of handle self.now.objects)) }
         ensures spelled { IfOk result
             (λ bytes.
-            item_refusal (setup_of config.now) (model_of item.now) (entry_of handle self.now.objects)
-            ≡ None) }
+            item_refusal (setup_of config.now) (model_of item.now)
+            (entry_of handle self.now.objects) ≡ None) }
         ensures refused { IfErr result
             (IsRefusedAs
-            (item_refusal (setup_of config.now) (model_of item.now) (entry_of handle self.now.objects))) }
+            (item_refusal (setup_of config.now) (model_of item.now)
+            (entry_of handle self.now.objects))) }
     {
         match entry_at(&self.objects, handle) {
             None => Err(SpellFault::Refused(Refusal::NoHandle)),
@@ -206,7 +208,8 @@ impl Slot {
             ≡ (valued (setup_of config.now) self.old handle (model_of item.now)).slot) }
         ensures records { OnOk result (out.new.records
             ≡ out.old.records
-            ++ labelled s (valued (setup_of config.now) self.old handle (model_of item.now)).records) }
+            ++ labelled s
+            (valued (setup_of config.now) self.old handle (model_of item.now)).records) }
         ensures kept { OnErr result (self.new ≡ self.old) }
         ensures unrecorded { OnErr result (out.new.records ≡ out.old.records) }
     {
@@ -279,11 +282,13 @@ impl Slot {
     ) -> Result<(), AllocError>
         requires now { globals.now.now ≤ last_moment }
         ensures slot { OnOk result (self.new
-            ≡ (called (setup_of config.now) self.old globals.entry.now (call_model call.now)).slot) }
+            ≡ (called (setup_of config.now) self.old globals.entry.now
+            (call_model call.now)).slot) }
         ensures records { OnOk result (out.new.records
             ≡ out.old.records
             ++ labelled s
-            (called (setup_of config.now) self.old globals.entry.now (call_model call.now)).records) }
+            (called (setup_of config.now) self.old globals.entry.now
+            (call_model call.now)).records) }
         ensures kept { OnErr result (self.new ≡ self.old) }
         ensures unrecorded { OnErr result (out.new.records ≡ out.old.records) }
     {
