@@ -25,8 +25,6 @@ mod record;
 mod shown;
 mod slot;
 mod slots;
-#[cfg(test)]
-mod tests;
 mod value;
 
 pub use event::{Call, Event};

@@ -67,12 +67,14 @@ impl Node {
     ghost use Rattle.trdp_engine.specs.NodeStates.{opened_node};
     ghost use Rattle.trdp_engine.specs.Alone.{FaultIs, refused_as, globals_after};
 
-    /// A node at moment 0 that leads no group, with empty slots.
+    /// A node at moment 0 that leads no group, with an empty slot for each of the configuration, 1
+    /// to 16.
     ///
     /// # Errors
     /// The configuration comes back for want of memory.
     pub fn new(alloc: Global, config: NodeConfig) -> Result<Node, NodeConfig>
         ensures opened { IfOk result (λ node. node ≡ opened_node config) }
+        ensures few { IfOk result (λ node. length node.slots ≤ 16) }
         ensures returned { IfErr result (λ back. back ≡ config) }
     {
         config.registry().sound();

@@ -1,18 +1,14 @@
 -- What a decoder answers.
-use Rattle.std.proofs.Common.{◌≡◌, Bool, cond, true, false, ℕ, List, [], ◌∷◌, Option, Some, None, Result, Ok, Err, refl, sym, ap, ◌∙◌, subst}
+use Rattle.std.proofs.Common.{◌≡◌, true, false, ℕ, List, [], ◌∷◌, Option, Some, None, Result, Ok, Err, refl, sym, ap, ◌∙◌, subst}
 use Rattle.std.specs.Prelude.{is_some, option_map}
 use Rattle.std.specs.Result.{IsErrAnd}
 use Rattle.std.proofs.lemmas.Bool.{false≢true}
-use Rattle.std.proofs.lemmas.Option.{none-some}
 use Rattle.trdp_marshal.specs.declared.fault.MarshalFault.{MarshalFault}
 use Rattle.trdp_marshal.specs.declared.fault.MarshalFault.TheVariants.{NoDataset, Shape, TooLong, OutOfMemory}
 use Rattle.trdp_dataset.specs.Datasets.{DatasetModel}
 use Rattle.trdp_marshal.specs.Items.{ItemModel}
 use Rattle.trdp_marshal.specs.Reading.{dataset_at, whole, reading}
 use Rattle.trdp_marshal.specs.Faults.{has_items, Fails, Answers, FaultIs, decode_fault}
-use Rattle.trdp_marshal.specs.Numbers.{IsBytes}
-use Rattle.trdp_marshal.specs.Spells.{IsSpelled}
-use Rattle.trdp_marshal.proofs.Spellings.{reading_if_spelled}
 
 pub is_some-map : {A B : Type 0} (f : A → B) (o : Option A) (p : Option B) → option_map f o ≡ p → is_some o ≡ is_some p
 is_some-map f None p e = ap is_some e

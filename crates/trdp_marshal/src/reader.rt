@@ -199,12 +199,7 @@ fn read_dataset<'a>(
 }
 
 /// What [`decode`] answers. The bytes are looked at before memory is taken.
-fn decoded(
-    alloc: Global,
-    registry: &Registry,
-    id: u32,
-    bytes: &[u8],
-) -> Result<Item, MarshalFault>
+fn decoded(alloc: Global, registry: &Registry, id: u32, bytes: &[u8]) -> Result<Item, MarshalFault>
     ensures value { IfOk result (λ item. Spells registry.now id (model_of item) bytes.now) }
     ensures reading { IfOk result (λ item. reading registry.now id bytes.now
         ≡ Some (model_of item)) }

@@ -155,14 +155,22 @@ static PAYLOADS: [(u32, &[u8], Option<MarshalFault>); 17] = [
     (1004, b"seventeen bytes..", Some(MarshalFault::Shape)),
     (1004, b"eighteen bytes ...", None),
     (1004, b"nineteen bytes ....", Some(MarshalFault::Shape)),
-    (1005, b"thirty-five bytes, all of them text", Some(MarshalFault::Shape)),
+    (
+        1005,
+        b"thirty-five bytes, all of them text",
+        Some(MarshalFault::Shape),
+    ),
     (1005, b"thirty-six bytes, all of them texts.", None),
     (1006, b"any\0\x02\x01\0\x01\0", None),
     (1006, b"any\0\x02\x01\0\x01", Some(MarshalFault::Shape)),
     (1006, b"any\0\x01\x01\0\x01\0", Some(MarshalFault::Shape)),
     (1006, b"any\xff\xff\0\0\0", Some(MarshalFault::Shape)),
     (1007, b"\x01eighteen bytes ...last", None),
-    (1007, b"\x02eighteen bytes ...last", Some(MarshalFault::Shape)),
+    (
+        1007,
+        b"\x02eighteen bytes ...last",
+        Some(MarshalFault::Shape),
+    ),
     (1007, b"\0last", None),
 ];
 

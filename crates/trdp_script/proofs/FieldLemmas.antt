@@ -1,15 +1,20 @@
 -- Facts on the values that words are the written forms of.
-use Rattle.std.proofs.Common.{◌≡◌, ℕ, ◌+◌, ◌*◌, ◌/◌, ◌%◌, ◌^◌, ◌<◌, ◌≤◌, ◌==◌, nat_lt, nat_le, Bool, true, false, List, [], ◌∷◌, ◌++◌, ◌&&◌, map, Option, Some, None, Result, Ok, Err, refl, sym, ap, ◌∙◌, subst, inl, inr, arith, append_assoc}
+use Rattle.std.proofs.Common.{◌≡◌, ℕ, ◌+◌, ◌*◌, ◌/◌, ◌%◌, ◌^◌, ◌<◌, ◌≤◌, ◌==◌, nat_lt, nat_le}
+use Rattle.std.proofs.Common.{Bool, true, false, List, [], ◌∷◌, ◌++◌, ◌&&◌, map, Option, Some}
+use Rattle.std.proofs.Common.{None, Result, Ok, Err, refl, sym, ap, ◌∙◌, subst, inl, inr, arith}
+use Rattle.std.proofs.Common.{append_assoc}
 use Rattle.std.specs.Prelude.{All, is_some, unwrap_or, ◌⊎◌}
 use Rattle.std.specs.List.{slice_split, list_all}
 use Rattle.std.specs.Char.{digit_value}
 use Rattle.std.specs.Int.Digits.{number_from_digits}
 use Rattle.std.specs.Str.{bytes_eq}
 use Rattle.std.specs.Str.Parse.{digits_value}
-use Rattle.std.proofs.lemmas.Bool.{and_from, and_parts, cases_Bool, le-leb, leb-true, lt-ltb, ltb-true, ne_eqb, true≢false}
+use Rattle.std.proofs.lemmas.Bool.{and_from, and_parts, cases_Bool, le-leb, leb-true, lt-ltb}
+use Rattle.std.proofs.lemmas.Bool.{ltb-true, ne_eqb, true≢false}
 use Rattle.std.proofs.lemmas.Bool.Decides.{nat_tests}
 use Rattle.std.proofs.lemmas.Fmt.{decimal_is_IsNumeral}
-use Rattle.std.proofs.lemmas.List.Elements.{All-nil, All-cons, All-append, All-head, All-tail, All-from_get_or}
+use Rattle.std.proofs.lemmas.List.Elements.{All-nil, All-cons, All-append, All-head, All-tail}
+use Rattle.std.proofs.lemmas.List.Elements.{All-from_get_or}
 use Rattle.std.proofs.lemmas.List.Splits.{slice_split_at, slice_split_none}
 use Rattle.std.proofs.lemmas.Result.{MatchResult-at_ok}
 use Rattle.std.proofs.lemmas.List.Sums.{list_all-from_AllPass, AllPass-from_list_all}
@@ -20,7 +25,9 @@ use Rattle.trdp_base.specs.HexText.{hex_digit, hex_pairs, text_of_hex, IsHexText
 use Rattle.trdp_base.specs.NumberText.{text_of_number}
 use Rattle.trdp_base.specs.declared.place.Ip.{Ip}
 use Rattle.trdp_base.specs.declared.place.Place.{Place}
-use Rattle.trdp_script.specs.Words.{if_written, first_word, other_words, number_of_word, ip_shown, ip_of_word, place_shown, place_of_word, bytes_shown, bytes_of_word, IsBytesFault}
+use Rattle.trdp_script.specs.Words.{if_written, first_word, other_words, number_of_word, ip_shown}
+use Rattle.trdp_script.specs.Words.{ip_of_word, place_shown, place_of_word, bytes_shown}
+use Rattle.trdp_script.specs.Words.{bytes_of_word, IsBytesFault}
 use Rattle.trdp_script.specs.declared.fault.LineFault.{LineFault}
 use Rattle.trdp_script.specs.declared.fault.LineFault.TheVariants.{BadWord, OutOfMemory}
 

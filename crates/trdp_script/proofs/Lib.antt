@@ -1,3 +1,15 @@
+pub mod Endings
 pub mod FieldLemmas
 pub mod FormLemmas
+pub mod LineLists
+pub mod LineSteps
+pub mod Orders
+pub mod Pieces
+pub mod Playing
+pub mod Readings
+pub mod Results
+pub mod Steps
+pub mod TextLengths
+pub mod Turns
 pub mod WordLemmas
+pub mod Writing

@@ -1,15 +1,20 @@
 -- The forms that a line of a script can have, each with its words, its fields and its event.
-use Rattle.std.specs.Prelude.{ℕ, ◌^◌, ◌-◌, ◌&&◌, List, [], ◌∷◌, Bool, true, Option, Some, codes, if◌then◌else◌}
+use Rattle.std.specs.Prelude.{ℕ, ◌^◌, ◌-◌, ◌&&◌, List, [], ◌∷◌, Bool, true, Option, Some, codes}
+use Rattle.std.specs.Prelude.{if◌then◌else◌}
 use Rattle.std.specs.Option.{option_and_then}
 use Rattle.std.specs.Str.{bytes_eq}
 use Rattle.trdp_base.specs.declared.place.Ip.{Ip}
 use Rattle.trdp_base.specs.declared.place.Place.{Place}
 use Rattle.trdp_pd.specs.declared.terms.Behaviour.{Behaviour}
 use Rattle.trdp_pd.specs.declared.terms.Behaviour.TheVariants.{Zero, Keep}
-use Rattle.trdp_engine.specs.Events.{CallModel, PublishCall, PutCall, UnpublishCall, SubscribeCall, GetCall, UnsubscribeCall, OpenPullCall, PullCall, ClosePullCall, EventModel, MomentIs, TopologyIs, RoleIs, DatagramIs, CallIs}
+use Rattle.trdp_engine.specs.Events.{CallModel, PublishCall, PutCall, UnpublishCall, SubscribeCall}
+use Rattle.trdp_engine.specs.Events.{GetCall, UnsubscribeCall, OpenPullCall, PullCall}
+use Rattle.trdp_engine.specs.Events.{ClosePullCall, EventModel, MomentIs, TopologyIs, RoleIs}
+use Rattle.trdp_engine.specs.Events.{DatagramIs, CallIs}
 use Rattle.trdp_engine.specs.declared.record.Protocol.{Protocol}
 use Rattle.trdp_engine.specs.declared.record.Protocol.TheVariants.{Pd, Md}
-use Rattle.trdp_script.specs.Words.{first_word, other_words, number_of_word, ip_of_word, place_of_word, bytes_of_word, choice_of_word}
+use Rattle.trdp_script.specs.Words.{first_word, other_words, number_of_word, ip_of_word}
+use Rattle.trdp_script.specs.Words.{place_of_word, bytes_of_word, choice_of_word}
 
 -- what one word of a line is to be
 pub data Part : Type 0 where
@@ -131,7 +136,8 @@ subscribe_form =
     call_form (codes "subscribe")
     (number_32 ∷ number_32 ∷ AddressField ∷ AddressField ∷ AddressField ∷ number_32 ∷ number_32
     ∷ number_32 ∷ ChoiceField (codes "zero") (codes "keep") ∷ [])
-    (λ slot com_id dataset low high dest etb op_trn supervision zero. CallIs slot (SubscribeCall (record {
+    (λ slot com_id dataset low high dest etb op_trn supervision zero.
+    CallIs slot (SubscribeCall (record {
       filter = record {
         com_id = com_id;
         low = low;
@@ -188,7 +194,8 @@ has_keywords (Keyword word ∷ parts) words =
 has_keywords (_ ∷ parts) words = has_keywords parts (other_words words)
 
 -- the event, where each field's word is the written form of a value in its range
-unfoldable pub event_of_words : (parts : List Part) → EventFrom parts → List (List ℕ) → Option EventModel
+unfoldable pub event_of_words : (parts : List Part) → EventFrom parts → List (List ℕ)
+    → Option EventModel
 event_of_words [] event words = Some event
 event_of_words (Keyword word ∷ parts) event words =
     event_of_words parts event (other_words words)

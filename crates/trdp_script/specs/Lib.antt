@@ -1,5 +1,12 @@
 pub mod FormNames
 pub mod Forms
 pub mod Lines
+pub mod Pieces
+pub mod RecordText
+pub mod ScriptRuns
+pub mod ScriptSteps
+pub mod ScriptText
+pub mod SlotOrder
 pub mod Words
 pub mod WordsLeft
+pub mod Writes

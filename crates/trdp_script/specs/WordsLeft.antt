@@ -5,4 +5,5 @@ use Rattle.trdp_script.specs.declared.words.Words.{Words}
 
 -- the words from the first that is left to the last
 abbrev pub words_left : Words → List (List ℕ)
-words_left words = elim words.rest as (λ _. List (List ℕ)) [ Some rest ↦ words_of rest.now | None ↦ [] ]
+words_left words =
+    elim words.rest as (λ _. List (List ℕ)) [ Some rest ↦ words_of rest.now | None ↦ [] ]

@@ -1,7 +1,14 @@
 //! The values that words are the written forms of.
 
-ghost use Rattle.std.specs.Prelude.{◌≡◌, ◌<◌, ◌≤◌, ◌^◌, ◌-◌, IfOk, IfErr, IfSome};
-ghost use Rattle.trdp_script.specs.Words.{first_word, other_words, number_of_word, ip_of_word, place_of_word, bytes_of_word, choice_of_word, IsBytesFault};
+ghost use Rattle.std.specs.Prelude.{◌≡◌, ℕ, List, ◌<◌, ◌≤◌, ◌^◌, ◌-◌, IfOk, IfErr, IfSome, All};
+ghost use Rattle.trdp_base.specs.AddressText.{text_of_ip, text_of_place};
+ghost use Rattle.trdp_base.specs.HexText.{text_of_hex};
+ghost use Rattle.trdp_base.specs.NumberText.{text_of_number};
+ghost use Rattle.trdp_base.specs.declared.place.Ip.{Ip};
+ghost use Rattle.trdp_base.specs.declared.place.Place.{Place};
+ghost use Rattle.trdp_script.specs.Words.{first_word, other_words, number_of_word, ip_of_word};
+ghost use Rattle.trdp_script.specs.Words.{place_of_word, bytes_of_word, choice_of_word};
+ghost use Rattle.trdp_script.specs.Words.{IsBytesFault};
 ghost use Rattle.trdp_script.specs.WordsLeft.{words_left};
 
 use crate::fault::LineFault;
@@ -89,6 +96,9 @@ impl Words<'_> {
 fn number_of(word: &[u8], max: u64) -> Option<u64>
     ensures value { result ≡ number_of_word max word.now }
     ensures within { IfSome result (λ number. number ≤ max) }
+    ensures written { IfSome result (λ number. word.now ≡ text_of_number number) }
+    ensures found { (number : ℕ) → number ≤ max
+        → word.now ≡ text_of_number number → result ≡ Some number }
 {
     match read_number(word, max) {
         Ok(number) => Some(number),
@@ -98,7 +108,9 @@ fn number_of(word: &[u8], max: u64) -> Option<u64>
 
 /// The address that a word is.
 fn ip_of(word: &[u8]) -> Option<Ip>
-    ensures { result ≡ ip_of_word word.now }
+    ensures value { result ≡ ip_of_word word.now }
+    ensures written { IfSome result (λ ip. word.now ≡ text_of_ip ip) }
+    ensures found { (ip : Ip) → ip.0 < 2 ^ 32 → word.now ≡ text_of_ip ip → result ≡ Some ip }
 {
     match read_ip(word) {
         Ok(ip) => Some(ip),
@@ -108,7 +120,10 @@ fn ip_of(word: &[u8]) -> Option<Ip>
 
 /// The place that a word is.
 fn place_of(word: &[u8]) -> Option<Place>
-    ensures { result ≡ place_of_word word.now }
+    ensures value { result ≡ place_of_word word.now }
+    ensures written { IfSome result (λ place. word.now ≡ text_of_place place) }
+    ensures found { (place : Place) → place.ip.0 < 2 ^ 32 → place.port < 2 ^ 16
+        → word.now ≡ text_of_place place → result ≡ Some place }
 {
     match read_place(word) {
         Ok(place) => Some(place),
@@ -133,6 +148,9 @@ fn choice_of(word: &[u8], first: &[u8], second: &[u8]) -> Option<bool>
 /// The bytes that a word is.
 fn bytes_of(alloc: Global, word: &[u8]) -> Result<Vec<u8>, LineFault>
     ensures value { IfOk result (λ bytes. bytes_of_word word.now ≡ Some bytes.items) }
+    ensures written { IfOk result (λ bytes. word.now ≡ text_of_hex bytes.items) }
+    ensures found { (bytes : List ℕ) → All (λ byte. byte < 256) bytes
+        → word.now ≡ text_of_hex bytes → IfOk result (λ read. read.items ≡ bytes) }
     ensures fault { IfErr result (λ fault. IsBytesFault (bytes_of_word word.now) fault) }
 {
     match read_hex(alloc, word) {

@@ -1,11 +1,11 @@
 //! The forms that a line can have, by the words that tell them.
 
-ghost use Rattle.std.specs.Prelude.{◌≡◌, List, ℕ, length, option_map, ◌&&◌, codes};
+ghost use Rattle.std.specs.Prelude.{◌≡◌, List, ℕ, true, false, length, option_map};
 ghost use Rattle.std.specs.Str.{bytes_eq};
 ghost use Rattle.trdp_script.specs.Words.{first_word, other_words};
 ghost use Rattle.trdp_script.specs.WordsLeft.{words_left};
 ghost use Rattle.trdp_script.specs.Forms.{has_keywords};
-ghost use Rattle.trdp_script.specs.FormNames.{line_form};
+ghost use Rattle.trdp_script.specs.FormNames.{line_form, is_told};
 ghost use Rattle.trdp_script.specs.Lines.{form_of};
 
 use crate::words::Words;
@@ -47,6 +47,17 @@ static FORMS: [Form; 14] = [
     Form::ClosePull,
 ];
 
+/// The words that tell a form, and how many there are in all.
+#[derive(Clone, Copy)]
+pub(crate) struct Row {
+    /// Whether the first word is `call` and the third the form's own; else the first is its own.
+    is_call: bool,
+    /// The form's own word.
+    word: &'static [u8],
+    /// How many words a line of the form has.
+    count: usize,
+}
+
 impl Form {
     /// The form that the first word tells, and after `call` the third; None where they tell none.
     pub(crate) fn of(mut words: Words<'_>) -> Option<Form>
@@ -56,57 +67,84 @@ impl Form {
         words.next_word();
         let third = words.next_word();
         for form in &FORMS {
-            if form.is_told_by(first, third) {
+            if form.row().is_told_by(first, third) {
                 return Some(*form);
             }
         }
         None
     }
 
-    /// Whether a line with this first and third word has this form. A missing word is empty.
-    #[tactic(auto, unfolding(crate::specs::Forms::has_keywords))]
-    fn is_told_by(self, first: &[u8], third: &[u8]) -> bool
-        ensures { (words : List (List ℕ)) → first.now ≡ first_word words
-            → third.now ≡ first_word (other_words (other_words words))
-            → result ≡ has_keywords (line_form self).parts words }
-    {
-        match self {
-            Form::Moment => is_word(first, b"moment"),
-            Form::Topology => is_word(first, b"topology"),
-            Form::Role => is_word(first, b"role"),
-            Form::Pd => is_word(first, b"pd"),
-            Form::Md => is_word(first, b"md"),
-            Form::Publish => is_call(first, third, b"publish"),
-            Form::Put => is_call(first, third, b"put"),
-            Form::Unpublish => is_call(first, third, b"unpublish"),
-            Form::Subscribe => is_call(first, third, b"subscribe"),
-            Form::Get => is_call(first, third, b"get"),
-            Form::Unsubscribe => is_call(first, third, b"unsubscribe"),
-            Form::OpenPull => is_call(first, third, b"openpull"),
-            Form::Pull => is_call(first, third, b"pull"),
-            Form::ClosePull => is_call(first, third, b"closepull"),
-        }
-    }
-
     /// How many words a line of this form has.
     pub(crate) fn word_count(self) -> usize
         ensures { result ≡ length (line_form self).parts }
     {
+        self.row().count
+    }
+
+    /// The form's row in the table of words.
+    #[tactic(auto, unfolding(crate::specs::Forms::has_keywords))]
+    fn row(self) -> Row
+        ensures count { result.count ≡ length (line_form self).parts }
+        ensures told { (words : List (List ℕ))
+            → is_told result.is_call result.word.now words
+            ≡ has_keywords (line_form self).parts words }
+    {
         match self {
-            Form::Moment => 2,
-            Form::Topology => 3,
-            Form::Role => 3,
-            Form::Pd => 4,
-            Form::Md => 4,
-            Form::Publish => 10,
-            Form::Put => 5,
-            Form::Unpublish => 4,
-            Form::Subscribe => 12,
-            Form::Get => 4,
-            Form::Unsubscribe => 4,
-            Form::OpenPull => 9,
-            Form::Pull => 4,
-            Form::ClosePull => 4,
+            Form::Moment => Row::line(b"moment", 2),
+            Form::Topology => Row::line(b"topology", 3),
+            Form::Role => Row::line(b"role", 3),
+            Form::Pd => Row::line(b"pd", 4),
+            Form::Md => Row::line(b"md", 4),
+            Form::Publish => Row::call(b"publish", 10),
+            Form::Put => Row::call(b"put", 5),
+            Form::Unpublish => Row::call(b"unpublish", 4),
+            Form::Subscribe => Row::call(b"subscribe", 12),
+            Form::Get => Row::call(b"get", 4),
+            Form::Unsubscribe => Row::call(b"unsubscribe", 4),
+            Form::OpenPull => Row::call(b"openpull", 9),
+            Form::Pull => Row::call(b"pull", 4),
+            Form::ClosePull => Row::call(b"closepull", 4),
+        }
+    }
+}
+
+impl Row {
+    /// The row of a form whose lines begin with its own word.
+    fn line(word: &'static [u8], count: usize) -> Row
+        ensures is_call { result.is_call ≡ false }
+        ensures word { result.word.now ≡ word.now }
+        ensures count { result.count ≡ count }
+    {
+        Row {
+            is_call: false,
+            word,
+            count,
+        }
+    }
+
+    /// The row of a form whose lines are calls of an application.
+    fn call(word: &'static [u8], count: usize) -> Row
+        ensures is_call { result.is_call ≡ true }
+        ensures word { result.word.now ≡ word.now }
+        ensures count { result.count ≡ count }
+    {
+        Row {
+            is_call: true,
+            word,
+            count,
+        }
+    }
+
+    /// Whether this first and this third word tell the form. A missing word is empty.
+    fn is_told_by(self, first: &[u8], third: &[u8]) -> bool
+        ensures { (words : List (List ℕ)) → first.now ≡ first_word words
+            → third.now ≡ first_word (other_words (other_words words))
+            → result ≡ is_told self.is_call self.word.now words }
+    {
+        if self.is_call {
+            is_word(first, b"call") && is_word(third, self.word)
+        } else {
+            is_word(first, self.word)
         }
     }
 }
@@ -116,11 +154,4 @@ fn is_word(word: &[u8], other: &[u8]) -> bool
     ensures { result ≡ bytes_eq word.now other.now }
 {
     word == other
-}
-
-/// Whether the first word is `call` and the third is the call's word.
-fn is_call(first: &[u8], third: &[u8], word: &[u8]) -> bool
-    ensures { result ≡ (bytes_eq first.now (codes "call") && bytes_eq third.now word.now) }
-{
-    is_word(first, b"call") && is_word(third, word)
 }

@@ -1,15 +1,31 @@
-//! The text form of a node's events: lines that are read.
+//! The text form of a node: lines that say events, lines that tell of records, and scripts of such
+//! lines.
+//!
+//! What no contract can say is that memory is there and that the outside works: a `read_line` or a
+//! `run_script` that answers want of memory at once meets its contract. The tests show that with
+//! ample memory the lines are read and the scripts played.
 #![tactic(auto)]
 
 mod fault;
 mod field;
 mod form;
+mod input;
 mod line;
+mod names;
+mod output;
+mod play;
+mod print;
 mod read;
+mod script;
 mod words;
 
 pub use fault::LineFault;
 pub use line::{LINE_MAX, Line, read_line};
+pub use names::line_fault_name;
+pub use print::print_record;
+pub use script::{ScriptFault, run_script};
 
+#[cfg(test)]
+mod run_tests;
 #[cfg(test)]
 mod tests;

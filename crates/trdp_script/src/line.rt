@@ -2,7 +2,8 @@
 
 ghost use Rattle.std.specs.Prelude.{◌≡◌, option_map};
 ghost use Rattle.trdp_engine.specs.Events.{event_model};
-ghost use Rattle.trdp_script.specs.Lines.{line_of, words_say, form_of, is_skipped as skipped, event_of, Reads};
+ghost use Rattle.trdp_script.specs.Lines.{line_of, words_say, form_of, is_skipped as skipped};
+ghost use Rattle.trdp_script.specs.Lines.{event_of, Reads};
 ghost use Rattle.trdp_script.specs.WordsLeft.{words_left};
 
 use crate::fault::LineFault;
@@ -15,7 +16,7 @@ use trdp_engine::{Call, Event, Protocol};
 /// The longest line, in bytes without its end (profile).
 pub const LINE_MAX: usize = 140_000;
 
-/// What a good line says.
+/// What a good line says (profile).
 #[derive(Debug, Drop)]
 pub enum Line {
     /// Nothing: the line is empty or begins with `#`.
@@ -122,7 +123,8 @@ fn is_skipped(text: &[u8]) -> bool
 /// Reads the words of a line.
 #[tactic(auto, unfolding(crate::specs::Lines::words_say))]
 fn read_words(alloc: Global, words: Words<'_>) -> Result<Line, LineFault>
-    ensures { Reads (words_say (form_of (words_left words.entry)) (words_left words.entry)) result }
+    ensures { Reads
+        (words_say (form_of (words_left words.entry)) (words_left words.entry)) result }
 {
     let form = Form::of(words).ok_or(LineFault::Unknown)?;
     if words.count() != form.word_count() {

@@ -2,7 +2,11 @@
 
 ghost use Rattle.std.specs.Prelude.{◌≡◌, ℕ, List, Option, option_map};
 ghost use Rattle.trdp_engine.specs.Events.{EventModel, CallModel, CallIs};
-ghost use Rattle.trdp_script.specs.Forms.{event_in, handle_form, datagram_form, moment_form, topology_form, role_form, put_form, publish_form, subscribe_form, open_pull_form, unpublish_form, get_form, unsubscribe_form, pull_form, close_pull_form, behaviour_of};
+ghost use Rattle.trdp_script.specs.Forms.{event_in, handle_form, datagram_form, moment_form};
+ghost use Rattle.trdp_script.specs.Forms.{topology_form, role_form, put_form, publish_form};
+ghost use Rattle.trdp_script.specs.Forms.{subscribe_form, open_pull_form, unpublish_form};
+ghost use Rattle.trdp_script.specs.Forms.{get_form, unsubscribe_form, pull_form, close_pull_form};
+ghost use Rattle.trdp_script.specs.Forms.{behaviour_of};
 ghost use Rattle.trdp_script.specs.FormNames.{line_form};
 ghost use Rattle.trdp_script.specs.Lines.{event_of, event_or_fault, Reads};
 ghost use Rattle.trdp_script.specs.WordsLeft.{words_left};
@@ -24,7 +28,8 @@ impl Form {
     /// `BadWord` where a word isn't the written form of a value in its range; `OutOfMemory` where
     /// all are good and there is no memory for the bytes of one.
     pub(crate) fn read(self, alloc: Global, words: Words<'_>) -> Result<Line, LineFault>
-        ensures { Reads (event_or_fault (event_in (line_form self) (words_left words.entry))) result }
+        ensures { Reads
+            (event_or_fault (event_in (line_form self) (words_left words.entry))) result }
     {
         match self {
             Form::Moment => plain(read_moment(words)),

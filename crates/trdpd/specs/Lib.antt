@@ -1,6 +1,3 @@
 pub mod ConfigNames
 pub mod Faults
-pub mod LineEvents
-pub mod LineText
-pub mod RecordText
-pub mod Written
+pub mod Programs

@@ -10,38 +10,36 @@
 //! - 3 for a bad line, with `line N fault NAME`;
 //! - 4 after a `read fault`, a `write fault` or a `memory fault`.
 //!
-//! A script is run only over bytes that are a configuration (`run_program`). Otherwise the status is 1, and the fault is the
-//! one of these bytes, or memory ran out while they were read (`run_script`, `read_config`).
-//!
-//! What no contract pins yet, and tests with values from outside cover until the text form has a crate of its own: the value
-//! of each word and which of Unknown, Count and BadWord comes (`line`, `words`), the order of the records over several slots
-//! (`push_records`, `push_slot`), and a script as a whole (`run_node`, `Session`). A `run_program` that answers 1 at once meets
-//! its contract, as if memory had run out, and so does a reader or writer that always fails (`next_line`, `write_whole`,
-//! `write_some`), since no contract can say that the outside works. How `main` reads the file of the configuration, and the
-//! command line, which is `clap`'s, are tried by hand.
+//! What a script gives, and where it stops, is the contract of `trdp_script::run_script`, which `run_program` repeats with the
+//! exit status. No contract says that the outside works: a `run_program` that answers 1 at once meets its contract, as if
+//! memory had run out while the configuration was read. How `main` reads the file of the configuration, and the command line,
+//! which is `clap`'s, are tried by hand.
 #![tactic(auto)]
 
 mod command;
 mod config_names;
-mod line;
-mod lines;
-mod names;
-mod print;
+mod faults;
 mod program;
 #[cfg(test)]
 mod tests;
-mod words;
 
 use clap::error::ErrorKind;
 use command::read_words;
-use program::{ScriptFault, run_program};
+use config_names::ConfigFaultText;
+use faults::{ScriptFaultText, script_status};
+use program::{CONFIG_STATUS, run_program};
 use std::fmt::Display;
 use std::process::ExitCode;
 use std::{env, fs, io};
 use trdp_dataset::ConfigFault;
+use trdp_script::ScriptFault;
 
-/// The exit status of words that are no task, and of a wish for help.
-const USAGE: u8 = 2;
+/// The exit status of words that are no task, and of a wish for help (profile).
+const USAGE_STATUS: u8 = 2;
+
+/// What is told of words that aren't text.
+const NO_TEXT: &str =
+    "error: a word of the command line isn't valid UTF-8\n\nUsage: trdpd run <CONFIG>\n\nFor more information, try '--help'.\n";
 
 fn main(rt: HostRuntime) -> ExitCode {
     ExitCode::from(status(&rt))
@@ -54,11 +52,7 @@ fn status(rt: &HostRuntime) -> u8 {
             Ok(path) => run_file(rt, path),
             Err(error) => refuse(rt, &error, error.kind() == ErrorKind::OutOfMemory),
         },
-        Err(error) => refuse(
-            rt,
-            format_args!("{error}\n"),
-            error.kind() == io::ErrorKind::OutOfMemory,
-        ),
+        Err(error) => refuse(rt, NO_TEXT, error.kind() == io::ErrorKind::OutOfMemory),
     }
 }
 
@@ -73,17 +67,20 @@ fn run_file(rt: &HostRuntime, path: &str) -> u8 {
             &mut rt.stderr(),
         ),
         Err(error) if error.kind() == io::ErrorKind::OutOfMemory => {
-            tell(rt, ScriptFault::Config(ConfigFault::OutOfMemory))
+            tell(rt, ConfigFaultText(ConfigFault::OutOfMemory));
+            CONFIG_STATUS
         }
-        Err(_) => tell(rt, ScriptFault::Unreadable),
+        Err(_) => {
+            tell(rt, "config fault Unreadable");
+            CONFIG_STATUS
+        }
     }
 }
 
-/// Tells a fault, and answers its exit status.
-fn tell(rt: &impl Eprint, fault: ScriptFault) -> u8 {
+/// Tells a fault in a line of its own.
+fn tell<D: Display + Drop>(rt: &impl Eprint, fault: D) {
     // What standard error does with the text changes nothing.
     let _ = rt.eprintln(fault);
-    fault.status()
 }
 
 /// The words of the command line.
@@ -94,10 +91,11 @@ fn given_words(rt: &HostRuntime) -> io::Result<Vec<String>> {
 /// Prints why the words can't be followed, and answers the exit status.
 fn refuse<D: Display + Drop>(rt: &impl Eprint, error: D, is_out_of_memory: bool) -> u8 {
     if is_out_of_memory {
-        tell(rt, ScriptFault::OutOfMemory)
+        tell(rt, ScriptFaultText(ScriptFault::OutOfMemory));
+        script_status(Err(ScriptFault::OutOfMemory))
     } else {
         // What standard error does with the text changes nothing.
         let _ = rt.eprint(error);
-        USAGE
+        USAGE_STATUS
     }
 }

@@ -2,12 +2,12 @@ use Rattle.std.proofs.Common.{◌<◌, ◌^◌}
 use Rattle.trdp_script.proofs.FieldLemmas.{place_found, place_lacks, err_not_ok}
 use Rattle.trdp_script.proofs.field.place_of.Goals as goal
 
-pub returns-in-Ok : goal.returns-in-Ok
-returns-in-Ok c =
+pub returns-in-Ok-clause-value : goal.returns-in-Ok-clause-value
+returns-in-Ok-clause-value c =
     let small : c.in-Ok.place.ip.0 < 2 ^ 32 = assumption in
     let port : c.in-Ok.place.port < 2 ^ 16 = assumption in
     place_found c.args.word.now c.in-Ok.place small port c.in-Ok.ensures.value
 
-pub returns-in-Err : goal.returns-in-Err
-returns-in-Err c =
+pub returns-in-Err-clause-value : goal.returns-in-Err-clause-value
+returns-in-Err-clause-value c =
     place_lacks c.args.word.now (λ place small port is. err_not_ok place _ (c.in-Err.ensures.found place small port is))

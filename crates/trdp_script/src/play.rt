@@ -1,0 +1,119 @@
+//! An event's way through the node, and the text of what the node gives.
+
+ghost use Rattle.std.specs.Prelude.{◌≡◌, ◌≤◌, ◌++◌, ◌==◌, [], length, filter, true, OnOk};
+ghost use Rattle.std.specs.List.{flat_map};
+ghost use Rattle.trdp_engine.specs.Events.{event_model};
+ghost use Rattle.trdp_script.specs.RecordText.{text_of_record};
+ghost use Rattle.trdp_script.specs.ScriptText.{event_text, node_after};
+ghost use Rattle.trdp_engine.specs.Records.{record_model};
+ghost use Rattle.trdp_script.specs.SlotOrder.{IsRising, by_slot, slot_text};
+
+use crate::print::{print_fault, print_record};
+use std::alloc::AllocError;
+use trdp_engine::{Event, Node, NodeFault, Outbox, Record};
+
+/// The number of slots that a node has at most (profile).
+const SLOTS_MAX: u16 = 16;
+
+/// Gives the node an event, and leaves the text of what it gives in `text`: the records slot by
+/// slot, slots rising, each slot's in their order, or the line of the event's fault (profile).
+///
+/// # Errors
+/// `AllocError` where memory for the event or for its text was refused.
+pub fn play(
+    node: &mut Node,
+    event: &Event<'_>,
+    records: &mut Outbox,
+    text: &mut Vec<u8>,
+) -> Result<(), AllocError>
+    requires slots { length node.old.slots ≤ 16 }
+    ensures node { OnOk result (node.new ≡ node_after node.old (event_model event.now)) }
+    ensures text { OnOk result (text.new.items ≡ event_text node.old (event_model event.now)) }
+    ensures count { length node.new.slots ≡ length node.old.slots }
+{
+    records.clear();
+    text.clear();
+    match node.step(event, records) {
+        Ok(()) => push_records(text, records),
+        Err(NodeFault::OutOfMemory) => Err(AllocError),
+        Err(fault) => print_fault(text, fault),
+    }
+}
+
+/// Appends the lines of records: in their order where that is one of rising slots, and else slot
+/// by slot.
+fn push_records(text: &mut Vec<u8>, records: &Outbox) -> Result<(), AllocError>
+    ensures { OnOk result (text.new.items
+        ≡ text.old.items ++ flat_map text_of_record (by_slot 16 records.now.records)) }
+{
+    if is_rising(records) {
+        push_all(text, records)
+    } else {
+        push_by_slot(text, records)
+    }
+}
+
+/// Whether no record is of a lower slot than one before it.
+fn is_rising(records: &Outbox) -> bool
+    ensures { result ≡ true → IsRising 0 16 records.now.records }
+{
+    let mut slot = 0;
+    for i in 0..records.len() {
+        match records.get(i) {
+            Some(record) if record.slot >= slot && record.slot < SLOTS_MAX => slot = record.slot,
+            _ => return false,
+        }
+    }
+    true
+}
+
+/// Appends the lines of all records in their order.
+fn push_all(text: &mut Vec<u8>, records: &Outbox) -> Result<(), AllocError>
+    ensures { OnOk result (text.new.items
+        ≡ text.old.items ++ flat_map text_of_record records.now.records) }
+{
+    for i in 0..records.len() {
+        match records.get(i) {
+            Some(record) => print_record(text, &record)?,
+            None => {}
+        }
+    }
+    Ok(())
+}
+
+/// Appends the lines of all records slot by slot, slots rising, each slot's in their order.
+fn push_by_slot(text: &mut Vec<u8>, records: &Outbox) -> Result<(), AllocError>
+    ensures { OnOk result (text.new.items
+        ≡ text.old.items ++ flat_map text_of_record (by_slot 16 records.now.records)) }
+{
+    for slot in 0..SLOTS_MAX {
+        push_slot(text, records, slot)?;
+    }
+    Ok(())
+}
+
+/// Appends the lines of one slot's records in their order.
+fn push_slot(text: &mut Vec<u8>, records: &Outbox, slot: u16) -> Result<(), AllocError>
+    ensures { OnOk result (text.new.items ≡ text.old.items
+        ++ flat_map text_of_record (filter (λ r. r.slot == slot) records.now.records)) }
+{
+    for i in 0..records.len() {
+        match records.get(i) {
+            Some(record) => print_of_slot(text, &record, slot)?,
+            None => {}
+        }
+    }
+    Ok(())
+}
+
+/// Appends the line of a record, if it is one of the slot.
+fn print_of_slot(text: &mut Vec<u8>, record: &Record<'_>, slot: u16) -> Result<(), AllocError>
+    ensures { OnOk result (text.new.items ≡ text.old.items
+        ++ slot_text slot (record_model «record».now)) }
+{
+    if record.slot == slot {
+        print_record(text, record)
+    } else {
+        Ok(())
+    }
+}

@@ -1,0 +1,385 @@
+//! A script's way through the node: its lines in, the text of its records out.
+
+ghost use Rattle.std.specs.Prelude.{◌≡◌, ◌<◌, ◌≤◌, ◌+◌, ◌^◌, ◌++◌, ◌∷◌, ℕ, List, [], length};
+ghost use Rattle.std.specs.Prelude.{Option, Some, Ok, Err, true, false, IfOk, OnOk, OnErr, IfErr};
+ghost use Rattle.trdp_engine.specs.NodeStates.{opened_node};
+ghost use Rattle.trdp_engine.specs.Events.{event_model};
+ghost use Rattle.trdp_script.specs.Lines.{line_of};
+ghost use Rattle.trdp_script.specs.Pieces.{IsBare};
+ghost use Rattle.trdp_script.specs.Writes.{PassesOn, PassesSome};
+ghost use Rattle.trdp_script.specs.ScriptRuns.{RunsScript};
+ghost use Rattle.trdp_script.specs.ScriptSteps.{ComesTo, Ends, IsSound, LineComesTo, Plays};
+ghost use Rattle.trdp_script.specs.ScriptSteps.{Starts, Stops};
+ghost use Rattle.trdp_dataset.specs.Configs.{ConfigModel};
+ghost use Rattle.trdp_script.specs.declared.script.TheConstants.{PIECE_ROOM};
+
+use crate::fault::LineFault;
+use crate::input::{read_piece, split_at_newline, without_return};
+use crate::line::{LINE_MAX, read_line};
+use crate::output::{flush, output_buffer, put};
+use crate::play::play;
+use std::alloc::{AllocError, Global};
+use std::io::{Read, Write};
+use thiserror::Error;
+use trdp_dataset::NodeConfig;
+use trdp_engine::{Event, Node, Outbox};
+
+/// How many bytes are read at once.
+const PIECE_ROOM: usize = 65_536;
+
+/// Room for the bytes of a line before its newline: the longest line and a carriage return. One
+/// byte more tells a line that is too long, however it goes on.
+const LINE_ROOM: usize = LINE_MAX + 1;
+
+/// Why a script ends before the end of its input.
+#[derive(Clone, Copy, Debug, PartialEq, Eq, Error)]
+pub enum ScriptFault {
+    /// The line of that number, counted from 1 over all lines, is no good.
+    #[error("line {0} of the script: {1}")]
+    Line(u64, LineFault),
+    /// The script can't be read further.
+    #[error("the script can't be read further")]
+    Read,
+    /// The output can't be written.
+    #[error("the output can't be written")]
+    Write,
+    /// Memory was refused.
+    #[error("there is no memory for the script")]
+    OutOfMemory,
+}
+
+impl From<AllocError> for ScriptFault {
+    ghost use Rattle.std.specs.Prelude.{◌≡◌};
+    ghost use Rattle.trdp_script.specs.declared.script.ScriptFault.TheVariants.{OutOfMemory};
+
+    ghost from_gives = { λ _ fault. fault ≡ OutOfMemory };
+
+    fn from(_: AllocError) -> ScriptFault {
+        ScriptFault::OutOfMemory
+    }
+}
+
+/// Plays a script from the reader over a node of the configuration, and writes what the node gives
+/// to the writer: for each event its records slot by slot, slots rising, each slot's in their
+/// order, or the line `fault NAME` of an event that the node took no notice of (profile).
+///
+/// Lines end with a newline, or with a carriage return and a newline; the last may lack its end.
+/// Output is collected, and written when the room for it is full, before more is read, and at the
+/// end. What was written before a fault stands.
+///
+/// # Errors
+/// `Line` at the first line with a fault, `Read` where the reader fails or after 4,294,967,295
+/// reads, `Write` where the writer fails, and `OutOfMemory`.
+pub fn run_script<R: Read, W: Write>(
+    alloc: Global,
+    config: NodeConfig,
+    reader: &mut R,
+    writer: &mut W,
+) -> Result<(), ScriptFault>
+    ensures script { (input : List ℕ) → R.remaining reader.old ≡ Some input
+        → RunsScript config input (R.remaining reader.new)
+        (W.contents writer.old) (W.contents writer.new) result }
+{
+    match Script::new(alloc, config) {
+        Ok((mut script, mut piece)) => script.run_whole(alloc, &mut piece, reader, writer),
+        Err(_) => Err(ScriptFault::OutOfMemory),
+    }
+}
+
+/// A script on its way.
+#[derive(Drop)]
+struct Script {
+    player: Player,
+    /// The bytes since the last newline.
+    line: Vec<u8>,
+    /// The number of the line that these begin, from 1.
+    number: u64,
+}
+
+/// The node of a script, with the lists that are used again from event to event.
+#[derive(Drop)]
+struct Player {
+    node: Node,
+    /// The records of one event.
+    records: Outbox,
+    /// The text of one event.
+    text: Vec<u8>,
+    /// The text that is to be written.
+    output: Vec<u8>,
+}
+
+impl Script {
+    /// A script before its first byte, and a list for the pieces of its input.
+    fn new(alloc: Global, config: NodeConfig) -> Result<(Script, Vec<u8>), AllocError>
+        ensures start { IfOk result (λ made. Starts config made.0) }
+        ensures slots { IfOk result (λ made. length made.0.player.node.slots ≤ 16) }
+        ensures piece { IfOk result (λ made. length made.1.items ≡ PIECE_ROOM) }
+    {
+        let piece = zeros(alloc, PIECE_ROOM)?;
+        let line = Vec::with_capacity(alloc, LINE_ROOM)?;
+        let player = Player::new(alloc, config)?;
+        let script = Script {
+            player,
+            line,
+            number: 1,
+        };
+        Ok((script, piece))
+    }
+
+    /// Runs a script from its start to its end, and writes all of its output.
+    fn run_whole<R: Read, W: Write>(
+        &mut self,
+        alloc: Global,
+        piece: &mut [u8],
+        reader: &mut R,
+        writer: &mut W,
+    ) -> Result<(), ScriptFault>
+        requires sound { IsSound self.old }
+        requires number { self.old.number ≡ 1 }
+        requires room { (0 < length piece.old) × (length piece.old ≤ 65536) }
+        ensures script { (config : ConfigModel) (input : List ℕ) → Starts config self.old
+            → R.remaining reader.old ≡ Some input → RunsScript config input
+            (R.remaining reader.new) (W.contents writer.old) (W.contents writer.new) result }
+    {
+        let end = self.run(alloc, piece, reader, writer);
+        if is_write_fault(&end) {
+            return end;
+        }
+        match self.write_out(writer) {
+            Ok(()) => end,
+            Err(fault) => Err(fault),
+        }
+    }
+
+    /// Reads and plays to the end of the input, by way of the piece. Output may be left to write,
+    /// but for `Write`.
+    fn run<R: Read, W: Write>(
+        &mut self,
+        alloc: Global,
+        piece: &mut [u8],
+        reader: &mut R,
+        writer: &mut W,
+    ) -> Result<(), ScriptFault>
+        requires sound { IsSound self.old }
+        requires number { self.old.number ≡ 1 }
+        requires room { (0 < length piece.old) × (length piece.old ≤ 65536) }
+        ensures run { (input : List ℕ) → R.remaining reader.old ≡ Some input
+            → ComesTo self.old self.new (W.contents writer.old) (W.contents writer.new)
+            input (R.remaining reader.new) result }
+    {
+        for _read in 0..u32::MAX {
+            if let Err(fault) = self.write_out(writer) {
+                return Err(fault);
+            }
+            match read_piece(reader, piece) {
+                Ok(0) => return self.end(alloc, writer),
+                Ok(count) => {
+                    let (front, _) = piece.split_at(count);
+                    if let Err(fault) = self.take_piece(alloc, front, writer) {
+                        return Err(fault);
+                    }
+                }
+                Err(fault) => return Err(fault),
+            }
+        }
+        Err(ScriptFault::Read)
+    }
+
+    /// Writes the output that is left to write.
+    fn write_out<W: Write>(&mut self, writer: &mut W) -> Result<(), ScriptFault>
+        ensures sound { IsSound self.old → IsSound self.new }
+        ensures empty { OnOk result (self.new.player.output.items ≡ []) }
+        ensures passed { OnOk result (PassesOn (W.contents writer.old) (W.contents writer.new)
+            self.old.player.output.items self.new.player.output.items []) }
+        ensures cut { OnErr result (PassesSome (W.contents writer.old) (W.contents writer.new)
+            self.old.player.output.items []) }
+        ensures number { self.new.number ≡ self.old.number }
+        ensures ok { OnOk result
+            (Plays self.old self.new (W.contents writer.old) (W.contents writer.new) []) }
+        ensures err { IfErr result (λ fault. (rest : List ℕ) → Stops self.old self.new
+            (W.contents writer.old) (W.contents writer.new) rest fault) }
+        ensures fault { IfErr result (λ fault. fault ≡ ScriptFault.Write) }
+    {
+        flush(&mut self.player.output, writer)
+    }
+
+    /// Plays the lines that end in these bytes, and keeps the bytes behind the last newline.
+    fn take_piece<W: Write>(
+        &mut self,
+        alloc: Global,
+        piece: &[u8],
+        writer: &mut W,
+    ) -> Result<(), ScriptFault>
+        requires sound { IsSound self.old }
+        requires number { self.old.number + length piece.now < 2 ^ 64 }
+        ensures sound { OnOk result (IsSound self.new) }
+        ensures number { OnOk result (self.new.number ≤ self.old.number + length piece.now) }
+        ensures ok { OnOk result
+            (Plays self.old self.new (W.contents writer.old) (W.contents writer.new) piece.now) }
+        ensures err { IfErr result (λ fault. (later : List ℕ) → Stops self.old self.new
+            (W.contents writer.old) (W.contents writer.new) (piece.now ++ later) fault) }
+    {
+        let mut rest = piece;
+        while let Some((before, behind)) = split_at_newline(rest) {
+            match self.take_to_newline(alloc, before, writer) {
+                Ok(()) => rest = behind,
+                Err(fault) => return Err(fault),
+            }
+        }
+        self.gather(rest)
+    }
+
+    /// Plays the line that ends with these bytes and a newline.
+    fn take_to_newline<W: Write>(
+        &mut self,
+        alloc: Global,
+        before: &[u8],
+        writer: &mut W,
+    ) -> Result<(), ScriptFault>
+        requires sound { IsSound self.old }
+        requires bare { IsBare before.now }
+        requires number { self.old.number + 1 < 2 ^ 64 }
+        ensures sound { OnOk result (IsSound self.new) }
+        ensures number { OnOk result (self.new.number ≡ self.old.number + 1) }
+        ensures ok { OnOk result (Plays self.old self.new
+            (W.contents writer.old) (W.contents writer.new) (before.now ++ 10 ∷ [])) }
+        ensures err { IfErr result (λ fault. (later : List ℕ) → Stops self.old self.new
+            (W.contents writer.old) (W.contents writer.new) (before.now ++ 10 ∷ later) fault) }
+    {
+        match self.gather(before) {
+            Ok(()) => self.end_line(alloc, writer),
+            Err(fault) => Err(fault),
+        }
+    }
+
+    /// Adds bytes to the line that has begun.
+    fn gather(&mut self, bytes: &[u8]) -> Result<(), ScriptFault>
+        requires sound { IsSound self.old }
+        requires bare { IsBare bytes.now }
+        ensures sound { OnOk result (IsSound self.new) }
+        ensures number { self.new.number ≡ self.old.number }
+        ensures ok { (W : Option (List ℕ)) → OnOk result (Plays self.old self.new W W bytes.now) }
+        ensures err { (W : Option (List ℕ)) → IfErr result (λ fault.
+            (later : List ℕ) → Stops self.old self.new W W (bytes.now ++ later) fault) }
+    {
+        if self.line.len() + bytes.len() > LINE_ROOM {
+            return Err(ScriptFault::Line(self.number, LineFault::TooLong));
+        }
+        match self.line.extend_from_slice(bytes) {
+            Ok(()) => Ok(()),
+            Err(_) => Err(ScriptFault::OutOfMemory),
+        }
+    }
+
+    /// Plays the line that has begun, behind which a newline stands.
+    fn end_line<W: Write>(&mut self, alloc: Global, writer: &mut W) -> Result<(), ScriptFault>
+        requires sound { IsSound self.old }
+        requires number { self.old.number + 1 < 2 ^ 64 }
+        ensures sound { OnOk result (IsSound self.new) }
+        ensures number { OnOk result (self.new.number ≡ self.old.number + 1) }
+        ensures ok { OnOk result
+            (Plays self.old self.new (W.contents writer.old) (W.contents writer.new) (10 ∷ [])) }
+        ensures err { IfErr result (λ fault. (later : List ℕ) → Stops self.old self.new
+            (W.contents writer.old) (W.contents writer.new) (10 ∷ later) fault) }
+    {
+        let line = without_return(&self.line);
+        match self.player.take_line(alloc, line, self.number, writer) {
+            Ok(()) => {
+                self.line.clear();
+                self.number += 1;
+                Ok(())
+            }
+            Err(fault) => Err(fault),
+        }
+    }
+
+    /// Plays the last line, which has no end, if there is one.
+    fn end<W: Write>(&mut self, alloc: Global, writer: &mut W) -> Result<(), ScriptFault>
+        requires sound { IsSound self.old }
+        ensures ok { OnOk result
+            (Ends self.old self.new (W.contents writer.old) (W.contents writer.new) []) }
+        ensures err { IfErr result (λ fault. Stops self.old self.new
+            (W.contents writer.old) (W.contents writer.new) [] fault) }
+    {
+        if self.line.is_empty() {
+            return Ok(());
+        }
+        self.player
+            .take_line(alloc, &self.line, self.number, writer)
+    }
+}
+
+impl Player {
+    /// A node of the configuration that was just opened.
+    fn new(alloc: Global, config: NodeConfig) -> Result<Player, AllocError>
+        ensures node { IfOk result (λ player. player.node ≡ opened_node config) }
+        ensures slots { IfOk result (λ player. length player.node.slots ≤ 16) }
+        ensures output { IfOk result (λ player. player.output.items ≡ []) }
+    {
+        let output = output_buffer(alloc)?;
+        match Node::new(alloc, config) {
+            Ok(node) => Ok(Player {
+                node,
+                records: Outbox::new(alloc),
+                text: Vec::new(alloc),
+                output,
+            }),
+            Err(_) => Err(AllocError),
+        }
+    }
+
+    /// Plays the line of that number, which comes without its end.
+    #[tactic(auto, unfolding(crate::specs::ScriptSteps::LineComesTo))]
+    fn take_line<W: Write>(
+        &mut self,
+        alloc: Global,
+        line: &[u8],
+        number: u64,
+        writer: &mut W,
+    ) -> Result<(), ScriptFault>
+        requires slots { length self.old.node.slots ≤ 16 }
+        ensures count { length self.new.node.slots ≡ length self.old.node.slots }
+        ensures line { LineComesTo self.old self.new
+            (W.contents writer.old) (W.contents writer.new)
+            number (line_of line.now) result }
+    {
+        match read_line(alloc, line) {
+            Ok(line) => match line.event() {
+                None => Ok(()),
+                Some(event) => self.take_event(&event, writer),
+            },
+            Err(LineFault::OutOfMemory) => Err(ScriptFault::OutOfMemory),
+            Err(fault) => Err(ScriptFault::Line(number, fault)),
+        }
+    }
+
+    /// Plays an event.
+    #[tactic(auto, unfolding(crate::specs::ScriptSteps::LineComesTo))]
+    fn take_event<W: Write>(&mut self, event: &Event<'_>, writer: &mut W) -> Result<(), ScriptFault>
+        requires slots { length self.old.node.slots ≤ 16 }
+        ensures count { length self.new.node.slots ≡ length self.old.node.slots }
+        ensures line { LineComesTo self.old self.new
+            (W.contents writer.old) (W.contents writer.new)
+            0 (Ok (Some (event_model event.now))) result }
+    {
+        match play(&mut self.node, event, &mut self.records, &mut self.text) {
+            Ok(()) => put(&mut self.output, &self.text, writer),
+            Err(_) => Err(ScriptFault::OutOfMemory),
+        }
+    }
+}
+
+/// Whether the output couldn't be written.
+fn is_write_fault(end: &Result<(), ScriptFault>) -> bool
+    ensures write { result ≡ true → end.now ≡ Err ScriptFault.Write }
+    ensures other { result ≡ false → end.now ≡ Err ScriptFault.Write → ⊥ }
+{
+    matches!(end, Err(ScriptFault::Write))
+}
+
+/// So many zeros.
+fn zeros(alloc: Global, len: usize) -> Result<Vec<u8>, AllocError>
+    ensures { IfOk result (λ bytes. length bytes.items ≡ len) }
+{
+    vec![in alloc; 0; len]
+}

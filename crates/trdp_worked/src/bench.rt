@@ -1,0 +1,67 @@
+//! A node that a test holds in its own hands, and leads by lines.
+
+use std::alloc::Global;
+use std::process::Abort;
+use std::test::Fail;
+use trdp_dataset::NodeConfig;
+use trdp_engine::{Node, Outbox};
+use trdp_script::{print_record, read_line};
+
+/// A node, with the records that it has given.
+#[derive(Drop)]
+pub struct Bench {
+    pub node: Node,
+    pub out: Outbox,
+}
+
+impl Bench {
+    /// A new node of that configuration, whose outbox is empty.
+    pub fn new(alloc: Global, config: &[u8]) -> Result<Bench, Fail> {
+        let config = NodeConfig::from_toml(alloc, config)?;
+        let node = Node::new(alloc, config).ok().ok_or("no memory")?;
+        let out = Outbox::new(alloc);
+        Ok(Bench { node, out })
+    }
+
+    /// Hands the event of a line to the node.
+    pub fn take(&mut self, alloc: Global, line: &str) -> Result<(), Fail> {
+        let line = read_line(alloc, line.as_bytes())?;
+        if let Some(event) = line.event() {
+            self.node.step(&event, &mut self.out)?;
+        }
+        Ok(())
+    }
+
+    /// A new node of that configuration that has taken the lines, and whose outbox is empty.
+    pub fn after(alloc: Global, config: &[u8], lines: &[&str]) -> Result<Bench, Fail> {
+        let mut bench = Bench::new(alloc, config)?;
+        for line in lines {
+            bench.take(alloc, line)?;
+        }
+        bench.out.clear();
+        Ok(bench)
+    }
+
+    /// The records of the outbox as lines.
+    fn lines(&self, alloc: Global) -> Result<Vec<u8>, Fail> {
+        let mut text = Vec::new(alloc);
+        for index in 0..self.out.len() {
+            if let Some(record) = self.out.get(index) {
+                print_record(&mut text, &record)?;
+            }
+        }
+        Ok(text)
+    }
+
+    /// Asserts that the records of the outbox are these lines, and drops them.
+    pub fn tells(
+        &mut self,
+        rt: &(impl Abort + AllocGlobal),
+        lines: &'static str,
+    ) -> Result<(), Fail> {
+        let text = self.lines(rt.alloc())?;
+        assert_eq!(rt; str::from_utf8(&text)?, lines);
+        self.out.clear();
+        Ok(())
+    }
+}

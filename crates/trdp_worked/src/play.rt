@@ -1,0 +1,69 @@
+//! Plays scripts over one configuration, and compares what they give.
+
+use std::alloc::Global;
+use std::process::Abort;
+use std::test::Fail;
+use trdp_dataset::NodeConfig;
+use trdp_script::{ScriptFault, run_script};
+
+/// Two slots of four publishers, four subscriptions and one requester, and two datasets: a count and so many numbers of 16
+/// bits; and a signed number, a time of 48 bits and a value of the first dataset.
+pub static CONFIG: &[u8] = b"\
+[node]
+address = \"10.0.0.1\"
+[[slot]]
+publishers = 4
+subscriptions = 4
+requesters = 1
+listeners = 2
+callers = 2
+repliers = 1
+[[slot]]
+publishers = 4
+subscriptions = 4
+requesters = 1
+listeners = 2
+callers = 2
+repliers = 1
+[[dataset]]
+id = 1001
+element = [{ type = \"UINT8\" }, { type = \"UINT16\", size = 0 }]
+[[dataset]]
+id = 1002
+element = [{ type = \"INT16\" }, { type = 15 }, { type = 1001 }]
+";
+
+/// A script that is good to its end.
+pub struct Row {
+    /// What the script shows.
+    pub name: &'static str,
+    pub script: &'static str,
+    /// What it gives.
+    pub output: &'static str,
+}
+
+/// What a script came to.
+#[derive(Drop)]
+pub struct Played {
+    pub output: Vec<u8>,
+    pub ending: Result<(), ScriptFault>,
+}
+
+/// Plays a script on a new node.
+pub fn play(alloc: Global, script: &[u8]) -> Result<Played, Fail> {
+    let config = NodeConfig::from_toml(alloc, CONFIG)?;
+    let mut reader = script;
+    let mut output = Vec::new(alloc);
+    let ending = run_script(alloc, config, &mut reader, &mut output);
+    Ok(Played { output, ending })
+}
+
+/// Plays each of the scripts on a node of its own.
+pub fn play_all(rt: &(impl Abort + AllocGlobal), rows: &[Row]) -> Result<(), Fail> {
+    for row in rows {
+        let played = play(rt.alloc(), row.script.as_bytes())?;
+        assert_eq!(rt; str::from_utf8(&played.output)?, row.output, "{}", row.name);
+        assert_eq!(rt; played.ending, Ok(()), "{}", row.name);
+    }
+    Ok(())
+}

@@ -1,0 +1,42 @@
+//! The words of a script's fault, as the program prints them.
+
+ghost use Rattle.std.specs.Prelude.{◌≡◌};
+ghost use Rattle.trdpd.specs.Faults.{status_of_script};
+
+use std::fmt;
+use trdp_script::{ScriptFault, line_fault_name};
+
+/// A script's fault as the program prints it (profile): `line N fault NAME`, or `read fault`, `write fault` or
+/// `memory fault`. To show it takes no memory.
+#[derive(Clone, Copy, Debug)]
+pub struct ScriptFaultText(pub ScriptFault);
+
+impl fmt::Display for ScriptFaultText {
+    ghost use Rattle.std.specs.Prelude.{Some};
+    ghost use Rattle.trdpd.specs.Faults.{text_of_script_fault};
+
+    ghost output = { λ text. Some (text_of_script_fault text.0) };
+
+    fn fmt<W: fmt::Write>(&self, f: &mut fmt::Formatter<W>) -> fmt::Result {
+        match self.0 {
+            ScriptFault::Line(number, fault) => {
+                let name = line_fault_name(fault);
+                write!(f, "line {number} fault {name}")
+            }
+            ScriptFault::Read => f.write_str("read fault"),
+            ScriptFault::Write => f.write_str("write fault"),
+            ScriptFault::OutOfMemory => f.write_str("memory fault"),
+        }
+    }
+}
+
+/// The exit status of what a script came to: 0 at its end, 3 for a bad line, and else 4 (profile).
+pub fn script_status(end: Result<(), ScriptFault>) -> u8
+    ensures { result ≡ status_of_script end }
+{
+    match end {
+        Ok(()) => 0,
+        Err(ScriptFault::Line(..)) => 3,
+        Err(ScriptFault::Read | ScriptFault::Write | ScriptFault::OutOfMemory) => 4,
+    }
+}
