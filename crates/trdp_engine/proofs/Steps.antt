@@ -3,12 +3,11 @@ use Rattle.std.proofs.Common.{zero, suc, ◌≡◌, ℕ, ◌≤◌, ◌<◌, Lis
 use Rattle.std.specs.Prelude.{slice_get, nat_le, nat_lt}
 use Rattle.std.proofs.lemmas.Bool.Decides.{nat_tests}
 use Rattle.std.proofs.lemmas.List.{append-nil}
-use Rattle.std.proofs.lemmas.Option.{slice_get_within}
 use Rattle.trdp_base.specs.Moments.{last_moment}
 use Rattle.trdp_filter.specs.declared.globals.Globals.{Globals}
 use Rattle.trdp_dataset.specs.Configs.{SlotModel}
 use Rattle.trdp_engine.specs.Configs.{NodeSetup, setup_of}
-use Rattle.trdp_engine.specs.Records.{Content, RecordModel, records_of}
+use Rattle.trdp_engine.specs.Records.{RecordModel, records_of}
 use Rattle.trdp_engine.specs.Events.{EventModel, MomentIs, CallIs, CallModel}
 use Rattle.trdp_engine.specs.Slots.{SlotState, Outcome, opened_slot}
 use Rattle.trdp_engine.specs.Fitting.{AllFit, EachFits}

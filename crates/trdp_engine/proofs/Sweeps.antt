@@ -1,5 +1,5 @@
 -- A change of each slot of a node, and a change of one slot.
-use Rattle.std.proofs.Common.{zero, suc, ◌≡◌, ℕ, ◌+◌, ◌<◌, ◌≤◌, List, [], ◌∷◌, ◌++◌, length, get_or, take, drop, map, refl, ◌∙◌, ap, sym, arith, append_assoc, Some, None, Option, true, false, Bool, Result, Ok, Err, OnOk, OnErr}
+use Rattle.std.proofs.Common.{zero, suc, ◌≡◌, ℕ, ◌+◌, ◌<◌, ◌≤◌, List, [], ◌∷◌, ◌++◌, length, get_or, take, drop, map, refl, ◌∙◌, ap, sym, arith, append_assoc, Some, None, true, false, Bool, Result, Ok, Err, OnOk, OnErr}
 use Rattle.std.specs.Prelude.{slice_get, slice_set, option_map, ◌==◌, if◌then◌else◌}
 use Rattle.std.proofs.lemmas.Option.{slice_get_read}
 use Rattle.trdp_dataset.specs.Configs.{SlotModel}

@@ -1,5 +1,4 @@
-use Rattle.std.proofs.Common.{◌∙◌, sym, ap, List, [], ◌∷◌, ◌++◌}
-use Rattle.trdp_engine.specs.Slots.{SlotState, opened_slot}
+use Rattle.std.proofs.Common.{◌∙◌, sym}
 use Rattle.trdp_engine.proofs.Sweeps.{opened_more}
 use Rattle.trdp_engine.proofs.slots.open_slots.Goals as goal
 

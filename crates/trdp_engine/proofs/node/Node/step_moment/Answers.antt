@@ -1,9 +1,8 @@
-use Rattle.std.proofs.Common.{◌≡◌, ◌∙◌, ap, sym, refl, length}
+use Rattle.std.proofs.Common.{length}
 use Rattle.trdp_filter.specs.declared.globals.Globals.{Globals}
 use Rattle.trdp_engine.specs.Configs.{setup_of}
 use Rattle.trdp_engine.specs.Events.{MomentIs}
 use Rattle.trdp_engine.specs.Moments.{moved_to}
-use Rattle.trdp_engine.specs.NodeStates.{NodeState}
 use Rattle.trdp_engine.proofs.Fitting.{moved_fits}
 use Rattle.trdp_engine.proofs.Steps.{plain_steps, moment_admitted, has_outcome, outcomes_fit}
 use Rattle.trdp_engine.proofs.node.Node.step_moment.Goals as goal
