@@ -8,6 +8,7 @@ pub mod Receiving
 pub mod Rows
 pub mod Views
 pub mod Steps
+pub mod Sweeps
 pub mod Runs
 pub mod Fitting
 pub mod Showing

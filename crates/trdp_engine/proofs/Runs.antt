@@ -6,6 +6,7 @@ use Rattle.std.proofs.lemmas.Option.{slice_get_within}
 use Rattle.trdp_engine.specs.declared.event.Event.{Event}
 use Rattle.trdp_engine.specs.declared.fault.NodeFault.{NodeFault}
 use Rattle.trdp_engine.specs.declared.fault.NodeFault.TheVariants.{OutOfMemory}
+use Rattle.trdp_engine.specs.Configs.{setup_of}
 use Rattle.trdp_engine.specs.Records.{RecordModel, records_of}
 use Rattle.trdp_engine.specs.Events.{EventModel, event_model}
 use Rattle.trdp_engine.specs.Slots.{SlotState}
@@ -17,7 +18,7 @@ use Rattle.trdp_engine.proofs.Views.{admitted_first, refused_first, prepend-prep
 pub record RunsAsAloneSoFar (old now : NodeState) (records records_then : List RecordModel) (events : List EventModel) (s : ℕ) (slot : SlotState) : Type 0 where
   pub here : SlotState
   pub is_here : slice_get now.slots s ≡ Some here
-  pub run_so_far : (later : List EventModel) → prepend (records_of s records) (alone_in_view old.config s slot old.globals (events ++ later)) ≡ prepend (records_of s records_then) (alone_in_view old.config s here now.globals later)
+  pub run_so_far : (later : List EventModel) → prepend (records_of s records) (alone_in_view (setup_of old.config) s slot old.globals (events ++ later)) ≡ prepend (records_of s records_then) (alone_in_view (setup_of old.config) s here now.globals later)
 
 pub at_start : (old : NodeState) (records : List RecordModel) (s : ℕ) (slot : SlotState) → slice_get old.slots s ≡ Some slot → RunsAsAloneSoFar old old records records [] s slot
 at_start old records s slot is = record { here = slot; is_here = is; run_so_far = λ later. refl }
@@ -27,13 +28,13 @@ one_admitted : (old now next : NodeState) (records records_now records_next : Li
 one_admitted old now next records records_now records_next events event s slot same r admitted globals steps =
     let stepped = steps r.here r.is_here in
     record {
-      here = slot_after now.config s r.here now.globals event;
+      here = slot_after (setup_of now.config) s r.here now.globals event;
       is_here = stepped.slot_is;
       run_so_far = λ later.
           rw (append_assoc events (event ∷ []) later)
           (r.run_so_far (event ∷ later)
-          ∙ (ap (prepend (records_of s records_now)) (admitted_first old.config s (length now.slots) r.here now.globals event later admitted)
-          ∙ (prepend-prepend (records_of s records_now) (records_after old.config s r.here now.globals event) _
+          ∙ (ap (prepend (records_of s records_now)) (admitted_first (setup_of old.config) s (length now.slots) r.here now.globals event later admitted)
+          ∙ (prepend-prepend (records_of s records_now) (records_after (setup_of old.config) s r.here now.globals event) _
           ∙ rw (globals, stepped.records_are, same) refl)));
     }
 
@@ -45,7 +46,7 @@ one_refused old now records records_now events event fault s slot r bad = record
   run_so_far = λ later.
       rw (append_assoc events (event ∷ []) later)
       (r.run_so_far (event ∷ later)
-      ∙ ap (prepend (records_of s records_now)) (refused_first old.config s (length now.slots) r.here now.globals event later fault (slice_get_within now.slots s r.here r.is_here) bad));
+      ∙ ap (prepend (records_of s records_now)) (refused_first (setup_of old.config) s (length now.slots) r.here now.globals event later fault (slice_get_within now.slots s r.here r.is_here) bad));
 }
 
 -- one more event, whatever the step answered but want of memory

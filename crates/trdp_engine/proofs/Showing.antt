@@ -1,7 +1,7 @@
 -- What decoding answers for a subscription that shows a value of its dataset.
 use Rattle.std.proofs.Common.{◌≡◌, ℕ, List, Some, None, Option, Bool, true, false, Ok, Err, refl}
 use Rattle.std.specs.Prelude.{◌==◌, ◌&&◌, ◌||◌, not, is_some, if◌then◌else◌}
-use Rattle.trdp_dataset.specs.Configs.{ConfigModel}
+use Rattle.trdp_engine.specs.Configs.{NodeSetup}
 use Rattle.trdp_dataset.specs.Datasets.{DatasetModel, is_known}
 use Rattle.trdp_marshal.specs.declared.fault.MarshalFault.{MarshalFault}
 use Rattle.trdp_marshal.specs.declared.fault.MarshalFault.TheVariants.{NoDataset as UnknownDataset, Shape, TooLong}
@@ -27,28 +27,28 @@ fits_by false true true dataset fits = refl
 fits_by false true false dataset fits = absurd (cc)
 fits_by false false spelled dataset fits = absurd (cc)
 
-fault_is : (config : ConfigModel) (s : SubscriptionState) → ShowsFitting config s → decode_fault config.registry s.terms.dataset s.value ≡ (if s.terms.dataset == 0 then Some UnknownDataset else None)
+fault_is : (setup : NodeSetup) (s : SubscriptionState) → ShowsFitting setup s → decode_fault setup.registry s.terms.dataset s.value ≡ (if s.terms.dataset == 0 then Some UnknownDataset else None)
 unfolding decode_fault fault_by
-fault_is config s fit = fits_by (s.terms.dataset == 0) (is_known config.registry s.terms.dataset) (is_some (reading config.registry s.terms.dataset s.value)) fit.dataset fit.value
+fault_is setup s fit = fits_by (s.terms.dataset == 0) (is_known setup.registry s.terms.dataset) (is_some (reading setup.registry s.terms.dataset s.value)) fit.dataset fit.value
 
 -- a subscription as decoding gets it: its node's registry, its dataset, its bytes
-pub record IsGiven (config : ConfigModel) (s : SubscriptionState) (registry : List DatasetModel) (dataset : ℕ) (bytes : List ℕ) : Type 0 where
-  pub registry_is : registry ≡ config.registry
+pub record IsGiven (setup : NodeSetup) (s : SubscriptionState) (registry : List DatasetModel) (dataset : ℕ) (bytes : List ℕ) : Type 0 where
+  pub registry_is : registry ≡ setup.registry
   pub dataset_is : dataset ≡ s.terms.dataset
   pub bytes_are : bytes ≡ s.value
 
-given_fault : (config : ConfigModel) (s : SubscriptionState) (registry : List DatasetModel) (dataset : ℕ) (bytes : List ℕ) → ShowsFitting config s → IsGiven config s registry dataset bytes → decode_fault registry dataset bytes ≡ (if s.terms.dataset == 0 then Some UnknownDataset else None)
-given_fault config s registry dataset bytes fit given = rw (given.registry_is, given.dataset_is, given.bytes_are) (fault_is config s fit)
+given_fault : (setup : NodeSetup) (s : SubscriptionState) (registry : List DatasetModel) (dataset : ℕ) (bytes : List ℕ) → ShowsFitting setup s → IsGiven setup s registry dataset bytes → decode_fault registry dataset bytes ≡ (if s.terms.dataset == 0 then Some UnknownDataset else None)
+given_fault setup s registry dataset bytes fit given = rw (given.registry_is, given.dataset_is, given.bytes_are) (fault_is setup s fit)
 
 never : (zero : Bool) (fault : MarshalFault) (found : Option MarshalFault) → (UnknownDataset ≡ fault → ⊥) → found ≡ (if zero then Some UnknownDataset else None) → found ≡ Some fault → ⊥
 never true fault found other is same = let e : Some UnknownDataset ≡ Some fault = cc in other (cc)
 never false fault found other is same = absurd (cc)
 
-pub never_shape : (config : ConfigModel) (s : SubscriptionState) (registry : List DatasetModel) (dataset : ℕ) (bytes : List ℕ) → ShowsFitting config s → IsGiven config s registry dataset bytes → decode_fault registry dataset bytes ≡ Some Shape → ⊥
-never_shape config s registry dataset bytes fit given is = never (s.terms.dataset == 0) Shape _ (λ e. absurd (cc)) (given_fault config s registry dataset bytes fit given) is
+pub never_shape : (setup : NodeSetup) (s : SubscriptionState) (registry : List DatasetModel) (dataset : ℕ) (bytes : List ℕ) → ShowsFitting setup s → IsGiven setup s registry dataset bytes → decode_fault registry dataset bytes ≡ Some Shape → ⊥
+never_shape setup s registry dataset bytes fit given is = never (s.terms.dataset == 0) Shape _ (λ e. absurd (cc)) (given_fault setup s registry dataset bytes fit given) is
 
-pub never_too_long : (config : ConfigModel) (s : SubscriptionState) (registry : List DatasetModel) (dataset : ℕ) (bytes : List ℕ) → ShowsFitting config s → IsGiven config s registry dataset bytes → decode_fault registry dataset bytes ≡ Some TooLong → ⊥
-never_too_long config s registry dataset bytes fit given is = never (s.terms.dataset == 0) TooLong _ (λ e. absurd (cc)) (given_fault config s registry dataset bytes fit given) is
+pub never_too_long : (setup : NodeSetup) (s : SubscriptionState) (registry : List DatasetModel) (dataset : ℕ) (bytes : List ℕ) → ShowsFitting setup s → IsGiven setup s registry dataset bytes → decode_fault registry dataset bytes ≡ Some TooLong → ⊥
+never_too_long setup s registry dataset bytes fit given is = never (s.terms.dataset == 0) TooLong _ (λ e. absurd (cc)) (given_fault setup s registry dataset bytes fit given) is
 
 is_zero : (zero : Bool) (found : Option MarshalFault) → found ≡ (if zero then Some UnknownDataset else None) → found ≡ Some UnknownDataset → zero ≡ true
 is_zero true found is same = refl
@@ -59,15 +59,15 @@ is_not_zero true found is same = absurd (cc)
 is_not_zero false found is same = refl
 
 -- without a dataset there is no item
-pub shows_none : (config : ConfigModel) (s : SubscriptionState) (registry : List DatasetModel) (dataset : ℕ) (bytes : List ℕ) → ShowsFitting config s → IsGiven config s registry dataset bytes → decode_fault registry dataset bytes ≡ Some UnknownDataset → ShowsItem config (showing s) (Err NoDataset)
-shows_none config s registry dataset bytes fit given is = rw (is_zero (s.terms.dataset == 0) _ (given_fault config s registry dataset bytes fit given) is) refl
+pub shows_none : (setup : NodeSetup) (s : SubscriptionState) (registry : List DatasetModel) (dataset : ℕ) (bytes : List ℕ) → ShowsFitting setup s → IsGiven setup s registry dataset bytes → decode_fault registry dataset bytes ≡ Some UnknownDataset → ShowsItem setup (showing s) (Err NoDataset)
+shows_none setup s registry dataset bytes fit given is = rw (is_zero (s.terms.dataset == 0) _ (given_fault setup s registry dataset bytes fit given) is) refl
 
 -- memory may be wanting for the item
-pub lacks_memory : (config : ConfigModel) (s : SubscriptionState) (registry : List DatasetModel) (dataset : ℕ) (bytes : List ℕ) → ShowsFitting config s → IsGiven config s registry dataset bytes → decode_fault registry dataset bytes ≡ None → ShowsItem config (showing s) (Err OutOfMemory)
-lacks_memory config s registry dataset bytes fit given is = rw (is_not_zero (s.terms.dataset == 0) _ (given_fault config s registry dataset bytes fit given) is) refl
+pub lacks_memory : (setup : NodeSetup) (s : SubscriptionState) (registry : List DatasetModel) (dataset : ℕ) (bytes : List ℕ) → ShowsFitting setup s → IsGiven setup s registry dataset bytes → decode_fault registry dataset bytes ≡ None → ShowsItem setup (showing s) (Err OutOfMemory)
+lacks_memory setup s registry dataset bytes fit given is = rw (is_not_zero (s.terms.dataset == 0) _ (given_fault setup s registry dataset bytes fit given) is) refl
 
 -- the item is the one that the bytes spell
-pub shows_item : (config : ConfigModel) (s : SubscriptionState) (registry : List DatasetModel) (dataset : ℕ) (bytes : List ℕ) (item : Item) → ShowsFitting config s → IsGiven config s registry dataset bytes → decode_fault registry dataset bytes ≡ None → Spells registry dataset (model_of item) bytes → ShowsItem config (showing s) (Ok item)
-shows_item config s registry dataset bytes item fit given is spells =
-    rw (is_not_zero (s.terms.dataset == 0) _ (given_fault config s registry dataset bytes fit given) is)
+pub shows_item : (setup : NodeSetup) (s : SubscriptionState) (registry : List DatasetModel) (dataset : ℕ) (bytes : List ℕ) (item : Item) → ShowsFitting setup s → IsGiven setup s registry dataset bytes → decode_fault registry dataset bytes ≡ None → Spells registry dataset (model_of item) bytes → ShowsItem setup (showing s) (Ok item)
+shows_item setup s registry dataset bytes item fit given is spells =
+    rw (is_not_zero (s.terms.dataset == 0) _ (given_fault setup s registry dataset bytes fit given) is)
     (rw (given.registry_is, given.dataset_is, given.bytes_are) at spells)

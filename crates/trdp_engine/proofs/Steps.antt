@@ -1,62 +1,44 @@
--- A step of a node that has one slot.
-use Rattle.std.proofs.Common.{zero, suc, ◌≡◌, ℕ, ◌≤◌, List, [], ◌∷◌, ◌++◌, length, map, refl, ◌∙◌, ap, sym, arith, append_assoc, Some, None, Err, true, false, Bool}
-use Rattle.std.specs.Prelude.{slice_get, ◌==◌, ◌&&◌, nat_le}
+-- A step of a node: what each slot sees of it, and what it adds to the outbox.
+use Rattle.std.proofs.Common.{zero, suc, ◌≡◌, ℕ, ◌≤◌, ◌<◌, List, [], ◌∷◌, ◌++◌, length, map, refl, ◌∙◌, ap, sym, arith, append_assoc, Some, None, Option, false}
+use Rattle.std.specs.Prelude.{slice_get, nat_le, nat_lt}
 use Rattle.std.proofs.lemmas.Bool.Decides.{nat_tests}
-use Rattle.std.proofs.lemmas.List.{map-append, append-nil}
-use Rattle.std.proofs.lemmas.List.Elements.{filter-append}
+use Rattle.std.proofs.lemmas.List.{append-nil}
 use Rattle.trdp_base.specs.Moments.{last_moment}
-use Rattle.trdp_dataset.specs.Configs.{ConfigModel}
 use Rattle.trdp_filter.specs.declared.globals.Globals.{Globals}
-use Rattle.trdp_engine.specs.Records.{Content, RecordModel, labelled, records_of}
-use Rattle.trdp_base.specs.declared.place.Place.{Place}
-use Rattle.trdp_engine.specs.declared.record.Protocol.{Protocol}
-use Rattle.trdp_engine.specs.Events.{EventModel, MomentIs, DatagramIs, CallIs, CallModel}
-use Rattle.trdp_engine.specs.Datagrams.{telegram_of, received_if, concerns}
-use Rattle.trdp_engine.proofs.Receiving.{unconcerned}
-use Rattle.trdp_engine.specs.Slots.{SlotState, Outcome}
-use Rattle.trdp_engine.specs.Calls.{called}
-use Rattle.trdp_engine.specs.Moments.{moved_to}
-use Rattle.trdp_engine.specs.declared.fault.NodeFault.TheVariants.{NoSlot}
-use Rattle.trdp_engine.specs.Alone.{slot_after, records_after, refused_as, FaultIs}
-use Rattle.trdp_marshal.specs.Items.{ItemModel}
-use Rattle.trdp_engine.specs.Values.{valued, valued_at}
-use Rattle.trdp_engine.specs.NodeStates.{NodeState, StepsAsAlone, Appends, GetsOutcome}
+use Rattle.trdp_dataset.specs.Configs.{SlotModel}
+use Rattle.trdp_engine.specs.Configs.{NodeSetup, setup_of}
+use Rattle.trdp_engine.specs.Records.{RecordModel, records_of}
+use Rattle.trdp_engine.specs.Events.{EventModel, MomentIs, CallIs, CallModel}
+use Rattle.trdp_engine.specs.Slots.{SlotState, Outcome, opened_slot}
+use Rattle.trdp_engine.specs.Fitting.{AllFit, EachFits}
+use Rattle.trdp_engine.specs.Alone.{refused_as, plain_effect}
+use Rattle.trdp_engine.specs.NodeStates.{NodeState, StepsAsAlone, HasOutcome, Appends}
+use Rattle.trdp_engine.proofs.Views.{view_is_plain}
 
-records_of-append : (s : ℕ) (xs ys : List RecordModel) → records_of s (xs ++ ys) ≡ records_of s xs ++ records_of s ys
-records_of-append s xs ys = ap (map (λ r. r.content)) (filter-append (λ r. r.slot == s) xs ys) ∙ map-append _ _ _
-
-records_of-labelled : (s : ℕ) (contents : List Content) → records_of s (labelled s contents) ≡ contents
-records_of-labelled s [] = refl
-records_of-labelled s (c ∷ contents) = let same : (s == s) ≡ true = grind (arith, nat_tests) in rw same (ap (λ (cs : List Content). c ∷ cs) (records_of-labelled s contents))
-
-records_of-other : (s r : ℕ) (contents : List Content) → (r == s) ≡ false → records_of s (labelled r contents) ≡ []
-records_of-other s r [] other = refl
-records_of-other s r (c ∷ contents) other = rw other (records_of-other s r contents other)
-
--- the slot of a node that has one
-pub only : (slot other : SlotState) (s : ℕ) → slice_get (slot ∷ []) s ≡ Some other → (s ≡ 0) × (slot ≡ other)
-only slot other zero is = let e : slot ≡ other = cc in (refl, e)
-only slot other (suc s) is = absurd (cc)
-
-past_only : (slot : SlotState) (s : ℕ) → slice_get (slot ∷ []) s ≡ None → (0 == s) ≡ false
-past_only slot zero none = absurd (cc)
-past_only slot (suc s) none = grind (arith, nat_tests)
-
--- what slot 0 does at an event is all that the node does
-pub only_steps : (old new : NodeState) (slot : SlotState) (outcome : Outcome) (records records_then : List RecordModel) (event : EventModel) → old.slots ≡ slot ∷ [] → new.slots ≡ outcome.slot ∷ [] → records_then ≡ records ++ labelled 0 outcome.records → slot_after old.config 0 slot old.globals event ≡ outcome.slot → records_after old.config 0 slot old.globals event ≡ outcome.records → (s : ℕ) (other : SlotState) → slice_get old.slots s ≡ Some other → StepsAsAlone old new records records_then event s other
-only_steps old new slot outcome records records_then event before after told same_slot same_records s other is =
-    let one = only slot other s (rw before at is) in
+-- an admitted event whose effect on a slot is the plain one is as the slot sees it
+pub plain_steps : (old new : NodeState) (records records_then : List RecordModel) (event : EventModel) (s : ℕ) (slot : SlotState) → refused_as (length old.slots) old.globals event ≡ None → HasOutcome new.slots records records_then s (plain_effect (setup_of old.config) s slot old.globals event) → StepsAsAlone old new records records_then event s slot
+plain_steps old new records records_then event s slot admitted has =
+    let is = view_is_plain (setup_of old.config) s (length old.slots) slot old.globals event admitted in
     record {
-      slot_is = rw (after, one.0, ← one.1, same_slot) refl;
-      records_are = rw (told, one.0, ← one.1, same_records, records_of-append 0 records (labelled 0 outcome.records), records_of-labelled 0 outcome.records) refl;
+      slot_is = has.slot_is ∙ ap (λ (o : Outcome). Some o.slot) is;
+      records_are = has.records_are ∙ ap (λ (o : Outcome). records_of s records ++ o.records) is;
     }
 
-pub only_appends : (slots : List SlotState) (slot : SlotState) (contents : List Content) (records records_then : List RecordModel) → slots ≡ slot ∷ [] → records_then ≡ records ++ labelled 0 contents → Appends slots records records_then
-only_appends slots slot contents records records_then one told = record {
-  more = labelled 0 contents;
-  front = told;
-  none_else = λ s none. rw (told, records_of-append s records (labelled 0 contents), records_of-other s 0 contents (past_only slot s (rw one at none)), append-nil) refl;
-}
+pub moment_admitted : (n : ℕ) (globals : Globals) (t : ℕ) → globals.now ≤ t → t ≤ last_moment → refused_as n globals (MomentIs t) ≡ None
+moment_admitted n globals t le within =
+    let past : nat_lt t globals.now ≡ false = grind (arith, nat_tests) in
+    let late : nat_lt last_moment t ≡ false = not_after t last_moment within in
+    rw (past, late) refl
+  where
+    not_after : (t last : ℕ) → t ≤ last → nat_lt last t ≡ false
+    not_after t last within = grind (arith, nat_tests)
+
+pub call_admitted : (n : ℕ) (globals : Globals) (s : ℕ) (call : CallModel) → s < n → refused_as n globals (CallIs s call) ≡ None
+call_admitted n globals s call lt = let there : nat_le n s ≡ false = grind (arith, nat_tests) in rw there refl
+
+-- the records of before may be said in another way
+pub has_outcome : (slots : List SlotState) (records same records_then : List RecordModel) (s : ℕ) (outcome : Outcome) → records ≡ same → HasOutcome slots records records_then s outcome → HasOutcome slots same records_then s outcome
+has_outcome slots records same records_then s outcome is has = rw (← is) has
 
 pub appends_none : (slots : List SlotState) (records records_then : List RecordModel) → records_then ≡ records → Appends slots records records_then
 appends_none slots records records_then same = record {
@@ -66,7 +48,7 @@ appends_none slots records records_then same = record {
 }
 
 -- as many slots: the same numbers have none
-get_past : (slots others : List SlotState) (s : ℕ) → length others ≡ length slots → slice_get slots s ≡ None → slice_get others s ≡ None
+pub get_past : (slots others : List SlotState) (s : ℕ) → length others ≡ length slots → slice_get slots s ≡ None → slice_get others s ≡ None
 get_past [] [] s same none = refl
 get_past [] (x ∷ others) s same none = absurd (omega (arith, same))
 get_past (x ∷ slots) [] s same none = refl
@@ -80,36 +62,19 @@ appends_more slots others xs ys zs same a b = record {
   none_else = λ s none. b.none_else s (get_past slots others s same none) ∙ a.none_else s none;
 }
 
--- a call of another slot than 0
-pub other_is_refused : (s : ℕ) (globals : Globals) (call : CallModel) → (s == 0) ≡ false → FaultIs (refused_as 1 globals (CallIs s call)) (Err NoSlot)
-other_is_refused s globals call other = let past : nat_le 1 s ≡ true = grind (arith, nat_tests) in rw past refl
-
--- what slot 0 does at a datagram: one that doesn't concern it changes nothing
-pub datagram_effect : (config : ConfigModel) (slot : SlotState) (globals : Globals) (protocol : Protocol) (src dst : Place) (bytes : List ℕ) → (slot_after config 0 slot globals (DatagramIs protocol src dst bytes) ≡ (received_if config slot globals (telegram_of protocol src dst bytes)).slot) × (records_after config 0 slot globals (DatagramIs protocol src dst bytes) ≡ (received_if config slot globals (telegram_of protocol src dst bytes)).records)
-datagram_effect config slot globals protocol src dst bytes = either config slot globals protocol src dst bytes (concerns globals (telegram_of protocol src dst bytes) slot) refl
+-- each slot's values still fit, where its outcome's do
+pub outcomes_fit : (setup : NodeSetup) (effect : ℕ → SlotState → Outcome) (old new : List SlotState) (records records_then : List RecordModel) → length new ≡ length old → ((s : ℕ) (slot : SlotState) → slice_get old s ≡ Some slot → HasOutcome new records records_then s (effect s slot)) → ((s : ℕ) (slot : SlotState) → AllFit setup slot.objects → AllFit setup (effect s slot).slot.objects) → EachFits setup old → EachFits setup new
+outcomes_fit setup effect old new records records_then same parts keeps fit s then is = from (slice_get old s) refl
   where
-    either : (config : ConfigModel) (slot : SlotState) (globals : Globals) (protocol : Protocol) (src dst : Place) (bytes : List ℕ) (b : Bool) → concerns globals (telegram_of protocol src dst bytes) slot ≡ b → (slot_after config 0 slot globals (DatagramIs protocol src dst bytes) ≡ (received_if config slot globals (telegram_of protocol src dst bytes)).slot) × (records_after config 0 slot globals (DatagramIs protocol src dst bytes) ≡ (received_if config slot globals (telegram_of protocol src dst bytes)).records)
-    either config slot globals protocol src dst bytes true is = (rw is refl, rw is refl)
-    either config slot globals protocol src dst bytes false is =
-        let same = unconcerned config slot globals (telegram_of protocol src dst bytes) is in
-        (rw is (sym (ap (λ (o : Outcome). o.slot) same)), rw is (sym (ap (λ (o : Outcome). o.records) same)))
+    from : (there : Option SlotState) → slice_get old s ≡ there → AllFit setup then.objects
+    from None none = let gone : Some then ≡ None = sym is ∙ get_past old new s same none in absurd (cc)
+    from (Some slot) at =
+        let both : Some (effect s slot).slot ≡ Some then = sym (parts s slot at).slot_is ∙ is in
+        let one : (effect s slot).slot ≡ then = cc in
+        rw (← one) (keeps s slot (fit s slot at))
 
--- what slot 0 does at a call of its own
-pub call_effect : (config : ConfigModel) (slot : SlotState) (globals : Globals) (s : ℕ) (call : CallModel) → s ≡ 0 → (slot_after config 0 slot globals (CallIs s call) ≡ (called config slot globals call).slot) × (records_after config 0 slot globals (CallIs s call) ≡ (called config slot globals call).records)
-call_effect config slot globals s call zero_is = rw zero_is (refl, refl)
-
-seen_moment : (now t last : ℕ) → now ≤ t → t ≤ last → (nat_le now t && nat_le t last) ≡ true
-seen_moment now t last le within = grind (arith, nat_tests)
-
--- what slot 0 does at an admitted moment
-pub moment_effect : (config : ConfigModel) (slot : SlotState) (globals : Globals) (t : ℕ) → globals.now ≤ t → t ≤ last_moment → (slot_after config 0 slot globals (MomentIs t) ≡ (moved_to slot (record globals { now = t })).slot) × (records_after config 0 slot globals (MomentIs t) ≡ (moved_to slot (record globals { now = t })).records)
-moment_effect config slot globals t le within = let seen = seen_moment globals.now t last_moment le within in (rw seen refl, rw seen refl)
-
--- a value that is handed over to slot 0
-pub only_values : (config : ConfigModel) (old new : NodeState) (slot : SlotState) (handle : ℕ) (item : ItemModel) (records records_then : List RecordModel) → old.slots ≡ slot ∷ [] → new.slots ≡ (valued config slot handle item).slot ∷ [] → records_then ≡ records ++ labelled 0 (valued config slot handle item).records → (r : ℕ) → r ≡ 0 → (s : ℕ) (other : SlotState) → slice_get old.slots s ≡ Some other → GetsOutcome new records records_then s (valued_at config r s other handle item)
-only_values config old new slot handle item records records_then before after told r zero_is s other is =
-    let one = only slot other s (rw before at is) in
-    record {
-      slot_is = rw (after, zero_is, one.0, ← one.1) refl;
-      records_are = rw (told, zero_is, one.0, ← one.1, records_of-append 0 records (labelled 0 (valued config slot handle item).records), records_of-labelled 0 (valued config slot handle item).records) refl;
-    }
+-- slots that were just opened hold nothing
+pub opened_fit : (setup : NodeSetup) (slots : List SlotModel) → EachFits setup (map (λ slot. opened_slot slot.quotas) slots)
+opened_fit setup [] s slot is = absurd (cc)
+opened_fit setup (x ∷ slots) zero slot is = let empty : opened_slot x.quotas ≡ slot = cc in rw (← empty) tt
+opened_fit setup (x ∷ slots) (suc s) slot is = opened_fit setup slots s slot is

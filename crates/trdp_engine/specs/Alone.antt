@@ -7,7 +7,7 @@ use Rattle.trdp_filter.specs.Globals.{with_role}
 use Rattle.trdp_engine.specs.declared.fault.NodeFault.{NodeFault}
 use Rattle.trdp_engine.specs.declared.fault.NodeFault.TheVariants.{NoSlot, Past, TooLate, NoGroup}
 use Rattle.trdp_engine.specs.declared.fault.NodeFault.TheVariants.{OutOfMemory}
-use Rattle.trdp_dataset.specs.Configs.{ConfigModel}
+use Rattle.trdp_engine.specs.Configs.{NodeSetup}
 use Rattle.trdp_engine.specs.Records.{Content}
 use Rattle.trdp_engine.specs.Events.{EventModel, MomentIs, TopologyIs, RoleIs, DatagramIs, CallIs}
 use Rattle.trdp_engine.specs.Slots.{SlotState, Outcome, unchanged}
@@ -53,13 +53,13 @@ is_in_view s slot globals (DatagramIs protocol src dst bytes) =
 is_in_view s slot globals (CallIs r call) = r == s
 
 -- effect of an event on a slot that sees it
-abbrev pub event_effect : ConfigModel → SlotState → Globals → EventModel → Outcome
-event_effect config slot globals (MomentIs t) = moved_to slot (record globals { now = t })
-event_effect config slot globals (TopologyIs topo) = unchanged slot
-event_effect config slot globals (RoleIs group leader) = unchanged slot
-event_effect config slot globals (DatagramIs protocol src dst bytes) =
-    received_if config slot globals (telegram_of protocol src dst bytes)
-event_effect config slot globals (CallIs s call) = called config slot globals call
+abbrev pub event_effect : NodeSetup → SlotState → Globals → EventModel → Outcome
+event_effect setup slot globals (MomentIs t) = moved_to slot (record globals { now = t })
+event_effect setup slot globals (TopologyIs topo) = unchanged slot
+event_effect setup slot globals (RoleIs group leader) = unchanged slot
+event_effect setup slot globals (DatagramIs protocol src dst bytes) =
+    received_if setup slot globals (telegram_of protocol src dst bytes)
+event_effect setup slot globals (CallIs s call) = called setup slot globals call
 
 -- a slot after a list of events, the globals then, and all its records in order
 pub record Run : Type 0 where
@@ -72,48 +72,48 @@ abbrev pub prepend : List Content → Run → Run
 prepend records run = record run { records = records ++ run.records }
 
 -- a slot run by itself over a list of events
-abbrev pub alone : ConfigModel → SlotState → Globals → List EventModel → Run
-alone config slot globals [] = record { slot = slot; globals = globals; records = [] }
-alone config slot globals (event ∷ events) =
-    prepend (event_effect config slot globals event).records
-    (alone config (event_effect config slot globals event).slot
+abbrev pub alone : NodeSetup → SlotState → Globals → List EventModel → Run
+alone setup slot globals [] = record { slot = slot; globals = globals; records = [] }
+alone setup slot globals (event ∷ events) =
+    prepend (event_effect setup slot globals event).records
+    (alone setup (event_effect setup slot globals event).slot
     (globals_after globals event) events)
 
 -- the events that slot s sees
-abbrev pub view : ConfigModel → ℕ → SlotState → Globals → List EventModel → List EventModel
-view config s slot globals [] = []
-view config s slot globals (event ∷ events) =
+abbrev pub view : NodeSetup → ℕ → SlotState → Globals → List EventModel → List EventModel
+view setup s slot globals [] = []
+view setup s slot globals (event ∷ events) =
     if is_in_view s slot globals event
-    then event ∷ view config s (event_effect config slot globals event).slot
+    then event ∷ view setup s (event_effect setup slot globals event).slot
     (globals_after globals event) events
-    else view config s slot globals events
+    else view setup s slot globals events
 
 -- slot s run by itself over the events that it sees
-abbrev pub alone_in_view : ConfigModel → ℕ → SlotState → Globals → List EventModel → Run
-alone_in_view config s slot globals events =
-    alone config slot globals (view config s slot globals events)
+abbrev pub alone_in_view : NodeSetup → ℕ → SlotState → Globals → List EventModel → Run
+alone_in_view setup s slot globals events =
+    alone setup slot globals (view setup s slot globals events)
 
 -- slot s after any one event of the node
-abbrev pub slot_after : ConfigModel → ℕ → SlotState → Globals → EventModel → SlotState
-slot_after config s slot globals event =
+abbrev pub slot_after : NodeSetup → ℕ → SlotState → Globals → EventModel → SlotState
+slot_after setup s slot globals event =
     if is_in_view s slot globals event
-    then (event_effect config slot globals event).slot
+    then (event_effect setup slot globals event).slot
     else slot
 
 -- the records that slot s gets at any one event of the node
-abbrev pub records_after : ConfigModel → ℕ → SlotState → Globals → EventModel → List Content
-records_after config s slot globals event =
+abbrev pub records_after : NodeSetup → ℕ → SlotState → Globals → EventModel → List Content
+records_after setup s slot globals event =
     if is_in_view s slot globals event
-    then (event_effect config slot globals event).records
+    then (event_effect setup slot globals event).records
     else []
 
 -- effect of any event on slot s, whether the slot sees it or not: the calls of other slots are
 -- none of its own
-abbrev pub plain_effect : ConfigModel → ℕ → SlotState → Globals → EventModel → Outcome
-plain_effect config s slot globals (MomentIs t) = moved_to slot (record globals { now = t })
-plain_effect config s slot globals (TopologyIs topo) = unchanged slot
-plain_effect config s slot globals (RoleIs group leader) = unchanged slot
-plain_effect config s slot globals (DatagramIs protocol src dst bytes) =
-    received_if config slot globals (telegram_of protocol src dst bytes)
-plain_effect config s slot globals (CallIs r call) =
-    if r == s then called config slot globals call else unchanged slot
+abbrev pub plain_effect : NodeSetup → ℕ → SlotState → Globals → EventModel → Outcome
+plain_effect setup s slot globals (MomentIs t) = moved_to slot (record globals { now = t })
+plain_effect setup s slot globals (TopologyIs topo) = unchanged slot
+plain_effect setup s slot globals (RoleIs group leader) = unchanged slot
+plain_effect setup s slot globals (DatagramIs protocol src dst bytes) =
+    received_if setup slot globals (telegram_of protocol src dst bytes)
+plain_effect setup s slot globals (CallIs r call) =
+    if r == s then called setup slot globals call else unchanged slot

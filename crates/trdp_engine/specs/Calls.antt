@@ -12,7 +12,6 @@ use Rattle.trdp_pd.specs.Subscriptions.{SubscriptionState, subscribed}
 use Rattle.trdp_pd.specs.Requesters.{opened}
 use Rattle.trdp_pd.specs.Peeks.{shown}
 use Rattle.trdp_pd.specs.Objects.{kind_of}
-use Rattle.trdp_dataset.specs.Configs.{ConfigModel}
 use Rattle.trdp_engine.specs.declared.object.Entry.{Entry}
 use Rattle.trdp_engine.specs.declared.fault.Refusal.{Refusal}
 use Rattle.trdp_engine.specs.declared.fault.Refusal.TheVariants.{NoHandle, WrongKind, Cycle}
@@ -22,7 +21,7 @@ use Rattle.trdp_engine.specs.declared.look.LookFault.{LookFault}
 use Rattle.trdp_engine.specs.declared.look.LookFault.TheVariants.{NoHandle as NoSuchHandle}
 use Rattle.trdp_engine.specs.declared.look.LookFault.TheVariants.{WrongKind as NoSubscription}
 use Rattle.trdp_engine.specs.Looks.{subscription_at}
-use Rattle.trdp_engine.specs.Configs.{is_dataset, zero_size_of, is_fitting}
+use Rattle.trdp_engine.specs.Configs.{NodeSetup, is_dataset, zero_size_of, is_fitting}
 use Rattle.trdp_engine.specs.Records.{AnswerModel, HandleIs, DoneIs, ValueIs, RefusedIs, Answers}
 use Rattle.trdp_engine.specs.Slots.{SlotState, Outcome, count_of, entry_of, with_object, changed}
 use Rattle.trdp_engine.specs.Slots.{without}
@@ -56,41 +55,41 @@ opened_unless (Some refusal) slot object = refused slot refusal
 opened_unless None slot object = answered (with_object slot object) (HandleIs slot.next)
 
 -- no such dataset, or one whose zero value, its shortest, is longer than process data carries
-abbrev pub dataset_refusal : ConfigModel → ℕ → Option Refusal → Option Refusal
-dataset_refusal config dataset later =
-    if not (is_dataset config dataset) then Some NoDataset else
-    if nat_lt 1432 (zero_size_of config dataset) then Some TooLong else later
+abbrev pub dataset_refusal : NodeSetup → ℕ → Option Refusal → Option Refusal
+dataset_refusal setup dataset later =
+    if not (is_dataset setup dataset) then Some NoDataset else
+    if nat_lt 1432 (zero_size_of setup dataset) then Some TooLong else later
 
 -- first refusal of a publishing: the cycle, the dataset, the quota, the handles
-abbrev pub publish_refusal : ConfigModel → SlotState → PublisherTerms → Option Refusal
-publish_refusal config slot terms =
+abbrev pub publish_refusal : NodeSetup → SlotState → PublisherTerms → Option Refusal
+publish_refusal setup slot terms =
     if not (is_span terms.cycle) then Some Cycle else
-    dataset_refusal config terms.dataset (opening_refusal slot 0)
+    dataset_refusal setup terms.dataset (opening_refusal slot 0)
 
 -- first refusal of a subscription: the supervision time, the source range, the dataset, the
 -- quota, the handles
-abbrev pub subscribe_refusal : ConfigModel → SlotState → SubscriptionTerms → Option Refusal
-subscribe_refusal config slot terms =
+abbrev pub subscribe_refusal : NodeSetup → SlotState → SubscriptionTerms → Option Refusal
+subscribe_refusal setup slot terms =
     if not (is_span terms.supervision) then Some Timeout else
     if nat_lt terms.filter.high.0 terms.filter.low.0 then Some Range else
-    dataset_refusal config terms.dataset (opening_refusal slot 1)
+    dataset_refusal setup terms.dataset (opening_refusal slot 1)
 
 -- why a publisher takes no such value: more than 1432 bytes, or no value of its dataset
-abbrev pub value_refusal : ConfigModel → ℕ → List ℕ → Option Refusal
-value_refusal config dataset bytes =
+abbrev pub value_refusal : NodeSetup → ℕ → List ℕ → Option Refusal
+value_refusal setup dataset bytes =
     if nat_lt 1432 (length bytes) then Some TooLong else
-    if not (is_fitting config dataset bytes) then Some Shape else None
+    if not (is_fitting setup dataset bytes) then Some Shape else None
 
 -- why an object takes no such value: it is no publisher, or the value's own refusal
-abbrev pub object_refusal : ConfigModel → List ℕ → AnyObject → Option Refusal
-object_refusal config bytes (Publisher p) = value_refusal config p.terms.dataset bytes
-object_refusal config bytes (Subscription s) = Some WrongKind
-object_refusal config bytes (Requester r) = Some WrongKind
+abbrev pub object_refusal : NodeSetup → List ℕ → AnyObject → Option Refusal
+object_refusal setup bytes (Publisher p) = value_refusal setup p.terms.dataset bytes
+object_refusal setup bytes (Subscription s) = Some WrongKind
+object_refusal setup bytes (Requester r) = Some WrongKind
 
 -- first refusal of a value for the object of a handle
-abbrev pub put_refusal : ConfigModel → List ℕ → Option Entry → Option Refusal
-put_refusal config bytes None = Some NoHandle
-put_refusal config bytes (Some entry) = object_refusal config bytes entry.object
+abbrev pub put_refusal : NodeSetup → List ℕ → Option Entry → Option Refusal
+put_refusal setup bytes None = Some NoHandle
+put_refusal setup bytes (Some entry) = object_refusal setup bytes entry.object
 
 -- a publisher with a new value
 abbrev pub with_value : List ℕ → AnyObject → AnyObject
@@ -134,24 +133,24 @@ pulled_unless None slot handle = record {
 }
 
 -- effect of a call on the slot that makes it
-abbrev pub called : ConfigModel → SlotState → Globals → CallModel → Outcome
-called config slot globals (PublishCall terms) =
-    opened_unless (publish_refusal config slot terms) slot
+abbrev pub called : NodeSetup → SlotState → Globals → CallModel → Outcome
+called setup slot globals (PublishCall terms) =
+    opened_unless (publish_refusal setup slot terms) slot
     (Publisher (published terms globals.now))
-called config slot globals (PutCall handle bytes) =
-    put_unless (put_refusal config bytes (entry_of handle slot.objects)) slot handle bytes
-called config slot globals (UnpublishCall handle) =
+called setup slot globals (PutCall handle bytes) =
+    put_unless (put_refusal setup bytes (entry_of handle slot.objects)) slot handle bytes
+called setup slot globals (UnpublishCall handle) =
     closed_unless (close_refusal 0 (entry_of handle slot.objects)) slot handle
-called config slot globals (SubscribeCall terms) =
-    opened_unless (subscribe_refusal config slot terms) slot
-    (Subscription (subscribed terms (zero_size_of config terms.dataset) globals.now))
-called config slot globals (GetCall handle) =
+called setup slot globals (SubscribeCall terms) =
+    opened_unless (subscribe_refusal setup slot terms) slot
+    (Subscription (subscribed terms (zero_size_of setup terms.dataset) globals.now))
+called setup slot globals (GetCall handle) =
     answered slot (get_answer (subscription_at handle slot.objects))
-called config slot globals (UnsubscribeCall handle) =
+called setup slot globals (UnsubscribeCall handle) =
     closed_unless (close_refusal 1 (entry_of handle slot.objects)) slot handle
-called config slot globals (OpenPullCall terms) =
+called setup slot globals (OpenPullCall terms) =
     opened_unless (opening_refusal slot 2) slot (Requester (opened terms))
-called config slot globals (PullCall handle) =
+called setup slot globals (PullCall handle) =
     pulled_unless (pull_refusal globals (entry_of handle slot.objects)) slot handle
-called config slot globals (ClosePullCall handle) =
+called setup slot globals (ClosePullCall handle) =
     closed_unless (close_refusal 2 (entry_of handle slot.objects)) slot handle

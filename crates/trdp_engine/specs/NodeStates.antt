@@ -1,14 +1,16 @@
 -- A node, and what its events do to each slot.
-use Rattle.std.specs.Prelude.{◌≡◌, ℕ, ◌<◌, ◌++◌, ◌∷◌, [], List, length, filter, slice_get, Some}
-use Rattle.std.specs.Prelude.{None, true}
+use Rattle.std.specs.Prelude.{◌≡◌, ℕ, ◌<◌, ◌≤◌, ◌++◌, List, length, filter, slice_get, Some, None}
+use Rattle.std.specs.Prelude.{true, map, take, IfSome}
 use Rattle.std.specs.List.{sum_by, list_any}
 use Rattle.trdp_filter.specs.declared.globals.Globals.{Globals}
 use Rattle.trdp_dataset.specs.Configs.{ConfigModel}
 use Rattle.trdp_filter.specs.Globals.{first_globals}
 use Rattle.trdp_engine.specs.Records.{Content, RecordModel, records_of}
-use Rattle.trdp_engine.specs.Events.{EventModel, MomentIs, TopologyIs, RoleIs, DatagramIs, CallIs}
+use Rattle.trdp_engine.specs.declared.event.Event.{Event}
+use Rattle.trdp_engine.specs.Events.{EventModel, event_model, MomentIs, TopologyIs, RoleIs}
+use Rattle.trdp_engine.specs.Events.{DatagramIs, CallIs}
 use Rattle.trdp_engine.specs.Slots.{SlotState, Outcome, opened_slot}
-use Rattle.trdp_engine.specs.Configs.{quotas_of}
+use Rattle.trdp_engine.specs.Configs.{setup_of}
 use Rattle.trdp_engine.specs.Datagrams.{telegram_of, concerns}
 use Rattle.trdp_engine.specs.Moments.{is_due}
 use Rattle.trdp_engine.specs.Alone.{slot_after, records_after, alone_in_view}
@@ -22,19 +24,22 @@ pub record NodeState : Type 0 where
 -- one event, as slot s sees it
 pub record StepsAsAlone (old new : NodeState) (records records_then : List RecordModel)
     (event : EventModel) (s : ℕ) (slot : SlotState) : Type 0 where
-  pub slot_is : slice_get new.slots s ≡ Some (slot_after old.config s slot old.globals event)
+  pub slot_is : slice_get new.slots s
+      ≡ Some (slot_after (setup_of old.config) s slot old.globals event)
   pub records_are : records_of s records_then
-      ≡ records_of s records ++ records_after old.config s slot old.globals event
+      ≡ records_of s records ++ records_after (setup_of old.config) s slot old.globals event
 
 -- a list of events, as slot s sees it: the slot, the globals and the records are those of the
 -- slot run by itself
 pub record RunsAsAlone (old new : NodeState) (records records_then : List RecordModel)
     (events : List EventModel) (s : ℕ) (slot : SlotState) : Type 0 where
   pub slot_is : slice_get new.slots s
-      ≡ Some (alone_in_view old.config s slot old.globals events).slot
-  pub globals_are : new.globals ≡ (alone_in_view old.config s slot old.globals events).globals
+      ≡ Some (alone_in_view (setup_of old.config) s slot old.globals events).slot
+  pub globals_are : new.globals
+      ≡ (alone_in_view (setup_of old.config) s slot old.globals events).globals
   pub records_are : records_of s records_then
-      ≡ records_of s records ++ (alone_in_view old.config s slot old.globals events).records
+      ≡ records_of s records
+      ++ (alone_in_view (setup_of old.config) s slot old.globals events).records
 
 -- the records of before stand first, and none is added for a number that no slot has
 pub record Appends (slots : List SlotState)
@@ -58,13 +63,13 @@ MayTakeMemory node (DatagramIs protocol src dst bytes) =
     list_any (concerns node.globals (telegram_of protocol src dst bytes)) node.slots ≡ true
 MayTakeMemory node (CallIs s call) = Unit {0}
 
--- a node that was just made serves the first slot of its configuration, which is empty
+-- a node that was just made serves each slot of its configuration, and all are empty
 abbrev pub opened_node : ConfigModel → NodeState
 opened_node config =
     record {
       config = config;
       globals = first_globals;
-      slots = opened_slot (quotas_of (slice_get config.slots 0)) ∷ [];
+      slots = map (λ slot. opened_slot slot.quotas) config.slots;
     }
 
 -- slot s is the same in two nodes, and has got the same records since
@@ -75,8 +80,25 @@ pub record GetsTheSame (first second : NodeState)
   pub first_got : records_of s records_then ≡ records_of s records ++ got
   pub second_got : records_of s others_then ≡ records_of s others ++ got
 
--- slot s is that of the outcome, and has got its records
-pub record GetsOutcome (new : NodeState) (records records_then : List RecordModel) (s : ℕ)
+-- slot s of these slots is that of the outcome, and has got its records
+pub record HasOutcome (slots : List SlotState) (records records_then : List RecordModel) (s : ℕ)
     (outcome : Outcome) : Type 0 where
-  pub slot_is : slice_get new.slots s ≡ Some outcome.slot
+  pub slot_is : slice_get slots s ≡ Some outcome.slot
   pub records_are : records_of s records_then ≡ records_of s records ++ outcome.records
+
+-- the same of a node
+abbrev pub GetsOutcome : NodeState → List RecordModel → List RecordModel → ℕ → Outcome → Type 0
+GetsOutcome new records records_then s outcome =
+    HasOutcome new.slots records records_then s outcome
+
+-- all that a run says of a node: it takes a front of the events and stops before the end only
+-- where memory may be wanting, each slot runs as by itself, and records are added behind
+pub record HasRun (old new : NodeState) (records records_then : List RecordModel)
+    (events : List Event) (taken : ℕ) : Type 0 where
+  pub within : taken ≤ length events
+  pub stops : IfSome (slice_get events taken) (λ event. MayTakeMemory new (event_model event))
+  pub config_is : new.config ≡ old.config
+  pub count : length new.slots ≡ length old.slots
+  pub runs : (s : ℕ) (slot : SlotState) → slice_get old.slots s ≡ Some slot
+      → RunsAsAlone old new records records_then (map event_model (take taken events)) s slot
+  pub appends : Appends old.slots records records_then

@@ -10,7 +10,7 @@ use Rattle.trdp_pd.specs.declared.any_object.AnyObject.{AnyObject}
 use Rattle.trdp_pd.specs.declared.any_object.AnyObject.TheVariants.{Publisher, Subscription}
 use Rattle.trdp_pd.specs.declared.any_object.AnyObject.TheVariants.{Requester}
 use Rattle.trdp_pd.specs.Requesters.{pulling}
-use Rattle.trdp_dataset.specs.Configs.{ConfigModel}
+use Rattle.trdp_engine.specs.Configs.{NodeSetup}
 use Rattle.trdp_engine.specs.declared.object.Entry.{Entry}
 use Rattle.trdp_engine.specs.declared.fault.Refusal.{Refusal}
 use Rattle.trdp_engine.specs.declared.fault.Refusal.TheVariants.{NoHandle, WrongKind, State}
@@ -48,11 +48,11 @@ pull_request_of (Some entry) = pull_request entry.object
 
 -- where a pull request is answered: at its reply address, at the node's own process data port, or
 -- where it has no such address at the place that it came from
-unfoldable pub answer_place : ConfigModel → TelegramModel → Place
-answer_place config (PdIs src dst telegram) =
+unfoldable pub answer_place : NodeSetup → TelegramModel → Place
+answer_place setup (PdIs src dst telegram) =
     if telegram.head.reply_ip.0 == 0
     then src
-    else record { ip = telegram.head.reply_ip; port = config.pd_port }
+    else record { ip = telegram.head.reply_ip; port = setup.pd_port }
 
 -- the answer of a publisher to a pull request carries its value
 abbrev pub pull_answer : AnyObject → Place → PdHead → List Content

@@ -1,6 +1,6 @@
 -- The item that a subscription shows.
 use Rattle.std.specs.Prelude.{◌≡◌, ℕ, Option, Some, None, Result, Ok, Err, ◌==◌, if◌then◌else◌}
-use Rattle.trdp_dataset.specs.Configs.{ConfigModel}
+use Rattle.trdp_engine.specs.Configs.{NodeSetup}
 use Rattle.trdp_marshal.specs.declared.item.Item.{Item}
 use Rattle.trdp_marshal.specs.Items.{model_of}
 use Rattle.trdp_marshal.specs.Spells.{Spells}
@@ -36,9 +36,9 @@ showing_in (Some slot) handle = showing_of (subscription_at handle slot.objects)
 
 -- the answer to a look at that subscription: the item whose bytes it shows, or want of memory for
 -- it; without such a subscription the reason
-abbrev pub ShowsItem : ConfigModel → Result SubscriptionState ValueFault → Result Item ValueFault
+abbrev pub ShowsItem : NodeSetup → Result SubscriptionState ValueFault → Result Item ValueFault
     → Type 0
-ShowsItem config (Ok s) (Ok item) = Spells config.registry s.terms.dataset (model_of item) s.value
-ShowsItem config (Ok s) (Err fault) = fault ≡ OutOfMemory
-ShowsItem config (Err fault) (Ok item) = ⊥
-ShowsItem config (Err fault) (Err other) = other ≡ fault
+ShowsItem setup (Ok s) (Ok item) = Spells setup.registry s.terms.dataset (model_of item) s.value
+ShowsItem setup (Ok s) (Err fault) = fault ≡ OutOfMemory
+ShowsItem setup (Err fault) (Ok item) = ⊥
+ShowsItem setup (Err fault) (Err other) = other ≡ fault

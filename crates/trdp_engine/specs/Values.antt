@@ -1,6 +1,6 @@
 -- A value that is handed over as an item.
 use Rattle.std.specs.Prelude.{◌≡◌, ℕ, List, [], Option, Some, None, unwrap_or, ◌==◌, if◌then◌else◌}
-use Rattle.trdp_dataset.specs.Configs.{ConfigModel}
+use Rattle.trdp_engine.specs.Configs.{NodeSetup}
 use Rattle.trdp_marshal.specs.declared.fault.MarshalFault.{MarshalFault}
 use Rattle.trdp_marshal.specs.declared.fault.MarshalFault.TheVariants.{NoDataset as UnknownDataset}
 use Rattle.trdp_marshal.specs.declared.fault.MarshalFault.TheVariants.{Shape as WrongShape}
@@ -31,44 +31,44 @@ marshal_refusal (Some OutOfMemory) = None
 
 -- why an item is no value of an object: it is no publisher, its dataset is 0, or the item has no
 -- bytes there
-abbrev pub item_refusal_of : ConfigModel → ItemModel → AnyObject → Option Refusal
-item_refusal_of config item (Publisher p) =
-    marshal_refusal (encode_fault config.registry p.terms.dataset item)
-item_refusal_of config item (Subscription s) = Some WrongKind
-item_refusal_of config item (Requester r) = Some WrongKind
+abbrev pub item_refusal_of : NodeSetup → ItemModel → AnyObject → Option Refusal
+item_refusal_of setup item (Publisher p) =
+    marshal_refusal (encode_fault setup.registry p.terms.dataset item)
+item_refusal_of setup item (Subscription s) = Some WrongKind
+item_refusal_of setup item (Requester r) = Some WrongKind
 
 -- first refusal of an item for the object of a handle
-abbrev pub item_refusal : ConfigModel → ItemModel → Option Entry → Option Refusal
-item_refusal config item None = Some NoHandle
-item_refusal config item (Some entry) = item_refusal_of config item entry.object
+abbrev pub item_refusal : NodeSetup → ItemModel → Option Entry → Option Refusal
+item_refusal setup item None = Some NoHandle
+item_refusal setup item (Some entry) = item_refusal_of setup item entry.object
 
 -- the bytes of an item as a value of an object
-abbrev pub bytes_for : ConfigModel → ItemModel → AnyObject → List ℕ
-bytes_for config item (Publisher p) = unwrap_or (spelling config.registry p.terms.dataset item) []
-bytes_for config item (Subscription s) = []
-bytes_for config item (Requester r) = []
+abbrev pub bytes_for : NodeSetup → ItemModel → AnyObject → List ℕ
+bytes_for setup item (Publisher p) = unwrap_or (spelling setup.registry p.terms.dataset item) []
+bytes_for setup item (Subscription s) = []
+bytes_for setup item (Requester r) = []
 
 -- the bytes of an item as a value of the object of a handle
-abbrev pub item_bytes : ConfigModel → ItemModel → Option Entry → List ℕ
-item_bytes config item None = []
-item_bytes config item (Some entry) = bytes_for config item entry.object
+abbrev pub item_bytes : NodeSetup → ItemModel → Option Entry → List ℕ
+item_bytes setup item None = []
+item_bytes setup item (Some entry) = bytes_for setup item entry.object
 
 -- an item that has bytes is put as these bytes are
-abbrev pub valued_unless : Option Refusal → ConfigModel → SlotState → ℕ → List ℕ → Outcome
-valued_unless (Some refusal) config slot handle bytes = refused slot refusal
-valued_unless None config slot handle bytes =
-    put_unless (put_refusal config bytes (entry_of handle slot.objects)) slot handle bytes
+abbrev pub valued_unless : Option Refusal → NodeSetup → SlotState → ℕ → List ℕ → Outcome
+valued_unless (Some refusal) setup slot handle bytes = refused slot refusal
+valued_unless None setup slot handle bytes =
+    put_unless (put_refusal setup bytes (entry_of handle slot.objects)) slot handle bytes
 
 -- effect of a value handed over as an item
-abbrev pub valued : ConfigModel → SlotState → ℕ → ItemModel → Outcome
-valued config slot handle item =
-    valued_unless (item_refusal config item (entry_of handle slot.objects)) config slot handle
-    (item_bytes config item (entry_of handle slot.objects))
+abbrev pub valued : NodeSetup → SlotState → ℕ → ItemModel → Outcome
+valued setup slot handle item =
+    valued_unless (item_refusal setup item (entry_of handle slot.objects)) setup slot handle
+    (item_bytes setup item (entry_of handle slot.objects))
 
 -- the same at slot s, when it is slot r that hands the value over
-abbrev pub valued_at : ConfigModel → ℕ → ℕ → SlotState → ℕ → ItemModel → Outcome
-valued_at config r s slot handle item =
-    if r == s then valued config slot handle item else unchanged slot
+abbrev pub valued_at : NodeSetup → ℕ → ℕ → SlotState → ℕ → ItemModel → Outcome
+valued_at setup r s slot handle item =
+    if r == s then valued setup slot handle item else unchanged slot
 
 -- a refused item is refused as expected; want of memory may come at any time
 abbrev pub IsRefusedAs : Option Refusal → SpellFault → Type 0

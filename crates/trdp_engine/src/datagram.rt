@@ -9,6 +9,7 @@ ghost use Rattle.trdp_filter.specs.Telegrams.{telegram_model, IsWithinLimit};
 ghost use Rattle.trdp_engine.specs.Records.{labelled};
 ghost use Rattle.trdp_engine.specs.Datagrams.{is_valid_at, fits_object, is_for_entry};
 ghost use Rattle.trdp_engine.specs.Datagrams.{entry_after_telegram, records_taking};
+ghost use Rattle.trdp_engine.specs.Configs.{setup_of};
 
 use crate::object::Entry;
 use crate::outbox::Outbox;
@@ -31,7 +32,7 @@ pub fn is_valid_at(telegram: &Telegram<'_>, globals: &Globals) -> bool
 
 /// Whether the payload is a value of the object's dataset.
 fn fits_object(config: &NodeConfig, telegram: &Telegram<'_>, object: &AnyObject) -> bool
-    ensures { result ≡ fits_object config.now (telegram_model telegram.now) object.now }
+    ensures { result ≡ fits_object (setup_of config.now) (telegram_model telegram.now) object.now }
 {
     let dataset = match object {
         AnyObject::Publisher(publisher) => publisher.dataset(),
@@ -61,12 +62,12 @@ fn take(
         * length (filter (is_for_entry (telegram_model telegram.now) globals.now) (entry.old ∷ []))
         ≤ out.old.byte_room }
     ensures entry { entry.new
-        ≡ entry_after_telegram config.now (telegram_model telegram.now) globals.entry.now
-        entry.old }
+        ≡ entry_after_telegram (setup_of config.now) (telegram_model telegram.now)
+        globals.entry.now entry.old }
     ensures records { out.new.records
         ≡ out.old.records
         ++ labelled s
-        (records_taking config.now (telegram_model telegram.now) globals.entry.now
+        (records_taking (setup_of config.now) (telegram_model telegram.now) globals.entry.now
         entry.old) }
     ensures row_room { out.old.row_room
         ≤ out.new.row_room
@@ -109,15 +110,24 @@ pub fn take_all(
         * length (filter (is_for_entry (telegram_model telegram.now) globals.now)
         objects.old.items) ≤ out.old.byte_room }
     ensures items { objects.new.items
-        ≡ map (entry_after_telegram config.now (telegram_model telegram.now) globals.entry.now)
-        objects.old.items }
+        ≡ map
+        (entry_after_telegram (setup_of config.now) (telegram_model telegram.now)
+        globals.entry.now) objects.old.items }
     ensures records { out.new.records
         ≡ out.old.records
         ++ labelled s
         (flat_map
-        (records_taking config.now (telegram_model telegram.now) globals.entry.now)
+        (records_taking (setup_of config.now) (telegram_model telegram.now) globals.entry.now)
         objects.old.items) }
     ensures capacity { vec_capacity objects.new ≡ vec_capacity objects.old }
+    ensures row_room { out.old.row_room
+        ≤ out.new.row_room
+        + length (filter (is_for_entry (telegram_model telegram.now) globals.entry.now)
+        objects.old.items) }
+    ensures byte_room { out.old.byte_room
+        ≤ out.new.byte_room + PD_TELEGRAM_MAX
+        * length (filter (is_for_entry (telegram_model telegram.now) globals.entry.now)
+        objects.old.items) }
 {
     for entry in objects.iter_mut() {
         take(entry, config, telegram, globals, s, out);

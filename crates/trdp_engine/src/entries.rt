@@ -6,6 +6,7 @@ ghost use Rattle.std.specs.Prelude.{vec_len, vec_capacity};
 ghost use Rattle.trdp_engine.specs.Slots.{count_of, entry_of, changed, without};
 ghost use Rattle.trdp_engine.specs.Calls.{put_refusal, object_refusal, value_refusal};
 ghost use Rattle.trdp_engine.specs.Calls.{close_refusal, with_value};
+ghost use Rattle.trdp_engine.specs.Configs.{setup_of};
 
 use crate::fault::Refusal;
 use crate::object::Entry;
@@ -40,7 +41,7 @@ pub fn index_of(objects: &[Entry], handle: u32) -> Option<usize>
 
 /// Why the object takes no such value.
 fn object_refusal(object: &AnyObject, config: &NodeConfig, bytes: &[u8]) -> Option<Refusal>
-    ensures refusal { result ≡ object_refusal config.now bytes.now object.now }
+    ensures refusal { result ≡ object_refusal (setup_of config.now) bytes.now object.now }
     ensures within { result ≡ None → length bytes.now ≤ 1432 }
 {
     match object {
@@ -76,7 +77,7 @@ pub fn put_in(
     bytes: &[u8],
 ) -> Option<Refusal>
     ensures refusal { result
-        ≡ put_refusal config.now bytes.now (entry_of handle objects.old.items) }
+        ≡ put_refusal (setup_of config.now) bytes.now (entry_of handle objects.old.items) }
     ensures items { objects.new.items
         ≡ (if is_none result then changed handle (with_value bytes.now) objects.old.items
         else objects.old.items) }

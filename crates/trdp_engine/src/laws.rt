@@ -1,13 +1,13 @@
 //! What a slot gets depends on what it sees alone.
 
 ghost use Rattle.std.specs.Prelude.{◌≡◌, ℕ, List, None, Some, slice_get, map, take};
-ghost use Rattle.trdp_dataset.specs.Configs.{ConfigModel};
 ghost use Rattle.trdp_filter.specs.declared.globals.Globals.{Globals};
+ghost use Rattle.trdp_engine.specs.Configs.{NodeSetup, setup_of};
 ghost use Rattle.trdp_engine.specs.Events.{EventModel, event_model};
 ghost use Rattle.trdp_engine.specs.Slots.{SlotState};
 ghost use Rattle.trdp_engine.specs.Alone.{refused_as, plain_effect, slot_after, records_after};
 ghost use Rattle.trdp_engine.specs.Alone.{view, alone_in_view};
-ghost use Rattle.trdp_engine.specs.NodeStates.{GetsTheSame};
+ghost use Rattle.trdp_engine.specs.NodeStates.{HasRun, GetsTheSame};
 
 use crate::event::Event;
 use crate::node::Node;
@@ -16,28 +16,29 @@ use crate::outbox::Outbox;
 /// The law of equal views: two lists of events of which a slot sees the same come to the same for
 /// that slot, whatever else they hold.
 pub fn same_view()
-    ensures { (config : ConfigModel) (s : ℕ) (slot : SlotState) (globals : Globals)
+    ensures { (setup : NodeSetup) (s : ℕ) (slot : SlotState) (globals : Globals)
         (events others : List EventModel)
-        → view config s slot globals events ≡ view config s slot globals others
-        → alone_in_view config s slot globals events ≡ alone_in_view config s slot globals others }
+        → view setup s slot globals events ≡ view setup s slot globals others
+        → alone_in_view setup s slot globals events ≡ alone_in_view setup s slot globals others }
 {}
 
 /// The law of the view: an admitted event that a slot doesn't see does nothing in that slot's own
 /// model. What the slot sees comes to the same as all events, the calls of other slots left out.
 #[tactic(auto, using(crate::proofs::Views::view_is_plain))]
 pub fn view_drops_nothing()
-    ensures { (config : ConfigModel) (s n : ℕ) (slot : SlotState) (globals : Globals)
+    ensures { (setup : NodeSetup) (s n : ℕ) (slot : SlotState) (globals : Globals)
         (event : EventModel) → refused_as n globals event ≡ None
-        → plain_effect config s slot globals event
+        → plain_effect setup s slot globals event
         ≡ record {
-          slot = slot_after config s slot globals event;
-          records = records_after config s slot globals event;
+          slot = slot_after setup s slot globals event;
+          records = records_after setup s slot globals event;
         } }
 {}
 
-/// Runs two nodes over two lists of events, and answers how many each took. Where the nodes have
-/// the same configuration and globals, a slot that is the same in both, and sees the same of the
-/// events that were taken, is the same afterwards and has got the same records.
+/// Runs two nodes over two lists of events, and answers how many each took. Of each node it says
+/// all that [`Node::run`] says. Where the nodes have equal datasets, address, ports and globals, a
+/// slot that is the same in both, and sees the same of the events that were taken, is the same
+/// afterwards and has got the same records. The nodes may differ in everything about the others.
 pub fn run_both(
     first: &mut Node,
     second: &mut Node,
@@ -46,12 +47,17 @@ pub fn run_both(
     out: &mut Outbox,
     other_out: &mut Outbox,
 ) -> (usize, usize)
-    ensures { first.old.config ≡ second.old.config → first.old.globals ≡ second.old.globals
+    ensures first { HasRun first.old first.new out.old.records out.new.records events.now
+        result.0 }
+    ensures second { HasRun second.old second.new other_out.old.records other_out.new.records
+        others.now result.1 }
+    ensures alike { setup_of first.old.config ≡ setup_of second.old.config
+        → first.old.globals ≡ second.old.globals
         → (s : ℕ) (slot : SlotState) → slice_get first.old.slots s ≡ Some slot
         → slice_get second.old.slots s ≡ Some slot
-        → view first.old.config s slot first.old.globals
+        → view (setup_of first.old.config) s slot first.old.globals
         (map event_model (take result.0 events.now))
-        ≡ view first.old.config s slot first.old.globals
+        ≡ view (setup_of first.old.config) s slot first.old.globals
         (map event_model (take result.1 others.now))
         → GetsTheSame first.new second.new out.old.records out.new.records other_out.old.records
         other_out.new.records s }

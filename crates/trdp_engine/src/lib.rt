@@ -24,6 +24,7 @@ mod reception;
 mod record;
 mod shown;
 mod slot;
+mod slots;
 mod value;
 
 pub use event::{Call, Event};

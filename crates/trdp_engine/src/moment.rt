@@ -137,6 +137,12 @@ pub fn fire_all(objects: &mut Vec<Entry>, globals: &Globals, s: u16, out: &mut O
         (flat_map (records_firing globals.entry.now)
         (in_order (filter (is_due globals.entry.now.now) objects.old.items))) }
     ensures capacity { vec_capacity objects.new ≡ vec_capacity objects.old }
+    ensures row_room { out.old.row_room
+        ≤ out.new.row_room
+        + length (filter (is_due globals.entry.now.now) objects.old.items) }
+    ensures byte_room { out.old.byte_room
+        ≤ out.new.byte_room
+        + PD_TELEGRAM_MAX * length (filter (is_due globals.entry.now.now) objects.old.items) }
 {
     while let Some(at) = first_due(objects, globals.now) {
         fire_at(objects, at, globals, s, out);

@@ -1,8 +1,8 @@
 //! The node: one event after another.
 
-ghost use Rattle.std.specs.Prelude.{nat_le, if◌then◌else◌, None, ◌≡◌, ◌≢◌, ℕ, ◌<◌, ◌≤◌, ◌∷◌};
-ghost use Rattle.std.specs.Prelude.{[], length, OnOk, OnErr, IfOk, IfErr, IfSome, Err, Some};
-ghost use Rattle.std.specs.Prelude.{slice_get, map, take, replicate};
+ghost use Rattle.std.specs.Prelude.{nat_le, if◌then◌else◌, None, ◌≡◌, ◌≢◌, ℕ, ◌<◌, ◌≤◌};
+ghost use Rattle.std.specs.Prelude.{length, OnOk, OnErr, IfOk, IfErr, IfSome, Err, Some};
+ghost use Rattle.std.specs.Prelude.{slice_get, map, take};
 ghost use Rattle.trdp_base.specs.Moments.{last_moment};
 ghost use Rattle.trdp_engine.specs.Events.{MomentIs, TopologyIs, RoleIs, DatagramIs, CallIs};
 ghost use Rattle.trdp_engine.specs.Events.{call_model, event_model};
@@ -12,6 +12,7 @@ ghost use Rattle.trdp_engine.specs.Peeks.{peeked, peek_in};
 ghost use Rattle.trdp_engine.specs.ShownItems.{showing_in, ShowsItem};
 ghost use Rattle.trdp_marshal.specs.Items.{model_of};
 ghost use Rattle.trdp_engine.specs.Values.{valued_at};
+ghost use Rattle.trdp_engine.specs.Configs.{setup_of};
 
 use crate::event::{Call, Event};
 use crate::fault::{NodeFault, is_out_of_memory};
@@ -21,17 +22,17 @@ use crate::reception::hear;
 use crate::record::Protocol;
 use crate::shown::{ValueFault, item_shown};
 use crate::slot::Slot;
+use crate::slots::{due_in, move_slots, open_slots, put_value_in, serve_in, slot_at};
 use std::alloc::Global;
 use std::marker::Model;
-use std::slice;
-use trdp_base::{MOMENT_MAX, Place, Quotas, Topo};
+use trdp_base::{MOMENT_MAX, Place, Topo};
 use trdp_dataset::NodeConfig;
 use trdp_filter::{Globals, Groups};
 use trdp_head::PD_TELEGRAM_MAX;
 use trdp_marshal::Item;
 use trdp_pd::Peek;
 
-/// The communication node of one end device. It serves slot 0.
+/// The communication node of one end device. It serves each slot of its configuration.
 #[derive(Drop)]
 pub struct Node {
     /// Where new objects take their memory from.
@@ -40,23 +41,24 @@ pub struct Node {
     config: NodeConfig,
     /// Its latest moment in microseconds, its topology counts, and the groups that it leads.
     globals: Globals,
-    /// Slot 0, the only one that is served.
-    slot: Slot,
+    /// Its slots in the order of the configuration, 1 to 16.
+    slots: Vec<Slot>,
 }
 
 impl Model for Node {
-    ghost use Rattle.std.specs.Prelude.{◌≤◌, ◌∷◌, []};
+    ghost use Rattle.std.specs.Prelude.{◌≤◌, length};
     ghost use Rattle.trdp_base.specs.Moments.{last_moment};
     ghost use Rattle.trdp_dataset.specs.Registries.{IsRegistry};
+    ghost use Rattle.trdp_engine.specs.Configs.{setup_of};
     ghost use Rattle.trdp_engine.specs.NodeStates.{NodeState};
-    ghost use Rattle.trdp_engine.specs.Fitting.{AllFit};
+    ghost use Rattle.trdp_engine.specs.Fitting.{EachFits};
 
     ghost Value = { NodeState };
 
-    ghost view = { λ n. record { config = n.config; globals = n.globals; slots = n.slot ∷ [] } };
+    ghost view = { λ n. record { config = n.config; globals = n.globals; slots = n.slots.items } };
 
     ghost invariant = { λ n. (n.globals.now ≤ last_moment) × IsRegistry n.config.registry
-        × AllFit n.config n.slot.objects };
+        × (length n.slots.items ≤ 16) × EachFits (setup_of n.config) n.slots.items };
 }
 
 impl Node {
@@ -65,19 +67,20 @@ impl Node {
     ghost use Rattle.trdp_engine.specs.NodeStates.{opened_node};
     ghost use Rattle.trdp_engine.specs.Alone.{FaultIs, refused_as, globals_after};
 
-    /// A node at moment 0 that leads no group, with empty slots.
+    /// A node at moment 0 that leads no group, with an empty slot for each of the configuration, 1
+    /// to 16.
     ///
     /// # Errors
     /// The configuration comes back for want of memory.
     pub fn new(alloc: Global, config: NodeConfig) -> Result<Node, NodeConfig>
         ensures opened { IfOk result (λ node. node ≡ opened_node config) }
+        ensures few { IfOk result (λ node. length node.slots ≤ 16) }
         ensures returned { IfErr result (λ back. back ≡ config) }
     {
         config.registry().sound();
-        let quotas = config.quotas(0).unwrap_or(no_quotas());
-        match Slot::new(alloc, quotas) {
+        match open_slots(alloc, &config) {
             Err(_) => Err(config),
-            Ok(slot) => {
+            Ok(slots) => {
                 let globals = Globals {
                     now: 0,
                     topo: Topo { etb: 0, op_trn: 0 },
@@ -87,17 +90,10 @@ impl Node {
                     alloc,
                     config,
                     globals,
-                    slot,
+                    slots,
                 })
             }
         }
-    }
-
-    /// How many slots the node serves: slot 0 alone.
-    fn slots(&self) -> usize
-        ensures { result ≡ length self.now.slots }
-    {
-        slice::from_ref(&self.slot).len()
     }
 
     /// Takes the moment `t`, in microseconds: room for the records of all that is due comes first,
@@ -126,10 +122,10 @@ impl Node {
         if t > MOMENT_MAX {
             return Err(NodeFault::TooLate);
         }
-        let due = self.slot.due(t);
+        let due = due_in(&self.slots, t);
         out.reserve(due, PD_TELEGRAM_MAX * due)?;
         self.globals.now = t;
-        self.slot.move_to(&self.globals, 0, out);
+        move_slots(&mut self.slots, &self.globals, out);
         Ok(())
     }
 
@@ -195,7 +191,7 @@ impl Node {
         ensures appends { Appends self.old.slots out.old.records out.new.records }
     {
         hear(
-            &mut self.slot,
+            &mut self.slots,
             &self.config,
             protocol,
             src,
@@ -227,11 +223,18 @@ impl Node {
             (CallIs s (call_model call.now)) r slot) }
         ensures appends { Appends self.old.slots out.old.records out.new.records }
     {
-        if usize::from(s) >= self.slots() {
+        if usize::from(s) >= self.slots.len() {
             return Err(NodeFault::NoSlot);
         }
-        self.slot
-            .serve(self.alloc, &self.config, call, &self.globals, 0, out)?;
+        serve_in(
+            &mut self.slots,
+            s,
+            self.alloc,
+            &self.config,
+            call,
+            &self.globals,
+            out,
+        )?;
         Ok(())
     }
 
@@ -302,14 +305,21 @@ impl Node {
         ensures values { OnOk result ((s : ℕ) (state : SlotState)
             → slice_get self.old.slots s ≡ Some state
             → GetsOutcome self.new out.old.records out.new.records s
-            (valued_at self.old.config slot s state handle (model_of item.now))) }
+            (valued_at (setup_of self.old.config) slot s state handle (model_of item.now))) }
         ensures appends { Appends self.old.slots out.old.records out.new.records }
     {
-        if usize::from(slot) >= self.slots() {
+        if usize::from(slot) >= self.slots.len() {
             return Err(NodeFault::NoSlot);
         }
-        self.slot
-            .put_value(alloc, &self.config, handle, item, 0, out)?;
+        put_value_in(
+            &mut self.slots,
+            slot,
+            alloc,
+            &self.config,
+            handle,
+            item,
+            out,
+        )?;
         Ok(())
     }
 
@@ -321,10 +331,10 @@ impl Node {
     pub fn peek(&self, slot: u16, handle: u32) -> Result<Peek<'_>, PeekFault>
         ensures { peeked result ≡ peek_in (slice_get self.now.slots slot) handle }
     {
-        if usize::from(slot) >= self.slots() {
-            return Err(PeekFault::NoSlot);
+        match slot_at(&self.slots, slot) {
+            None => Err(PeekFault::NoSlot),
+            Some(slot) => Ok(slot.subscription(handle)?.peek()),
         }
-        Ok(self.slot.subscription(handle)?.peek())
     }
 
     /// The item that the subscription of that handle shows, in every state of it: the one whose
@@ -334,14 +344,16 @@ impl Node {
     /// The first that applies of `NoSlot`, `NoHandle`, `WrongKind` (the object is no
     /// subscription), `NoDataset` (it is one of dataset 0), and last `OutOfMemory`.
     pub fn value_of(&self, alloc: Global, slot: u16, handle: u32) -> Result<Item, ValueFault>
-        ensures { ShowsItem self.now.config (showing_in (slice_get self.now.slots slot) handle)
-            result }
+        ensures { ShowsItem (setup_of self.now.config)
+            (showing_in (slice_get self.now.slots slot) handle) result }
     {
-        if usize::from(slot) >= self.slots() {
-            return Err(ValueFault::NoSlot);
+        match slot_at(&self.slots, slot) {
+            None => Err(ValueFault::NoSlot),
+            Some(slot) => {
+                let subscription = slot.subscription(handle)?;
+                item_shown(alloc, &self.config, subscription)
+            }
         }
-        let subscription = self.slot.subscription(handle)?;
-        item_shown(alloc, &self.config, subscription)
     }
 
     /// Takes events in turn, and answers how many were taken. It goes on after an event that is
@@ -368,11 +380,4 @@ impl Node {
         }
         taken
     }
-}
-
-/// The quotas of a slot that may hold nothing.
-fn no_quotas() -> Quotas
-    ensures { result ≡ replicate 6 0 }
-{
-    Quotas::new([0; 6]).unwrap()
 }

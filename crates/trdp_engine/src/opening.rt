@@ -10,6 +10,7 @@ ghost use Rattle.trdp_engine.specs.Calls.{is_span, opening_refusal, dataset_refu
 ghost use Rattle.trdp_engine.specs.Calls.{publish_refusal, subscribe_refusal, opened_unless};
 ghost use Rattle.trdp_engine.specs.Calls.{answered, called};
 ghost use Rattle.trdp_engine.specs.Outboxes.{plain_answer_model};
+ghost use Rattle.trdp_engine.specs.Configs.{setup_of};
 
 use crate::fault::Refusal;
 use crate::outbox::PlainAnswer;
@@ -29,7 +30,7 @@ const SPAN_MIN: u32 = 1_000;
 impl Slot {
     /// Why the slot refuses the terms.
     fn publish_refusal(&self, config: &NodeConfig, terms: &PublisherTerms) -> Option<Refusal>
-        ensures { result ≡ publish_refusal config.now self.now terms.now }
+        ensures { result ≡ publish_refusal (setup_of config.now) self.now terms.now }
     {
         if !is_span(terms.cycle) {
             return Some(Refusal::Cycle);
@@ -51,11 +52,13 @@ impl Slot {
         terms: &SubscriptionTerms,
     ) -> Result<usize, Refusal>
         ensures refused { IfErr result
-            (λ refusal. subscribe_refusal config.now self.now terms.now ≡ Some refusal) }
+            (λ refusal. subscribe_refusal (setup_of config.now) self.now terms.now
+            ≡ Some refusal) }
         ensures accepted { IfOk result
-            (λ size. subscribe_refusal config.now self.now terms.now ≡ None) }
+            (λ size. subscribe_refusal (setup_of config.now) self.now terms.now ≡ None) }
         ensures opens { IfOk result (λ size. opening_refusal self.now 1 ≡ None) }
-        ensures size { IfOk result (λ size. size ≡ zero_size_of config.now terms.now.dataset) }
+        ensures size { IfOk result
+            (λ size. size ≡ zero_size_of (setup_of config.now) terms.now.dataset) }
         ensures within { IfOk result (λ size. size ≤ 1432) }
     {
         if !is_span(terms.supervision) {
@@ -87,7 +90,8 @@ impl Slot {
     ) -> Result<PlainAnswer, AllocError>
         requires { globals.now.now ≤ last_moment }
         ensures outcome { IfOk result
-            (λ answer. called config.now self.old globals.entry.now (PublishCall terms.now)
+            (λ answer.
+            called (setup_of config.now) self.old globals.entry.now (PublishCall terms.now)
             ≡ answered self.new (plain_answer_model answer)) }
         ensures kept { OnErr result (self.new ≡ self.old) }
     {
@@ -111,7 +115,8 @@ impl Slot {
     ) -> Result<PlainAnswer, AllocError>
         requires { globals.now.now ≤ last_moment }
         ensures outcome { IfOk result
-            (λ answer. called config.now self.old globals.entry.now (SubscribeCall terms.now)
+            (λ answer.
+            called (setup_of config.now) self.old globals.entry.now (SubscribeCall terms.now)
             ≡ answered self.new (plain_answer_model answer)) }
         ensures kept { OnErr result (self.new ≡ self.old) }
     {
@@ -150,10 +155,10 @@ fn is_span(span: u32) -> bool
 /// Why no object can be of it: the first that applies of `NoDataset` and `TooLong` (above 1,432).
 fn value_size(config: &NodeConfig, dataset: u32) -> Result<usize, Refusal>
     ensures refused { IfErr result (λ refusal. (later : Option Refusal)
-        → dataset_refusal config.now dataset later ≡ Some refusal) }
+        → dataset_refusal (setup_of config.now) dataset later ≡ Some refusal) }
     ensures accepted { IfOk result (λ size. (later : Option Refusal)
-        → dataset_refusal config.now dataset later ≡ later) }
-    ensures size { IfOk result (λ size. size ≡ zero_size_of config.now dataset) }
+        → dataset_refusal (setup_of config.now) dataset later ≡ later) }
+    ensures size { IfOk result (λ size. size ≡ zero_size_of (setup_of config.now) dataset) }
     ensures within { IfOk result (λ size. size ≤ 1432) }
 {
     if dataset == 0 {

@@ -11,6 +11,7 @@ ghost use Rattle.trdp_engine.specs.Slots.{entry_of, changed};
 ghost use Rattle.trdp_engine.specs.Pulls.{object_pull_refusal, pull_refusal, after_pull};
 ghost use Rattle.trdp_engine.specs.Pulls.{pull_request, pull_request_of, answer_place};
 ghost use Rattle.trdp_engine.specs.Pulls.{pull_answer};
+ghost use Rattle.trdp_engine.specs.Configs.{setup_of};
 
 use crate::entries::index_of;
 use crate::fault::Refusal;
@@ -93,7 +94,7 @@ pub fn pull_in(
 /// where it has no such address at the place that it came from (profile).
 #[tactic(auto, unfolding(crate::specs::Pulls::answer_place))]
 pub fn answer_place(config: &NodeConfig, telegram: &Telegram<'_>) -> Place
-    ensures { result ≡ answer_place config.now (telegram_model telegram.now) }
+    ensures { result ≡ answer_place (setup_of config.now) (telegram_model telegram.now) }
 {
     match *telegram {
         Telegram::Pd { src, view, .. } => {

@@ -3,6 +3,7 @@
 ghost use Rattle.std.specs.Prelude.{◌≡◌};
 ghost use Rattle.trdp_engine.specs.Fitting.{ShowsFitting};
 ghost use Rattle.trdp_engine.specs.ShownItems.{showing, ShowsItem};
+ghost use Rattle.trdp_engine.specs.Configs.{setup_of};
 
 use crate::look::LookFault;
 use std::alloc::Global;
@@ -54,8 +55,8 @@ pub fn item_shown(
     config: &NodeConfig,
     subscription: &Subscription,
 ) -> Result<Item, ValueFault>
-    requires { ShowsFitting config.now subscription.now }
-    ensures { ShowsItem config.now (showing subscription.now) result }
+    requires { ShowsFitting (setup_of config.now) subscription.now }
+    ensures { ShowsItem (setup_of config.now) (showing subscription.now) result }
 {
     let dataset = subscription.dataset();
     match decode(alloc, config.registry(), dataset, subscription.peek().bytes) {

@@ -1,6 +1,6 @@
 //! The objects of one application, under handles of its own.
 
-ghost use Rattle.std.specs.Prelude.{true, ◌≡◌, ◌+◌, ◌*◌, ◌<◌, ◌≤◌, ◌++◌, length};
+ghost use Rattle.std.specs.Prelude.{◌≡◌, ◌+◌, ◌*◌, ◌<◌, ◌≤◌, ◌++◌, length};
 ghost use Rattle.std.specs.Prelude.{Option, OnOk, OnErr, IfOk, IfErr, Ok, Err, None, Some, filter};
 ghost use Rattle.std.specs.Prelude.{vec_capacity};
 ghost use Rattle.trdp_base.specs.Moments.{last_moment};
@@ -15,14 +15,15 @@ ghost use Rattle.trdp_engine.specs.Calls.{opening_refusal, put_refusal};
 ghost use Rattle.trdp_engine.specs.Calls.{put_unless, close_refusal, closed_unless};
 ghost use Rattle.trdp_engine.specs.Calls.{pulled_unless, get_answer, answered, called};
 ghost use Rattle.trdp_engine.specs.Pulls.{pull_refusal};
-ghost use Rattle.trdp_engine.specs.Datagrams.{is_for_entry, received_if, concerns};
+ghost use Rattle.trdp_engine.specs.Datagrams.{is_for_entry, received};
 ghost use Rattle.trdp_engine.specs.Moments.{is_due, moved_to};
 ghost use Rattle.trdp_engine.specs.Outboxes.{plain_answer_model};
 ghost use Rattle.trdp_engine.specs.Looks.{subscription_at};
 ghost use Rattle.trdp_marshal.specs.Items.{model_of};
 ghost use Rattle.trdp_engine.specs.Values.{item_bytes, item_refusal, IsRefusedAs, valued};
+ghost use Rattle.trdp_engine.specs.Configs.{setup_of};
 
-use crate::datagram::{count_addressed, is_valid_at, take_all};
+use crate::datagram::{count_addressed, take_all};
 use crate::entries::{append, close_in, count_of_kind, entry_at, put_in};
 use crate::event::Call;
 use crate::fault::Refusal;
@@ -149,7 +150,8 @@ impl Slot {
 
     /// Gives the publisher of that handle a new value.
     fn put(&mut self, config: &NodeConfig, handle: u32, bytes: &[u8]) -> PlainAnswer
-        ensures { put_unless (put_refusal config.now bytes.now (entry_of handle self.old.objects))
+        ensures { put_unless
+            (put_refusal (setup_of config.now) bytes.now (entry_of handle self.old.objects))
             self.old handle bytes.now ≡ answered self.new (plain_answer_model result) }
     {
         match put_in(&mut self.objects, config, handle, bytes) {
@@ -171,15 +173,16 @@ impl Slot {
         item: &Item,
     ) -> Result<Vec<u8>, SpellFault>
         ensures bytes { IfOk result
-            (λ bytes. bytes.items ≡ item_bytes config.now (model_of item.now)
+            (λ bytes. bytes.items ≡ item_bytes (setup_of config.now) (model_of item.now)
             (entry_of handle self.now.objects)) }
         ensures spelled { IfOk result
             (λ bytes.
-            item_refusal config.now (model_of item.now) (entry_of handle self.now.objects)
-            ≡ None) }
+            item_refusal (setup_of config.now) (model_of item.now)
+            (entry_of handle self.now.objects) ≡ None) }
         ensures refused { IfErr result
             (IsRefusedAs
-            (item_refusal config.now (model_of item.now) (entry_of handle self.now.objects))) }
+            (item_refusal (setup_of config.now) (model_of item.now)
+            (entry_of handle self.now.objects))) }
     {
         match entry_at(&self.objects, handle) {
             None => Err(SpellFault::Refused(Refusal::NoHandle)),
@@ -202,10 +205,11 @@ impl Slot {
         out: &mut Outbox,
     ) -> Result<(), AllocError>
         ensures slot { OnOk result (self.new
-            ≡ (valued config.now self.old handle (model_of item.now)).slot) }
+            ≡ (valued (setup_of config.now) self.old handle (model_of item.now)).slot) }
         ensures records { OnOk result (out.new.records
             ≡ out.old.records
-            ++ labelled s (valued config.now self.old handle (model_of item.now)).records) }
+            ++ labelled s
+            (valued (setup_of config.now) self.old handle (model_of item.now)).records) }
         ensures kept { OnErr result (self.new ≡ self.old) }
         ensures unrecorded { OnErr result (out.new.records ≡ out.old.records) }
     {
@@ -278,11 +282,13 @@ impl Slot {
     ) -> Result<(), AllocError>
         requires now { globals.now.now ≤ last_moment }
         ensures slot { OnOk result (self.new
-            ≡ (called config.now self.old globals.entry.now (call_model call.now)).slot) }
+            ≡ (called (setup_of config.now) self.old globals.entry.now
+            (call_model call.now)).slot) }
         ensures records { OnOk result (out.new.records
             ≡ out.old.records
             ++ labelled s
-            (called config.now self.old globals.entry.now (call_model call.now)).records) }
+            (called (setup_of config.now) self.old globals.entry.now
+            (call_model call.now)).records) }
         ensures kept { OnErr result (self.new ≡ self.old) }
         ensures unrecorded { OnErr result (out.new.records ≡ out.old.records) }
     {
@@ -327,12 +333,18 @@ impl Slot {
         ensures slot { self.new ≡ (moved_to self.old globals.entry.now).slot }
         ensures records { out.new.records
             ≡ out.old.records ++ labelled s (moved_to self.old globals.entry.now).records }
+        ensures row_room { out.old.row_room
+            ≤ out.new.row_room
+            + length (filter (is_due globals.entry.now.now) self.old.objects) }
+        ensures byte_room { out.old.byte_room
+            ≤ out.new.byte_room + PD_TELEGRAM_MAX
+            * length (filter (is_due globals.entry.now.now) self.old.objects) }
     {
         fire_all(&mut self.objects, globals, s, out);
     }
 
     /// How many of its objects the telegram is for.
-    fn addressed(&self, telegram: &Telegram<'_>, globals: &Globals) -> usize
+    pub fn addressed(&self, telegram: &Telegram<'_>, globals: &Globals) -> usize
         ensures count { result
             ≡ length (filter (is_for_entry (telegram_model telegram.now) globals.entry.now)
             self.now.objects) }
@@ -341,12 +353,7 @@ impl Slot {
         count_addressed(&self.objects, telegram, globals)
     }
 
-    /// Takes a telegram: each object that it is for is handed it, in the order of their handles.
-    /// One whose topology counts don't match the node's changes nothing. Room for the records
-    /// comes first.
-    ///
-    /// # Errors
-    /// Want of memory for the records, where the telegram concerns the slot; nothing has changed.
+    /// Hands a telegram to each object that it is for, in the order of their handles.
     pub fn receive(
         &mut self,
         config: &NodeConfig,
@@ -354,28 +361,32 @@ impl Slot {
         globals: &Globals,
         s: u16,
         out: &mut Outbox,
-    ) -> Result<(), AllocError>
+    )
         requires now { globals.now.now ≤ last_moment }
         requires limit { IsWithinLimit (telegram_model telegram.now) }
-        ensures slot { OnOk result (self.new
-            ≡ (received_if config.now self.old globals.entry.now
-            (Some (telegram_model telegram.now))).slot) }
-        ensures records { OnOk result (out.new.records
+        requires rows { length
+            (filter (is_for_entry (telegram_model telegram.now) globals.now) self.old.objects)
+            ≤ out.old.row_room }
+        requires bytes { PD_TELEGRAM_MAX
+            * length (filter (is_for_entry (telegram_model telegram.now) globals.now)
+            self.old.objects) ≤ out.old.byte_room }
+        ensures slot { self.new
+            ≡ (received (setup_of config.now) self.old globals.entry.now
+            (telegram_model telegram.now)).slot }
+        ensures records { out.new.records
             ≡ out.old.records
             ++ labelled s
-            (received_if config.now self.old globals.entry.now
-            (Some (telegram_model telegram.now))).records) }
-        ensures kept { OnErr result (self.new ≡ self.old) }
-        ensures unrecorded { OnErr result (out.new.records ≡ out.old.records) }
-        ensures memory { OnErr result
-            (concerns globals.entry.now (Some (telegram_model telegram.now)) self.old ≡ true) }
+            (received (setup_of config.now) self.old globals.entry.now
+            (telegram_model telegram.now)).records }
+        ensures row_room { out.old.row_room
+            ≤ out.new.row_room
+            + length (filter (is_for_entry (telegram_model telegram.now) globals.entry.now)
+            self.old.objects) }
+        ensures byte_room { out.old.byte_room
+            ≤ out.new.byte_room + PD_TELEGRAM_MAX
+            * length (filter (is_for_entry (telegram_model telegram.now) globals.entry.now)
+            self.old.objects) }
     {
-        if !is_valid_at(telegram, globals) {
-            return Ok(());
-        }
-        let addressed = self.addressed(telegram, globals);
-        out.reserve(addressed, PD_TELEGRAM_MAX * addressed)?;
         take_all(&mut self.objects, config, telegram, globals, s, out);
-        Ok(())
     }
 }

@@ -3,6 +3,7 @@
 ghost use Rattle.std.specs.Prelude.{◌≡◌, IfOk, IfErr, None};
 ghost use Rattle.trdp_marshal.specs.Items.{model_of};
 ghost use Rattle.trdp_engine.specs.Values.{item_refusal_of, bytes_for, IsRefusedAs};
+ghost use Rattle.trdp_engine.specs.Configs.{setup_of};
 
 use crate::fault::Refusal;
 use std::alloc::Global;
@@ -31,11 +32,11 @@ pub fn spell(
     item: &Item,
 ) -> Result<Vec<u8>, SpellFault>
     ensures bytes { IfOk result
-        (λ bytes. bytes.items ≡ bytes_for config.now (model_of item.now) object.now) }
+        (λ bytes. bytes.items ≡ bytes_for (setup_of config.now) (model_of item.now) object.now) }
     ensures spelled { IfOk result
-        (λ bytes. item_refusal_of config.now (model_of item.now) object.now ≡ None) }
+        (λ bytes. item_refusal_of (setup_of config.now) (model_of item.now) object.now ≡ None) }
     ensures refused { IfErr result
-        (IsRefusedAs (item_refusal_of config.now (model_of item.now) object.now)) }
+        (IsRefusedAs (item_refusal_of (setup_of config.now) (model_of item.now) object.now)) }
 {
     match object {
         AnyObject::Subscription(_) | AnyObject::Requester(_) => {

@@ -5,7 +5,7 @@ use Rattle.std.specs.List.{flat_map}
 use Rattle.std.proofs.lemmas.Bool.Decides.{eqb_tells}
 use Rattle.std.proofs.lemmas.Grind.{flat_map-append}
 use Rattle.std.proofs.lemmas.Option.{slice_get_past}
-use Rattle.trdp_dataset.specs.Configs.{ConfigModel}
+use Rattle.trdp_engine.specs.Configs.{NodeSetup, setup_of}
 use Rattle.trdp_filter.specs.declared.globals.Globals.{Globals}
 use Rattle.trdp_engine.specs.declared.fault.NodeFault.{NodeFault}
 use Rattle.trdp_engine.specs.Events.{EventModel}
@@ -19,19 +19,19 @@ use Rattle.trdp_script.specs.SlotOrder.{by_slot}
 use Rattle.trdp_script.proofs.Orders.{slots_own, by_slot_suc, by_slot_zero}
 
 -- slots that are each as after an event
-slots_same : (config : ConfigModel) (g : Globals) (event : EventModel) (n : ℕ) (olds news : List SlotState) → length news ≡ length olds
-    → ((i s : ℕ) (slot : SlotState) → s ≡ n + i → slice_get olds i ≡ Some slot → slice_get news i ≡ Some (slot_after config s slot g event))
-    → news ≡ slots_after config g event n olds
-slots_same config g event n [] [] len each = refl
-slots_same config g event n [] (x ∷ xs) len each = absurd (omega (arith, len))
-slots_same config g event n (x ∷ xs) [] len each = absurd (omega (arith, len))
-slots_same config g event n (x ∷ xs) (y ∷ ys) len each =
+slots_same : (setup : NodeSetup) (g : Globals) (event : EventModel) (n : ℕ) (olds news : List SlotState) → length news ≡ length olds
+    → ((i s : ℕ) (slot : SlotState) → s ≡ n + i → slice_get olds i ≡ Some slot → slice_get news i ≡ Some (slot_after setup s slot g event))
+    → news ≡ slots_after setup g event n olds
+slots_same setup g event n [] [] len each = refl
+slots_same setup g event n [] (x ∷ xs) len each = absurd (omega (arith, len))
+slots_same setup g event n (x ∷ xs) [] len each = absurd (omega (arith, len))
+slots_same setup g event n (x ∷ xs) (y ∷ ys) len each =
     let at : n ≡ n + 0 = omega arith in
-    let here : ◌≡◌ {A = Option SlotState} (Some y) (Some (slot_after config n x g event)) = each 0 n x at refl in
-    let first : y ≡ slot_after config n x g event = cc in
+    let here : ◌≡◌ {A = Option SlotState} (Some y) (Some (slot_after setup n x g event)) = each 0 n x at refl in
+    let first : y ≡ slot_after setup n x g event = cc in
     let same_length : length ys ≡ length xs = omega (arith, len) in
-    let rest : ys ≡ slots_after config g event (suc n) xs = slots_same config g event (suc n) xs ys same_length (λ i s slot is there. let next : s ≡ n + suc i = omega (arith, is) in each (suc i) s slot next there) in
-    ap (λ z. z ∷ ys) first ∙ ap (λ zs. slot_after config n x g event ∷ zs) rest
+    let rest : ys ≡ slots_after setup g event (suc n) xs = slots_same setup g event (suc n) xs ys same_length (λ i s slot is there. let next : s ≡ n + suc i = omega (arith, is) in each (suc i) s slot next there) in
+    ap (λ z. z ∷ ys) first ∙ ap (λ zs. slot_after setup n x g event ∷ zs) rest
 
 -- a record of the slot, as a record of that slot
 labelled_here : (n : ℕ) (r : RecordModel) (records : List RecordModel) (same : (r.slot == n) ≡ true) → r.slot ≡ n → labelled n (records_of n records) ≡ slots_own n records → labelled n (records_of n (r ∷ records)) ≡ slots_own n (r ∷ records)
@@ -63,22 +63,22 @@ by_slot_past slots records none (suc k) (suc n) is =
     ∙ by_slot_past slots records none k n fewer
 
 -- the text of the slots from n on comes behind that of the slots before
-slots_text_after : (config : ConfigModel) (g : Globals) (event : EventModel) (records : List RecordModel) (slots : List SlotState) (n m : ℕ) → m ≡ n + length slots
-    → ((i s : ℕ) (slot : SlotState) → s ≡ n + i → slice_get slots i ≡ Some slot → records_of s records ≡ records_after config s slot g event)
-    → flat_map text_of_record (by_slot n records) ++ slots_text config g event n slots ≡ flat_map text_of_record (by_slot m records)
-slots_text_after config g event records [] n m is each =
+slots_text_after : (setup : NodeSetup) (g : Globals) (event : EventModel) (records : List RecordModel) (slots : List SlotState) (n m : ℕ) → m ≡ n + length slots
+    → ((i s : ℕ) (slot : SlotState) → s ≡ n + i → slice_get slots i ≡ Some slot → records_of s records ≡ records_after setup s slot g event)
+    → flat_map text_of_record (by_slot n records) ++ slots_text setup g event n slots ≡ flat_map text_of_record (by_slot m records)
+slots_text_after setup g event records [] n m is each =
     let same : n ≡ m = omega (arith, is) in
     append-nil (flat_map text_of_record (by_slot n records)) ∙ ap (λ k. flat_map text_of_record (by_slot k records)) same
-slots_text_after config g event records (slot ∷ slots) n m is each =
+slots_text_after setup g event records (slot ∷ slots) n m is each =
     let at : n ≡ n + 0 = omega arith in
-    let own : labelled n (records_after config n slot g event) ≡ slots_own n records = ap (labelled n) (sym (each 0 n slot at refl)) ∙ own_labelled n records in
+    let own : labelled n (records_after setup n slot g event) ≡ slots_own n records = ap (labelled n) (sym (each 0 n slot at refl)) ∙ own_labelled n records in
     let front = flat_map text_of_record (by_slot n records) in
-    let rest = slots_text config g event (suc n) slots in
+    let rest = slots_text setup g event (suc n) slots in
     let more : m ≡ suc n + length slots = omega (arith, is) in
     ap (λ l. front ++ (flat_map text_of_record l ++ rest)) own
     ∙ sym (append_assoc front (flat_map text_of_record (slots_own n records)) rest)
     ∙ ap (λ l. l ++ rest) (sym (flat_map-append text_of_record (by_slot n records) (slots_own n records)) ∙ ap (flat_map text_of_record) (sym (by_slot_suc n records)))
-    ∙ slots_text_after config g event records slots (suc n) m more (λ i s other is there. let next : s ≡ n + suc i = omega (arith, is) in each (suc i) s other next there)
+    ∙ slots_text_after setup g event records slots (suc n) m more (λ i s other is there. let next : s ≡ n + suc i = omega (arith, is) in each (suc i) s other next there)
 
 -- no fault, where the node took the event
 no_fault : (fault : Option NodeFault) → FaultIs fault (Ok tt) → fault ≡ None
@@ -91,8 +91,8 @@ pub node_played : (old new : NodeState) (records records_then : List RecordModel
     → ((s : ℕ) (slot : SlotState) → slice_get old.slots s ≡ Some slot → StepsAsAlone old new records records_then event s slot)
     → new ≡ node_after old event
 node_played old new records records_then event taken config globals len steps =
-    let slots : new.slots ≡ slots_after old.config old.globals event 0 old.slots =
-    slots_same old.config old.globals event 0 old.slots new.slots len (λ i s slot is there. let same : s ≡ i = omega (arith, is) in rw same (steps i slot there).slot_is) in
+    let slots : new.slots ≡ slots_after (setup_of old.config) old.globals event 0 old.slots =
+    slots_same (setup_of old.config) old.globals event 0 old.slots new.slots len (λ i s slot is there. let same : s ≡ i = omega (arith, is) in rw same (steps i slot there).slot_is) in
     ap (λ c. let n : NodeState = record { config = c; globals = new.globals; slots = new.slots } in n) config
     ∙ ap (λ g. let n : NodeState = record { config = old.config; globals = g; slots = new.slots } in n) globals
     ∙ ap (λ l. let n : NodeState = record { config = old.config; globals = globals_after old.globals event; slots = l } in n) slots
@@ -108,11 +108,11 @@ pub text_played : (n : ℕ) (old new : NodeState) (records records_then : List R
 text_played n old new records records_then event text taken fits empty steps appends told =
     let room : n ≡ length old.slots + (n - length old.slots) = omega (arith, fits) in
     let none : (s : ℕ) → slice_get old.slots s ≡ None → records_of s records_then ≡ [] = λ s past. appends.none_else s past ∙ ap (records_of s) empty in
-    let each : (i s : ℕ) (slot : SlotState) → s ≡ 0 + i → slice_get old.slots i ≡ Some slot → records_of s records_then ≡ records_after old.config s slot old.globals event =
-    λ i s slot is there. let same : s ≡ i = omega (arith, is) in rw same ((steps i slot there).records_are ∙ ap (λ l. records_of i l ++ records_after old.config i slot old.globals event) empty) in
+    let each : (i s : ℕ) (slot : SlotState) → s ≡ 0 + i → slice_get old.slots i ≡ Some slot → records_of s records_then ≡ records_after (setup_of old.config) s slot old.globals event =
+    λ i s slot is there. let same : s ≡ i = omega (arith, is) in rw same ((steps i slot there).records_are ∙ ap (λ l. records_of i l ++ records_after (setup_of old.config) i slot old.globals event) empty) in
     let whole : 0 + length old.slots ≡ length old.slots = omega arith in
     told
     ∙ ap (flat_map text_of_record) (by_slot_past old.slots records_then none (n - length old.slots) n room)
-    ∙ sym (ap (λ l. flat_map text_of_record l ++ slots_text old.config old.globals event 0 old.slots) (sym (by_slot_zero records_then))
-    ∙ slots_text_after old.config old.globals event records_then old.slots 0 (length old.slots) (sym whole) each)
+    ∙ sym (ap (λ l. flat_map text_of_record l ++ slots_text (setup_of old.config) old.globals event 0 old.slots) (sym (by_slot_zero records_then))
+    ∙ slots_text_after (setup_of old.config) old.globals event records_then old.slots 0 (length old.slots) (sym whole) each)
     ∙ ap (λ fault. text_unless fault old event) (sym (no_fault (refused_as (length old.slots) old.globals event) taken))

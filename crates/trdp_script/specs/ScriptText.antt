@@ -7,6 +7,7 @@ use Rattle.std.specs.Str.Lines.{lines}
 use Rattle.trdp_dataset.specs.Configs.{ConfigModel}
 use Rattle.trdp_filter.specs.declared.globals.Globals.{Globals}
 use Rattle.trdp_engine.specs.declared.fault.NodeFault.{NodeFault}
+use Rattle.trdp_engine.specs.Configs.{NodeSetup, setup_of}
 use Rattle.trdp_engine.specs.Events.{EventModel}
 use Rattle.trdp_engine.specs.Records.{labelled}
 use Rattle.trdp_engine.specs.Slots.{SlotState}
@@ -17,25 +18,25 @@ use Rattle.trdp_script.specs.Lines.{line_of}
 use Rattle.trdp_script.specs.RecordText.{text_of_record, text_of_fault}
 
 -- the slots, of which the first has the number s, after an event that the node takes
-abbrev pub slots_after : ConfigModel → Globals → EventModel → ℕ → List SlotState → List SlotState
-slots_after config g event s [] = []
-slots_after config g event s (slot ∷ slots) =
-    slot_after config s slot g event ∷ slots_after config g event (suc s) slots
+abbrev pub slots_after : NodeSetup → Globals → EventModel → ℕ → List SlotState → List SlotState
+slots_after setup g event s [] = []
+slots_after setup g event s (slot ∷ slots) =
+    slot_after setup s slot g event ∷ slots_after setup g event (suc s) slots
 
 -- the text of the records that these slots get at such an event, slots rising, each slot's in
 -- their order
-abbrev pub slots_text : ConfigModel → Globals → EventModel → ℕ → List SlotState → List ℕ
-slots_text config g event s [] = []
-slots_text config g event s (slot ∷ slots) =
-    flat_map text_of_record (labelled s (records_after config s slot g event))
-    ++ slots_text config g event (suc s) slots
+abbrev pub slots_text : NodeSetup → Globals → EventModel → ℕ → List SlotState → List ℕ
+slots_text setup g event s [] = []
+slots_text setup g event s (slot ∷ slots) =
+    flat_map text_of_record (labelled s (records_after setup s slot g event))
+    ++ slots_text setup g event (suc s) slots
 
 -- the node after an event with this fault, which it takes no notice of, or with none
 abbrev pub node_unless : Option NodeFault → NodeState → EventModel → NodeState
 node_unless (Some fault) node event = node
 node_unless None node event = record node {
   globals = globals_after node.globals event;
-  slots = slots_after node.config node.globals event 0 node.slots;
+  slots = slots_after (setup_of node.config) node.globals event 0 node.slots;
 }
 
 -- the node after an event
@@ -50,7 +51,8 @@ nodes_after node (event ∷ events) = nodes_after (node_after node event) events
 -- what is told of an event with this fault, or of the records of one with none
 abbrev pub text_unless : Option NodeFault → NodeState → EventModel → List ℕ
 text_unless (Some fault) node event = text_of_fault fault
-text_unless None node event = slots_text node.config node.globals event 0 node.slots
+text_unless None node event =
+    slots_text (setup_of node.config) node.globals event 0 node.slots
 
 -- what is told of an event
 abbrev pub event_text : NodeState → EventModel → List ℕ

@@ -112,6 +112,7 @@ impl Script {
     /// A script before its first byte, and a list for the pieces of its input.
     fn new(alloc: Global, config: NodeConfig) -> Result<(Script, Vec<u8>), AllocError>
         ensures start { IfOk result (λ made. Starts config made.0) }
+        ensures slots { IfOk result (λ made. length made.0.player.node.slots ≤ 16) }
         ensures piece { IfOk result (λ made. length made.1.items ≡ PIECE_ROOM) }
     {
         let piece = zeros(alloc, PIECE_ROOM)?;
@@ -325,6 +326,7 @@ impl Player {
     /// A node of the configuration that was just opened.
     fn new(alloc: Global, config: NodeConfig) -> Result<Player, AllocError>
         ensures node { IfOk result (λ player. player.node ≡ opened_node config) }
+        ensures slots { IfOk result (λ player. length player.node.slots ≤ 16) }
         ensures output { IfOk result (λ player. player.output.items ≡ []) }
     {
         let output = output_buffer(alloc)?;

@@ -26,6 +26,8 @@ mod publishers;
 #[cfg(test)]
 mod pulls;
 #[cfg(test)]
+mod slots;
+#[cfg(test)]
 mod subscriptions;
 #[cfg(test)]
 mod telegrams;

@@ -17,7 +17,15 @@ loop-at-preserved c =
       capacity = c.fire_at.ensures.capacity ∙ c.loop-at.invariant.capacity;
       rows = omega (arith, m.count);
       bytes = omega (arith, m.count);
+      row_room = omega (arith, m.count, c.fire_at.ensures.row_room, c.loop-at.invariant.row_room);
+      byte_room = omega (arith, m.count, c.fire_at.ensures.byte_room, c.loop-at.invariant.byte_room);
     }
 
 pub returns-clause-items : goal.returns-clause-items
 returns-clause-items c = sym (none_fires c.args.globals.now c.loop-at.objects.items (rw c.deref.ensures.value at c.in_default.ensures)) ∙ c.loop-at.invariant.items
+
+pub returns-clause-row_room : goal.returns-clause-row_room
+returns-clause-row_room c = omega (arith, c.loop-at.invariant.row_room)
+
+pub returns-clause-byte_room : goal.returns-clause-byte_room
+returns-clause-byte_room c = omega (arith, c.loop-at.invariant.byte_room)

@@ -1,4 +1,4 @@
-use Rattle.std.proofs.Common.{◌≡◌, ◌*◌, ◌≤◌, ◌++◌, length, filter, map, vec_capacity}
+use Rattle.std.proofs.Common.{◌≡◌, ◌*◌, ◌≤◌, ◌+◌, ◌++◌, length, filter, map, vec_capacity}
 use Rattle.std.specs.List.{flat_map}
 use Rattle.trdp_head.specs.declared.pd.TheConstants.{PD_TELEGRAM_MAX}
 use Rattle.trdp_engine.specs.Records.{labelled}
@@ -15,6 +15,8 @@ invariant-loop-at l = record {
   capacity : vec_capacity l.objects ≡ vec_capacity l.fn.objects;
   rows : length (filter (is_due l.globals.now) l.objects.items) ≤ l.out.row_room;
   bytes : PD_TELEGRAM_MAX * length (filter (is_due l.globals.now) l.objects.items) ≤ l.out.byte_room;
+  row_room : l.fn.out.row_room + length (filter (is_due l.globals.now) l.objects.items) ≤ l.out.row_room + length (filter (is_due l.globals.now) l.fn.objects.items);
+  byte_room : l.fn.out.byte_room + PD_TELEGRAM_MAX * length (filter (is_due l.globals.now) l.objects.items) ≤ l.out.byte_room + PD_TELEGRAM_MAX * length (filter (is_due l.globals.now) l.fn.objects.items);
 }
 
 abbrev pub decreases-loop-at : goal.decreases-loop-at

@@ -1,25 +1,18 @@
-use Rattle.std.proofs.Common.{ap, sym, [], ◌∷◌, refl}
-use Rattle.trdp_engine.specs.Slots.{SlotState, Outcome}
+use Rattle.std.proofs.Common.{refl}
+use Rattle.trdp_engine.specs.Configs.{setup_of}
 use Rattle.trdp_engine.specs.Events.{DatagramIs}
 use Rattle.trdp_engine.specs.Datagrams.{telegram_of, received_if}
-use Rattle.trdp_engine.specs.NodeStates.{NodeState}
 use Rattle.trdp_engine.proofs.Fitting.{received_fits}
-use Rattle.trdp_engine.proofs.Steps.{only_steps, only_appends, datagram_effect}
+use Rattle.trdp_engine.proofs.Steps.{plain_steps, outcomes_fit}
 use Rattle.trdp_engine.proofs.node.Node.step_datagram.Goals as goal
 
 pub returns-clause-steps : goal.returns-clause-steps
 returns-clause-steps c =
-    let outcome : Outcome = received_if c.self.inside.config c.self.inside.slot c.self.inside.globals (telegram_of c.args.protocol c.args.src c.args.dst c.args.bytes.now) in
-    let effect = datagram_effect c.self.inside.config c.self.inside.slot c.self.inside.globals c.args.protocol c.args.src c.args.dst c.args.bytes.now in
     rw (← c.self.view_is)
-    (only_steps _ _ c.self.inside.slot outcome c.args.out.now.records c.hear.new.out.records (DatagramIs c.args.protocol c.args.src c.args.dst c.args.bytes.now) refl (ap (λ (slot : SlotState). slot ∷ []) c.in_ok-hear.ensures.slot) c.in_ok-hear.ensures.records effect.0 effect.1)
-
-pub returns-clause-appends : goal.returns-clause-appends
-returns-clause-appends c =
-    let outcome : Outcome = received_if c.self.inside.config c.self.inside.slot c.self.inside.globals (telegram_of c.args.protocol c.args.src c.args.dst c.args.bytes.now) in
-    only_appends c.args.self.now.slots c.self.inside.slot outcome.records c.args.out.now.records c.hear.new.out.records (sym (ap (λ (n : NodeState). n.slots) c.self.view_is)) c.in_ok-hear.ensures.records
+    (λ s slot is.
+    plain_steps _ _ c.args.out.now.records c.hear.new.out.records (DatagramIs c.args.protocol c.args.src c.args.dst c.args.bytes.now) s slot refl (c.in_ok-hear.ensures.parts s slot is))
 
 pub invariant_of-self-2 : goal.invariant_of-self-2
 invariant_of-self-2 c =
-    rw c.in_ok-hear.ensures.slot
-    (c.self.invariant.0, c.self.invariant.1, received_fits c.self.inside.config c.self.inside.slot c.self.inside.globals (telegram_of c.args.protocol c.args.src c.args.dst c.args.bytes.now) c.self.invariant.2)
+    let fits = outcomes_fit (setup_of c.self.inside.config) (λ s slot. received_if (setup_of c.self.inside.config) slot c.self.inside.globals (telegram_of c.args.protocol c.args.src c.args.dst c.args.bytes.now)) c.self.inside.slots.items c.hear.new.slots.items _ _ c.in_ok-hear.ensures.count c.in_ok-hear.ensures.parts (λ s slot fit. received_fits (setup_of c.self.inside.config) slot c.self.inside.globals (telegram_of c.args.protocol c.args.src c.args.dst c.args.bytes.now) fit) c.self.invariant.3 in
+    (c.self.invariant.0, c.self.invariant.1, rw c.in_ok-hear.ensures.count c.self.invariant.2, fits)

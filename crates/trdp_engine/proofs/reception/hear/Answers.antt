@@ -1,0 +1,4 @@
+use Rattle.trdp_engine.proofs.reception.hear.Goals as goal
+
+pub returns-in-Ok-clause-parts : goal.returns-in-Ok-clause-parts
+returns-in-Ok-clause-parts c = rw (c.in-Pd.is, c.in-Ok.ensures.found) c.receive.ensures.parts
