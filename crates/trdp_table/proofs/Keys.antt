@@ -7,7 +7,7 @@ use Rattle.std.proofs.lemmas.Option.{same_Some, none-some}
 use Rattle.std.proofs.lemmas.Bool.Decides.{nat_tests}
 use Rattle.std.proofs.lemmas.List.Folds.{find-append}
 use Rattle.trdp_pd.specs.declared.any_object.AnyObject.{AnyObject}
-use Rattle.trdp_table.specs.Tables.{Keyed, SlotTable, slot_in, all_objects, by_handle, by_key, keyed_with, slot_with, keyed_with_at, with_other_at}
+use Rattle.trdp_table.specs.Tables.{Keyed, SlotTable, slot_in, all_objects, by_handle, by_key, other_by_key, with_other_by_key, other_by_handle, with_other_by_handle}
 use Rattle.trdp_table.specs.TableLaws.{AllAbove, AllBelow, IsRising}
 use Rattle.trdp_table.specs.TableKept.{AllKeyed}
 use Rattle.trdp_table.specs.Lending.{with_other, objects_with, slot_with_at}
@@ -144,11 +144,11 @@ distinct_from b (x ∷ xs) keyed rising =
 
 -- The object of a key becomes another one.
 
-unchanged_slot : (key : ℕ) (w : AnyObject) (es : List Keyed) → by_key key es ≡ None → map (keyed_with key w) es ≡ es
+unchanged_slot : (key : ℕ) (w : AnyObject) (es : List Keyed) → by_key key es ≡ None → map (other_by_key key w) es ≡ es
 unchanged_slot key w [] none = refl
 unchanged_slot key w (e ∷ es) none = either (e.key == key) refl none (unchanged_slot key w es)
   where
-    either : (b : Bool) → (e.key == key) ≡ b → by_key key (e ∷ es) ≡ None → (by_key key es ≡ None → map (keyed_with key w) es ≡ es) → map (keyed_with key w) (e ∷ es) ≡ e ∷ es
+    either : (b : Bool) → (e.key == key) ≡ b → by_key key (e ∷ es) ≡ None → (by_key key es ≡ None → map (other_by_key key w) es ≡ es) → map (other_by_key key w) (e ∷ es) ≡ e ∷ es
     either true is none rest = absurd (none-some e (sym (rw is at none)))
     either false is none rest = rw is (ap (λ (r : List Keyed). e ∷ r) (rest (rw is at none)))
 
@@ -156,17 +156,17 @@ both_none : {X : Type 0} (a b : Option X) → option_or a b ≡ None → (a ≡ 
 both_none None b none = (refl, none)
 both_none (Some x) b none = absurd (none-some x (sym none))
 
-unchanged_all : (key : ℕ) (w : AnyObject) (slots : List SlotTable) → by_key key (all_objects slots) ≡ None → map (slot_with key w) slots ≡ slots
+unchanged_all : (key : ℕ) (w : AnyObject) (slots : List SlotTable) → by_key key (all_objects slots) ≡ None → map (with_other_by_key key w) slots ≡ slots
 unchanged_all key w [] none = refl
 unchanged_all key w (x ∷ xs) none =
     let both = both_none (by_key key x.objects) (by_key key (all_objects xs)) (sym (by_key-append key x.objects (all_objects xs)) ∙ none) in
     rw (unchanged_slot key w x.objects both.0, unchanged_all key w xs both.1) refl
 
-changed_slot : (s i : ℕ) (w : AnyObject) (es : List Keyed) (e : Keyed) → AllKeyed s es → IsRising es → slice_get es i ≡ Some e → objects_with es i w ≡ map (keyed_with e.key w) es
+changed_slot : (s i : ℕ) (w : AnyObject) (es : List Keyed) (e : Keyed) → AllKeyed s es → IsRising es → slice_get es i ≡ Some e → objects_with es i w ≡ map (other_by_key e.key w) es
 changed_slot s i w [] e keyed rising at = absurd (cc)
 changed_slot s zero w (x ∷ es) e keyed rising at =
     let same : x ≡ e = same_Some x e at in
-    subst (λ (k : Keyed). with_other x w ∷ es ≡ map (keyed_with k.key w) (x ∷ es)) same
+    subst (λ (k : Keyed). with_other x w ∷ es ≡ map (other_by_key k.key w) (x ∷ es)) same
     (let test : (x.key == x.key) ≡ true = grind (arith, nat_tests) in
     rw (test, unchanged_slot x.key w es (same_slot s x.handle x.key es keyed.1 keyed.0.0 ∙ by_handle_above x.handle es rising.0)) refl)
 changed_slot s (suc i) w (x ∷ es) e keyed rising at =
@@ -177,7 +177,7 @@ changed_slot s (suc i) w (x ∷ es) e keyed rising at =
     let test : (x.key == e.key) ≡ false = grind (arith, nat_tests) in
     rw (test, changed_slot s i w es e keyed.1 rising.1 at) refl
 
-pub changed_from : (b s i : ℕ) (w : AnyObject) (slots : List SlotTable) (e : Keyed) → AllKeyedFrom b slots → IsRising (slot_in s slots).objects → slice_get (slot_in s slots).objects i ≡ Some e → set slots s (slot_with_at (slot_in s slots) i w) ≡ map (slot_with e.key w) slots
+pub changed_from : (b s i : ℕ) (w : AnyObject) (slots : List SlotTable) (e : Keyed) → AllKeyedFrom b slots → IsRising (slot_in s slots).objects → slice_get (slot_in s slots).objects i ≡ Some e → set slots s (slot_with_at (slot_in s slots) i w) ≡ map (with_other_by_key e.key w) slots
 changed_from b s i w [] e keyed rising at = absurd (cc)
 changed_from b zero i w (x ∷ xs) e keyed rising at =
     let there = key_found b i x.objects e keyed.0 at in
@@ -195,14 +195,14 @@ changed_from b (suc s) i w (x ∷ xs) e keyed rising at =
 
 -- In a slot, the object of a key and that of its handle are one.
 
-same_exchange : (s h key : ℕ) (w : AnyObject) (es : List Keyed) → AllKeyed s es → key ≡ s * 4294967296 + h → map (keyed_with key w) es ≡ map (keyed_with_at h w) es
+same_exchange : (s h key : ℕ) (w : AnyObject) (es : List Keyed) → AllKeyed s es → key ≡ s * 4294967296 + h → map (other_by_key key w) es ≡ map (other_by_handle h w) es
 same_exchange s h key w [] keyed is = refl
 same_exchange s h key w (e ∷ es) keyed is =
     let of : e.key ≡ s * 4294967296 + e.handle = keyed.0.0 in
     let tests : (e.key == key) ≡ (e.handle == h) = grind (arith, nat_tests) in
     rw (tests, same_exchange s h key w es keyed.1 is) refl
 
-pub exchanged_from : (b t h key : ℕ) (w : AnyObject) (slots : List SlotTable) → AllKeyedFrom b slots → key ≡ (b + t) * 4294967296 + h → h < 4294967296 → map (slot_with key w) slots ≡ set slots t (with_other_at h w (slot_in t slots))
+pub exchanged_from : (b t h key : ℕ) (w : AnyObject) (slots : List SlotTable) → AllKeyedFrom b slots → key ≡ (b + t) * 4294967296 + h → h < 4294967296 → map (with_other_by_key key w) slots ≡ set slots t (with_other_by_handle h w (slot_in t slots))
 exchanged_from b t h key w [] keyed is lt = refl
 exchanged_from b zero h key w (x ∷ xs) keyed is lt =
     let here : key ≡ b * 4294967296 + h = omega (arith, is) in

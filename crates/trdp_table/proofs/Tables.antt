@@ -10,7 +10,7 @@ use Rattle.std.proofs.Math.ListN.{get_or-map}
 use Rattle.trdp_pd.specs.declared.any_object.AnyObject.{AnyObject}
 use Rattle.trdp_table.specs.declared.kind.Kind.{Kind}
 use Rattle.trdp_table.specs.Kinds.{kind_of}
-use Rattle.trdp_table.specs.Tables.{Keyed, SlotTable, TableState, last_handle, slot_limit, opened_slot, slot_in, all_objects, by_handle, by_key, count_of, refusal, with_object, without, with_next, changed_at, new_object, exchanged, with_other_at, Adds}
+use Rattle.trdp_table.specs.Tables.{Keyed, SlotTable, TableState, last_handle, slot_limit, opened_slot, slot_in, all_objects, by_handle, by_key, count_of, refusal, with_object, without, with_next, changed_at, new_object, exchanged, with_other_by_handle, Adds}
 use Rattle.trdp_table.specs.TableLaws.{AllAbove, AllBelow, IsRising, AreLimited, IsSlotTable, IsTable}
 use Rattle.trdp_table.specs.TableKept.{AllKeyed, IsKeptTable, IsAt}
 use Rattle.trdp_table.specs.SlotKept.{IsIndexOf, IsKept}
@@ -226,7 +226,7 @@ pub listed : (table : TableState) → IsKeptTable table → (s index : ℕ) (key
 listed table is s index keyed at = by_handle_get (slot_in s table).objects index keyed (is.slots s).rising at
 
 -- the object of a handle becomes another one, and no other
-pub exchanged_alone : (table : TableState) → IsKeptTable table → (s handle : ℕ) (keyed : Keyed) (object : AnyObject) → by_handle handle (slot_in s table).objects ≡ Some keyed → exchanged keyed.key table object ≡ changed_at s (with_other_at handle object) table
+pub exchanged_alone : (table : TableState) → IsKeptTable table → (s handle : ℕ) (keyed : Keyed) (object : AnyObject) → by_handle handle (slot_in s table).objects ≡ Some keyed → exchanged keyed.key table object ≡ changed_at s (with_other_by_handle handle object) table
 exchanged_alone table is s handle keyed object found =
     let key = key_by_handle s handle (slot_in s table).objects keyed (is.keyed s) found in
     let same : keyed.handle ≡ handle = handle_found handle (slot_in s table).objects keyed found in

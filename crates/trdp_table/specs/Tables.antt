@@ -98,23 +98,24 @@ pub record Adds (s : ℕ) (object : AnyObject) (old new : TableState) : Type 0 w
   pub table : new ≡ changed_at s (with_object key object) old
 
 -- an object under its handle, key and kind, become another one if it is that of the key
-abbrev pub keyed_with : ℕ → AnyObject → Keyed → Keyed
-keyed_with key object keyed = if keyed.key == key then record keyed { object = object } else keyed
+abbrev pub other_by_key : ℕ → AnyObject → Keyed → Keyed
+other_by_key key object keyed = if keyed.key == key then record keyed { object = object } else keyed
 
 -- a slot whose object of the key, if it has one, became another one
-abbrev pub slot_with : ℕ → AnyObject → SlotTable → SlotTable
-slot_with key object slot = record slot { objects = map (keyed_with key object) slot.objects }
+abbrev pub with_other_by_key : ℕ → AnyObject → SlotTable → SlotTable
+with_other_by_key key object slot =
+    record slot { objects = map (other_by_key key object) slot.objects }
 
 -- the table once the object of a key became another one, under the same handle, key and kind
 abbrev pub exchanged : ℕ → TableState → AnyObject → TableState
-exchanged key table object = map (slot_with key object) table
+exchanged key table object = map (with_other_by_key key object) table
 
 -- an object under its handle, key and kind, become another one if it is that of the handle
-abbrev pub keyed_with_at : ℕ → AnyObject → Keyed → Keyed
-keyed_with_at handle object keyed =
+abbrev pub other_by_handle : ℕ → AnyObject → Keyed → Keyed
+other_by_handle handle object keyed =
     if keyed.handle == handle then record keyed { object = object } else keyed
 
 -- a slot whose object of a handle, if it has one, became another one
-abbrev pub with_other_at : ℕ → AnyObject → SlotTable → SlotTable
-with_other_at handle object slot =
-    record slot { objects = map (keyed_with_at handle object) slot.objects }
+abbrev pub with_other_by_handle : ℕ → AnyObject → SlotTable → SlotTable
+with_other_by_handle handle object slot =
+    record slot { objects = map (other_by_handle handle object) slot.objects }

@@ -10,7 +10,7 @@ ghost use Rattle.trdp_table.specs.Kinds.{kind_of};
 ghost use Rattle.trdp_table.specs.Tables.{Keyed, slot_limit, opened_slot, slot_in};
 ghost use Rattle.trdp_table.specs.Tables.{all_objects, by_handle, by_key, refusal, Adds};
 ghost use Rattle.trdp_table.specs.Tables.{changed_at, without, with_next, exchanged};
-ghost use Rattle.trdp_table.specs.Tables.{with_other_at};
+ghost use Rattle.trdp_table.specs.Tables.{with_other_by_handle};
 ghost use Rattle.trdp_table.specs.TableLaws.{AreLimited, object_limit, IsTable};
 ghost use Rattle.trdp_table.specs.TableKept.{IsAt};
 
@@ -201,8 +201,8 @@ impl Table {
         }
     }
 
-    /// Takes a slot's object of that handle out of the table; all other objects keep their keys. None
-    /// where the slot has no such object; nothing has changed.
+    /// Takes a slot's object of that handle out of the table; all other objects keep their keys.
+    /// None where the slot has no such object; nothing has changed.
     pub fn remove(&mut self, slot: u16, handle: u32) -> Option<AnyObject>
         requires { slot < length self.old }
         ensures object { result
@@ -265,7 +265,7 @@ impl Table {
         ensures exchanged { (s handle : ℕ) (keyed : Keyed) (object : AnyObject)
             → by_handle handle (slot_in s self.now).objects ≡ Some keyed
             → exchanged keyed.key self.now object
-            ≡ changed_at s (with_other_at handle object) self.now }
+            ≡ changed_at s (with_other_by_handle handle object) self.now }
     {
         let _ = &self.slots;
     }
