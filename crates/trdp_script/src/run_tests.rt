@@ -11,7 +11,8 @@ use trdp_dataset::NodeConfig;
 const CONFIG: &[u8] =
     b"[node]\naddress = \"10.0.0.1\"\n[[slot]]\npublishers = 4\nsubscriptions = 4\n";
 
-/// A publisher that is given a value and sends it (IEC 61375-2-3), then a moment that is past, and a bad line.
+/// A publisher that is given a value and sends it (IEC 61375-2-3), then a moment that is past,
+/// and a bad line.
 const SCRIPT: &[u8] =
     b"call 0 publish 100 0 100000 0 0 0 10.0.0.2:17224\r\n\ncall 0 put 1 0a0b\nmoment 100000\nmoment 5\nmoment";
 

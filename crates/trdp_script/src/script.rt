@@ -1,7 +1,7 @@
 //! A script's way through the node: its lines in, the text of its records out.
 
 ghost use Rattle.std.specs.Prelude.{◌≡◌, ◌<◌, ◌≤◌, ◌+◌, ◌^◌, ◌++◌, ◌∷◌, ℕ, List, [], length};
-ghost use Rattle.std.specs.Prelude.{Option, Some, Ok, Err, true, false, IfOk, OnOk, OnErr, IfErr};
+ghost use Rattle.std.specs.Prelude.{Option, Some, Ok, Err, true, false, IfOk, OnOk, OnErr, IfErr, vec_len};
 ghost use Rattle.trdp_engine.specs.NodeStates.{opened_node};
 ghost use Rattle.trdp_engine.specs.Events.{event_model};
 ghost use Rattle.trdp_script.specs.Lines.{line_of};
@@ -302,8 +302,21 @@ impl Script {
             (W.contents writer.old) (W.contents writer.new) [] fault) }
     {
         if self.line.is_empty() {
-            return Ok(());
+            Ok(())
+        } else {
+            self.end_last(alloc, writer)
         }
+    }
+
+    /// Plays the last line, which has no end.
+    fn end_last<W: Write>(&mut self, alloc: Global, writer: &mut W) -> Result<(), ScriptFault>
+        requires sound { IsSound self.old }
+        requires some { 0 < vec_len self.old.line }
+        ensures ok { OnOk result
+            (Ends self.old self.new (W.contents writer.old) (W.contents writer.new) []) }
+        ensures err { IfErr result (λ fault. Stops self.old self.new
+            (W.contents writer.old) (W.contents writer.new) [] fault) }
+    {
         self.player
             .take_line(alloc, &self.line, self.number, writer)
     }

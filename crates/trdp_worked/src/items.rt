@@ -31,7 +31,7 @@ static PULL: &str = "\
     pd 10.0.0.2:17224 10.0.0.1:17224 \
     0000000001005072000000640000000000000000000000000000000000000000000000003bff69e3";
 
-/// The pull reply of comId 100 with counter 0, which carries the number 2 and the numbers 1 and 2 of 16 bits.
+/// The pull reply of comId 100 with counter 0, which carries 2 and the 16-bit numbers 1 and 2.
 static PULLED: &str = "\
     0 send pd 10.0.0.2:17224 \
     00000000010050700000006400000000000000000000000500000000000000000000000060fe4938\
@@ -152,7 +152,7 @@ struct Showing {
     count: u16,
 }
 
-/// The datagram of comId 100 with counter 7, which carries the number 2 and the numbers 1 and 2 of 16 bits.
+/// The data of comId 100 with counter 7, which carries 2 and the 16-bit numbers 1 and 2.
 const DATA: &str = "\
     pd 10.0.0.2:17224 10.0.0.1:17224 \
     0000000701005064000000640000000000000000000000050000000000000000000000006de33269\
@@ -282,7 +282,7 @@ fn a_look_that_finds_nothing_says_why(rt: HostRuntime) -> Result<(), Fail> {
     Ok(())
 }
 
-/// One slot with one object of each kind, and a dataset whose values fill a telegram: a count of 16 bits and so many bytes.
+/// A slot with one publisher and one subscription, and a dataset: a count and so many bytes.
 static LARGE: &[u8] = b"\
 [node]
 address = \"10.0.0.1\"

@@ -1,10 +1,12 @@
-//! Worked examples, with values from outside: telegrams from the standard's layout with zlib's CRC-32, and answers by the
-//! rules of the profile, computed by hand.
+//! Worked examples, with values from outside: telegrams from the standard's layout with zlib's
+//! CRC-32, and answers by the rules of the profile, computed by hand.
 //!
-//! Nearly all of them are scripts with the text that they give. In a script a remark before a datagram says in short what
-//! telegram the digits are: its type, its counter (c), its comId (com), its topology counts (etb, op), the comId and the
-//! address for a reply (rcom, rip), and behind the bar the payload; what isn't named is 0. What a script can't say stands in
-//! `items` and `node`.
+//! Nearly all of them are scripts with the text that they give. In a script a remark before a
+//! datagram says in short what telegram the digits are: its type, its counter (c), its comId (com),
+//! its topology counts (etb, op), the comId and the address for a reply (rcom, rip), and behind the
+//! bar the payload; what isn't named is 0. Where the telegram isn't as it should be, it also says
+//! how: another version (v) or length (n), a wrong frame check (bad), no zeros behind the payload
+//! (nopad), or so many bytes alone (cut). What a script can't say stands in `items` and `node`.
 #![tactic(auto)]
 
 #[cfg(test)]

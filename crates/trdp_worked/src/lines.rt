@@ -50,7 +50,7 @@ static ENDED: [Ended; 9] = [
         ending: Err(ScriptFault::Line(3, LineFault::Unknown)),
     },
     Ended {
-        script: "call 0 openpull 100 0 0.0.0.0 0 0 10.0.0.2:17224\n# a remark\n\nmoment\nmoment 1\n",
+        script: "call 0 openpull 100 0 0.0.0.0 0 0 10.0.0.2:17224\n# x\n\nmoment\nmoment 1\n",
         output: "0 handle 1\n",
         ending: Err(ScriptFault::Line(4, LineFault::Count)),
     },

@@ -6,8 +6,8 @@ use std::test::Fail;
 use trdp_dataset::NodeConfig;
 use trdp_script::{ScriptFault, run_script};
 
-/// Two slots of four publishers, four subscriptions and one requester, and two datasets: a count and so many numbers of 16
-/// bits; and a signed number, a time of 48 bits and a value of the first dataset.
+/// Two slots, each of four publishers, four subscriptions and one requester. Two datasets: a count
+/// and so many 16-bit numbers; a signed number, a time of 48 bits and a value of the first one.
 pub static CONFIG: &[u8] = b"\
 [node]
 address = \"10.0.0.1\"

@@ -3,7 +3,8 @@ use Rattle.std.specs.Prelude.{ℕ, List, ◌++◌, codes, Result, Ok, Err}
 use Rattle.trdp_base.specs.NumberText.{text_of_number}
 use Rattle.trdp_script.specs.RecordText.{name_of_line_fault}
 use Rattle.trdp_script.specs.declared.script.ScriptFault.{ScriptFault}
-use Rattle.trdp_script.specs.declared.script.ScriptFault.TheVariants.{Line, Read, Write, OutOfMemory}
+use Rattle.trdp_script.specs.declared.script.ScriptFault.TheVariants.{Line, Read, Write}
+use Rattle.trdp_script.specs.declared.script.ScriptFault.TheVariants.{OutOfMemory}
 
 -- the exit status of a script: 0 at its end, 3 for a bad line, and else 4
 abbrev pub status_of_script : Result (Unit {0}) ScriptFault → ℕ
@@ -15,7 +16,8 @@ status_of_script (Err OutOfMemory) = 4
 
 -- what is told of a script's fault, without the end of the line
 abbrev pub text_of_script_fault : ScriptFault → List ℕ
-text_of_script_fault (Line n fault) = codes "line " ++ text_of_number n ++ codes " fault " ++ name_of_line_fault fault
+text_of_script_fault (Line n fault) =
+    codes "line " ++ text_of_number n ++ codes " fault " ++ name_of_line_fault fault
 text_of_script_fault Read = codes "read fault"
 text_of_script_fault Write = codes "write fault"
 text_of_script_fault OutOfMemory = codes "memory fault"

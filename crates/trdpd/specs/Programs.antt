@@ -7,15 +7,18 @@ use Rattle.trdp_script.specs.ScriptRuns.{RunsScript}
 use Rattle.trdp_script.specs.declared.script.ScriptFault.{ScriptFault}
 use Rattle.trdpd.specs.Faults.{status_of_script}
 
--- the bytes are no configuration, or memory ran out while they were read: the status is 1, and nothing was written
+-- the bytes are no configuration, or memory ran out while they were read: the status is 1, and
+-- nothing was written
 pub record TakesNoConfig (bytes : List ℕ) (old new : Option (List ℕ)) (status : ℕ) : Type 0 where
   pub fault : ConfigFault
   pub is : Reads {A = ConfigModel} config_of bytes (Err fault)
   pub status_is : status ≡ 1
   pub quiet : Keeps old new
 
--- the bytes are a configuration, over which the script was run, and the status is that of the script
-pub record RunsOverConfig (bytes input : List ℕ) (left old new : Option (List ℕ)) (status : ℕ) : Type 0 where
+-- the bytes are a configuration, over which the script was run, and the status is that of the
+-- script
+pub record RunsOverConfig (bytes input : List ℕ) (left old new : Option (List ℕ)) (status : ℕ)
+    : Type 0 where
   pub config : ConfigModel
   pub is : Reads config_of bytes (Ok config)
   pub end : Result (Unit {0}) ScriptFault
@@ -23,5 +26,7 @@ pub record RunsOverConfig (bytes input : List ℕ) (left old new : Option (List 
   pub runs : RunsScript config input left old new end
 
 -- a run over these bytes of a configuration and this input
-abbrev pub RunsProgram : List ℕ → List ℕ → Option (List ℕ) → Option (List ℕ) → Option (List ℕ) → ℕ → Type 0
-RunsProgram bytes input left old new status = TakesNoConfig bytes old new status ⊎ RunsOverConfig bytes input left old new status
+abbrev pub RunsProgram : List ℕ → List ℕ → Option (List ℕ) → Option (List ℕ) → Option (List ℕ)
+    → ℕ → Type 0
+RunsProgram bytes input left old new status =
+    TakesNoConfig bytes old new status ⊎ RunsOverConfig bytes input left old new status

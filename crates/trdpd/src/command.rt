@@ -3,10 +3,11 @@
 use clap::{Arg, ArgMatches, Command, Error};
 use std::alloc::{AllocError, Global};
 
-/// Reads the words of the command line, of which the first names the program: good is `run` with a configuration file,
-/// whose path is the answer.
+/// Reads the words of the command line, of which the first names the program: good is `run` with
+/// a configuration file, whose path is the answer.
 ///
-/// The error's text is for the user. Its kind tells want of memory from wrong words and from a wish for help.
+/// The error's text is for the user. Its kind tells want of memory from wrong words and from a
+/// wish for help.
 pub fn read_words<'a>(alloc: Global, words: &'a [String]) -> Result<&'a str, Error> {
     let matches = command(alloc)?.try_get_matches_from(words)?;
     // The path is required, so that good words have it. No file has the empty path.

@@ -6,8 +6,8 @@ ghost use Rattle.trdpd.specs.Faults.{status_of_script};
 use std::fmt;
 use trdp_script::{ScriptFault, line_fault_name};
 
-/// A script's fault as the program prints it (profile): `line N fault NAME`, or `read fault`, `write fault` or
-/// `memory fault`. To show it takes no memory.
+/// A script's fault as the program prints it (profile): `line N fault NAME`, or `read fault`,
+/// `write fault` or `memory fault`. To show it takes no memory.
 #[derive(Clone, Copy, Debug)]
 pub struct ScriptFaultText(pub ScriptFault);
 

@@ -1,18 +1,21 @@
 //! The program `trdpd`: a communication node that takes its events from a script.
 //!
-//! `trdpd run CONFIG` reads the configuration of a node from the file CONFIG (TOML), and where nothing is wrong with it the
-//! script from standard input. What the node gives its slots goes to standard output. The exit status is
+//! `trdpd run CONFIG` reads the configuration of a node from the file CONFIG (TOML), and where
+//! nothing is wrong with it the script from standard input. What the node gives its slots goes to
+//! standard output. The exit status is
 //! - 0 at the script's end;
-//! - 1 where the configuration isn't taken, with `config fault NAME` on standard error. Behind the name stands the key of a
-//!   Missing or WrongType and the number of a dataset for NoDataset. A file that can't be read is `config fault Unreadable`,
-//!   and want of memory while it is read `config fault OutOfMemory`;
+//! - 1 where the configuration isn't taken, with `config fault NAME` on standard error. Behind
+//!   the name stands the key of a Missing or WrongType and the number of a dataset for NoDataset.
+//!   A file that can't be read is `config fault Unreadable`, and want of memory while it is read
+//!   `config fault OutOfMemory`;
 //! - 2 for other words, with the usage;
 //! - 3 for a bad line, with `line N fault NAME`;
 //! - 4 after a `read fault`, a `write fault` or a `memory fault`.
 //!
-//! What a script gives, and where it stops, is the contract of `trdp_script::run_script`, which `run_program` repeats with the
-//! exit status. No contract says that the outside works: a `run_program` that answers 1 at once meets its contract, as if
-//! memory had run out while the configuration was read. How `main` reads the file of the configuration, and the command line,
+//! What a script gives, and where it stops, is the contract of `trdp_script::run_script`, which
+//! `run_program` repeats with the exit status. No contract says that the outside works: a
+//! `run_program` that answers 1 at once meets its contract, as if memory had run out while the
+//! configuration was read. How `main` reads the file of the configuration, and the command line,
 //! which is `clap`'s, are tried by hand.
 #![tactic(auto)]
 
@@ -56,7 +59,8 @@ fn status(rt: &HostRuntime) -> u8 {
     }
 }
 
-/// Runs the script at standard input over the configuration of a file, and answers the exit status.
+/// Runs the script at standard input over the configuration of a file, and answers the exit
+/// status.
 fn run_file(rt: &HostRuntime, path: &str) -> u8 {
     match fs::read(rt, path) {
         Ok(config) => run_program(

@@ -1,0 +1,4 @@
+pub mod Searching
+pub mod Slots
+pub mod Keys
+pub mod Tables

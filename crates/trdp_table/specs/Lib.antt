@@ -1,0 +1,6 @@
+pub mod Kinds
+pub mod Tables
+pub mod Lending
+pub mod TableLaws
+pub mod SlotKept
+pub mod TableKept

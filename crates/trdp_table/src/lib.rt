@@ -1,0 +1,21 @@
+//! The table of objects: for each slot of a node its objects, each under a handle of the slot.
+//!
+//! A caller finds an object by its slot and handle and gets a key, by which it reaches the object
+//! without a further search. An object keeps its key, shared with no other, until its removal.
+//! `Table::new` takes the memory for all that the quotas allow; nothing later takes any.
+#![tactic(auto)]
+
+mod counts;
+mod entry;
+mod fault;
+mod kind;
+mod search;
+mod slot;
+mod table;
+#[cfg(test)]
+mod tests;
+
+pub use fault::TableFault;
+pub use kind::Kind;
+pub use table::Table;
+pub use trdp_pd::AnyObject;

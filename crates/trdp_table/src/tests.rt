@@ -1,0 +1,122 @@
+//! Worked examples: handles, quotas and the last handle.
+
+use crate::{AnyObject, Kind, Table, TableFault};
+use std::process::Abort;
+use std::test::Fail;
+use trdp_base::{Ip, Place, Quotas, Topo};
+use trdp_pd::{Publisher, PublisherTerms};
+
+/// What is done to a slot.
+#[derive(Clone, Copy)]
+enum Does {
+    /// A publisher of this comId is added, and this is the answer.
+    Add(u32, Result<u32, TableFault>),
+    /// The object of this handle is removed, which there is or isn't.
+    Remove(u32, bool),
+    /// The next handle becomes at least this.
+    Raise(u32),
+}
+
+/// One publisher in slot 0, two in slots 1 and 2.
+static ROWS: [(u16, Does); 15] = [
+    (0, Does::Add(100, Ok(1))),
+    (0, Does::Add(101, Err(TableFault::Quota))),
+    (0, Does::Remove(1, true)),
+    (0, Does::Remove(1, false)),
+    (0, Does::Add(102, Ok(2))),
+    (1, Does::Add(103, Ok(1))),
+    (2, Does::Add(104, Ok(1))),
+    (1, Does::Add(105, Ok(2))),
+    (2, Does::Add(106, Ok(2))),
+    (2, Does::Add(107, Err(TableFault::Quota))),
+    (2, Does::Remove(1, true)),
+    (2, Does::Raise(4_294_967_295)),
+    (2, Does::Add(108, Ok(4_294_967_295))),
+    (2, Does::Remove(2, true)),
+    (2, Does::Add(109, Err(TableFault::Exhausted))),
+];
+
+/// What a publisher of a comId sends, and where to.
+fn terms(com_id: u32) -> PublisherTerms {
+    PublisherTerms {
+        com_id,
+        dataset: 0,
+        cycle: 0,
+        group: 0,
+        topo: Topo { etb: 0, op_trn: 0 },
+        to: Place {
+            ip: Ip(0x0a00_0002),
+            port: 17224,
+        },
+    }
+}
+
+/// Whether it is a publisher of that comId.
+fn is_of(object: &AnyObject, com_id: u32) -> bool {
+    match object {
+        AnyObject::Publisher(publisher) => publisher.com_id() == com_id,
+        AnyObject::Subscription(_) | AnyObject::Requester(_) => false,
+    }
+}
+
+/// The object of that handle stands last in the slot, and is reached by its key.
+fn stands_last(rt: &impl Abort, table: &mut Table, slot: u16, handle: u32, com_id: u32) {
+    assert!(rt; usize::from(slot) < table.slots());
+    let key = table
+        .find(slot, handle)
+        .expect(rt, "no object of the handle");
+    let last = table.count(slot).saturating_sub(1);
+    assert_eq!(rt; table.at(slot, last), Some(key));
+    assert_eq!(rt; table.owner(key), Some((slot, handle)));
+    assert!(rt; table.get(key).is_some_and(|object| is_of(object, com_id)));
+    assert!(rt;
+        table
+            .get_mut(key)
+            .is_some_and(|object| is_of(object, com_id))
+    );
+}
+
+/// Adds a publisher, which gets a handle or comes back with the fault that was foretold.
+fn add(
+    rt: &impl Abort,
+    table: &mut Table,
+    slot: u16,
+    object: AnyObject,
+    com_id: u32,
+    wanted: Result<u32, TableFault>,
+) {
+    assert!(rt; usize::from(slot) < table.slots());
+    let foretold = table.refuses(slot, Kind::of(&object));
+    match table.add(slot, object) {
+        Ok(handle) => {
+            assert_eq!(rt; (foretold, Ok(handle)), (None, wanted));
+            stands_last(rt, table, slot, handle, com_id);
+        }
+        Err((object, fault)) => {
+            assert_eq!(rt; (foretold, Err(fault)), (Some(fault), wanted));
+            assert!(rt; is_of(&object, com_id));
+        }
+    }
+}
+
+#[test]
+fn handles_and_quotas(rt: HostRuntime) -> Result<(), Fail> {
+    let one = Quotas::new([1, 0, 0, 0, 0, 0]).ok_or("no quotas")?;
+    let two = Quotas::new([2, 0, 0, 0, 0, 0]).ok_or("no quotas")?;
+    let mut table = Table::new(rt.alloc(), &[one, two, two])?;
+    for (slot, does) in &ROWS {
+        assert!(rt; usize::from(*slot) < table.slots());
+        match *does {
+            Does::Add(com_id, wanted) => {
+                let object = AnyObject::Publisher(Publisher::new(rt.alloc(), &terms(com_id), 0)?);
+                add(&rt, &mut table, *slot, object, com_id, wanted);
+            }
+            Does::Remove(handle, there) => {
+                assert_eq!(rt; table.remove(*slot, handle).is_some(), there);
+            }
+            Does::Raise(next) => table.raise(*slot, next),
+        }
+        table.sound();
+    }
+    Ok(())
+}
