@@ -16,3 +16,5 @@ pub mod NodeStates
 pub mod Handles
 pub mod Firing
 pub mod Outboxes
+pub mod Rooms
+pub mod NodeRuns

@@ -1,13 +1,12 @@
 -- A node, and what its events do to each slot.
-use Rattle.std.specs.Prelude.{◌≡◌, ℕ, ◌<◌, ◌≤◌, ◌++◌, List, length, filter, slice_get, Some, None}
-use Rattle.std.specs.Prelude.{true, map, take, IfSome}
+use Rattle.std.specs.Prelude.{◌≡◌, ℕ, ◌<◌, ◌++◌, List, length, filter, slice_get, Some, None}
+use Rattle.std.specs.Prelude.{true, map}
 use Rattle.std.specs.List.{sum_by, list_any}
 use Rattle.trdp_filter.specs.declared.globals.Globals.{Globals}
 use Rattle.trdp_dataset.specs.Configs.{ConfigModel}
 use Rattle.trdp_filter.specs.Globals.{first_globals}
 use Rattle.trdp_engine.specs.Records.{Content, RecordModel, records_of}
-use Rattle.trdp_engine.specs.declared.event.Event.{Event}
-use Rattle.trdp_engine.specs.Events.{EventModel, event_model, MomentIs, TopologyIs, RoleIs}
+use Rattle.trdp_engine.specs.Events.{EventModel, MomentIs, TopologyIs, RoleIs}
 use Rattle.trdp_engine.specs.Events.{DatagramIs, CallIs}
 use Rattle.trdp_engine.specs.Slots.{SlotState, Outcome, opened_slot}
 use Rattle.trdp_engine.specs.Configs.{setup_of}
@@ -90,15 +89,3 @@ pub record HasOutcome (slots : List SlotState) (records records_then : List Reco
 abbrev pub GetsOutcome : NodeState → List RecordModel → List RecordModel → ℕ → Outcome → Type 0
 GetsOutcome new records records_then s outcome =
     HasOutcome new.slots records records_then s outcome
-
--- all that a run says of a node: it takes a front of the events and stops before the end only
--- where memory may be wanting, each slot runs as by itself, and records are added behind
-pub record HasRun (old new : NodeState) (records records_then : List RecordModel)
-    (events : List Event) (taken : ℕ) : Type 0 where
-  pub within : taken ≤ length events
-  pub stops : IfSome (slice_get events taken) (λ event. MayTakeMemory new (event_model event))
-  pub config_is : new.config ≡ old.config
-  pub count : length new.slots ≡ length old.slots
-  pub runs : (s : ℕ) (slot : SlotState) → slice_get old.slots s ≡ Some slot
-      → RunsAsAlone old new records records_then (map event_model (take taken events)) s slot
-  pub appends : Appends old.slots records records_then

@@ -7,7 +7,8 @@ ghost use Rattle.trdp_engine.specs.Events.{EventModel, event_model};
 ghost use Rattle.trdp_engine.specs.Slots.{SlotState};
 ghost use Rattle.trdp_engine.specs.Alone.{refused_as, plain_effect, slot_after, records_after};
 ghost use Rattle.trdp_engine.specs.Alone.{view, alone_in_view};
-ghost use Rattle.trdp_engine.specs.NodeStates.{HasRun, GetsTheSame};
+ghost use Rattle.trdp_engine.specs.NodeStates.{GetsTheSame};
+ghost use Rattle.trdp_engine.specs.NodeRuns.{HasRun};
 
 use crate::event::Event;
 use crate::node::Node;
@@ -47,10 +48,8 @@ pub fn run_both(
     out: &mut Outbox,
     other_out: &mut Outbox,
 ) -> (usize, usize)
-    ensures first { HasRun first.old first.new out.old.records out.new.records events.now
-        result.0 }
-    ensures second { HasRun second.old second.new other_out.old.records other_out.new.records
-        others.now result.1 }
+    ensures first { HasRun first.old first.new out.old out.new events.now result.0 }
+    ensures second { HasRun second.old second.new other_out.old other_out.new others.now result.1 }
     ensures alike { setup_of first.old.config ≡ setup_of second.old.config
         → first.old.globals ≡ second.old.globals
         → (s : ℕ) (slot : SlotState) → slice_get first.old.slots s ≡ Some slot

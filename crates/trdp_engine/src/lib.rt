@@ -1,8 +1,8 @@
 //! The node: events come in, and each slot gets its answers and telegrams.
 //!
 //! What no contract can say is that memory is there. A `run` that stops before the first event
-//! that may take memory (a call, a moment by which something is due, a datagram that concerns a
-//! slot), a `run_both` of two such runs, and a `value_of` that answers want of memory wherever it
+//! that may lack it (a publishing, a subscription, or an event for whose records the outbox lacks
+//! room), a `run_both` of two such runs, and a `value_of` that answers want of memory wherever it
 //! could show an item meet their contracts, since memory may be lacking; the tests show that with
 //! ample memory every event is taken and every item shown.
 #![tactic(auto)]
@@ -22,6 +22,7 @@ mod peek;
 mod pull;
 mod reception;
 mod record;
+mod run;
 mod shown;
 mod slot;
 mod slots;

@@ -1,13 +1,10 @@
 //! The node: one event after another.
 
 ghost use Rattle.std.specs.Prelude.{nat_le, if◌then◌else◌, None, ◌≡◌, ◌≢◌, ℕ, ◌<◌, ◌≤◌};
-ghost use Rattle.std.specs.Prelude.{length, OnOk, OnErr, IfOk, IfErr, IfSome, Err, Some};
-ghost use Rattle.std.specs.Prelude.{slice_get, map, take};
-ghost use Rattle.trdp_base.specs.Moments.{last_moment};
+ghost use Rattle.std.specs.Prelude.{length, OnOk, OnErr, IfOk, IfErr, Err, Some, slice_get};
 ghost use Rattle.trdp_engine.specs.Events.{MomentIs, TopologyIs, RoleIs, DatagramIs, CallIs};
 ghost use Rattle.trdp_engine.specs.Events.{call_model, event_model};
 ghost use Rattle.trdp_engine.specs.Slots.{SlotState};
-ghost use Rattle.trdp_engine.specs.Datagrams.{concerns};
 ghost use Rattle.trdp_engine.specs.Peeks.{peeked, peek_in};
 ghost use Rattle.trdp_engine.specs.ShownItems.{showing_in, ShowsItem};
 ghost use Rattle.trdp_marshal.specs.Items.{model_of};
@@ -15,7 +12,7 @@ ghost use Rattle.trdp_engine.specs.Values.{valued_at};
 ghost use Rattle.trdp_engine.specs.Configs.{setup_of};
 
 use crate::event::{Call, Event};
-use crate::fault::{NodeFault, is_out_of_memory};
+use crate::fault::NodeFault;
 use crate::outbox::Outbox;
 use crate::peek::PeekFault;
 use crate::reception::hear;
@@ -63,8 +60,8 @@ impl Model for Node {
 
 impl Node {
     ghost use Rattle.trdp_engine.specs.NodeStates.{NodeState, GetsOutcome, StepsAsAlone};
-    ghost use Rattle.trdp_engine.specs.NodeStates.{RunsAsAlone, Appends, MayTakeMemory};
-    ghost use Rattle.trdp_engine.specs.NodeStates.{opened_node};
+    ghost use Rattle.trdp_engine.specs.NodeStates.{Appends, MayTakeMemory, opened_node};
+    ghost use Rattle.trdp_engine.specs.Rooms.{MayLackMemory};
     ghost use Rattle.trdp_engine.specs.Alone.{FaultIs, refused_as, globals_after};
 
     /// A node at moment 0 that leads no group, with an empty slot for each of the configuration, 1
@@ -107,6 +104,10 @@ impl Node {
         ensures kept { OnErr result (self.new ≡ self.old) }
         ensures unrecorded { OnErr result (out.new.records ≡ out.old.records) }
         ensures memory { result ≡ Err NodeFault.OutOfMemory → MayTakeMemory self.old (MomentIs t) }
+        ensures full { result ≡ Err NodeFault.OutOfMemory
+            → MayLackMemory self.old out.old (MomentIs t) }
+        ensures still { result ≡ Err NodeFault.OutOfMemory
+            → MayLackMemory self.old out.new (MomentIs t) }
         ensures config { self.new.config ≡ self.old.config }
         ensures globals { OnOk result (self.new.globals
             ≡ globals_after self.old.globals (MomentIs t)) }
@@ -180,6 +181,10 @@ impl Node {
         ensures unrecorded { OnErr result (out.new.records ≡ out.old.records) }
         ensures memory { result ≡ Err NodeFault.OutOfMemory
             → MayTakeMemory self.old (DatagramIs protocol src dst bytes.now) }
+        ensures full { result ≡ Err NodeFault.OutOfMemory
+            → MayLackMemory self.old out.old (DatagramIs protocol src dst bytes.now) }
+        ensures still { result ≡ Err NodeFault.OutOfMemory
+            → MayLackMemory self.old out.new (DatagramIs protocol src dst bytes.now) }
         ensures config { self.new.config ≡ self.old.config }
         ensures globals { OnOk result (self.new.globals
             ≡ globals_after self.old.globals (DatagramIs protocol src dst bytes.now)) }
@@ -213,6 +218,10 @@ impl Node {
             result }
         ensures kept { OnErr result (self.new ≡ self.old) }
         ensures unrecorded { OnErr result (out.new.records ≡ out.old.records) }
+        ensures full { result ≡ Err NodeFault.OutOfMemory
+            → MayLackMemory self.old out.old (CallIs s (call_model call.now)) }
+        ensures still { result ≡ Err NodeFault.OutOfMemory
+            → MayLackMemory self.old out.new (CallIs s (call_model call.now)) }
         ensures config { self.new.config ≡ self.old.config }
         ensures globals { OnOk result (self.new.globals
             ≡ globals_after self.old.globals (CallIs s (call_model call.now))) }
@@ -242,8 +251,9 @@ impl Node {
     ///
     /// # Errors
     /// The event's own fault, as [`Event`] lists it. `OutOfMemory` comes last, and only at a
-    /// call, at a moment by which something is due, or at a datagram that concerns a slot. Node
-    /// and outbox are as before.
+    /// call, at a moment by which something is due, or at a datagram that concerns a slot; where
+    /// the outbox has room for the event's records only at Publish and Subscribe. Node and outbox
+    /// are as before.
     pub fn step(&mut self, event: &Event<'_>, out: &mut Outbox) -> Result<(), NodeFault>
         ensures fault { FaultIs
             (refused_as (length self.old.slots) self.old.globals (event_model event.now)) result }
@@ -252,6 +262,10 @@ impl Node {
         ensures memory { result ≡ Err NodeFault.OutOfMemory
             → MayTakeMemory self.old (event_model event.now) }
 
+        ensures full { result ≡ Err NodeFault.OutOfMemory
+            → MayLackMemory self.old out.old (event_model event.now) }
+        ensures still { result ≡ Err NodeFault.OutOfMemory
+            → MayLackMemory self.old out.new (event_model event.now) }
         ensures config { self.new.config ≡ self.old.config }
         ensures globals { OnOk result (self.new.globals
             ≡ globals_after self.old.globals (event_model event.now)) }
@@ -354,30 +368,5 @@ impl Node {
                 item_shown(alloc, &self.config, subscription)
             }
         }
-    }
-
-    /// Takes events in turn, and answers how many were taken. It goes on after an event that is
-    /// refused for a cause of its own, and stops before the first that lacks memory: only before a
-    /// call, a moment by which something is due, or a datagram that concerns a slot.
-    pub fn run(&mut self, events: &[Event<'_>], out: &mut Outbox) -> usize
-        ensures within { result ≤ length events.now }
-        ensures stops { IfSome (slice_get events.now result)
-            (λ event. MayTakeMemory self.new (event_model event)) }
-        ensures config { self.new.config ≡ self.old.config }
-        ensures count { length self.new.slots ≡ length self.old.slots }
-        ensures alone { (s : ℕ) (slot : SlotState) → slice_get self.old.slots s ≡ Some slot
-            → RunsAsAlone self.old self.new out.old.records out.new.records
-            (map event_model (take result events.now)) s slot }
-        ensures appends { Appends self.old.slots out.old.records out.new.records }
-    {
-        let mut taken = 0;
-        for event in events {
-            let result = self.step(event, out);
-            if is_out_of_memory(&result) {
-                return taken;
-            }
-            taken += 1;
-        }
-        taken
     }
 }

@@ -138,6 +138,7 @@ impl Outbox {
         ensures rows { OnOk result (rows ≤ self.new.row_room) }
         ensures bytes { OnOk result (bytes ≤ self.new.byte_room) }
         ensures full { OnErr result ((self.old.row_room < rows) ⊎ (self.old.byte_room < bytes)) }
+        ensures still { OnErr result ((self.new.row_room < rows) ⊎ (self.new.byte_room < bytes)) }
     {
         self.rows.reserve(rows)?;
         self.bytes.reserve(bytes)?;

@@ -8,6 +8,7 @@ ghost use Rattle.trdp_engine.specs.Configs.{setup_of};
 ghost use Rattle.trdp_engine.specs.Slots.{SlotState};
 ghost use Rattle.trdp_engine.specs.Datagrams.{telegram_of, received_if, concerns};
 ghost use Rattle.trdp_engine.specs.NodeStates.{HasOutcome, Appends};
+ghost use Rattle.trdp_engine.specs.Rooms.{LacksRoom, datagram_room};
 
 use crate::datagram::is_valid_at;
 use crate::outbox::Outbox;
@@ -47,6 +48,10 @@ fn receive(
     ensures memory { OnErr result
         (list_any (concerns globals.entry.now (Some (telegram_model telegram.now)))
         slots.old.items ≡ true) }
+    ensures full { OnErr result (LacksRoom out.old
+        (datagram_room globals.entry.now slots.old.items (Some (telegram_model telegram.now)))) }
+    ensures still { OnErr result (LacksRoom out.new
+        (datagram_room globals.entry.now slots.old.items (Some (telegram_model telegram.now)))) }
 {
     if !is_valid_at(telegram, globals) {
         return Ok(());
@@ -86,6 +91,12 @@ pub fn hear(
     ensures memory { OnErr result
         (list_any (concerns globals.entry.now (telegram_of protocol src dst bytes.now))
         slots.old.items ≡ true) }
+    ensures full { OnErr result (LacksRoom out.old
+        (datagram_room globals.entry.now slots.old.items
+        (telegram_of protocol src dst bytes.now))) }
+    ensures still { OnErr result (LacksRoom out.new
+        (datagram_room globals.entry.now slots.old.items
+        (telegram_of protocol src dst bytes.now))) }
 {
     match protocol {
         Protocol::Md => Ok(()),

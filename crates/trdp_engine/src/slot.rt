@@ -22,6 +22,7 @@ ghost use Rattle.trdp_engine.specs.Looks.{subscription_at};
 ghost use Rattle.trdp_marshal.specs.Items.{model_of};
 ghost use Rattle.trdp_engine.specs.Values.{item_bytes, item_refusal, IsRefusedAs, valued};
 ghost use Rattle.trdp_engine.specs.Configs.{setup_of};
+ghost use Rattle.trdp_engine.specs.Rooms.{CallMayLack};
 
 use crate::datagram::{count_addressed, take_all};
 use crate::entries::{append, close_in, count_of_kind, entry_at, put_in};
@@ -291,6 +292,8 @@ impl Slot {
             (call_model call.now)).records) }
         ensures kept { OnErr result (self.new ≡ self.old) }
         ensures unrecorded { OnErr result (out.new.records ≡ out.old.records) }
+        ensures full { OnErr result (CallMayLack out.old (call_model call.now)) }
+        ensures still { OnErr result (CallMayLack out.new (call_model call.now)) }
     {
         // A pull has two records, and the longest value is longer than a pull request.
         out.reserve(2, PD_PAYLOAD_MAX)?;

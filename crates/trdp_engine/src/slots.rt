@@ -14,6 +14,7 @@ ghost use Rattle.trdp_engine.specs.Datagrams.{addressed_in, received};
 ghost use Rattle.trdp_engine.specs.Values.{valued_at};
 ghost use Rattle.trdp_engine.specs.Alone.{plain_effect};
 ghost use Rattle.trdp_engine.specs.NodeStates.{due_in, HasOutcome, Appends};
+ghost use Rattle.trdp_engine.specs.Rooms.{CallMayLack};
 
 use crate::event::Call;
 use crate::outbox::Outbox;
@@ -149,6 +150,8 @@ pub fn serve_in(
     ensures appends { Appends slots.old.items out.old.records out.new.records }
     ensures kept { OnErr result (slots.new.items ≡ slots.old.items) }
     ensures unrecorded { OnErr result (out.new.records ≡ out.old.records) }
+    ensures full { OnErr result (CallMayLack out.old (call_model call.now)) }
+    ensures still { OnErr result (CallMayLack out.new (call_model call.now)) }
 {
     let slot = &mut slots[usize::from(s)];
     slot.serve(alloc, config, call, globals, s, out)

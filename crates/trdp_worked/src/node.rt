@@ -38,8 +38,13 @@ static EVENTS: [Event<'static>; 3] = [
     Event::Moment(100_000),
 ];
 
-/// The same, with a moment between that changes nothing and a last one that is refused.
-static OTHERS: [Event<'static>; 5] = [
+/// The same for slot 0, with a call of slot 1, a moment that changes nothing and a last one that is
+/// refused.
+static OTHERS: [Event<'static>; 6] = [
+    Event::Call {
+        slot: 1,
+        call: Call::Publish(TERMS),
+    },
     Event::Call {
         slot: 0,
         call: Call::Publish(TERMS),
@@ -74,10 +79,46 @@ fn a_run_takes_all_events(rt: HostRuntime) -> Result<(), Fail> {
     bench.tells(&rt, FIRST_TELEGRAM)
 }
 
+/// The datasets, the address and the ports of the other configuration, the same slot 0, and a
+/// slot 1 that holds nothing.
+static OTHER_CONFIG: &[u8] = b"\
+[node]
+address = \"10.0.0.1\"
+[[slot]]
+publishers = 4
+subscriptions = 4
+requesters = 1
+listeners = 2
+callers = 2
+repliers = 1
+[[slot]]
+publishers = 0
+subscriptions = 0
+requesters = 0
+listeners = 0
+callers = 0
+repliers = 0
+[[dataset]]
+id = 1001
+element = [{ type = \"UINT8\" }, { type = \"UINT16\", size = 0 }]
+[[dataset]]
+id = 1002
+element = [{ type = \"INT16\" }, { type = 15 }, { type = 1001 }]
+";
+
+/// What slot 1 of that one answers, and then what slot 0 gives.
+static OTHER_TELEGRAM: &str = "\
+    1 refused Quota\n\
+    0 handle 1\n\
+    0 done\n\
+    0 send pd 10.0.0.2:17224 \
+    000000000100506400000064000000000000000000000002000000000000000000000000ec179c94\
+    0a0b0000\n";
+
 #[test]
 fn two_nodes_run_alike(rt: HostRuntime) -> Result<(), Fail> {
     let mut first = Bench::new(rt.alloc(), CONFIG)?;
-    let mut second = Bench::new(rt.alloc(), CONFIG)?;
+    let mut second = Bench::new(rt.alloc(), OTHER_CONFIG)?;
     let taken = run_both(
         &mut first.node,
         &mut second.node,
@@ -86,11 +127,11 @@ fn two_nodes_run_alike(rt: HostRuntime) -> Result<(), Fail> {
         &mut first.out,
         &mut second.out,
     );
-    assert_eq!(rt; taken, (3, 5));
+    assert_eq!(rt; taken, (3, 6));
     same_view();
     view_drops_nothing();
     first.tells(&rt, FIRST_TELEGRAM)?;
-    second.tells(&rt, FIRST_TELEGRAM)
+    second.tells(&rt, OTHER_TELEGRAM)
 }
 
 static SLOT: &[u8] = b"\

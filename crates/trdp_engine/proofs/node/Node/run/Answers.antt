@@ -43,3 +43,12 @@ returns-then-is_out_of_memory-clause-stops c =
 
 pub returns-clause-stops : goal.returns-clause-stops
 returns-clause-stops c = rw (c.loop-event.invariant.taken, slice_get_past c.args.events.now c.loop-event.event-index (omega arith)) tt
+
+pub returns-then-is_out_of_memory-clause-lacks : goal.returns-then-is_out_of_memory-clause-lacks
+returns-then-is_out_of_memory-clause-lacks c =
+    let memory = c.is_out_of_memory.ensures.yes c.if-is_out_of_memory.true in
+    let kept = rw memory at c.step-result.ensures.kept in
+    rw (c.loop-event.invariant.taken, kept, slice_get-get_or c.args.events.now c.loop-event.event-index (Moment 0) c.loop-event-test.true) (c.step-result.ensures.still memory)
+
+pub returns-clause-lacks : goal.returns-clause-lacks
+returns-clause-lacks c = rw (c.loop-event.invariant.taken, slice_get_past c.args.events.now c.loop-event.event-index (omega arith)) tt

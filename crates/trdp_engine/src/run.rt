@@ -1,0 +1,42 @@
+//! Many events of a node, one after another.
+
+ghost use Rattle.std.specs.Prelude.{◌≡◌, ℕ, ◌≤◌, length, IfSome, Some, slice_get, map, take};
+ghost use Rattle.trdp_engine.specs.Events.{event_model};
+ghost use Rattle.trdp_engine.specs.Slots.{SlotState};
+ghost use Rattle.trdp_engine.specs.NodeStates.{RunsAsAlone, Appends, MayTakeMemory};
+ghost use Rattle.trdp_engine.specs.Rooms.{MayLackMemory};
+
+use crate::event::Event;
+use crate::fault::is_out_of_memory;
+use crate::node::Node;
+use crate::outbox::Outbox;
+
+impl Node {
+    /// Takes events in turn, and answers how many were taken. It goes on after an event that is
+    /// refused for a cause of its own, and stops before the first that lacks memory: only before a
+    /// call, a moment by which something is due, or a datagram that concerns a slot, and, where
+    /// the outbox has room for the event's records, only before Publish and Subscribe.
+    pub fn run(&mut self, events: &[Event<'_>], out: &mut Outbox) -> usize
+        ensures within { result ≤ length events.now }
+        ensures stops { IfSome (slice_get events.now result)
+            (λ event. MayTakeMemory self.new (event_model event)) }
+        ensures lacks { IfSome (slice_get events.now result)
+            (λ event. MayLackMemory self.new out.new (event_model event)) }
+        ensures config { self.new.config ≡ self.old.config }
+        ensures count { length self.new.slots ≡ length self.old.slots }
+        ensures alone { (s : ℕ) (slot : SlotState) → slice_get self.old.slots s ≡ Some slot
+            → RunsAsAlone self.old self.new out.old.records out.new.records
+            (map event_model (take result events.now)) s slot }
+        ensures appends { Appends self.old.slots out.old.records out.new.records }
+    {
+        let mut taken = 0;
+        for event in events {
+            let result = self.step(event, out);
+            if is_out_of_memory(&result) {
+                return taken;
+            }
+            taken += 1;
+        }
+        taken
+    }
+}
