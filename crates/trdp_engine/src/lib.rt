@@ -3,8 +3,8 @@
 //! What no contract can say is that memory is there. A `run` that stops before the first event
 //! that may lack it (a publishing, a subscription, or an event for whose records the outbox lacks
 //! room), a `run_both` of two such runs, and a `value_of` that answers want of memory wherever it
-//! could show an item meet their contracts, since memory may be lacking; the tests show that with
-//! ample memory every event is taken and every item shown.
+//! could show an item meet their contracts, since memory may be lacking; the worked examples
+//! (`trdp_worked`) show that with ample memory every event is taken and every item shown.
 #![tactic(auto)]
 
 mod datagram;
