@@ -11,6 +11,7 @@ import struct
 import subprocess
 import sys
 import tempfile
+import time
 import zlib
 
 TOP = os.path.dirname(os.path.dirname(os.path.abspath(__file__)))
@@ -42,6 +43,12 @@ def mixed(count):
             yield "call 0 get 2"
 
 
+def peak(pid):
+    """The most memory that a process has held so far, in KiB."""
+    with open(f"/proc/{pid}/status") as status:
+        return next((int(line.split()[1]) for line in status if line.startswith("VmHWM:")), 0)
+
+
 def play(program, lines):
     """Plays the lines; answers seconds of processor time, the most memory in KiB, and the lines that came out."""
     with tempfile.TemporaryFile() as script, tempfile.TemporaryFile() as out:
@@ -49,11 +56,15 @@ def play(program, lines):
             script.write(line.encode() + b"\n")
         script.seek(0)
         ran = subprocess.Popen([program, "run", f"{TOP}/examples/node.toml"], stdin=script, stdout=out)
-        _, status, usage = os.wait4(ran.pid, 0)
+        memory, ended = 0, 0
+        while not ended:
+            memory = max(memory, peak(ran.pid))
+            time.sleep(0.002)
+            ended, status, usage = os.wait4(ran.pid, os.WNOHANG)
         if status != 0:
             sys.exit(f"trdpd ended with {status}")
         out.seek(0)
-        return usage.ru_utime + usage.ru_stime, usage.ru_maxrss, sum(1 for _ in out)
+        return usage.ru_utime + usage.ru_stime, memory, sum(1 for _ in out)
 
 
 def main():
