@@ -3,6 +3,7 @@ pub mod Kept
 pub mod Puts
 pub mod Orders
 pub mod Firing
+pub mod Quiet
 pub mod Each
 pub mod Receiving
 pub mod Rows

@@ -1,6 +1,8 @@
--- What is true of each slot that a node holds: its handles rise, and its objects are within their
--- quotas.
-use Rattle.std.specs.Prelude.{ℕ, ◌+◌, ◌<◌, ◌≤◌, ◌^◌, List, [], ◌∷◌, slice_index}
+-- What is true of each slot that a node holds: its handles rise, its objects are within their
+-- quotas, and none is due before the moment that the slot has noted.
+use Rattle.std.specs.Prelude.{ℕ, ◌+◌, ◌<◌, ◌≤◌, ◌^◌, List, [], ◌∷◌, slice_index, Option, Some}
+use Rattle.std.specs.Prelude.{None}
+use Rattle.trdp_pd.specs.Objects.{due_of}
 use Rattle.trdp_engine.specs.declared.object.Entry.{Entry}
 use Rattle.trdp_engine.specs.Slots.{count_of}
 
@@ -29,3 +31,13 @@ pub record IsSlot (quotas : List ℕ) (next capacity : ℕ) (objects : List Entr
   pub handles : next ≤ 2 ^ 32
   pub rising : IsRising objects
   pub below : AllBelow next objects
+
+-- the due moment, if there is one, isn't before t
+abbrev pub IsFrom : ℕ → Option ℕ → Type 0
+IsFrom t None = Unit {0}
+IsFrom t (Some due) = t ≤ due
+
+-- no object is due before t
+abbrev pub AllFrom : ℕ → List Entry → Type 0
+AllFrom t [] = Unit {0}
+AllFrom t (entry ∷ entries) = IsFrom t (due_of entry.object) × AllFrom t entries

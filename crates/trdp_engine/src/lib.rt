@@ -7,6 +7,7 @@
 //! ample memory every event is taken and every item shown.
 #![tactic(auto)]
 
+mod calls;
 mod datagram;
 mod entries;
 mod event;

@@ -5,7 +5,7 @@ ghost use Rattle.std.specs.Prelude.{true, slice_get, slice_set, vec_capacity, ma
 ghost use Rattle.std.specs.List.{flat_map};
 ghost use Rattle.trdp_base.specs.Moments.{last_moment};
 ghost use Rattle.trdp_head.specs.declared.pd.TheConstants.{PD_TELEGRAM_MAX};
-ghost use Rattle.trdp_engine.specs.Handles.{IsRising};
+ghost use Rattle.trdp_engine.specs.Handles.{IsRising, IsFrom, AllFrom};
 ghost use Rattle.trdp_pd.specs.Objects.{due_of};
 ghost use Rattle.trdp_engine.specs.Records.{labelled};
 ghost use Rattle.trdp_engine.specs.Moments.{is_due, in_order, sends_data, records_firing};
@@ -164,4 +164,26 @@ fn is_due(entry: &Entry, t: u64) -> bool
         None => false,
         Some(due) => due <= t,
     }
+}
+
+/// The earlier of a moment and a due moment, if there is one.
+fn earlier(first: u64, due: Option<u64>) -> u64
+    ensures before { result ≤ first }
+    ensures from { IsFrom result due }
+{
+    match due {
+        Some(due) if due < first => due,
+        _ => first,
+    }
+}
+
+/// A moment before which none of the objects is due, in microseconds.
+pub fn earliest(objects: &[Entry]) -> u64
+    ensures { AllFrom result objects.now }
+{
+    let mut first = u64::MAX;
+    for entry in objects {
+        first = earlier(first, entry.object.due());
+    }
+    first
 }

@@ -9,11 +9,10 @@ ghost use Rattle.trdp_filter.specs.Telegrams.{telegram_model, IsWithinLimit};
 ghost use Rattle.trdp_pd.specs.Objects.{kind_of};
 ghost use Rattle.trdp_engine.specs.declared.fault.Refusal.{Refusal};
 ghost use Rattle.trdp_engine.specs.Records.{labelled};
-ghost use Rattle.trdp_engine.specs.Events.{call_model};
 ghost use Rattle.trdp_engine.specs.Slots.{opened_slot, entry_of, with_object};
 ghost use Rattle.trdp_engine.specs.Calls.{opening_refusal, put_refusal};
 ghost use Rattle.trdp_engine.specs.Calls.{put_unless, close_refusal, closed_unless};
-ghost use Rattle.trdp_engine.specs.Calls.{pulled_unless, get_answer, answered, called};
+ghost use Rattle.trdp_engine.specs.Calls.{pulled_unless, get_answer, answered};
 ghost use Rattle.trdp_engine.specs.Pulls.{pull_refusal};
 ghost use Rattle.trdp_engine.specs.Datagrams.{is_for_entry, received};
 ghost use Rattle.trdp_engine.specs.Moments.{is_due, moved_to};
@@ -22,14 +21,12 @@ ghost use Rattle.trdp_engine.specs.Looks.{subscription_at};
 ghost use Rattle.trdp_marshal.specs.Items.{model_of};
 ghost use Rattle.trdp_engine.specs.Values.{item_bytes, item_refusal, IsRefusedAs, valued};
 ghost use Rattle.trdp_engine.specs.Configs.{setup_of};
-ghost use Rattle.trdp_engine.specs.Rooms.{CallMayLack};
 
 use crate::datagram::{count_addressed, take_all};
 use crate::entries::{append, close_in, count_of_kind, entry_at, put_in};
-use crate::event::Call;
 use crate::fault::Refusal;
 use crate::look::{LookFault, subscription_at};
-use crate::moment::{count_due, fire_all};
+use crate::moment::{count_due, earliest, fire_all};
 use crate::object::Entry;
 use crate::outbox::{Outbox, PlainAnswer};
 use crate::pull::pull_in;
@@ -39,7 +36,7 @@ use std::marker::Model;
 use trdp_base::Quotas;
 use trdp_dataset::NodeConfig;
 use trdp_filter::{Globals, Telegram};
-use trdp_head::{PD_PAYLOAD_MAX, PD_TELEGRAM_MAX};
+use trdp_head::PD_TELEGRAM_MAX;
 use trdp_marshal::Item;
 use trdp_pd::{AnyObject, Subscription};
 
@@ -62,6 +59,9 @@ pub struct Slot {
     quotas: Quotas,
     /// The handle of its next new object, from 1; 2^32 once all handles are given out.
     next: u64,
+    /// No object is due before this moment, in microseconds, so that an earlier one costs one
+    /// comparison. It is 0 from a new object or a telegram until the next moment.
+    quiet: u64,
     /// Its objects by rising handle, in a list that has room for all that the quotas allow and
     /// never grows.
     objects: Vec<Entry>,
@@ -70,13 +70,14 @@ pub struct Slot {
 impl Model for Slot {
     ghost use Rattle.std.specs.Prelude.{vec_capacity};
     ghost use Rattle.trdp_engine.specs.Slots.{SlotState};
-    ghost use Rattle.trdp_engine.specs.Handles.{IsSlot};
+    ghost use Rattle.trdp_engine.specs.Handles.{IsSlot, AllFrom};
 
     ghost Value = { SlotState };
 
     ghost view = { λ s. record { quotas = s.quotas; next = s.next; objects = s.objects.items } };
 
-    ghost invariant = { λ s. IsSlot s.quotas s.next (vec_capacity s.objects) s.objects.items };
+    ghost invariant = { λ s. IsSlot s.quotas s.next (vec_capacity s.objects) s.objects.items
+        × AllFrom s.quiet s.objects.items };
 }
 
 impl Slot {
@@ -96,6 +97,7 @@ impl Slot {
         Ok(Slot {
             quotas,
             next: 1,
+            quiet: 0,
             objects,
         })
     }
@@ -122,12 +124,13 @@ impl Slot {
     {
         let handle = self.next as u32;
         self.next += 1;
+        self.quiet = 0;
         append(&mut self.objects, Entry { handle, object });
         handle
     }
 
     /// Lets the requester of that handle pull, and records the answer and the pull request.
-    fn pull(&mut self, handle: u32, globals: &Globals, s: u16, out: &mut Outbox)
+    pub fn pull(&mut self, handle: u32, globals: &Globals, s: u16, out: &mut Outbox)
         requires rows { 2 ≤ out.old.row_room }
         requires bytes { 40 ≤ out.old.byte_room }
         ensures slot { self.new
@@ -150,7 +153,7 @@ impl Slot {
     }
 
     /// Gives the publisher of that handle a new value.
-    fn put(&mut self, config: &NodeConfig, handle: u32, bytes: &[u8]) -> PlainAnswer
+    pub fn put(&mut self, config: &NodeConfig, handle: u32, bytes: &[u8]) -> PlainAnswer
         ensures { put_unless
             (put_refusal (setup_of config.now) bytes.now (entry_of handle self.old.objects))
             self.old handle bytes.now ≡ answered self.new (plain_answer_model result) }
@@ -230,7 +233,7 @@ impl Slot {
     }
 
     /// Ends the object of that handle, if it is of the kind with that index in the quotas.
-    fn close(&mut self, kind: usize, handle: u32) -> PlainAnswer
+    pub fn close(&mut self, kind: usize, handle: u32) -> PlainAnswer
         ensures { closed_unless (close_refusal kind (entry_of handle self.old.objects)) self.old
             handle ≡ answered self.new (plain_answer_model result) }
     {
@@ -253,7 +256,7 @@ impl Slot {
     }
 
     /// Records the answer to a look at the object of that handle.
-    fn get(&self, handle: u32, s: u16, out: &mut Outbox)
+    pub fn get(&self, handle: u32, s: u16, out: &mut Outbox)
         requires row { 0 < out.old.row_room }
         requires bytes { 1432 ≤ out.old.byte_room }
         ensures { out.new.records
@@ -268,61 +271,14 @@ impl Slot {
         }
     }
 
-    /// Serves a call and records its answer. A refused call changes nothing.
-    ///
-    /// # Errors
-    /// Want of memory for the answer or a new object; nothing has changed.
-    pub fn serve(
-        &mut self,
-        alloc: Global,
-        config: &NodeConfig,
-        call: &Call<'_>,
-        globals: &Globals,
-        s: u16,
-        out: &mut Outbox,
-    ) -> Result<(), AllocError>
-        requires now { globals.now.now ≤ last_moment }
-        ensures slot { OnOk result (self.new
-            ≡ (called (setup_of config.now) self.old globals.entry.now
-            (call_model call.now)).slot) }
-        ensures records { OnOk result (out.new.records
-            ≡ out.old.records
-            ++ labelled s
-            (called (setup_of config.now) self.old globals.entry.now
-            (call_model call.now)).records) }
-        ensures kept { OnErr result (self.new ≡ self.old) }
-        ensures unrecorded { OnErr result (out.new.records ≡ out.old.records) }
-        ensures full { OnErr result (CallMayLack out.old (call_model call.now)) }
-        ensures still { OnErr result (CallMayLack out.new (call_model call.now)) }
-    {
-        // A pull has two records, and the longest value is longer than a pull request.
-        out.reserve(2, PD_PAYLOAD_MAX)?;
-        let answer = match *call {
-            Call::Publish(terms) => self.publish(alloc, config, &terms, globals)?,
-            Call::Subscribe(terms) => self.subscribe(alloc, config, &terms, globals)?,
-            Call::Put { handle, bytes } => self.put(config, handle, bytes),
-            Call::Unpublish { handle } => self.close(PUBLISHERS, handle),
-            Call::Unsubscribe { handle } => self.close(SUBSCRIPTIONS, handle),
-            Call::OpenPull(terms) => self.open_pull(&terms),
-            Call::ClosePull { handle } => self.close(REQUESTERS, handle),
-            Call::Get { handle } => {
-                self.get(handle, s, out);
-                return Ok(());
-            }
-            Call::Pull { handle } => {
-                self.pull(handle, globals, s, out);
-                return Ok(());
-            }
-        };
-        out.push_plain_answer(s, answer);
-        Ok(())
-    }
-
     /// How many of its objects are due by `t`, in microseconds.
     pub fn due(&self, t: u64) -> usize
         ensures count { result ≡ length (filter (is_due t) self.now.objects) }
         ensures within { result ≤ 768 }
     {
+        if t < self.quiet {
+            return 0;
+        }
         count_due(&self.objects, t)
     }
 
@@ -343,7 +299,11 @@ impl Slot {
             ≤ out.new.byte_room + PD_TELEGRAM_MAX
             * length (filter (is_due globals.entry.now.now) self.old.objects) }
     {
+        if globals.now < self.quiet {
+            return;
+        }
         fire_all(&mut self.objects, globals, s, out);
+        self.quiet = earliest(&self.objects);
     }
 
     /// How many of its objects the telegram is for.
@@ -390,6 +350,7 @@ impl Slot {
             * length (filter (is_for_entry (telegram_model telegram.now) globals.entry.now)
             self.old.objects) }
     {
+        self.quiet = 0;
         take_all(&mut self.objects, config, telegram, globals, s, out);
     }
 }
