@@ -1,5 +1,5 @@
 -- What a run of the program comes to.
-use Rattle.std.specs.Prelude.{◌≡◌, ◌⊎◌, ℕ, List, [], Option, Some, Result, Ok, Err}
+use Rattle.std.specs.Prelude.{◌≡◌, ◌⊎◌, ℕ, List, Option, Result, Ok, Err}
 use Rattle.std.specs.Io.KnownBytes.{Keeps}
 use Rattle.trdp_dataset.specs.Configs.{ConfigModel, Reads, config_of}
 use Rattle.trdp_dataset.specs.declared.fault.ConfigFault.{ConfigFault}
@@ -7,11 +7,20 @@ use Rattle.trdp_script.specs.ScriptRuns.{RunsScript}
 use Rattle.trdp_script.specs.declared.script.ScriptFault.{ScriptFault}
 use Rattle.trdpd.specs.Faults.{status_of_script}
 
+-- the bytes are a configuration
+abbrev pub IsConfig : List ℕ → Type 0
+IsConfig bytes = (config : ConfigModel) × Reads config_of bytes (Ok config)
+
+-- the fault is the one that the bytes have as a configuration, or memory ran out while they were
+-- read
+abbrev pub IsConfigFault : List ℕ → ConfigFault → Type 0
+IsConfigFault bytes fault = Reads {A = ConfigModel} config_of bytes (Err fault)
+
 -- the bytes are no configuration, or memory ran out while they were read: the status is 1, and
 -- nothing was written
 pub record TakesNoConfig (bytes : List ℕ) (old new : Option (List ℕ)) (status : ℕ) : Type 0 where
   pub fault : ConfigFault
-  pub is : Reads {A = ConfigModel} config_of bytes (Err fault)
+  pub is : IsConfigFault bytes fault
   pub status_is : status ≡ 1
   pub quiet : Keeps old new
 

@@ -1,15 +1,15 @@
 //! A run of the program: the configuration first, and then the script.
 
-ghost use Rattle.std.specs.Prelude.{◌≡◌, ◌⊎◌, ℕ, List, Some, Ok, Err, IfOk, IfErr};
+ghost use Rattle.std.specs.Prelude.{◌≡◌, ◌⊎◌, ℕ, List, Some, Ok, IfOk, IfErr};
 ghost use Rattle.std.specs.Io.KnownBytes.{Keeps};
-ghost use Rattle.trdp_dataset.specs.Configs.{ConfigModel, Reads, config_of};
-ghost use Rattle.trdpd.specs.Faults.{status_of_script};
-ghost use Rattle.trdpd.specs.Programs.{RunsProgram};
+ghost use Rattle.trdp_dataset.specs.Configs.{Reads, config_of};
+ghost use Rattle.trdpd.specs.Programs.{IsConfig, IsConfigFault, RunsProgram};
 
 use crate::config_names::ConfigFaultText;
 use crate::faults::{ScriptFaultText, script_status};
+use std::alloc::Global;
 use std::io::{Read, Write};
-use trdp_dataset::NodeConfig;
+use trdp_dataset::{ConfigFault, NodeConfig};
 use trdp_script::run_script;
 
 /// The exit status where the configuration isn't taken (profile).
@@ -29,24 +29,41 @@ pub fn run_program<H: AllocGlobal, R: Read, W: Write, E: Write>(
     errors: &mut E,
 ) -> u8
     ensures status { (result ≡ 0) ⊎ (result ≡ 1) ⊎ (result ≡ 3) ⊎ (result ≡ 4) }
+    ensures config { (result ≡ 1) ⊎ IsConfig config.now }
     ensures runs { (input : List ℕ) → R.remaining reader.old ≡ Some input → RunsProgram config.now
         input (R.remaining reader.new) (W.contents writer.old) (W.contents writer.new) result }
     ensures quiet { result ≡ 1 → Keeps (W.contents writer.old) (W.contents writer.new) }
 {
     let alloc = rt.alloc();
+    let Ok(config) = read_config(alloc, config, errors) else {
+        return CONFIG_STATUS;
+    };
+    let end = run_script(alloc, config, reader, writer);
+    if let Err(fault) = end {
+        // A fault that can't be told is one all the same.
+        let _ = writeln!(errors, "{}", ScriptFaultText(fault));
+    }
+    script_status(end)
+}
+
+/// Reads the configuration (TOML). A fault gives one line on `errors`.
+///
+/// # Errors
+/// The fault of the configuration, or want of memory in its place.
+fn read_config<E: Write>(
+    alloc: Global,
+    config: &[u8],
+    errors: &mut E,
+) -> Result<NodeConfig, ConfigFault>
+    ensures taken { IfOk result (λ taken. Reads config_of config.now (Ok taken)) }
+    ensures fault { IfErr result (IsConfigFault config.now) }
+{
     match NodeConfig::from_toml(alloc, config) {
-        Ok(config) => {
-            let end = run_script(alloc, config, reader, writer);
-            if let Err(fault) = end {
-                // A fault that can't be told is one all the same.
-                let _ = writeln!(errors, "{}", ScriptFaultText(fault));
-            }
-            script_status(end)
-        }
+        Ok(taken) => Ok(taken),
         Err(fault) => {
             // A fault that can't be told is one all the same.
             let _ = writeln!(errors, "{}", ConfigFaultText(fault));
-            CONFIG_STATUS
+            Err(fault)
         }
     }
 }
