@@ -2,8 +2,10 @@
 //! lines.
 //!
 //! What no contract can say is that memory is there and that the outside works: a `read_line` or a
-//! `run_script` that answers want of memory at once meets its contract. The tests show that with
-//! ample memory the lines are read and the scripts played.
+//! `run_script` that answers want of memory at once meets its contract. A reader that always fails,
+//! and so a `read_piece` that always answers `Read`, meets the contracts too, since a reader may
+//! always fail. The tests show that reading works: with ample memory the lines are read and the
+//! scripts played.
 #![tactic(auto)]
 
 mod fault;
