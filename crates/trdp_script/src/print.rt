@@ -13,7 +13,8 @@ ghost use Rattle.trdp_engine.specs.Records.{indication_model};
 ghost use Rattle.trdp_script.specs.declared.print.TheConstants.{CONTENT_ROOM};
 ghost use Rattle.trdp_script.specs.RecordText.{text_of_peek, text_of_answer, text_of_indication};
 ghost use Rattle.trdp_script.specs.RecordText.{words_of_send, text_of_send, text_of_content};
-ghost use Rattle.trdp_script.specs.RecordText.{text_of_record, text_of_fault, bytes_of, answer_bytes};
+ghost use Rattle.trdp_script.specs.RecordText.{text_of_record, text_of_fault};
+ghost use Rattle.trdp_script.specs.RecordText.{bytes_of, answer_bytes};
 
 use crate::names::{fault_name, refusal_name, state_name};
 use std::alloc::AllocError;
@@ -79,7 +80,8 @@ fn bytes_in<'a>(what: &What<'a>) -> &'a [u8]
 /// Appends what a record says, with a space before it, to a list that has room for it.
 #[tactic(auto, unfolding(crate::specs::RecordText::text_of_content))]
 fn put_content(text: &mut Vec<u8>, what: &What<'_>)
-    requires room { vec_len text.old + (CONTENT_ROOM + 2 * length (bytes_of (content_model what.now)))
+    requires room { vec_len text.old
+        + (CONTENT_ROOM + 2 * length (bytes_of (content_model what.now)))
         ≤ vec_capacity text.old }
     ensures items { text.new.items ≡ text.old.items ++ text_of_content (content_model what.now) }
     ensures len { vec_len text.new
@@ -100,7 +102,8 @@ fn put_content(text: &mut Vec<u8>, what: &What<'_>)
 /// Appends what a call came to, with a space before it, to a list that has room for it.
 #[tactic(auto, unfolding(crate::specs::RecordText::text_of_answer))]
 fn put_answer(text: &mut Vec<u8>, answer: Answer<'_>)
-    requires room { vec_len text.old + (CONTENT_ROOM + 2 * length (answer_bytes (answer_model answer)))
+    requires room { vec_len text.old
+        + (CONTENT_ROOM + 2 * length (answer_bytes (answer_model answer)))
         ≤ vec_capacity text.old }
     ensures items { text.new.items ≡ text.old.items ++ text_of_answer (answer_model answer.entry) }
     ensures len { vec_len text.new

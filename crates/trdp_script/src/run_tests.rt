@@ -13,12 +13,13 @@ const CONFIG: &[u8] =
 
 /// A publisher that is given a value and sends it (IEC 61375-2-3), then a moment that is past,
 /// and a bad line.
-const SCRIPT: &[u8] =
-    b"call 0 publish 100 0 100000 0 0 0 10.0.0.2:17224\r\n\ncall 0 put 1 0a0b\nmoment 100000\nmoment 5\nmoment";
+const SCRIPT: &[u8] = b"call 0 publish 100 0 100000 0 0 0 10.0.0.2:17224\r\n\n\
+    call 0 put 1 0a0b\nmoment 100000\nmoment 5\nmoment";
 
 /// What this script gives: two answers, a telegram, and the fault of an event.
-const OUTPUT: &[u8] =
-    b"0 handle 1\n0 done\n0 send pd 10.0.0.2:17224 000000000100506400000064000000000000000000000002000000000000000000000000ec179c940a0b0000\nfault Past\n";
+const OUTPUT: &[u8] = b"0 handle 1\n0 done\n0 send pd 10.0.0.2:17224 \
+    0000000001005064000000640000000000000000\
+    00000002000000000000000000000000ec179c940a0b0000\nfault Past\n";
 
 /// A reader that gives its bytes one at a time, and fails where so many were given.
 #[derive(Drop)]

@@ -3,7 +3,10 @@ use Rattle.std.specs.Prelude.{ℕ, List, [], ◌++◌, codes}
 use Rattle.trdp_base.specs.NumberText.{text_of_number}
 use Rattle.trdp_dataset.specs.Keys.{key_text}
 use Rattle.trdp_dataset.specs.declared.fault.ConfigFault.{ConfigFault}
-use Rattle.trdp_dataset.specs.declared.fault.ConfigFault.TheVariants.{Toml, Missing, WrongType, Real, BadId, TwiceId, NoDataset, NoCount, TooDeep, TooBig, TooMany, OutOfMemory}
+use Rattle.trdp_dataset.specs.declared.fault.ConfigFault.TheVariants.{Toml, Missing, WrongType}
+use Rattle.trdp_dataset.specs.declared.fault.ConfigFault.TheVariants.{Real, BadId, TwiceId}
+use Rattle.trdp_dataset.specs.declared.fault.ConfigFault.TheVariants.{NoDataset, NoCount, TooDeep}
+use Rattle.trdp_dataset.specs.declared.fault.ConfigFault.TheVariants.{TooBig, TooMany, OutOfMemory}
 
 -- the name of a fault of the configuration
 abbrev pub name_of_config_fault : ConfigFault → List ℕ
@@ -20,7 +23,8 @@ name_of_config_fault TooBig = codes "TooBig"
 name_of_config_fault TooMany = codes "TooMany"
 name_of_config_fault OutOfMemory = codes "OutOfMemory"
 
--- what stands behind the name, a space before it: the key, or the identifier of the dataset that isn't there
+-- what stands behind the name, a space before it: the key, or the identifier of the dataset that
+-- isn't there
 abbrev pub detail_of_config_fault : ConfigFault → List ℕ
 detail_of_config_fault (Missing key) = codes " " ++ key_text key
 detail_of_config_fault (WrongType key) = codes " " ++ key_text key
@@ -29,4 +33,5 @@ detail_of_config_fault _ = []
 
 -- the line of a fault of the configuration, without its end
 abbrev pub text_of_config_fault : ConfigFault → List ℕ
-text_of_config_fault fault = codes "config fault " ++ name_of_config_fault fault ++ detail_of_config_fault fault
+text_of_config_fault fault =
+    codes "config fault " ++ name_of_config_fault fault ++ detail_of_config_fault fault

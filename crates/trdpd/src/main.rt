@@ -41,8 +41,9 @@ use trdp_script::ScriptFault;
 const USAGE_STATUS: u8 = 2;
 
 /// What is told of words that aren't text.
-const NO_TEXT: &str =
-    "error: a word of the command line isn't valid UTF-8\n\nUsage: trdpd run <CONFIG>\n\nFor more information, try '--help'.\n";
+const NO_TEXT: &str = "error: a word of the command line isn't valid UTF-8\n\n\
+     Usage: trdpd run <CONFIG>\n\n\
+     For more information, try '--help'.\n";
 
 fn main(rt: HostRuntime) -> ExitCode {
     ExitCode::from(status(&rt))

@@ -9,8 +9,15 @@ use std::test::Fail;
 use trdp_script::ScriptFault;
 
 /// A node with two slots and two datasets.
-const CONFIG: &[u8] =
-    b"[node]\naddress = \"10.0.0.1\"\n[[slot]]\npublishers = 4\nsubscriptions = 4\nrequesters = 1\nlisteners = 2\ncallers = 2\nrepliers = 1\n[[slot]]\npublishers = 4\nsubscriptions = 4\nrequesters = 1\nlisteners = 2\ncallers = 2\nrepliers = 1\n[[dataset]]\nid = 1001\nelement = [{ type = \"UINT8\" }, { type = \"UINT16\", size = 0 }]\n[[dataset]]\nid = 1002\nelement = [{ type = \"INT16\" }, { type = 15 }, { type = 1001 }]\n";
+const CONFIG: &[u8] = b"[node]\naddress = \"10.0.0.1\"\n\
+    [[slot]]\npublishers = 4\nsubscriptions = 4\n\
+    requesters = 1\nlisteners = 2\ncallers = 2\nrepliers = 1\n\
+    [[slot]]\npublishers = 4\nsubscriptions = 4\n\
+    requesters = 1\nlisteners = 2\ncallers = 2\nrepliers = 1\n\
+    [[dataset]]\nid = 1001\n\
+    element = [{ type = \"UINT8\" }, { type = \"UINT16\", size = 0 }]\n\
+    [[dataset]]\nid = 1002\n\
+    element = [{ type = \"INT16\" }, { type = 15 }, { type = 1001 }]\n";
 
 const PUBLISH: &[u8] = b"call 0 publish 100 0 100000 0 0 0 10.0.0.2:17224\n";
 
@@ -88,7 +95,9 @@ fn sends_what_was_put_at_the_due_moment(rt: HostRuntime) {
     gives(
         &rt,
         b"call 0 publish 100 0 100000 0 0 0 10.0.0.2:17224\ncall 0 put 1 0a0b\nmoment 100000\n",
-        b"0 handle 1\n0 done\n0 send pd 10.0.0.2:17224 000000000100506400000064000000000000000000000002000000000000000000000000ec179c940a0b0000\n",
+        b"0 handle 1\n0 done\n0 send pd 10.0.0.2:17224 \
+          0000000001005064000000640000000000000000\
+          00000002000000000000000000000000ec179c940a0b0000\n",
     );
 }
 
@@ -154,7 +163,8 @@ fn tells_the_fault_of_a_configuration(rt: HostRuntime) {
     refuses(&rt, b"[", b"config fault Toml\n");
     refuses(
         &rt,
-        b"[node]\naddress = \"10.0.0.1\"\n[[slot]]\n[[dataset]]\nid = 1001\nelement = [{ type = 1003 }]\n",
+        b"[node]\naddress = \"10.0.0.1\"\n[[slot]]\n\
+          [[dataset]]\nid = 1001\nelement = [{ type = 1003 }]\n",
         b"config fault NoDataset 1003\n",
     );
     refuses(
