@@ -15,8 +15,8 @@
 //! What a script gives, and where it stops, is the contract of `trdp_script::run_script`, which
 //! `run_program` repeats with the exit status. No contract says that the outside works: a
 //! `run_program` that answers 1 at once meets its contract, as if memory had run out while the
-//! configuration was read. How `main` reads the file of the configuration, and the command line,
-//! which is `clap`'s, are tried by hand.
+//! configuration was read. The functions of this module and of `command` have no clauses: how the
+//! command line is read, which is `clap`'s, how the file is read, and status 2 are tried by hand.
 #![tactic(auto)]
 
 mod command;
