@@ -5,6 +5,7 @@
 //! `Table::new` takes the memory for all that the quotas allow; nothing later takes any.
 #![tactic(auto)]
 
+mod any_object;
 mod counts;
 mod entry;
 mod fault;
@@ -15,7 +16,7 @@ mod table;
 #[cfg(test)]
 mod tests;
 
+pub use any_object::AnyObject;
 pub use fault::TableFault;
 pub use kind::Kind;
 pub use table::Table;
-pub use trdp_pd::AnyObject;
