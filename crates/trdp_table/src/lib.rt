@@ -1,4 +1,5 @@
-//! The table of objects: for each slot of a node its objects, each under a handle of the slot.
+//! The objects of a slot, of any kind, and the table of them: for each slot of a node its objects,
+//! each under a handle of the slot.
 //!
 //! A caller finds an object by its slot and handle and gets a key, by which it reaches the object
 //! without a further search. An object keeps its key, shared with no other, until its removal.
@@ -10,6 +11,7 @@ mod counts;
 mod entry;
 mod fault;
 mod kind;
+mod laws;
 mod search;
 mod slot;
 mod table;
@@ -19,4 +21,5 @@ mod tests;
 pub use any_object::AnyObject;
 pub use fault::TableFault;
 pub use kind::Kind;
+pub use laws::kind_stays;
 pub use table::Table;
