@@ -41,7 +41,7 @@ pub trait Object {
     /// When the object is to act next.
     ghost due_of: { Self → Option ℕ };
 
-    /// The dataset that the object's value is one of; None where objects of its kind have no value.
+    /// The dataset that the object's value is one of; None where its kind has no values.
     ghost dataset_of: { Self → Option ℕ };
 
     /// What the laws below ask of an object: each object that a node holds is sound. Objects of a
@@ -62,8 +62,7 @@ pub trait Object {
     fn due(&self) -> Option<u64>
         ensures { result ≡ due_of self.now };
 
-    /// The dataset that its value is one of, 0 for any bytes; None where objects of its kind have
-    /// no value.
+    /// The dataset that its value is one of, 0 for any bytes; None where its kind has no values.
     fn dataset(&self) -> Option<u32>
         ensures { result ≡ dataset_of self.now };
 
@@ -71,8 +70,8 @@ pub trait Object {
     fn addressed(&self, telegram: &Telegram<'_>, globals: &Globals) -> bool
         ensures { result ≡ is_addressed self.now (telegram_model telegram.now) globals.entry.now };
 
-    /// Hands it a telegram; `fits` says whether the payload is one of its dataset, and counts for
-    /// nothing where it has none.
+    /// Hands it a telegram; `fits` says whether the payload is one of its dataset, if its kind has
+    /// values.
     fn take(&mut self, telegram: &Telegram<'_>, globals: &Globals, fits: bool) -> Taken
         requires limit { IsWithinLimit (telegram_model telegram.now) }
         requires now { globals.now.now ≤ last_moment }

@@ -4,8 +4,8 @@ ghost use Rattle.std.specs.Prelude.{◌≤◌};
 ghost use Rattle.trdp_base.specs.Moments.{last_moment};
 
 use crate::{
-    Behaviour, Fired, Object, Publisher, PublisherTerms, Requester, RequesterTerms,
-    Subscription, SubscriptionTerms, Taken, ValueState,
+    Behaviour, Fired, Object, Publisher, PublisherTerms, Requester, RequesterTerms, Subscription,
+    SubscriptionTerms, Taken, ValueState,
 };
 use std::process::Abort;
 use std::test::Fail;
