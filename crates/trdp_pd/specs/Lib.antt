@@ -5,8 +5,6 @@ pub mod Publishers
 pub mod Subscriptions
 pub mod Requesters
 pub mod Peeks
-pub mod Objects
 pub mod PublisherLaws
 pub mod SubscriptionLaws
 pub mod RequesterLaws
-pub mod ObjectLaws

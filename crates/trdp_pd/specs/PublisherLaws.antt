@@ -75,3 +75,21 @@ pub publisher_taking-unaddressed :
     → publisher_taking p telegram globals fits ≡ record { object = p; taken = NotTaken }
 publisher_taking-unaddressed p (PdIs src dst telegram) globals fits is =
     rw (is_answered-unaddressed p telegram.head globals is) refl
+
+-- a telegram makes no publisher due
+pub publisher_due-taking :
+    (p : PublisherState) (telegram : TelegramModel) (globals : Globals) (fits : Bool)
+    → is_due_by globals.now (publisher_due p) ≡ false
+    → is_due_by globals.now (publisher_due (publisher_taking p telegram globals fits).object)
+    ≡ false
+publisher_due-taking p (PdIs src dst telegram) globals fits not =
+    either (is_answered p telegram.head globals) refl
+  where
+    either :
+        (b : Bool) → is_answered p telegram.head globals ≡ b
+        → is_due_by
+        globals.now
+        (publisher_due (publisher_taking p (PdIs src dst telegram) globals fits).object)
+        ≡ false
+    either true is = rw is not
+    either false is = rw is not

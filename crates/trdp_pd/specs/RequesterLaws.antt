@@ -20,3 +20,11 @@ pub requester_due-firing :
     (r : RequesterState) (globals : Globals)
     → is_due_by globals.now (requester_due (requester_firing r globals).object) ≡ false
 requester_due-firing r globals = refl
+
+-- a telegram makes no requester due
+pub requester_due-taking :
+    (r : RequesterState) (telegram : TelegramModel) (globals : Globals) (fits : Bool)
+    → is_due_by globals.now (requester_due r) ≡ false
+    → is_due_by globals.now (requester_due (requester_taking r telegram globals fits).object)
+    ≡ false
+requester_due-taking r telegram globals fits not = not

@@ -1,13 +1,16 @@
 -- What is true of every subscription: the proofs that it gives to the trait of all objects.
 -- They stand here because what a trait's implementation names in src/ may stand in specs/ alone.
-use Rattle.std.proofs.Common.{◌≡◌, Bool, false, refl}
+use Rattle.std.proofs.Common.{◌≡◌, ℕ, ◌+◌, Bool, true, false, refl, arith}
+use Rattle.std.specs.Prelude.{◌==◌}
+use Rattle.std.proofs.lemmas.Bool.Decides.{nat_tests}
 use Rattle.trdp_base.specs.declared.place.Place.{Place}
 use Rattle.trdp_head.specs.declared.pd.PdHead.{PdHead}
 use Rattle.trdp_filter.specs.declared.globals.Globals.{Globals}
 use Rattle.trdp_filter.specs.Telegrams.{TelegramModel, PdIs}
 use Rattle.trdp_pd.specs.declared.object.Taken.TheVariants.{Nothing as NotTaken}
 use Rattle.trdp_pd.specs.Due.{is_due_by}
-use Rattle.trdp_pd.specs.Subscriptions.{SubscriptionState, is_for, is_accepted}
+use Rattle.trdp_pd.specs.PublisherLaws.{nat_le-past}
+use Rattle.trdp_pd.specs.Subscriptions.{SubscriptionState, deadline_from, is_for, is_accepted}
 use Rattle.trdp_pd.specs.Subscriptions.{subscription_addressed, subscription_taking}
 use Rattle.trdp_pd.specs.Subscriptions.{subscription_firing}
 
@@ -31,3 +34,32 @@ pub subscription_due-firing :
     (s : SubscriptionState) (globals : Globals)
     → is_due_by globals.now (subscription_firing s globals).object.deadline ≡ false
 subscription_due-firing s globals = refl
+
+-- a supervision time that begins now ends later
+pub deadline_from-later :
+    (supervision now : ℕ) → is_due_by now (deadline_from supervision now) ≡ false
+unfolding deadline_from
+deadline_from-later supervision now = either (supervision == 0) refl
+  where
+    either :
+        (b : Bool) → (supervision == 0) ≡ b
+        → is_due_by now (deadline_from supervision now) ≡ false
+    either true is = rw is refl
+    either false is = rw is (nat_le-past (now + supervision) now (grind (arith, nat_tests)))
+
+-- a telegram makes no subscription due
+pub subscription_due-taking :
+    (s : SubscriptionState) (telegram : TelegramModel) (globals : Globals) (fits : Bool)
+    → is_due_by globals.now s.deadline ≡ false
+    → is_due_by globals.now (subscription_taking s telegram globals fits).object.deadline ≡ false
+subscription_due-taking s (PdIs src dst telegram) globals fits not =
+    either (is_accepted s src dst telegram.head globals fits) refl
+  where
+    either :
+        (b : Bool) → is_accepted s src dst telegram.head globals fits ≡ b
+        → is_due_by
+        globals.now
+        (subscription_taking s (PdIs src dst telegram) globals fits).object.deadline
+        ≡ false
+    either true is = rw is (deadline_from-later s.terms.supervision globals.now)
+    either false is = rw is not

@@ -1,11 +1,10 @@
-//! What is true of every object, whatever came before, beside the two laws of the trait
+//! What is true of every object of one kind, whatever came before, beside the laws of the trait
 //! [`Object`].
 
 ghost use Rattle.std.specs.Prelude.{◌≡◌, ℕ, ◌⊎◌, Bool, true, false, IsSome};
 ghost use Rattle.trdp_head.specs.declared.pd.PdHead.{PdHead};
 ghost use Rattle.trdp_filter.specs.declared.globals.Globals.{Globals};
 ghost use Rattle.trdp_filter.specs.Telegrams.{TelegramModel};
-ghost use Rattle.trdp_pd.specs.declared.any_object.AnyObject.{AnyObject};
 ghost use Rattle.trdp_pd.specs.declared.terms.PublisherTerms.{PublisherTerms};
 ghost use Rattle.trdp_pd.specs.declared.terms.SubscriptionTerms.{SubscriptionTerms};
 ghost use Rattle.trdp_pd.specs.Due.{is_due_by};
@@ -13,18 +12,9 @@ ghost use Rattle.trdp_pd.specs.Publishers.{PublisherState, published, publisher_
 ghost use Rattle.trdp_pd.specs.Publishers.{publisher_taking, publisher_firing};
 ghost use Rattle.trdp_pd.specs.Subscriptions.{SubscriptionState, HasTaken, subscribed};
 ghost use Rattle.trdp_pd.specs.Subscriptions.{subscription_taking, subscription_firing};
-ghost use Rattle.trdp_pd.specs.Objects.{kind_of, due_of, after_taking, after_firing};
 
 use crate::object::{Fired, Taken};
 use crate::terms::ValueState;
-
-/// An object keeps its kind.
-pub fn kind_stays()
-    ensures taken { (object : AnyObject) (telegram : TelegramModel) (globals : Globals)
-        (fits : Bool) → kind_of (after_taking object telegram globals fits) ≡ kind_of object }
-    ensures fired { (object : AnyObject) (globals : Globals)
-        → kind_of (after_firing object globals) ≡ kind_of object }
-{}
 
 /// A new object is due later than now, if ever.
 pub fn new_is_later()
@@ -32,14 +22,6 @@ pub fn new_is_later()
         → is_due_by now (publisher_due (published terms now)) ≡ false }
     ensures subscription { (terms : SubscriptionTerms) (zero_size now : ℕ)
         → is_due_by now (subscribed terms zero_size now).deadline ≡ false }
-{}
-
-/// A telegram makes no object due: if the object was due later than now or never, it is so
-/// afterwards.
-pub fn taken_stays_later()
-    ensures { (object : AnyObject) (telegram : TelegramModel) (globals : Globals) (fits : Bool)
-        → is_due_by globals.now (due_of object) ≡ false
-        → is_due_by globals.now (due_of (after_taking object telegram globals fits)) ≡ false }
 {}
 
 /// Neither a telegram nor a moment changes what a publisher is to send, or its value; and no

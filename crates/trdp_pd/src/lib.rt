@@ -5,7 +5,6 @@
 //! payload; nothing later takes any.
 #![tactic(auto)]
 
-mod any_object;
 mod buffer;
 mod laws;
 mod object;
@@ -14,10 +13,9 @@ mod requester;
 mod subscription;
 mod terms;
 
-pub use any_object::AnyObject;
 pub use laws::{
-    kind_stays, new_is_later, publisher_keeps, publisher_sends_its_own, subscription_keeps,
-    subscription_shows_what_it_took, taken_stays_later,
+    new_is_later, publisher_keeps, publisher_sends_its_own, subscription_keeps,
+    subscription_shows_what_it_took,
 };
 pub use object::{Fired, Object, Taken};
 pub use publisher::Publisher;

@@ -1,6 +1,6 @@
 //! What all kinds of objects have in common.
 
-ghost use Rattle.std.specs.Prelude.{◌≡◌, ℕ, ◌≤◌, Option, Bool, false};
+ghost use Rattle.std.specs.Prelude.{◌≡◌, ℕ, ◌≤◌, Option, Bool, true, false};
 ghost use Rattle.trdp_base.specs.Moments.{last_moment};
 ghost use Rattle.trdp_filter.specs.Telegrams.{TelegramModel, telegram_model, IsWithinLimit};
 ghost use Rattle.trdp_filter.specs.declared.globals.Globals.{Globals};
@@ -41,6 +41,13 @@ pub trait Object {
     /// When the object is to act next.
     ghost due_of: { Self → Option ℕ };
 
+    /// The dataset that the object's value is one of; None where its kind has no values.
+    ghost dataset_of: { Self → Option ℕ };
+
+    /// What the laws below ask of an object: each object that a node holds is sound. Objects of a
+    /// kind whose laws ask nothing are always sound.
+    ghost is_sound: { Self → Bool };
+
     /// The telegram is for the object.
     ghost is_addressed: { Self → TelegramModel → Globals → Bool };
 
@@ -55,11 +62,16 @@ pub trait Object {
     fn due(&self) -> Option<u64>
         ensures { result ≡ due_of self.now };
 
+    /// The dataset that its value is one of, 0 for any bytes; None where its kind has no values.
+    fn dataset(&self) -> Option<u32>
+        ensures { result ≡ dataset_of self.now };
+
     /// Whether the telegram is for it.
     fn addressed(&self, telegram: &Telegram<'_>, globals: &Globals) -> bool
         ensures { result ≡ is_addressed self.now (telegram_model telegram.now) globals.entry.now };
 
-    /// Hands it a telegram; `fits` says whether the payload is one of its dataset.
+    /// Hands it a telegram; `fits` says whether the payload is one of its dataset, if its kind has
+    /// values.
     fn take(&mut self, telegram: &Telegram<'_>, globals: &Globals, fits: bool) -> Taken
         requires limit { IsWithinLimit (telegram_model telegram.now) }
         requires now { globals.now.now ≤ last_moment }
@@ -81,6 +93,20 @@ pub trait Object {
         → taking x telegram globals fits ≡ record { object = x; taken = NotTaken } };
 
     /// An object that fired isn't due by now.
-    ghost later: { (x : Self) (globals : Globals)
+    ghost later: { (x : Self) (globals : Globals) → is_sound x ≡ true
         → is_due_by globals.now (due_of (firing x globals).object) ≡ false };
+
+    /// An object that isn't due before it is handed a telegram isn't due after it.
+    ghost undue: { (x : Self) (telegram : TelegramModel) (globals : Globals) (fits : Bool)
+        → is_sound x ≡ true → is_due_by globals.now (due_of x) ≡ false
+        → is_due_by globals.now (due_of (taking x telegram globals fits).object) ≡ false };
+
+    /// A sound object that was handed a telegram is sound.
+    ghost kept_sound_by_taking: { (x : Self) (telegram : TelegramModel) (globals : Globals)
+        (fits : Bool) → is_sound x ≡ true
+        → is_sound (taking x telegram globals fits).object ≡ true };
+
+    /// A sound object that fired is sound.
+    ghost kept_sound_by_firing: { (x : Self) (globals : Globals) → is_sound x ≡ true
+        → is_sound (firing x globals).object ≡ true };
 }

@@ -181,12 +181,17 @@ impl Publisher {
 }
 
 impl Object for Publisher {
+    ghost use Rattle.std.specs.Prelude.{Some, true};
     ghost use Rattle.trdp_pd.specs.Publishers.{publisher_due, publisher_addressed};
     ghost use Rattle.trdp_pd.specs.Publishers.{publisher_taking, publisher_firing};
     ghost use Rattle.trdp_pd.specs.PublisherLaws.{publisher_taking-unaddressed};
-    ghost use Rattle.trdp_pd.specs.PublisherLaws.{publisher_due-firing};
+    ghost use Rattle.trdp_pd.specs.PublisherLaws.{publisher_due-firing, publisher_due-taking};
 
     ghost due_of = { publisher_due };
+
+    ghost dataset_of = { λ p. Some p.terms.dataset };
+
+    ghost is_sound = { λ _. true };
 
     ghost is_addressed = { publisher_addressed };
 
@@ -196,7 +201,13 @@ impl Object for Publisher {
 
     ghost unaddressed = { publisher_taking-unaddressed };
 
-    ghost later = { publisher_due-firing };
+    ghost later = { λ p globals _. publisher_due-firing p globals };
+
+    ghost undue = { λ p telegram globals fits _. publisher_due-taking p telegram globals fits };
+
+    ghost kept_sound_by_taking = { λ _ _ _ _ sound. sound };
+
+    ghost kept_sound_by_firing = { λ _ _ sound. sound };
 
     /// When it is next due, in microseconds; None for a cycle of 0.
     fn due(&self) -> Option<u64> {
@@ -205,6 +216,11 @@ impl Object for Publisher {
         } else {
             Some(self.due)
         }
+    }
+
+    /// The dataset that its value is one of; 0 for any bytes.
+    fn dataset(&self) -> Option<u32> {
+        Some(self.terms.dataset)
     }
 
     /// Pull requests that ask for its comId are for it, with topology counts that match its own.

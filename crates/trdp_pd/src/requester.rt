@@ -79,12 +79,17 @@ impl Requester {
 }
 
 impl Object for Requester {
+    ghost use Rattle.std.specs.Prelude.{None, true};
     ghost use Rattle.trdp_pd.specs.Requesters.{requester_due, requester_addressed};
     ghost use Rattle.trdp_pd.specs.Requesters.{requester_taking, requester_firing};
     ghost use Rattle.trdp_pd.specs.RequesterLaws.{requester_taking-unaddressed};
-    ghost use Rattle.trdp_pd.specs.RequesterLaws.{requester_due-firing};
+    ghost use Rattle.trdp_pd.specs.RequesterLaws.{requester_due-firing, requester_due-taking};
 
     ghost due_of = { requester_due };
+
+    ghost dataset_of = { λ _. None };
+
+    ghost is_sound = { λ _. true };
 
     ghost is_addressed = { requester_addressed };
 
@@ -94,10 +99,21 @@ impl Object for Requester {
 
     ghost unaddressed = { requester_taking-unaddressed };
 
-    ghost later = { requester_due-firing };
+    ghost later = { λ r globals _. requester_due-firing r globals };
+
+    ghost undue = { λ r telegram globals fits _. requester_due-taking r telegram globals fits };
+
+    ghost kept_sound_by_taking = { λ _ _ _ _ sound. sound };
+
+    ghost kept_sound_by_firing = { λ _ _ sound. sound };
 
     /// A requester is never due.
     fn due(&self) -> Option<u64> {
+        None
+    }
+
+    /// A requester has no value.
+    fn dataset(&self) -> Option<u32> {
         None
     }
 

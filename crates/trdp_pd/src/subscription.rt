@@ -239,12 +239,17 @@ impl Subscription {
 }
 
 impl Object for Subscription {
+    ghost use Rattle.std.specs.Prelude.{Some, true};
     ghost use Rattle.trdp_pd.specs.Subscriptions.{subscription_addressed, subscription_taking};
     ghost use Rattle.trdp_pd.specs.Subscriptions.{subscription_firing};
     ghost use Rattle.trdp_pd.specs.SubscriptionLaws.{subscription_taking-unaddressed};
-    ghost use Rattle.trdp_pd.specs.SubscriptionLaws.{subscription_due-firing};
+    ghost use Rattle.trdp_pd.specs.SubscriptionLaws.{subscription_due-firing, subscription_due-taking};
 
     ghost due_of = { λ s. s.deadline };
+
+    ghost dataset_of = { λ s. Some s.terms.dataset };
+
+    ghost is_sound = { λ _. true };
 
     ghost is_addressed = { subscription_addressed };
 
@@ -254,11 +259,22 @@ impl Object for Subscription {
 
     ghost unaddressed = { subscription_taking-unaddressed };
 
-    ghost later = { subscription_due-firing };
+    ghost later = { λ s globals _. subscription_due-firing s globals };
+
+    ghost undue = { λ s telegram globals fits _. subscription_due-taking s telegram globals fits };
+
+    ghost kept_sound_by_taking = { λ _ _ _ _ sound. sound };
+
+    ghost kept_sound_by_firing = { λ _ _ sound. sound };
 
     /// Its deadline, in microseconds; None where no supervision time runs.
     fn due(&self) -> Option<u64> {
         self.deadline
+    }
+
+    /// The dataset that its value is one of; 0 for any bytes.
+    fn dataset(&self) -> Option<u32> {
+        Some(self.terms.dataset)
     }
 
     /// Data and pull replies that its filter passes are for it.

@@ -4,8 +4,8 @@ ghost use Rattle.std.specs.Prelude.{◌≤◌};
 ghost use Rattle.trdp_base.specs.Moments.{last_moment};
 
 use crate::{
-    AnyObject, Behaviour, Fired, Object, Publisher, PublisherTerms, Requester, RequesterTerms,
-    Subscription, SubscriptionTerms, Taken, ValueState,
+    Behaviour, Fired, Object, Publisher, PublisherTerms, Requester, RequesterTerms, Subscription,
+    SubscriptionTerms, Taken, ValueState,
 };
 use std::process::Abort;
 use std::test::Fail;
@@ -255,6 +255,7 @@ fn new_subscription(rt: HostRuntime) -> Result<(), Fail> {
     assert_eq!(rt; (peek.state, peek.counter), (ValueState::Never, 0));
     assert_eq!(rt; peek.bytes, [0; 1432].as_slice());
     assert_eq!(rt; (s.com_id(), s.dataset()), (100, 1001));
+    assert_eq!(rt; Object::dataset(&s), Some(1001));
     Ok(())
 }
 
@@ -288,9 +289,8 @@ fn cycle(rt: HostRuntime) -> Result<(), Fail> {
     p.put(b"\x0a\x0b");
     assert_eq!(rt; p.value(), Some(b"\x0a\x0b".as_slice()));
     assert_eq!(rt; (p.com_id(), p.dataset(), p.to()), (100, 0, THERE));
-    let mut object = AnyObject::Publisher(p);
-    assert_eq!(rt; object.kind(), 0);
-    live(&rt, &mut object, false, &CYCLE);
+    assert_eq!(rt; Object::dataset(&p), Some(0));
+    live(&rt, &mut p, false, &CYCLE);
     Ok(())
 }
 
@@ -315,7 +315,6 @@ fn pull(rt: HostRuntime) {
     assert_eq!(rt; r.pull(), head(PdKind::PullRequest, 0));
     assert_eq!(rt; r.pull(), head(PdKind::PullRequest, 1));
     assert_eq!(rt; (r.com_id(), r.topo(), r.to()), (100, ANY, THERE));
-    let mut object = AnyObject::Requester(r);
-    assert_eq!(rt; object.kind(), 2);
-    live(&rt, &mut object, false, &REQUESTER);
+    assert_eq!(rt; r.dataset(), None);
+    live(&rt, &mut r, false, &REQUESTER);
 }

@@ -6,7 +6,7 @@ use Rattle.std.specs.List.{IsDistinct, AllByRecursion}
 use Rattle.std.proofs.lemmas.Option.{same_Some, none-some}
 use Rattle.std.proofs.lemmas.Bool.Decides.{nat_tests}
 use Rattle.std.proofs.lemmas.List.Folds.{find-append}
-use Rattle.trdp_pd.specs.declared.any_object.AnyObject.{AnyObject}
+use Rattle.trdp_table.specs.declared.any_object.AnyObject.{AnyObject}
 use Rattle.trdp_table.specs.Tables.{Keyed, SlotTable, slot_in, all_objects, by_handle, by_key, other_by_key, with_other_by_key, other_by_handle, with_other_by_handle}
 use Rattle.trdp_table.specs.TableLaws.{AllAbove, AllBelow, IsRising}
 use Rattle.trdp_table.specs.TableKept.{AllKeyed}

@@ -1,3 +1,4 @@
+pub mod Objects
 pub mod Searching
 pub mod Slots
 pub mod Keys

@@ -5,7 +5,7 @@ use Rattle.std.specs.List.{remove}
 use Rattle.std.proofs.lemmas.Option.{same_Some, none-some, slice_get_read}
 use Rattle.std.proofs.lemmas.Bool.Decides.{nat_tests}
 use Rattle.std.proofs.lemmas.List.Sums.{sum_by-cons}
-use Rattle.trdp_pd.specs.declared.any_object.AnyObject.{AnyObject}
+use Rattle.trdp_table.specs.declared.any_object.AnyObject.{AnyObject}
 use Rattle.trdp_table.specs.declared.kind.Kind.{Kind}
 use Rattle.trdp_table.specs.declared.kind.Kind.TheVariants.{Publisher, Subscription, Requester, Listener, Caller, Replier}
 use Rattle.trdp_table.specs.Kinds.{kind_index, kind_of, is_same_kind}

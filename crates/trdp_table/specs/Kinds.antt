@@ -1,7 +1,7 @@
 -- The kinds of objects, in the order of a slot's quotas (profile).
 use Rattle.std.specs.Prelude.{ℕ, Bool, ◌==◌}
-use Rattle.trdp_pd.specs.declared.any_object.AnyObject.{AnyObject}
-use Rattle.trdp_pd.specs.declared.any_object.AnyObject.TheVariants as object
+use Rattle.trdp_table.specs.declared.any_object.AnyObject.{AnyObject}
+use Rattle.trdp_table.specs.declared.any_object.AnyObject.TheVariants as object
 use Rattle.trdp_table.specs.declared.kind.Kind.{Kind}
 use Rattle.trdp_table.specs.declared.kind.Kind.TheVariants.{Publisher, Subscription, Requester}
 use Rattle.trdp_table.specs.declared.kind.Kind.TheVariants.{Listener, Caller, Replier}

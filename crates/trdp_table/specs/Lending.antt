@@ -1,8 +1,8 @@
 -- What an entry, a slot and a table become where one of their objects is lent.
 use Rattle.std.specs.Prelude.{ℕ, zero, suc, List, [], ◌∷◌, Option}
 use Rattle.std.specs.Borrow.{Lends, LendsIf, MutBor, Fml}
-use Rattle.trdp_pd.specs.declared.any_object.AnyObject.{AnyObject}
-use Rattle.trdp_pd.specs.contracts.any_object.AnyObject.{the_row as object_row}
+use Rattle.trdp_table.specs.declared.any_object.AnyObject.{AnyObject}
+use Rattle.trdp_table.specs.contracts.any_object.AnyObject.{the_row as object_row}
 use Rattle.trdp_table.specs.contracts.entry.Entry.{the_row as entry_row}
 use Rattle.trdp_table.specs.contracts.slot.Slot.{the_row as slot_row}
 use Rattle.trdp_table.specs.contracts.table.Table.{the_row as table_row}

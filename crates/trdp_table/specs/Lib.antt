@@ -1,3 +1,5 @@
+pub mod Objects
+pub mod ObjectLaws
 pub mod Kinds
 pub mod Tables
 pub mod Lending

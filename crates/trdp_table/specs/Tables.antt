@@ -2,7 +2,7 @@
 use Rattle.std.specs.Prelude.{◌≡◌, ℕ, ◌+◌, max, List, [], ◌∷◌, ◌++◌, map, flat_map, find, filter}
 use Rattle.std.specs.Prelude.{count_by, slice_index, slice_index_or, slice_set, Option, Some, None}
 use Rattle.std.specs.Prelude.{◌==◌, nat_le, nat_lt, not, if◌then◌else◌}
-use Rattle.trdp_pd.specs.declared.any_object.AnyObject.{AnyObject}
+use Rattle.trdp_table.specs.declared.any_object.AnyObject.{AnyObject}
 use Rattle.trdp_table.specs.declared.kind.Kind.{Kind}
 use Rattle.trdp_table.specs.declared.fault.TableFault.{TableFault}
 use Rattle.trdp_table.specs.declared.fault.TableFault.TheVariants.{Quota, Exhausted}

@@ -3,9 +3,9 @@
 ghost use Rattle.std.specs.Prelude.{◌≡◌};
 ghost use Rattle.std.specs.Borrow.{sem};
 
+use crate::any_object::AnyObject;
 use crate::kind::Kind;
 use std::marker::Model;
-use trdp_pd::AnyObject;
 
 /// An object under its handle and its key.
 #[derive(Drop)]

@@ -4,7 +4,7 @@ ghost use Rattle.std.specs.Prelude.{◌≡◌, ◌<◌};
 ghost use Rattle.trdp_base.specs.QuotaLimits.{quota_kinds};
 ghost use Rattle.trdp_table.specs.Kinds.{kind_index, kind_of};
 
-use trdp_pd::AnyObject;
+use crate::any_object::AnyObject;
 
 /// A kind of object of IEC 61375-2-3, in the order of a slot's quotas (profile).
 #[derive(Clone, Copy, Debug, PartialEq, Eq)]

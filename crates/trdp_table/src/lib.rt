@@ -1,21 +1,25 @@
-//! The table of objects: for each slot of a node its objects, each under a handle of the slot.
+//! The objects of a slot, of any kind, and the table of them: for each slot of a node its objects,
+//! each under a handle of the slot.
 //!
 //! A caller finds an object by its slot and handle and gets a key, by which it reaches the object
 //! without a further search. An object keeps its key, shared with no other, until its removal.
 //! `Table::new` takes the memory for all that the quotas allow; nothing later takes any.
 #![tactic(auto)]
 
+mod any_object;
 mod counts;
 mod entry;
 mod fault;
 mod kind;
+mod laws;
 mod search;
 mod slot;
 mod table;
 #[cfg(test)]
 mod tests;
 
+pub use any_object::AnyObject;
 pub use fault::TableFault;
 pub use kind::Kind;
+pub use laws::kind_stays;
 pub use table::Table;
-pub use trdp_pd::AnyObject;

@@ -9,6 +9,7 @@ ghost use Rattle.trdp_table.specs.Tables.{with_object, without, with_next};
 ghost use Rattle.trdp_table.specs.TableLaws.{AreLimited, object_limit};
 ghost use Rattle.trdp_table.specs.SlotKept.{all_quotas, IsIndexOf};
 
+use crate::any_object::AnyObject;
 use crate::counts::KindCounts;
 use crate::entry::Entry;
 use crate::fault::TableFault;
@@ -17,7 +18,6 @@ use crate::search::index_of;
 use std::alloc::{AllocError, Global};
 use std::marker::Model;
 use trdp_base::Quotas;
-use trdp_pd::AnyObject;
 
 /// The last handle of a slot (profile).
 const HANDLE_MAX: u64 = 4_294_967_295;

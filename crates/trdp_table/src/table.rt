@@ -5,7 +5,7 @@ ghost use Rattle.std.specs.Prelude.{IfOk, IfErr, OnOk, OnErr, IfSome, is_some, s
 ghost use Rattle.std.specs.Prelude.{option_map, option_copied};
 ghost use Rattle.std.specs.Option.{option_copied_mut};
 ghost use Rattle.std.specs.Borrow.{sem};
-ghost use Rattle.trdp_pd.specs.declared.any_object.AnyObject.{AnyObject};
+ghost use Rattle.trdp_table.specs.declared.any_object.AnyObject.{AnyObject};
 ghost use Rattle.trdp_table.specs.Kinds.{kind_of};
 ghost use Rattle.trdp_table.specs.Tables.{Keyed, slot_limit, opened_slot, slot_in};
 ghost use Rattle.trdp_table.specs.Tables.{all_objects, by_handle, by_key, refusal, Adds};
@@ -14,13 +14,13 @@ ghost use Rattle.trdp_table.specs.Tables.{with_other_by_handle};
 ghost use Rattle.trdp_table.specs.TableLaws.{AreLimited, object_limit, IsTable};
 ghost use Rattle.trdp_table.specs.TableKept.{IsAt};
 
+use crate::any_object::AnyObject;
 use crate::fault::TableFault;
 use crate::kind::Kind;
 use crate::slot::Slot;
 use std::alloc::{AllocError, Global};
 use std::marker::Model;
 use trdp_base::Quotas;
-use trdp_pd::AnyObject;
 
 /// How many keys a slot has: one for each handle, 0 to 4,294,967,295.
 const SLOT_KEYS: usize = 4_294_967_296;

@@ -1,10 +1,10 @@
-//! Worked examples: handles, quotas and the last handle.
+//! Worked examples: kinds, handles, quotas and the last handle.
 
 use crate::{AnyObject, Kind, Table, TableFault};
 use std::process::Abort;
 use std::test::Fail;
 use trdp_base::{Ip, Place, Quotas, Topo};
-use trdp_pd::{Publisher, PublisherTerms};
+use trdp_pd::{Object, Publisher, PublisherTerms, Requester, RequesterTerms};
 
 /// What is done to a slot.
 #[derive(Clone, Copy)]
@@ -97,6 +97,29 @@ fn add(
             assert!(rt; is_of(&object, com_id));
         }
     }
+}
+
+/// The index of the object's kind, when it is due, and its dataset.
+fn outline(object: &AnyObject) -> (usize, Option<u64>, Option<u32>) {
+    (Kind::of(object).index(), object.due(), object.dataset())
+}
+
+#[test]
+fn kinds(rt: HostRuntime) -> Result<(), Fail> {
+    let mut cyclic = terms(100);
+    cyclic.cycle = 5_000;
+    cyclic.dataset = 1001;
+    let publisher = AnyObject::Publisher(Publisher::new(rt.alloc(), &cyclic, 1_000)?);
+    assert_eq!(rt; outline(&publisher), (0, Some(6_000), Some(1001)));
+    let requester = AnyObject::Requester(Requester::new(&RequesterTerms {
+        com_id: 100,
+        reply_com_id: 0,
+        reply_ip: Ip(0),
+        topo: cyclic.topo,
+        to: cyclic.to,
+    }));
+    assert_eq!(rt; outline(&requester), (2, None, None));
+    Ok(())
 }
 
 #[test]

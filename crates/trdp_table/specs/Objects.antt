@@ -1,12 +1,12 @@
 -- The objects of a slot, by kind.
-use Rattle.std.specs.Prelude.{ℕ, Option, Bool}
+use Rattle.std.specs.Prelude.{ℕ, Option, Some, None, Bool, true}
 use Rattle.trdp_filter.specs.declared.globals.Globals.{Globals}
 use Rattle.trdp_filter.specs.Telegrams.{TelegramModel}
 use Rattle.trdp_pd.specs.declared.object.Taken.{Taken}
 use Rattle.trdp_pd.specs.declared.object.Fired.{Fired}
-use Rattle.trdp_pd.specs.declared.any_object.AnyObject.{AnyObject}
-use Rattle.trdp_pd.specs.declared.any_object.AnyObject.TheVariants.{Publisher, Subscription}
-use Rattle.trdp_pd.specs.declared.any_object.AnyObject.TheVariants.{Requester}
+use Rattle.trdp_table.specs.declared.any_object.AnyObject.{AnyObject}
+use Rattle.trdp_table.specs.declared.any_object.AnyObject.TheVariants.{Publisher, Subscription}
+use Rattle.trdp_table.specs.declared.any_object.AnyObject.TheVariants.{Requester}
 use Rattle.trdp_pd.specs.Effects.{Taking, Firing, taking_as, firing_as}
 use Rattle.trdp_pd.specs.Publishers.{publisher_due, publisher_addressed, publisher_taking}
 use Rattle.trdp_pd.specs.Publishers.{publisher_firing}
@@ -15,18 +15,23 @@ use Rattle.trdp_pd.specs.Subscriptions.{subscription_firing}
 use Rattle.trdp_pd.specs.Requesters.{requester_due, requester_addressed, requester_taking}
 use Rattle.trdp_pd.specs.Requesters.{requester_firing}
 
--- the index of the object's kind among the quotas: publishers come first, then subscriptions, then
--- requesters
-abbrev pub kind_of : AnyObject → ℕ
-kind_of (Publisher p) = 0
-kind_of (Subscription s) = 1
-kind_of (Requester r) = 2
-
 -- when the object is to act next
 abbrev pub due_of : AnyObject → Option ℕ
 due_of (Publisher p) = publisher_due p
 due_of (Subscription s) = s.deadline
 due_of (Requester r) = requester_due r
+
+-- the dataset that the object's value is one of; a requester has no value
+abbrev pub dataset_of : AnyObject → Option ℕ
+dataset_of (Publisher p) = Some p.terms.dataset
+dataset_of (Subscription s) = Some s.terms.dataset
+dataset_of (Requester r) = None
+
+-- what the laws of objects ask of one: of these kinds nothing
+abbrev pub is_sound : AnyObject → Bool
+is_sound (Publisher p) = true
+is_sound (Subscription s) = true
+is_sound (Requester r) = true
 
 -- the telegram is for the object
 abbrev pub is_addressed : AnyObject → TelegramModel → Globals → Bool

@@ -1,5 +1,5 @@
-use Rattle.trdp_pd.proofs.Moments.{kind-taking, kind-firing}
-use Rattle.trdp_pd.proofs.laws.kind_stays.Goals as goal
+use Rattle.trdp_table.proofs.Objects.{kind-taking, kind-firing}
+use Rattle.trdp_table.proofs.laws.kind_stays.Goals as goal
 
 pub returns-clause-taken : goal.returns-clause-taken
 returns-clause-taken c = kind-taking

@@ -1,13 +1,7 @@
 //! The objects of a slot, of any kind.
 
-ghost use Rattle.std.specs.Prelude.{◌≡◌, ◌≤◌};
-ghost use Rattle.trdp_pd.specs.Objects.{kind_of};
-
-use crate::object::{Fired, Object, Taken};
-use crate::publisher::Publisher;
-use crate::requester::Requester;
-use crate::subscription::Subscription;
 use trdp_filter::{Globals, Telegram};
+use trdp_pd::{Fired, Object, Publisher, Requester, Subscription, Taken};
 
 /// An object of any kind.
 #[derive(Drop)]
@@ -20,26 +14,17 @@ pub enum AnyObject {
     Requester(Requester),
 }
 
-impl AnyObject {
-    /// The index of its kind among the quotas: 0 for publishers, 1 for subscriptions, 2 for
-    /// requesters.
-    pub fn kind(&self) -> usize
-        ensures kind { result ≡ kind_of self.now }
-        ensures within { result ≤ 5 }
-    {
-        match self {
-            AnyObject::Publisher(_) => 0,
-            AnyObject::Subscription(_) => 1,
-            AnyObject::Requester(_) => 2,
-        }
-    }
-}
-
 impl Object for AnyObject {
-    ghost use Rattle.trdp_pd.specs.Objects.{due_of, is_addressed, taking, firing};
-    ghost use Rattle.trdp_pd.specs.ObjectLaws.{taking-unaddressed, due-firing};
+    ghost use Rattle.trdp_table.specs.Objects.{due_of, dataset_of, is_sound, is_addressed};
+    ghost use Rattle.trdp_table.specs.Objects.{taking, firing};
+    ghost use Rattle.trdp_table.specs.ObjectLaws.{taking-unaddressed, due-firing, due-taking};
+    ghost use Rattle.trdp_table.specs.ObjectLaws.{is_sound-taking, is_sound-firing};
 
     ghost due_of = { due_of };
+
+    ghost dataset_of = { dataset_of };
+
+    ghost is_sound = { is_sound };
 
     ghost is_addressed = { is_addressed };
 
@@ -51,11 +36,25 @@ impl Object for AnyObject {
 
     ghost later = { due-firing };
 
+    ghost undue = { due-taking };
+
+    ghost kept_sound_by_taking = { is_sound-taking };
+
+    ghost kept_sound_by_firing = { is_sound-firing };
+
     fn due(&self) -> Option<u64> {
         match self {
             AnyObject::Publisher(publisher) => publisher.due(),
             AnyObject::Subscription(subscription) => subscription.due(),
             AnyObject::Requester(requester) => requester.due(),
+        }
+    }
+
+    fn dataset(&self) -> Option<u32> {
+        match self {
+            AnyObject::Publisher(publisher) => Object::dataset(publisher),
+            AnyObject::Subscription(subscription) => Object::dataset(subscription),
+            AnyObject::Requester(requester) => requester.dataset(),
         }
     }
 

@@ -1,0 +1,74 @@
+-- What is true of every object, from its kinds: proofs for the trait of all objects.
+-- They stand here because what a trait's implementation names in src/ may stand in specs/ alone.
+use Rattle.std.proofs.Common.{◌≡◌, Bool, true, false, refl, ap}
+use Rattle.trdp_filter.specs.declared.globals.Globals.{Globals}
+use Rattle.trdp_filter.specs.Telegrams.{TelegramModel}
+use Rattle.trdp_pd.specs.declared.object.Taken.TheVariants.{Nothing as NotTaken}
+use Rattle.trdp_table.specs.declared.any_object.AnyObject.{AnyObject}
+use Rattle.trdp_table.specs.declared.any_object.AnyObject.TheVariants.{Publisher, Subscription}
+use Rattle.trdp_table.specs.declared.any_object.AnyObject.TheVariants.{Requester}
+use Rattle.trdp_pd.specs.Effects.{Taking, taking_as}
+use Rattle.trdp_pd.specs.Due.{is_due_by}
+use Rattle.trdp_pd.specs.Publishers.{PublisherState}
+use Rattle.trdp_pd.specs.Subscriptions.{SubscriptionState}
+use Rattle.trdp_pd.specs.Requesters.{RequesterState}
+use Rattle.trdp_table.specs.Objects.{due_of, is_sound, is_addressed, taking, firing}
+use Rattle.trdp_pd.specs.PublisherLaws.{publisher_taking-unaddressed, publisher_due-firing}
+use Rattle.trdp_pd.specs.PublisherLaws.{publisher_due-taking}
+use Rattle.trdp_pd.specs.SubscriptionLaws.{subscription_taking-unaddressed}
+use Rattle.trdp_pd.specs.SubscriptionLaws.{subscription_due-firing, subscription_due-taking}
+use Rattle.trdp_pd.specs.RequesterLaws.{requester_taking-unaddressed, requester_due-firing}
+use Rattle.trdp_pd.specs.RequesterLaws.{requester_due-taking}
+
+-- a telegram that isn't addressed to an object changes nothing
+pub taking-unaddressed :
+    (object : AnyObject) (telegram : TelegramModel) (globals : Globals) (fits : Bool)
+    → is_addressed object telegram globals ≡ false
+    → taking object telegram globals fits ≡ record { object = object; taken = NotTaken }
+taking-unaddressed (Publisher p) telegram globals fits not =
+    ap
+    (λ (t : Taking PublisherState). taking_as Publisher t)
+    (publisher_taking-unaddressed p telegram globals fits not)
+taking-unaddressed (Subscription s) telegram globals fits not =
+    ap
+    (λ (t : Taking SubscriptionState). taking_as Subscription t)
+    (subscription_taking-unaddressed s telegram globals fits not)
+taking-unaddressed (Requester r) telegram globals fits not =
+    ap
+    (λ (t : Taking RequesterState). taking_as Requester t)
+    (requester_taking-unaddressed r telegram globals fits not)
+
+-- an object that fired isn't due by now
+pub due-firing :
+    (object : AnyObject) (globals : Globals) → is_sound object ≡ true
+    → is_due_by globals.now (due_of (firing object globals).object) ≡ false
+due-firing (Publisher p) globals sound = publisher_due-firing p globals
+due-firing (Subscription s) globals sound = subscription_due-firing s globals
+due-firing (Requester r) globals sound = requester_due-firing r globals
+
+-- a telegram makes no object due
+pub due-taking :
+    (object : AnyObject) (telegram : TelegramModel) (globals : Globals) (fits : Bool)
+    → is_sound object ≡ true → is_due_by globals.now (due_of object) ≡ false
+    → is_due_by globals.now (due_of (taking object telegram globals fits).object) ≡ false
+due-taking (Publisher p) telegram globals fits sound not =
+    publisher_due-taking p telegram globals fits not
+due-taking (Subscription s) telegram globals fits sound not =
+    subscription_due-taking s telegram globals fits not
+due-taking (Requester r) telegram globals fits sound not =
+    requester_due-taking r telegram globals fits not
+
+-- an object stays sound
+pub is_sound-taking :
+    (object : AnyObject) (telegram : TelegramModel) (globals : Globals) (fits : Bool)
+    → is_sound object ≡ true → is_sound (taking object telegram globals fits).object ≡ true
+is_sound-taking (Publisher p) telegram globals fits sound = refl
+is_sound-taking (Subscription s) telegram globals fits sound = refl
+is_sound-taking (Requester r) telegram globals fits sound = refl
+
+pub is_sound-firing :
+    (object : AnyObject) (globals : Globals) → is_sound object ≡ true
+    → is_sound (firing object globals).object ≡ true
+is_sound-firing (Publisher p) globals sound = refl
+is_sound-firing (Subscription s) globals sound = refl
+is_sound-firing (Requester r) globals sound = refl
