@@ -8,12 +8,12 @@ use Rattle.trdp_script.specs.Forms.{call_word, topology_form, role_form}
 use Rattle.trdp_script.specs.Lines.{is_skipped, line_among, line_of}
 use Rattle.trdp_script.specs.declared.fault.LineFault.{LineFault}
 
--- the line without its end: a newline as the last byte, and one carriage return before it
+-- the line without its end, which is a newline as the last byte and one carriage return before it
 unfoldable pub without_end : List ℕ → List ℕ
 without_end bytes =
     if ends_with_byte 10 bytes then strip_carriage_return (strip_last 10 bytes) else bytes
 
--- the line of a call by the application in that slot
+-- the whole line of a call by the application in that slot
 unfoldable pub call_line : ℕ → List ℕ → List ℕ
 call_line slot text = call_word ++ 32 ∷ text_of_number slot ++ 32 ∷ text
 
@@ -23,6 +23,6 @@ control_line_of slot bytes =
     let text = without_end bytes in
     if is_skipped text then Ok None else line_of (call_line slot text)
 
--- at the operator's port: a line whose first word is `topology` or `role`
+-- at the operator's port: a line of the forms `topology` and `role`, any other being unknown
 unfoldable pub operator_line_of : List ℕ → Result (Option EventModel) LineFault
 operator_line_of bytes = line_among (topology_form ∷ role_form ∷ []) (without_end bytes)

@@ -62,8 +62,8 @@ pub(crate) struct Row {
 }
 
 impl Form {
-    /// The form, among these, that the first word tells, and after `call` the third; None where they
-    /// tell none of them.
+    /// The form among these that the first word tells, and after `call` the third; None where they
+    /// tell none.
     pub(crate) fn among(forms: &[Form], mut words: Words<'_>) -> Option<Form>
         ensures { option_map line_form result
             ≡ form_among (map line_form forms.now) (words_left words.entry) }

@@ -14,10 +14,10 @@ use crate::words::{CALL, Words};
 use itoa::Buffer;
 use std::alloc::Global;
 
-/// Reads a datagram that came to the control port of a slot: the line of a call without `call SLOT `,
-/// where SLOT is that slot's number (profile).
+/// Reads a datagram that came to the control port of a slot: the line of a call by the slot's
+/// application, without `call SLOT ` (profile).
 ///
-/// An end of line is dropped, which is a newline, and one carriage return before it. A line that is
+/// An end of line is dropped: a newline, and one carriage return before it. A line that is
 /// empty or begins with `#` is skipped, however long it is. A line that carries bytes takes memory
 /// for them, once; no other line takes any.
 ///
@@ -43,7 +43,7 @@ pub fn read_control(alloc: Global, slot: u16, bytes: &[u8]) -> Result<Line, Line
 /// Reads a datagram that came to the operator's port: a line that begins with `topology` or `role`
 /// (profile).
 ///
-/// An end of line is dropped, which is a newline, and one carriage return before it. A line that is
+/// An end of line is dropped: a newline, and one carriage return before it. A line that is
 /// empty or begins with `#` is skipped, unless it is too long.
 ///
 /// # Errors
