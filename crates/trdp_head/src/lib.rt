@@ -1,7 +1,7 @@
 //! Headers of TRDP telegrams, read and written (IEC 61375-2-3, the TRDP annex).
 //!
 //! A telegram that is read lends its payload; one that is written goes to the front of a given
-//! room. Nothing here takes memory. Numbers are big-endian, but for the frame check, whose least
+//! room, or to the end of a list that has room. Nothing here takes memory. Numbers are big-endian, but for the frame check, whose least
 //! significant byte comes first.
 #![tactic(auto)]
 
@@ -12,7 +12,7 @@ mod pd;
 
 pub use fault::HeadFault;
 pub use pd::reading::read_pd;
-pub use pd::writing::{pd_length, write_pd};
+pub use pd::writing::{pd_length, push_pd, write_pd};
 pub use pd::{PD_HEAD, PD_PAYLOAD_MAX, PD_TELEGRAM_MAX, PdHead, PdKind, PdView};
 
 #[cfg(test)]

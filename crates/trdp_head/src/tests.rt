@@ -3,7 +3,8 @@
 ghost use Rattle.std.specs.Prelude.{◌≤◌};
 
 use crate::{
-    HeadFault, PD_PAYLOAD_MAX, PD_TELEGRAM_MAX, PdHead, PdKind, pd_length, read_pd, write_pd,
+    HeadFault, PD_PAYLOAD_MAX, PD_TELEGRAM_MAX, PdHead, PdKind, pd_length, push_pd, read_pd,
+    write_pd,
 };
 use std::test::Fail;
 use trdp_base::{Ip, Topo};
@@ -69,6 +70,18 @@ fn a_longest_telegram_is_written_and_read(rt: HostRuntime) -> Result<(), Fail> {
     let mut room = [0xff; PD_TELEGRAM_MAX];
     assert_eq!(rt; write_pd(&DATA_HEAD, &payload, &mut room), 1472);
     assert_eq!(rt; read_pd(&room)?.payload, payload.as_slice());
+    Ok(())
+}
+
+#[test]
+fn telegrams_are_added_to_a_list(rt: HostRuntime) -> Result<(), Fail> {
+    let mut list = Vec::with_capacity(rt.alloc(), 88)?;
+    assert_eq!(rt; push_pd(&DATA_HEAD, &[0x0a, 0x0b], &mut list), 44);
+    assert_eq!(rt; push_pd(&REQUEST_HEAD, &[0x0a, 0x0b, 0x0c], &mut list), 44);
+    assert_eq!(rt; list.len(), 88);
+    let (first, second) = list.split_at(44);
+    assert_eq!(rt; first, DATA.as_slice());
+    assert_eq!(rt; second, REQUEST.as_slice());
     Ok(())
 }
 

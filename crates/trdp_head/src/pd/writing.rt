@@ -1,6 +1,8 @@
 //! Writing a process data telegram.
 
-ghost use Rattle.std.specs.Prelude.{ℕ, ◌≡◌, ◌≤◌, ◌++◌, length, take, drop};
+ghost use Rattle.std.specs.Prelude.{ℕ, ◌≡◌, ◌≤◌, ◌+◌, ◌-◌, ◌++◌, length, take, drop, replicate};
+ghost use Rattle.std.specs.Prelude.{vec_len, vec_capacity};
+ghost use Rattle.trdp_head.specs.Checks.{with_check};
 ghost use Rattle.trdp_head.specs.PdKinds.{code_of};
 ghost use Rattle.trdp_head.specs.PdHeads.{IsPdHead};
 ghost use Rattle.trdp_head.specs.IsPdTelegram.{IsPdTelegram};
@@ -71,5 +73,47 @@ pub fn write_pd(head: &PdHead, payload: &[u8], room: &mut [u8]) -> usize
     put_check(room, layout::FCS);
     put_bytes(room, PD_HEAD, payload);
     put_zeros(room, PD_HEAD + payload.len(), end);
+    end
+}
+
+/// The header with its frame check, for so many bytes of payload.
+fn header(head: PdHead, payload: u32) -> [u8; PD_HEAD]
+    ensures { result ≡ with_check (pd_head_bytes head payload) }
+{
+    let mut room = [0; PD_HEAD];
+    put_head(&mut room, head, payload);
+    put_check(&mut room, layout::FCS);
+    room
+}
+
+/// Adds bytes at the end of the list, within its room.
+fn append(list: &mut Vec<u8>, bytes: &[u8])
+    requires { vec_len list.old + length bytes.now ≤ vec_capacity list.old }
+    ensures items { list.new.items ≡ list.old.items ++ bytes.now }
+    ensures len { vec_len list.new ≡ vec_len list.old + length bytes.now }
+    ensures capacity { vec_capacity list.old ≤ vec_capacity list.new }
+{
+    list.extend_from_slice(bytes).unwrap();
+}
+
+/// Adds the telegram at the end of the list, within its room, and answers its length
+/// (IEC 61375-2-3).
+///
+/// It is the telegram that [`write_pd`] writes. The payload has at most 1432 bytes, and the list room
+/// for the length that [`pd_length`] says.
+pub fn push_pd(head: &PdHead, payload: &[u8], list: &mut Vec<u8>) -> usize
+    requires payload { length payload.now ≤ 1432 }
+    requires room { vec_len list.old + pd_length_of (length payload.now)
+        ≤ vec_capacity list.old }
+    ensures length { result ≡ pd_length_of (length payload.now) }
+    ensures items { list.new.items ≡ list.old.items ++ pd_bytes head.now payload.now }
+    ensures len { vec_len list.new ≡ vec_len list.old + pd_length_of (length payload.now) }
+    ensures capacity { vec_capacity list.old ≤ vec_capacity list.new }
+{
+    let end = pd_length(payload.len());
+    append(list, &header(*head, payload.len() as u32));
+    append(list, payload);
+    let (padding, _) = b"\0\0\0".split_at(end - PD_HEAD - payload.len());
+    append(list, padding);
     end
 }
