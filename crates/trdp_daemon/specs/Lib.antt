@@ -1,0 +1,5 @@
+pub mod Told
+pub mod Ports
+pub mod Counting
+pub mod Effects
+pub mod Links

@@ -1,0 +1,15 @@
+//! A node as a device on a network: datagrams come from a wire, time from a clock.
+#![tactic(auto)]
+
+mod clock;
+mod fault;
+mod link;
+mod port;
+mod totals;
+mod wire;
+
+pub use clock::Clock;
+pub use fault::WireFault;
+pub use port::Port;
+pub use totals::Totals;
+pub use wire::Wire;
