@@ -3,3 +3,4 @@ pub mod Ports
 pub mod Counting
 pub mod Effects
 pub mod Links
+pub mod Tellings
