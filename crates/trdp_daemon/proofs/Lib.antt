@@ -1,2 +1,4 @@
 pub mod Links
 pub mod Tellings
+pub mod Steps
+pub mod Services

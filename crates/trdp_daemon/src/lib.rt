@@ -5,6 +5,7 @@ mod clock;
 mod fault;
 mod link;
 mod port;
+mod service;
 mod telling;
 mod totals;
 mod wire;

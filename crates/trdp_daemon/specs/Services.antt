@@ -1,0 +1,29 @@
+-- A service on its way.
+use Rattle.std.specs.Prelude.{◌≡◌, ◌≤◌, List, Option, [], length}
+use Rattle.trdp_daemon.specs.declared.link.Link.{Link}
+use Rattle.trdp_daemon.specs.declared.service.Service.{Service}
+use Rattle.trdp_daemon.specs.Told.{Taking, Give}
+use Rattle.trdp_daemon.specs.Effects.{ServiceState, Effect, Loss}
+use Rattle.trdp_daemon.specs.Links.{Carries}
+
+-- the node and the control places
+abbrev pub service_state : Service → ServiceState
+service_state s = record { node = s.node; places = s.places.items }
+
+-- a service and its link after so many takes and this effect
+pub record Comes {W : Type 0} (takings_in : W → Option (List Taking))
+    (gives_in : W → Option (List Give)) (old new : Service) (link link_then : Link W)
+    (takings : List Taking) (effect : Effect) : Type 0 where
+  pub service_is : service_state new ≡ effect.service
+  pub carried : Carries takings_in gives_in link link_then takings effect.telling
+
+-- the same of an effect that some loss decides
+pub record ComesWith {W : Type 0} (takings_in : W → Option (List Taking))
+    (gives_in : W → Option (List Give)) (old new : Service) (link link_then : Link W)
+    (effect : Loss → Effect) : Type 0 where
+  pub loss : Loss
+  pub comes : Comes takings_in gives_in old new link link_then [] (effect loss)
+
+-- a node has at most 16 slots
+abbrev pub IsSound : Service → Type 0
+IsSound s = length s.node.slots ≤ 16

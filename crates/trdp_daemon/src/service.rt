@@ -1,0 +1,89 @@
+//! A node, and where its slots' applications are.
+
+ghost use Rattle.std.specs.Prelude.{◌≡◌, ◌≢◌, ◌≤◌, length, IfSome, IfNone, IfOk, OnOk, OnErr};
+ghost use Rattle.trdp_engine.specs.Alone.{refused_as};
+ghost use Rattle.trdp_engine.specs.Events.{event_model};
+ghost use Rattle.trdp_script.specs.ScriptText.{node_after};
+ghost use Rattle.trdp_script.specs.SlotOrder.{by_slot};
+ghost use Rattle.trdp_daemon.specs.Effects.{event_records, event_effect};
+ghost use Rattle.trdp_daemon.specs.Services.{ComesWith, IsSound, service_state};
+
+use crate::link::Link;
+use crate::telling::tell_records;
+use crate::wire::Wire;
+use std::alloc::AllocError;
+use trdp_base::Place;
+use trdp_engine::{Event, Node, NodeFault, Outbox};
+
+/// A node, with the control places of its slots and the lists that are used again from event to
+/// event.
+#[derive(Drop)]
+pub(crate) struct Service {
+    pub(crate) node: Node,
+    /// Where the latest datagram came from that read as a line of the slot, for each slot; None
+    /// before the first.
+    pub(crate) places: Vec<Option<Place>>,
+    /// The records of one event.
+    records: Outbox,
+    /// The line of one record.
+    text: Vec<u8>,
+}
+
+impl Service {
+    /// Gives the node an event, and offers what its records send. An event that finds no memory is
+    /// counted, and lost.
+    pub(crate) fn take_event<W: Wire>(&mut self, event: &Event<'_>, link: &mut Link<W>)
+        requires sound { IsSound self.old }
+        ensures sound { IsSound self.new }
+        ensures comes { ComesWith W.takings W.gives self.old self.new link.old link.new
+            (event_effect (service_state self.old) (event_model event.now)) }
+    {
+        match step(&mut self.node, event, &mut self.records) {
+            Ok(_) => tell_records(&self.records, &self.places, &mut self.text, link),
+            Err(_) => link.miss(),
+        }
+    }
+}
+
+/// Gives the node an event, whose records are then the only ones of the outbox, and answers its
+/// fault, with which the node takes no notice of it, if it has one.
+///
+/// # Errors
+/// `AllocError` for want of memory; the node is as before.
+fn step(
+    node: &mut Node,
+    event: &Event<'_>,
+    records: &mut Outbox,
+) -> Result<Option<NodeFault>, AllocError>
+    requires slots { length node.old.slots ≤ 16 }
+    ensures fault { IfOk result (λ fault. fault
+        ≡ refused_as (length node.old.slots) node.old.globals (event_model event.now)) }
+    ensures node { OnOk result (node.new ≡ node_after node.old (event_model event.now)) }
+    ensures records { OnOk result (by_slot 16 records.new.records
+        ≡ event_records node.old (event_model event.now)) }
+    ensures kept { OnErr result (node.new ≡ node.old) }
+    ensures count { length node.new.slots ≡ length node.old.slots }
+{
+    records.clear();
+    match node.step(event, records) {
+        Ok(()) => Ok(None),
+        Err(fault) => match own_fault(fault) {
+            Some(fault) => Ok(Some(fault)),
+            None => Err(AllocError),
+        },
+    }
+}
+
+/// A fault of an event's own; None for want of memory.
+fn own_fault(fault: NodeFault) -> Option<NodeFault>
+    ensures own { IfSome result (λ own. (own ≡ fault) × (fault ≢ NodeFault.OutOfMemory)) }
+    ensures memory { IfNone result (fault ≡ NodeFault.OutOfMemory) }
+{
+    match fault {
+        NodeFault::OutOfMemory => None,
+        NodeFault::NoSlot => Some(fault),
+        NodeFault::Past => Some(fault),
+        NodeFault::TooLate => Some(fault),
+        NodeFault::NoGroup => Some(fault),
+    }
+}
