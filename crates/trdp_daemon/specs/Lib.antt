@@ -1,7 +1,9 @@
-pub mod Told
-pub mod Ports
 pub mod Counting
 pub mod Effects
 pub mod Links
+pub mod Ports
 pub mod Services
 pub mod Tellings
+pub mod Told
+pub mod Turns
+pub mod Visits

@@ -1,10 +1,15 @@
 -- A service on its way.
-use Rattle.std.specs.Prelude.{◌≡◌, ◌≤◌, List, Option, [], length}
+use Rattle.std.specs.Prelude.{◌≡◌, ◌≤◌, List, Option, [], length, map}
+use Rattle.trdp_dataset.specs.Configs.{ConfigModel}
+use Rattle.trdp_daemon.specs.declared.port.Port.{Port}
+use Rattle.trdp_daemon.specs.declared.visit.Home.{Home}
 use Rattle.trdp_daemon.specs.declared.link.Link.{Link}
 use Rattle.trdp_daemon.specs.declared.service.Service.{Service}
 use Rattle.trdp_daemon.specs.Told.{Taking, Give}
 use Rattle.trdp_daemon.specs.Effects.{ServiceState, Effect, Loss}
 use Rattle.trdp_daemon.specs.Links.{Carries}
+use Rattle.trdp_daemon.specs.Turns.{Visit, visits_effect}
+use Rattle.trdp_daemon.specs.Visits.{own_place}
 
 -- the node and the control places
 abbrev pub service_state : Service → ServiceState
@@ -23,6 +28,20 @@ pub record ComesWith {W : Type 0} (takings_in : W → Option (List Taking))
     (effect : Loss → Effect) : Type 0 where
   pub loss : Loss
   pub comes : Comes takings_in gives_in old new link link_then [] (effect loss)
+
+-- takes were made at these ports, in their order, and nothing else
+pub record TakesAtPorts {W : Type 0} (takings_in : W → Option (List Taking))
+    (gives_in : W → Option (List Give)) (old new : Service) (link link_then : Link W)
+    (ports : List Port) : Type 0 where
+  pub visits : List Visit
+  pub ports_are : map (λ visit. visit.taking.port) visits ≡ ports
+  pub comes : Comes takings_in gives_in old new link link_then
+      (map (λ visit. visit.taking) visits) (visits_effect (service_state old) visits)
+
+-- the places that datagrams of process data and of message data go to at this node
+abbrev pub IsHome : ConfigModel → Home → Type 0
+IsHome config home = (home.pd ≡ own_place config config.pd_port)
+    × (home.md ≡ own_place config config.md_port)
 
 -- a node has at most 16 slots
 abbrev pub IsSound : Service → Type 0

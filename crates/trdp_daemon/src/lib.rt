@@ -1,6 +1,7 @@
 //! A node as a device on a network: datagrams come from a wire, time from a clock.
 #![tactic(auto)]
 
+mod answer;
 mod clock;
 mod fault;
 mod link;
@@ -8,6 +9,7 @@ mod port;
 mod service;
 mod telling;
 mod totals;
+mod visit;
 mod wire;
 
 pub use clock::Clock;

@@ -1,14 +1,17 @@
 //! A node, and where its slots' applications are.
 
-ghost use Rattle.std.specs.Prelude.{◌≡◌, ◌≢◌, ◌≤◌, length, IfSome, IfNone, IfOk, OnOk, OnErr};
+ghost use Rattle.std.specs.Prelude.{◌≡◌, ◌≢◌, ◌≤◌, length, slice_set, IfSome, IfNone, IfOk, OnOk, OnErr, Some};
 ghost use Rattle.trdp_engine.specs.Alone.{refused_as};
 ghost use Rattle.trdp_engine.specs.Events.{event_model};
 ghost use Rattle.trdp_script.specs.ScriptText.{node_after};
 ghost use Rattle.trdp_script.specs.SlotOrder.{by_slot};
 ghost use Rattle.trdp_daemon.specs.Effects.{event_records, event_effect};
 ghost use Rattle.trdp_daemon.specs.Services.{ComesWith, IsSound, service_state};
+ghost use Rattle.trdp_daemon.specs.Visits.{operator_event};
 
+use crate::answer::operator_text;
 use crate::link::Link;
+use crate::port::Port;
 use crate::telling::tell_records;
 use crate::wire::Wire;
 use std::alloc::AllocError;
@@ -35,6 +38,7 @@ impl Service {
     pub(crate) fn take_event<W: Wire>(&mut self, event: &Event<'_>, link: &mut Link<W>)
         requires sound { IsSound self.old }
         ensures sound { IsSound self.new }
+        ensures config { self.new.node.config ≡ self.old.node.config }
         ensures comes { ComesWith W.takings W.gives self.old self.new link.old link.new
             (event_effect (service_state self.old) (event_model event.now)) }
     {
@@ -42,6 +46,47 @@ impl Service {
             Ok(_) => tell_records(&self.records, &self.places, &mut self.text, link),
             Err(_) => link.miss(),
         }
+    }
+
+    /// Gives the node an event of the operator, whose answer goes to that place behind what the
+    /// event's records send. An event that finds no memory is counted, and lost: it has no answer.
+    pub(crate) fn take_operator_event<W: Wire>(
+        &mut self,
+        event: &Event<'_>,
+        from: Place,
+        link: &mut Link<W>,
+    )
+        requires sound { IsSound self.old }
+        ensures sound { IsSound self.new }
+        ensures config { self.new.node.config ≡ self.old.node.config }
+        ensures comes { ComesWith W.takings W.gives self.old self.new link.old link.new
+            (operator_event (service_state self.old) from (event_model event.now)) }
+    {
+        match step(&mut self.node, event, &mut self.records) {
+            Ok(fault) => {
+                tell_records(&self.records, &self.places, &mut self.text, link);
+                link.give(Port::Operator, from, operator_text(fault));
+            }
+            Err(_) => link.miss(),
+        }
+    }
+
+    /// Sets the control place of a slot, if there is such a slot.
+    pub(crate) fn set_place(&mut self, slot: u16, from: Place)
+        ensures node { self.new.node ≡ self.old.node }
+        ensures places { self.new.places.items
+            ≡ slice_set self.old.places.items slot (Some from) }
+    {
+        put_place(&mut self.places, usize::from(slot), from);
+    }
+}
+
+/// Sets the place of that index, if there is one.
+fn put_place(places: &mut Vec<Option<Place>>, index: usize, from: Place)
+    ensures { places.new.items ≡ slice_set places.old.items index (Some from) }
+{
+    if index < places.len() {
+        places[index] = Some(from);
     }
 }
 
@@ -63,6 +108,7 @@ fn step(
         ≡ event_records node.old (event_model event.now)) }
     ensures kept { OnErr result (node.new ≡ node.old) }
     ensures count { length node.new.slots ≡ length node.old.slots }
+    ensures config { node.new.config ≡ node.old.config }
 {
     records.clear();
     match node.step(event, records) {
