@@ -68,11 +68,11 @@ pub err_not_ok : {A E : Type 0} (value : A) (fault : E) → Path (Result A E) (E
 err_not_ok {A} {E} value fault e = MatchResult-at_ok {T = A} {E = E} {r = Err fault} (λ _. ⊥) (λ _. Unit {0}) value e tt
 
 -- no byte of the list is that one
-Lacks : ℕ → List ℕ → Type 0
+unfoldable pub Lacks : ℕ → List ℕ → Type 0
 Lacks byte bytes = All (λ other. (other == byte) ≡ false) bytes
 
 -- no digit of a number is a dot or a colon
-number_lacks_byte : (byte number : ℕ) → number < 2 ^ 64 → (byte < 48) ⊎ (57 < byte) → Lacks byte (text_of_number number)
+pub number_lacks_byte : (byte number : ℕ) → number < 2 ^ 64 → (byte < 48) ⊎ (57 < byte) → Lacks byte (text_of_number number)
 unfolding Lacks
 number_lacks_byte byte number small outside =
     All-from_get_or (λ other. (other == byte) ≡ false) (text_of_number number) 0 (λ k inside.

@@ -6,6 +6,7 @@ pub mod LineSteps
 pub mod Orders
 pub mod Pieces
 pub mod Playing
+pub mod PortLemmas
 pub mod Readings
 pub mod Results
 pub mod Steps

@@ -7,7 +7,7 @@ use Rattle.std.proofs.lemmas.Bool.Decides.{nat_tests, eqb_tells}
 use Rattle.std.proofs.lemmas.List.Elements.{All-push}
 use Rattle.std.proofs.lemmas.List.Splits.{slice_split_none, slice_split_at, slice_split-cons_yes, slice_split-cons_no}
 use Rattle.trdp_script.specs.declared.fault.LineFault.TheVariants.{TooLong}
-use Rattle.trdp_script.specs.Lines.{line_of}
+use Rattle.trdp_script.specs.Lines.{line_among, line_of}
 use Rattle.trdp_script.specs.Pieces.{IsBare}
 use Rattle.trdp_script.specs.ScriptText.{events_of, fault_from}
 
@@ -78,7 +78,7 @@ long_line m (x ∷ later) bare is_bare long = elim (eqb_tells x 10) [
 ]
 
 line_too_long : (text : List ℕ) → 140000 < length text → line_of text ≡ Err TooLong
-unfolding line_of
+unfolding line_among
 line_too_long text long = let is : nat_lt 140000 (length text) ≡ true = grind (arith, nat_tests) in rw is refl
 
 -- a line that is too long is the first with a fault

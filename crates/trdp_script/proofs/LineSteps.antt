@@ -9,9 +9,9 @@ use Rattle.trdp_script.specs.declared.script.Player.{Player}
 use Rattle.trdp_script.specs.declared.script.Script.{Script}
 use Rattle.trdp_script.specs.declared.script.ScriptFault.{ScriptFault}
 use Rattle.trdp_script.specs.declared.script.ScriptFault.TheVariants.{Line, Read, Write, OutOfMemory}
-use Rattle.trdp_script.specs.Forms.{LineForm, event_in}
+use Rattle.trdp_script.specs.Forms.{LineForm, forms, event_in}
 use Rattle.trdp_script.specs.Words.{words_of}
-use Rattle.trdp_script.specs.Lines.{Reads, event_or_fault, form_of, is_skipped, line_of, words_say}
+use Rattle.trdp_script.specs.Lines.{Reads, event_or_fault, form_among, is_skipped, line_among, line_of, words_say}
 use Rattle.trdp_script.specs.Pieces.{IsBare}
 use Rattle.trdp_script.specs.ScriptText.{after_line, events_of, events_text, fault_from, fault_or, nodes_after}
 use Rattle.trdp_script.specs.ScriptSteps.{Ends, LineComesTo, Plays, PlaysLine, Stops, StopsAt, line_events}
@@ -137,13 +137,13 @@ never_said (Some form) words is = never_counted (nat_eq (length words) (length f
     never_counted false event is = absurd (cc)
 
 never_memory : (text : List ℕ) → NeverMemory (line_of text)
-unfolding line_of
+unfolding line_among
 never_memory text is = never_long (nat_lt 140000 (length text)) (is_skipped text) is
   where
-    never_long : (a b : Bool) → NeverMemory (if a then Err TooLong else (if b then Ok None else words_say (form_of (words_of text)) (words_of text)))
+    never_long : (a b : Bool) → NeverMemory (if a then Err TooLong else (if b then Ok None else words_say (form_among forms (words_of text)) (words_of text)))
     never_long true b is = absurd (cc)
     never_long false true is = absurd (cc)
-    never_long false false is = never_said (form_of (words_of text)) (words_of text) is
+    never_long false false is = never_said (form_among forms (words_of text)) (words_of text) is
 
 -- a good line for which there is no memory
 pub memory_came : (p : Player) (w : Option (List ℕ)) (n : ℕ) (text : List ℕ) (bad : LineFault) → bad ≡ NoMemory → Reads (line_of text) (Err bad) → LineComesTo p p w w n (line_of text) (Err OutOfMemory)

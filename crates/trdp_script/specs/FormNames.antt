@@ -1,10 +1,10 @@
 -- The forms of the code, each with what it means.
-use Rattle.std.specs.Prelude.{ℕ, List, Bool, true, false, ◌&&◌, codes}
+use Rattle.std.specs.Prelude.{ℕ, List, Bool, true, false, ◌&&◌}
 use Rattle.std.specs.Str.{bytes_eq}
 use Rattle.trdp_script.specs.Forms.{LineForm, moment_form, topology_form, role_form, pd_form}
 use Rattle.trdp_script.specs.Forms.{md_form, publish_form, put_form, unpublish_form}
 use Rattle.trdp_script.specs.Forms.{subscribe_form, get_form, unsubscribe_form, open_pull_form}
-use Rattle.trdp_script.specs.Forms.{pull_form, close_pull_form}
+use Rattle.trdp_script.specs.Forms.{pull_form, close_pull_form, call_word}
 use Rattle.trdp_script.specs.Words.{first_word, other_words}
 use Rattle.trdp_script.specs.declared.form.Form.{Form}
 use Rattle.trdp_script.specs.declared.form.Form.TheVariants.{Moment, Topology, Role, Pd, Md}
@@ -32,6 +32,6 @@ line_form ClosePull = close_pull_form
 -- whether the words begin with `call`, a slot and that word, or else with the word itself
 abbrev pub is_told : Bool → List ℕ → List (List ℕ) → Bool
 is_told true word words =
-    bytes_eq (first_word words) (codes "call")
+    bytes_eq (first_word words) call_word
     && bytes_eq (first_word (other_words (other_words words))) word
 is_told false word words = bytes_eq (first_word words) word

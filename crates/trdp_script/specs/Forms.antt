@@ -90,10 +90,14 @@ pd_form = datagram_form (codes "pd") Pd
 abbrev pub md_form : LineForm
 md_form = datagram_form (codes "md") Md
 
+-- the word with which a call begins
+abbrev pub call_word : List ℕ
+call_word = codes "call"
+
 -- call SLOT, the call's word and its fields
 abbrev pub call_form : List ℕ → (fields : List Part) → (ℕ → EventFrom fields) → LineForm
 call_form word fields event = record {
-  parts = Keyword (codes "call") ∷ number_16 ∷ Keyword word ∷ fields;
+  parts = Keyword call_word ∷ number_16 ∷ Keyword word ∷ fields;
   event = event;
 }
 

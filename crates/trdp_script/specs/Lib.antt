@@ -2,6 +2,7 @@ pub mod FormNames
 pub mod Forms
 pub mod Lines
 pub mod Pieces
+pub mod PortLines
 pub mod RecordText
 pub mod ScriptRuns
 pub mod ScriptSteps

@@ -30,15 +30,21 @@ words_say (Some form) words =
     then event_or_fault (event_in form words)
     else Err Count
 
--- the form whose keywords the words have
-unfoldable pub form_of : List (List ℕ) → Option LineForm
-form_of words = find (λ form. has_keywords form.parts words) forms
+-- the form, among these, whose keywords the words have
+unfoldable pub form_among : List LineForm → List (List ℕ) → Option LineForm
+form_among known words = find (λ form. has_keywords form.parts words) known
+
+-- where a line can have these forms: the event of a line without its end, none where it is
+-- skipped, or the first of its faults
+unfoldable pub line_among : List LineForm → List ℕ → Result (Option EventModel) LineFault
+line_among known text =
+    if nat_lt 140000 (length text) then Err TooLong
+    else (if is_skipped text then Ok None
+    else words_say (form_among known (words_of text)) (words_of text))
 
 -- the event of a line without its end, none where it is skipped, or the first of its faults
-unfoldable pub line_of : List ℕ → Result (Option EventModel) LineFault
-line_of text =
-    if nat_lt 140000 (length text) then Err TooLong
-    else (if is_skipped text then Ok None else words_say (form_of (words_of text)) (words_of text))
+abbrev pub line_of : List ℕ → Result (Option EventModel) LineFault
+line_of text = line_among forms text
 
 -- the event of a line that was read; none where it is skipped
 abbrev pub event_of : Line → Option EventModel

@@ -1,14 +1,14 @@
 //! The forms that a line can have, by the words that tell them.
 
-ghost use Rattle.std.specs.Prelude.{◌≡◌, List, ℕ, true, false, length, option_map};
+ghost use Rattle.std.specs.Prelude.{◌≡◌, List, ℕ, true, false, length, map, option_map};
 ghost use Rattle.std.specs.Str.{bytes_eq};
 ghost use Rattle.trdp_script.specs.Words.{first_word, other_words};
 ghost use Rattle.trdp_script.specs.WordsLeft.{words_left};
 ghost use Rattle.trdp_script.specs.Forms.{has_keywords};
 ghost use Rattle.trdp_script.specs.FormNames.{line_form, is_told};
-ghost use Rattle.trdp_script.specs.Lines.{form_of};
+ghost use Rattle.trdp_script.specs.Lines.{form_among};
 
-use crate::words::Words;
+use crate::words::{CALL, Words};
 
 /// The forms of lines, each named after its event or its call.
 #[derive(Clone, Copy)]
@@ -30,7 +30,7 @@ pub(crate) enum Form {
 }
 
 /// All forms, in the order of their definition.
-static FORMS: [Form; 14] = [
+pub(crate) static FORMS: [Form; 14] = [
     Form::Moment,
     Form::Topology,
     Form::Role,
@@ -47,6 +47,9 @@ static FORMS: [Form; 14] = [
     Form::ClosePull,
 ];
 
+/// The forms of the operator's lines, in the order of their definition.
+pub(crate) static OPERATOR_FORMS: [Form; 2] = [Form::Topology, Form::Role];
+
 /// The words that tell a form, and how many there are in all.
 #[derive(Clone, Copy)]
 pub(crate) struct Row {
@@ -59,14 +62,16 @@ pub(crate) struct Row {
 }
 
 impl Form {
-    /// The form that the first word tells, and after `call` the third; None where they tell none.
-    pub(crate) fn of(mut words: Words<'_>) -> Option<Form>
-        ensures { option_map line_form result ≡ form_of (words_left words.entry) }
+    /// The form, among these, that the first word tells, and after `call` the third; None where they
+    /// tell none of them.
+    pub(crate) fn among(forms: &[Form], mut words: Words<'_>) -> Option<Form>
+        ensures { option_map line_form result
+            ≡ form_among (map line_form forms.now) (words_left words.entry) }
     {
         let first = words.next_word();
         words.next_word();
         let third = words.next_word();
-        for form in &FORMS {
+        for form in forms {
             if form.row().is_told_by(first, third) {
                 return Some(*form);
             }
@@ -142,7 +147,7 @@ impl Row {
             → result ≡ is_told self.is_call self.word.now words }
     {
         if self.is_call {
-            is_word(first, b"call") && is_word(third, self.word)
+            is_word(first, CALL) && is_word(third, self.word)
         } else {
             is_word(first, self.word)
         }

@@ -1,5 +1,5 @@
-//! The text form of a node: lines that say events, lines that tell of records, and scripts of such
-//! lines.
+//! The text form of a node: lines that say events, in scripts or one in a datagram, and lines that
+//! tell of records.
 //!
 //! What no contract can say is that memory is there and that the outside works: a `read_line` or a
 //! `run_script` that answers want of memory at once meets its contract. The tests show that with
@@ -14,6 +14,7 @@ mod line;
 mod names;
 mod output;
 mod play;
+mod port;
 mod print;
 mod read;
 mod script;
@@ -22,9 +23,12 @@ mod words;
 pub use fault::LineFault;
 pub use line::{LINE_MAX, Line, read_line};
 pub use names::line_fault_name;
+pub use port::{read_control, read_operator};
 pub use print::print_record;
 pub use script::{ScriptFault, run_script};
 
+#[cfg(test)]
+mod port_tests;
 #[cfg(test)]
 mod run_tests;
 #[cfg(test)]

@@ -1,13 +1,15 @@
 //! What one line of a script says.
 
-ghost use Rattle.std.specs.Prelude.{◌≡◌, option_map};
+ghost use Rattle.std.specs.Prelude.{◌≡◌, map, option_map};
 ghost use Rattle.trdp_engine.specs.Events.{event_model};
-ghost use Rattle.trdp_script.specs.Lines.{line_of, words_say, form_of, is_skipped as skipped};
+ghost use Rattle.trdp_script.specs.FormNames.{line_form};
+ghost use Rattle.trdp_script.specs.Lines.{line_of, line_among, words_say, form_among};
+ghost use Rattle.trdp_script.specs.Lines.{is_skipped as skipped};
 ghost use Rattle.trdp_script.specs.Lines.{event_of, Reads};
 ghost use Rattle.trdp_script.specs.WordsLeft.{words_left};
 
 use crate::fault::LineFault;
-use crate::form::Form;
+use crate::form::{FORMS, Form};
 use crate::words::Words;
 use std::alloc::Global;
 use trdp_base::{Place, Topo};
@@ -100,9 +102,17 @@ impl Line {
 ///
 /// # Errors
 /// Every [`LineFault`], in their order. Want of memory is found when nothing else is wrong.
-#[tactic(auto, unfolding(crate::specs::Lines::line_of))]
+#[tactic(auto, unfolding(crate::specs::Forms::forms))]
 pub fn read_line(alloc: Global, text: &[u8]) -> Result<Line, LineFault>
     ensures meaning { Reads (line_of text.now) result }
+{
+    read_among(alloc, &FORMS, text)
+}
+
+/// Reads a line, which can have these forms.
+#[tactic(auto, unfolding(crate::specs::Lines::line_among))]
+pub(crate) fn read_among(alloc: Global, forms: &[Form], text: &[u8]) -> Result<Line, LineFault>
+    ensures { Reads (line_among (map line_form forms.now) text.now) result }
 {
     if text.len() > LINE_MAX {
         return Err(LineFault::TooLong);
@@ -110,23 +120,24 @@ pub fn read_line(alloc: Global, text: &[u8]) -> Result<Line, LineFault>
     if is_skipped(text) {
         return Ok(Line::Skipped);
     }
-    read_words(alloc, Words::of(text))
+    read_words(alloc, forms, Words::of(text))
 }
 
 /// Whether a line is empty or begins with `#`.
-fn is_skipped(text: &[u8]) -> bool
+pub(crate) fn is_skipped(text: &[u8]) -> bool
     ensures { result ≡ skipped text.now }
 {
     matches!(text, [] | [b'#', ..])
 }
 
-/// Reads the words of a line.
+/// Reads the words of a line, which can have these forms.
 #[tactic(auto, unfolding(crate::specs::Lines::words_say))]
-fn read_words(alloc: Global, words: Words<'_>) -> Result<Line, LineFault>
+pub(crate) fn read_words(alloc: Global, forms: &[Form], words: Words<'_>) -> Result<Line, LineFault>
     ensures { Reads
-        (words_say (form_of (words_left words.entry)) (words_left words.entry)) result }
+        (words_say (form_among (map line_form forms.now) (words_left words.entry))
+        (words_left words.entry)) result }
 {
-    let form = Form::of(words).ok_or(LineFault::Unknown)?;
+    let form = Form::among(forms, words).ok_or(LineFault::Unknown)?;
     if words.count() != form.word_count() {
         return Err(LineFault::Count);
     }

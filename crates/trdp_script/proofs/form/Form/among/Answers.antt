@@ -1,13 +1,12 @@
 use Rattle.std.proofs.Common.{◌∙◌, ap, sym, refl}
-use Rattle.trdp_script.specs.Forms.{forms}
-use Rattle.trdp_script.specs.Lines.{form_of}
+use Rattle.trdp_script.specs.Lines.{form_among}
 use Rattle.trdp_script.specs.WordsLeft.{words_left}
 use Rattle.trdp_script.specs.Words.{first_word, other_words}
 use Rattle.trdp_script.proofs.FormLemmas.{found_here, passed_here, none_left}
-use Rattle.trdp_script.proofs.form.Form.of.Goals as goal
+use Rattle.trdp_script.proofs.form.Form.among.Goals as goal
 
 pub loop-form-init : goal.loop-form-init
-unfolding form_of forms
+unfolding form_among
 loop-form-init c = refl
 
 pub returns-then-is_told_by : goal.returns-then-is_told_by
