@@ -2,3 +2,4 @@ pub mod Links
 pub mod Tellings
 pub mod Steps
 pub mod Services
+pub mod Visits

@@ -18,13 +18,13 @@ use Rattle.trdp_daemon.specs.Tellings.{Tells, TellsRecord, TellsText, if_of_slot
 use Rattle.trdp_daemon.proofs.Links.{carries_none, carries_both}
 use Rattle.std.proofs.Common.{append_assoc}
 
-both_silence : (x : Telling) → both x silence ≡ x
+pub both_silence : (x : Telling) → both x silence ≡ x
 both_silence x =
     let missed : x.missed + 0 ≡ x.missed = omega arith in
     ap (λ l. let t : Telling = record { offers = l; missed = x.missed + 0 } in t) (append-nil x.offers)
     ∙ ap (λ n. let t : Telling = record { offers = x.offers; missed = n } in t) missed
 
-silence_both : (x : Telling) → both silence x ≡ x
+pub silence_both : (x : Telling) → both silence x ≡ x
 silence_both x =
     let missed : 0 + x.missed ≡ x.missed = omega arith in
     ap (λ n. let t : Telling = record { offers = x.offers; missed = n } in t) missed
