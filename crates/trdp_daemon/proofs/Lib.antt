@@ -3,3 +3,4 @@ pub mod Tellings
 pub mod Steps
 pub mod Services
 pub mod Visits
+pub mod Turns

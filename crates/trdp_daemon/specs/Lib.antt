@@ -1,4 +1,5 @@
 pub mod Counting
+pub mod Daemons
 pub mod Effects
 pub mod Links
 pub mod Ports

@@ -1,5 +1,5 @@
 -- A service on its way.
-use Rattle.std.specs.Prelude.{◌≡◌, ◌≤◌, List, Option, [], length, map}
+use Rattle.std.specs.Prelude.{◌≡◌, ℕ, ◌≤◌, List, Option, [], length, map}
 use Rattle.trdp_dataset.specs.Configs.{ConfigModel}
 use Rattle.trdp_daemon.specs.declared.port.Port.{Port}
 use Rattle.trdp_daemon.specs.declared.visit.Home.{Home}
@@ -8,7 +8,7 @@ use Rattle.trdp_daemon.specs.declared.service.Service.{Service}
 use Rattle.trdp_daemon.specs.Told.{Taking, Give}
 use Rattle.trdp_daemon.specs.Effects.{ServiceState, Effect, Loss}
 use Rattle.trdp_daemon.specs.Links.{Carries}
-use Rattle.trdp_daemon.specs.Turns.{Visit, visits_effect}
+use Rattle.trdp_daemon.specs.Turns.{Visit, visits_effect, Turn, TakesAt, takings_of, turn_effect}
 use Rattle.trdp_daemon.specs.Visits.{own_place}
 
 -- the node and the control places
@@ -37,6 +37,16 @@ pub record TakesAtPorts {W : Type 0} (takings_in : W → Option (List Taking))
   pub ports_are : map (λ visit. visit.taking.port) visits ≡ ports
   pub comes : Comes takings_in gives_in old new link link_then
       (map (λ visit. visit.taking) visits) (visits_effect (service_state old) visits)
+
+-- a turn was taken at this reading of the clock, with takes at these ports in their order
+pub record TakesTurn {W : Type 0} (takings_in : W → Option (List Taking))
+    (gives_in : W → Option (List Give)) (old new : Service) (link link_then : Link W)
+    (ports : List Port) (reading : ℕ) : Type 0 where
+  pub turn : Turn
+  pub reading_is : turn.reading ≡ reading
+  pub takes_at : TakesAt ports turn
+  pub comes : Comes takings_in gives_in old new link link_then (takings_of turn)
+      (turn_effect (service_state old) turn)
 
 -- the places that datagrams of process data and of message data go to at this node
 abbrev pub IsHome : ConfigModel → Home → Type 0

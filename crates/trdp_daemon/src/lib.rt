@@ -3,16 +3,20 @@
 
 mod answer;
 mod clock;
+mod daemon;
 mod fault;
 mod link;
 mod port;
+mod ports;
 mod service;
 mod telling;
 mod totals;
+mod turn;
 mod visit;
 mod wire;
 
 pub use clock::Clock;
+pub use daemon::Daemon;
 pub use fault::WireFault;
 pub use port::Port;
 pub use totals::Totals;
