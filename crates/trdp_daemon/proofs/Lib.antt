@@ -4,3 +4,6 @@ pub mod Steps
 pub mod Services
 pub mod Visits
 pub mod Turns
+pub mod Daemons
+pub mod ControlPorts
+pub mod Places

@@ -8,6 +8,10 @@ abbrev pub counted : ℕ → ℕ → ℕ
 counted n zero = n
 counted n (suc more) = counted (min (n + 1) (2 ^ 64 - 1)) more
 
+-- nothing was counted
+abbrev pub no_totals : Totals
+no_totals = record { taken = 0; offered = 0; lost = 0; unread = 0; memory = 0 }
+
 -- a datagram came
 abbrev pub has_come : Arrived → Bool
 has_come Failed = false

@@ -6,7 +6,7 @@ use Rattle.trdp_dataset.specs.Configs.{ConfigModel}
 use Rattle.trdp_engine.specs.NodeStates.{NodeState, opened_node}
 use Rattle.trdp_daemon.specs.declared.totals.Totals.{Totals}
 use Rattle.trdp_daemon.specs.Told.{Adds, Taking, Give}
-use Rattle.trdp_daemon.specs.Counting.{totals_after}
+use Rattle.trdp_daemon.specs.Counting.{no_totals, totals_after}
 use Rattle.trdp_daemon.specs.Effects.{ServiceState}
 use Rattle.trdp_daemon.specs.Ports.{ports_of}
 use Rattle.trdp_daemon.specs.Turns.{Turn, TakesAt, takings_of, turns_effect, opened_service}
@@ -17,10 +17,6 @@ pub record DaemonState (W C : Type 0) : Type 0 where
   pub wire : W
   pub clock : C
   pub totals : Totals
-
--- nothing was counted
-abbrev pub no_totals : Totals
-no_totals = record { taken = 0; offered = 0; lost = 0; unread = 0; memory = 0 }
 
 -- a daemon that was just made
 abbrev pub opened_daemon : {W C : Type 0} → ConfigModel → W → C → DaemonState W C

@@ -1,6 +1,8 @@
 //! The daemon: turn after turn over a wire and a clock.
 
-ghost use Rattle.std.specs.Prelude.{◌≡◌, ◌+◌, ℕ, IfOk, IfErr};
+ghost use Rattle.std.specs.Prelude.{◌≡◌, IfOk};
+ghost use Rattle.trdp_daemon.specs.Ports.{ports_of};
+ghost use Rattle.trdp_daemon.specs.Services.{IsHome};
 
 use crate::clock::Clock;
 use crate::link::Link;
@@ -58,7 +60,43 @@ impl<W: Wire, C: Clock> Model for Daemon<W, C> {
 }
 
 impl<W: Wire, C: Clock> Daemon<W, C> {
+    ghost use Rattle.std.specs.Prelude.{◌≡◌, ◌+◌, ℕ, IfOk, IfErr};
     ghost use Rattle.trdp_daemon.specs.Daemons.{DaemonState, TakesTurns, opened_daemon};
+
+    /// A daemon that has taken no turn: its node is at moment 0, and no slot has a control place.
+    /// All buffers are made here.
+    ///
+    /// # Errors
+    /// Configuration, wire and clock come back for want of memory.
+    pub fn new(
+        alloc: Global,
+        config: NodeConfig,
+        wire: W,
+        clock: C,
+    ) -> Result<Daemon<W, C>, (NodeConfig, W, C)>
+        ensures opened { IfOk result (λ daemon. daemon ≡ opened_daemon config wire clock) }
+        ensures returned { IfErr result (λ back.
+            (back.0 ≡ config) × (back.1 ≡ wire) × (back.2 ≡ clock)) }
+    {
+        match buffers(alloc, &config) {
+            Err(_) => Err((config, wire, clock)),
+            Ok((ports, room)) => {
+                let home = home_of(&config);
+                match Service::new(alloc, config) {
+                    Err(config) => Err((config, wire, clock)),
+                    Ok(service) => Ok(Daemon {
+                        alloc,
+                        service,
+                        home,
+                        ports,
+                        room,
+                        link: Link::new(wire),
+                        clock,
+                    }),
+                }
+            }
+        }
+    }
 
     /// The totals so far.
     pub fn totals(&self) -> Totals
@@ -72,6 +110,9 @@ impl<W: Wire, C: Clock> Daemon<W, C> {
     /// the totals since the daemon was made.
     pub fn turn(&mut self) -> Totals
         ensures turn { TakesTurns W.takings W.gives C.readings 1 self.old self.new }
+        ensures since { (first : DaemonState W C) (n : ℕ)
+            → TakesTurns W.takings W.gives C.readings n first self.old
+            → TakesTurns W.takings W.gives C.readings (n + 1) first self.new }
         ensures totals { result ≡ self.new.totals }
     {
         let reading = self.clock.now();
@@ -85,5 +126,47 @@ impl<W: Wire, C: Clock> Daemon<W, C> {
             &mut self.link,
         );
         self.link.totals
+    }
+    /// Takes so many turns. Answers the totals since the daemon was made.
+    pub fn run(&mut self, turns: u32) -> Totals
+        ensures turns { TakesTurns W.takings W.gives C.readings turns self.old self.new }
+        ensures since { (first : DaemonState W C) (n : ℕ)
+            → TakesTurns W.takings W.gives C.readings n first self.old
+            → TakesTurns W.takings W.gives C.readings (n + turns) first self.new }
+        ensures totals { result ≡ self.new.totals }
+    {
+        for _turn in 0..turns {
+            self.turn();
+        }
+        self.totals()
+    }
+}
+
+/// The ports of a turn, and room for a datagram.
+///
+/// # Errors
+/// Want of memory for these.
+fn buffers(alloc: Global, config: &NodeConfig) -> Result<(Vec<Port>, Vec<u8>), AllocError>
+    ensures { IfOk result (λ made. made.0.items ≡ ports_of config.now) }
+{
+    let ports = ports_of(alloc, config)?;
+    let room = vec![in alloc; 0; DATAGRAM_ROOM]?;
+    Ok((ports, room))
+}
+
+/// Where telegrams go to at the node of a configuration.
+fn home_of(config: &NodeConfig) -> Home
+    ensures { IsHome config.now result }
+{
+    let ip = config.address();
+    Home {
+        pd: Place {
+            ip,
+            port: config.pd_port(),
+        },
+        md: Place {
+            ip,
+            port: config.md_port(),
+        },
     }
 }

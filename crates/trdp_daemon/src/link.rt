@@ -2,7 +2,7 @@
 
 ghost use Rattle.std.specs.Prelude.{◌≡◌, ◌+◌, ◌-◌, ◌^◌, ◌≤◌, min, [], ◌∷◌, length, IfSome};
 ghost use Rattle.trdp_daemon.specs.Told.{Give};
-ghost use Rattle.trdp_daemon.specs.Counting.{counted, totals_after};
+ghost use Rattle.trdp_daemon.specs.Counting.{counted, no_totals, totals_after};
 ghost use Rattle.trdp_daemon.specs.Effects.{silence, missing, offering};
 ghost use Rattle.trdp_daemon.specs.Links.{Carries, Takes};
 
@@ -19,6 +19,23 @@ pub(crate) struct Link<W: Wire> {
 }
 
 impl<W: Wire> Link<W> {
+    /// A link over which nothing came and went.
+    pub(crate) fn new(wire: W) -> Link<W>
+        ensures wire { result.wire ≡ wire }
+        ensures totals { result.totals ≡ no_totals }
+    {
+        Link {
+            wire,
+            totals: Totals {
+                taken: 0,
+                offered: 0,
+                lost: 0,
+                unread: 0,
+                memory: 0,
+            },
+        }
+    }
+
     /// Takes the next datagram at a port, if one is there: it is put at the front of the room, and
     /// the answer is where it came from and how many bytes it has there. A take at which the wire
     /// fails is counted, and gives nothing.

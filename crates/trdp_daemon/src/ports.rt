@@ -14,9 +14,7 @@ use trdp_dataset::NodeConfig;
 pub(crate) fn ports_of(alloc: Global, config: &NodeConfig) -> Result<Vec<Port>, AllocError>
     ensures { IfOk result (λ ports. ports.items ≡ ports_of config.now) }
 {
-    let mut ports = Vec::new(alloc);
-    ports.push(Port::Pd)?;
-    ports.push(Port::Md)?;
+    let mut ports = vec![in alloc; Port::Pd, Port::Md]?;
     push_unless_0(&mut ports, config.operator_port(), Port::Operator)?;
     for slot in 0..config.slots() {
         push_control(&mut ports, config, slot)?;
@@ -36,9 +34,20 @@ fn push_control(
         ≡ ports.old.items ++ control_ports slot (drop slot config.now.slots)) }
 {
     match config.control_port(slot) {
-        Some(number) => push_unless_0(ports, number, Port::Control(slot as u16)),
+        Some(number) => {
+            let slot = slot_number(slot);
+            push_unless_0(ports, number, Port::Control(slot))
+        }
         None => Ok(()),
     }
+}
+
+/// The index of a slot as its number.
+fn slot_number(slot: usize) -> u16
+    requires { slot < 16 }
+    ensures { result ≡ slot }
+{
+    slot as u16
 }
 
 /// Adds a port, unless its number is 0.

@@ -1,12 +1,14 @@
 //! A node, and where its slots' applications are.
 
-ghost use Rattle.std.specs.Prelude.{◌≡◌, ◌≢◌, ◌≤◌, length, slice_set, IfSome, IfNone, IfOk, OnOk, OnErr, Some};
+ghost use Rattle.std.specs.Prelude.{◌≡◌, ◌≢◌, ◌≤◌, length, slice_set, IfSome, IfNone, IfOk, IfErr};
+ghost use Rattle.std.specs.Prelude.{OnOk, OnErr, Some};
 ghost use Rattle.trdp_engine.specs.Alone.{refused_as};
 ghost use Rattle.trdp_engine.specs.Events.{event_model};
 ghost use Rattle.trdp_script.specs.ScriptText.{node_after};
 ghost use Rattle.trdp_script.specs.SlotOrder.{by_slot};
 ghost use Rattle.trdp_daemon.specs.Effects.{event_records, event_effect};
 ghost use Rattle.trdp_daemon.specs.Services.{ComesWith, IsSound, service_state};
+ghost use Rattle.trdp_daemon.specs.Turns.{opened_service};
 ghost use Rattle.trdp_daemon.specs.Visits.{operator_event};
 
 use crate::answer::operator_text;
@@ -14,8 +16,9 @@ use crate::link::Link;
 use crate::port::Port;
 use crate::telling::tell_records;
 use crate::wire::Wire;
-use std::alloc::AllocError;
+use std::alloc::{AllocError, Global};
 use trdp_base::Place;
+use trdp_dataset::NodeConfig;
 use trdp_engine::{Event, Node, NodeFault, Outbox};
 
 /// A node, with the control places of its slots and the lists that are used again from event to
@@ -32,7 +35,33 @@ pub(crate) struct Service {
     text: Vec<u8>,
 }
 
+/// Room for a record's line, in bytes: more than the longest of a node.
+const TEXT_ROOM: usize = 140_000;
+
 impl Service {
+    /// The service of a configuration before its first event.
+    ///
+    /// # Errors
+    /// The configuration comes back for want of memory.
+    pub(crate) fn new(alloc: Global, config: NodeConfig) -> Result<Service, NodeConfig>
+        ensures opened { IfOk result (λ service. service_state service ≡ opened_service config) }
+        ensures sound { IfOk result (λ service. IsSound service) }
+        ensures returned { IfErr result (λ back. back ≡ config) }
+    {
+        match lists(alloc, &config) {
+            Err(_) => Err(config),
+            Ok((places, text)) => match Node::new(alloc, config) {
+                Err(config) => Err(config),
+                Ok(node) => Ok(Service {
+                    node,
+                    places,
+                    records: Outbox::new(alloc),
+                    text,
+                }),
+            },
+        }
+    }
+
     /// Gives the node an event, and offers what its records send. An event that finds no memory is
     /// counted, and lost.
     pub(crate) fn take_event<W: Wire>(&mut self, event: &Event<'_>, link: &mut Link<W>)
@@ -79,6 +108,25 @@ impl Service {
     {
         put_place(&mut self.places, usize::from(slot), from);
     }
+}
+
+/// No control place for each slot, and room for a line.
+///
+/// # Errors
+/// Want of memory for these.
+fn lists(
+    alloc: Global,
+    config: &NodeConfig,
+) -> Result<(Vec<Option<Place>>, Vec<u8>), AllocError>
+    ensures { IfOk result (λ made. made.0.items
+        ≡ (opened_service config.now).places) }
+{
+    let mut places = Vec::new(alloc);
+    for _slot in 0..config.slots() {
+        places.push(None)?;
+    }
+    let text = Vec::with_capacity(alloc, TEXT_ROOM)?;
+    Ok((places, text))
 }
 
 /// Sets the place of that index, if there is one.
