@@ -7,3 +7,4 @@ pub mod Turns
 pub mod Daemons
 pub mod ControlPorts
 pub mod Places
+pub mod GiveRows

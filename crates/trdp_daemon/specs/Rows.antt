@@ -1,5 +1,7 @@
 -- What a wire in memory remembers, and what it tells of that.
 use Rattle.std.specs.Prelude.{◌≡◌, ℕ, ◌+◌, ◌≤◌, List, [], ◌∷◌, ◌++◌, take, drop, length, map, Bool, Option, Some, None, if◌then◌else◌}
+use Rattle.trdp_base.specs.declared.place.Place.{Place}
+use Rattle.trdp_daemon.specs.declared.port.Port.{Port}
 use Rattle.trdp_daemon.specs.declared.rows.TakeRow.{TakeRow}
 use Rattle.trdp_daemon.specs.declared.rows.TakeAnswer.{TakeAnswer}
 use Rattle.trdp_daemon.specs.declared.rows.TakeAnswer.TheVariants.{Failed as RowFailed, Nothing as RowNothing, Came as RowCame}
@@ -18,6 +20,10 @@ row_taking row = record { port = row.port; arrived = arrived_of row.answer }
 -- the give of a row with these bytes
 abbrev pub row_give : GiveRow → List ℕ → Give
 row_give row bytes = record { offer = offer_to row.port row.to bytes; failed = row.failed }
+
+-- where a give left from, where it went, and how many bytes it had
+abbrev pub given_to : Give → Port × Place × ℕ
+given_to give = (give.offer.port, give.offer.to, length give.offer.bytes)
 
 -- the gives of rows whose bytes lie one after the other
 abbrev pub gives_of : List ℕ → List GiveRow → List Give

@@ -105,6 +105,13 @@ impl<W: Wire, C: Clock> Daemon<W, C> {
         self.link.totals
     }
 
+    /// The wire.
+    pub fn wire(&self) -> &W
+        ensures { result.now ≡ self.now.wire }
+    {
+        &self.link.wire
+    }
+
     /// Takes one turn: the moment that the clock says, and then at each port of the configuration
     /// once, in the order process data, message data, operator, control ports of the slots. Answers
     /// the totals since the daemon was made.

@@ -59,8 +59,9 @@ impl Model for MemoryWire {
 }
 
 impl MemoryWire {
-    ghost use Rattle.std.specs.Prelude.{◌≡◌, ◌-◌, [], IfOk, true};
-    ghost use Rattle.trdp_daemon.specs.Rows.{MemoryWireState};
+    ghost use Rattle.std.specs.Prelude.{◌≡◌, [], IfOk, length, option_map, slice_get, true};
+    ghost use Rattle.std.specs.List.{flat_map};
+    ghost use Rattle.trdp_daemon.specs.Rows.{given_to};
 
     /// A wire over which nothing arrives yet, with room for so many takes, gives, and bytes of
     /// gives.
@@ -95,6 +96,31 @@ impl MemoryWire {
             failures: 0,
             tells: true,
         })
+    }
+
+    /// The bytes of all that it was given, one after the other.
+    pub fn bytes(&self) -> &[u8]
+        ensures { result.now ≡ flat_map (λ give. give.offer.bytes) self.now.gives }
+    {
+        &self.bytes
+    }
+
+    /// How many datagrams it was given.
+    pub fn len(&self) -> usize
+        ensures { result ≡ length self.now.gives }
+    {
+        self.given.len()
+    }
+
+    /// Where the give of that index left from, where it went, and how many bytes it had; None past
+    /// the last.
+    pub fn give_at(&self, index: usize) -> Option<(Port, Place, usize)>
+        ensures { result ≡ option_map given_to (slice_get self.now.gives index) }
+    {
+        match self.given.get(index) {
+            Some(row) => Some((row.port, row.to, row.len)),
+            None => None,
+        }
     }
 
     /// Lays down that a datagram arrives at that take at the port, counted from 1; of two for one
@@ -232,7 +258,7 @@ fn takes_at(taken: &[TakeRow], port: Port) -> usize {
     let mut count = 0;
     for row in taken {
         if row.port == port {
-            count += 1;
+            count = usize::saturating_add(count, 1);
         }
     }
     count
@@ -240,10 +266,20 @@ fn takes_at(taken: &[TakeRow], port: Port) -> usize {
 
 /// What is to arrive at a port behind so many takes there: it is taken out of the list.
 fn arrival_at(arrivals: &mut Vec<Arrival>, port: Port, takes: usize) -> Option<Arrival> {
+    match arrival_index(arrivals, port, takes) {
+        Some(index) => Some(arrivals.remove(index)),
+        None => None,
+    }
+}
+
+/// The index of what is to arrive at a port behind so many takes there, the first of several.
+fn arrival_index(arrivals: &[Arrival], port: Port, takes: usize) -> Option<usize>
+    ensures { IfSome result (λ index. index < length arrivals.now) }
+{
     for i in 0..arrivals.len() {
         let arrival = &arrivals[i];
         if arrival.port == port && arrival.take > 0 && arrival.take - 1 == takes {
-            return Some(arrivals.remove(i));
+            return Some(i);
         }
     }
     None
@@ -309,5 +345,13 @@ fn push_give(given: &mut Vec<GiveRow>, held: &mut Vec<u8>, row: GiveRow, bytes: 
     ensures whole { bytes_in given.new.items ≡ length held.new.items }
 {
     given.push_reserved(row);
+    append(held, bytes);
+}
+
+/// Adds bytes at the end, within the room.
+fn append(held: &mut Vec<u8>, bytes: &[u8])
+    requires { vec_len held.old + length bytes.now ≤ vec_capacity held.old }
+    ensures { held.new.items ≡ held.old.items ++ bytes.now }
+{
     held.extend_from_slice(bytes).unwrap();
 }
