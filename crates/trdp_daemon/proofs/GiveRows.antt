@@ -9,7 +9,7 @@ use Rattle.trdp_base.specs.declared.place.Place.{Place}
 use Rattle.trdp_daemon.specs.declared.port.Port.{Port}
 use Rattle.trdp_daemon.specs.declared.rows.GiveRow.{GiveRow}
 use Rattle.trdp_daemon.specs.Told.{Give}
-use Rattle.trdp_daemon.specs.Rows.{row_give, gives_of, bytes_in, given_to}
+use Rattle.trdp_daemon.specs.Rows.{row_give, gives_of, bytes_in, given_to, row_to}
 
 length_rest : (n : ℕ) (xs : List ℕ) → n ≤ length xs → n + length (drop n xs) ≡ length xs
 length_rest zero xs le = omega arith
@@ -55,7 +55,7 @@ gives_many [] bytes = refl
 gives_many (r ∷ rows) bytes = ap suc (gives_many rows (drop r.len bytes))
 
 -- the give of an index
-pub gives_at : (rows : List GiveRow) (bytes : List ℕ) (i : ℕ) → bytes_in rows ≡ length bytes → option_map given_to (slice_get (gives_of bytes rows) i) ≡ option_map (λ r. (r.port, r.to, r.len)) (slice_get rows i)
+pub gives_at : (rows : List GiveRow) (bytes : List ℕ) (i : ℕ) → bytes_in rows ≡ length bytes → option_map given_to (slice_get (gives_of bytes rows) i) ≡ option_map row_to (slice_get rows i)
 gives_at [] bytes i whole = refl
 gives_at (r ∷ rows) bytes zero whole =
     let within : r.len ≤ length bytes = omega (arith, whole) in

@@ -25,6 +25,10 @@ row_give row bytes = record { offer = offer_to row.port row.to bytes; failed = r
 abbrev pub given_to : Give → Port × Place × ℕ
 given_to give = (give.offer.port, give.offer.to, length give.offer.bytes)
 
+-- the same of a row
+abbrev pub row_to : GiveRow → Port × Place × ℕ
+row_to row = (row.port, row.to, row.len)
+
 -- the gives of rows whose bytes lie one after the other
 abbrev pub gives_of : List ℕ → List GiveRow → List Give
 gives_of bytes [] = []

@@ -30,3 +30,6 @@ pub use run_clock::RunClock;
 pub use totals::Totals;
 pub use udp_wire::{BindFault, UdpWire};
 pub use wire::Wire;
+
+#[cfg(test)]
+mod tests;

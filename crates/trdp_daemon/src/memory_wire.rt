@@ -1,10 +1,9 @@
 //! A wire in memory, for tests.
 
 ghost use Rattle.std.specs.Prelude.{◌≡◌, ◌<◌, ◌≤◌, ◌+◌, ◌++◌, ◌∷◌, [], length, take};
-ghost use Rattle.std.specs.Prelude.{IfOk, IfSome, OnErr, vec_len, vec_capacity, true};
-ghost use Rattle.std.specs.Bool.{OnTrue};
+ghost use Rattle.std.specs.Prelude.{IfOk, IfSome, OnErr, vec_len, vec_capacity, option_map, slice_get};
 ghost use Rattle.trdp_daemon.specs.Told.{arrived_in};
-ghost use Rattle.trdp_daemon.specs.Rows.{arrived_of, bytes_in, gives_of, row_give};
+ghost use Rattle.trdp_daemon.specs.Rows.{arrived_of, bytes_in, gives_of, row_give, row_to};
 
 use crate::fault::WireFault;
 use crate::port::Port;
@@ -117,10 +116,7 @@ impl MemoryWire {
     pub fn give_at(&self, index: usize) -> Option<(Port, Place, usize)>
         ensures { result ≡ option_map given_to (slice_get self.now.gives index) }
     {
-        match self.given.get(index) {
-            Some(row) => Some((row.port, row.to, row.len)),
-            None => None,
-        }
+        given_at(&self.given, index)
     }
 
     /// Lays down that a datagram arrives at that take at the port, counted from 1; of two for one
@@ -221,6 +217,16 @@ impl Wire for MemoryWire {
 
     fn failures(&self) -> u64 {
         self.failures
+    }
+}
+
+/// Where the give of a row left from, where it went, and how many bytes it had.
+fn given_at(given: &[GiveRow], index: usize) -> Option<(Port, Place, usize)>
+    ensures { result ≡ option_map row_to (slice_get given.now index) }
+{
+    match given.get(index) {
+        Some(row) => Some((row.port, row.to, row.len)),
+        None => None,
     }
 }
 
