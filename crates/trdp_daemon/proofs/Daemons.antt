@@ -78,18 +78,18 @@ turns_both {W} {C} {takings_in} {gives_in} {readings_in} {m} {n} {a} {b} {c} p q
       count = length-append p.turns q.turns ∙ ap (λ k. k + length q.turns) p.count ∙ ap (λ k. m + k) q.count;
       ports = All-append (TakesAt (ports_of a.service.node.config)) p.turns q.turns p.ports (subst (λ (l : List Port). All (TakesAt l) q.turns) (ap ports_of p.config) q.ports);
       read = subst (λ (l : List ℕ). Adds (readings_in a.clock) (readings_in c.clock) l) (sym (map-append (λ t. t.reading) p.turns q.turns))
-      (adds_both (readings_in a.clock) (readings_in b.clock) (readings_in c.clock) (map (λ t. t.reading) p.turns) (map (λ t. t.reading) q.turns) p.read q.read);
+          (adds_both (readings_in a.clock) (readings_in b.clock) (readings_in c.clock) (map (λ t. t.reading) p.turns) (map (λ t. t.reading) q.turns) p.read q.read);
       took = subst (λ (l : List Taking). Adds (takings_in a.wire) (takings_in c.wire) l) both_takings
-      (adds_both (takings_in a.wire) (takings_in b.wire) (takings_in c.wire) takings takings_then p.took q.took);
+          (adds_both (takings_in a.wire) (takings_in b.wire) (takings_in c.wire) takings takings_then p.took q.took);
       gave = adds_both (gives_in a.wire) (gives_in b.wire) (gives_in c.wire) p.gives q.gives p.gave q.gave;
       offers = map-append (λ g. g.offer) p.gives q.gives ∙ ap (λ l. l ++ map (λ g. g.offer) q.gives) p.offers ∙ ap (λ l. first.telling.offers ++ l) (q.offers ∙ ap (λ e. e.telling.offers) same) ∙ ap (λ e. e.telling.offers) all;
       service = q.service ∙ ap (λ e. e.service) same ∙ ap (λ e. e.service) all;
       config = q.config ∙ p.config;
       totals = q.totals ∙ ap (λ t. totals_after t takings_then q.gives (turns_effect b.service q.turns).telling.missed) p.totals
-      ∙ totals_both a.totals takings takings_then p.gives q.gives first.telling.missed (turns_effect b.service q.turns).telling.missed
-      ∙ ap (λ l. totals_after a.totals l (p.gives ++ q.gives) (first.telling.missed + (turns_effect b.service q.turns).telling.missed)) both_takings
-      ∙ ap (λ e. totals_after a.totals (flat_map takings_of (p.turns ++ q.turns)) (p.gives ++ q.gives) (first.telling.missed + e.telling.missed)) same
-      ∙ ap (λ e. totals_after a.totals (flat_map takings_of (p.turns ++ q.turns)) (p.gives ++ q.gives) e.telling.missed) all;
+          ∙ totals_both a.totals takings takings_then p.gives q.gives first.telling.missed (turns_effect b.service q.turns).telling.missed
+          ∙ ap (λ l. totals_after a.totals l (p.gives ++ q.gives) (first.telling.missed + (turns_effect b.service q.turns).telling.missed)) both_takings
+          ∙ ap (λ e. totals_after a.totals (flat_map takings_of (p.turns ++ q.turns)) (p.gives ++ q.gives) (first.telling.missed + e.telling.missed)) same
+          ∙ ap (λ e. totals_after a.totals (flat_map takings_of (p.turns ++ q.turns)) (p.gives ++ q.gives) e.telling.missed) all;
     }
 
 -- one turn more

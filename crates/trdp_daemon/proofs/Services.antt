@@ -32,7 +32,7 @@ unfolding event_effect
 comes_event {W} {takings_in} {gives_in} {a} {b} old new event places records node kept same all told = record {
   service_is = ap (λ n. let s : ServiceState = record { node = n; places = new.places.items } in s) node ∙ ap (λ l. let s : ServiceState = record { node = node_after old.node event; places = l } in s) kept;
   carried = subst (λ (l : List RecordModel). Carries takings_in gives_in a b [] (records_telling old.places.items told.marks l)) all
-  (subst (λ (l : List (Option Place)). Carries takings_in gives_in a b [] (records_telling l told.marks records)) same told.carried);
+      (subst (λ (l : List (Option Place)). Carries takings_in gives_in a b [] (records_telling l told.marks records)) same told.carried);
 }
 
 -- an event was taken, or refused, and its records were told

@@ -113,9 +113,9 @@ pub record ServiceState : Type 0 where
 
 -- what was lost for want of memory of a reading of the clock or of a datagram
 pub data Loss : Type 0 where
-  LineLost : Loss                                 -- it wasn't read as a line
-  EventLost : Loss                                -- it was read, and the node didn't take it
-  TextsLost : (marks : List Bool) → Loss          -- the texts of those of its records
+  LineLost : Loss  -- it wasn't read as a line
+  EventLost : Loss  -- it was read, and the node didn't take it
+  TextsLost : (marks : List Bool) → Loss  -- the texts of those of its records
 
 -- where a service comes to, and what it tells
 pub record Effect : Type 0 where

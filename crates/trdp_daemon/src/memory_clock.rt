@@ -63,7 +63,11 @@ fn reading_at(moments: &[u64], index: u64) -> u64
     ensures { result ≡ reading_at moments.now index }
 {
     let last = moments.len().saturating_sub(1);
-    let index = if index < last as u64 { index as usize } else { last };
+    let index = if index < last as u64 {
+        index as usize
+    } else {
+        last
+    };
     match moments.get(index) {
         Some(moment) => *moment,
         None => 0,

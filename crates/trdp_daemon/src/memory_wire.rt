@@ -313,7 +313,11 @@ fn answer_take(
     match arrival_at(arrivals, port, takes) {
         None => (TakeAnswer::Nothing, Ok(None)),
         Some(arrival) => {
-            let Arrival { from, mut bytes, .. } = arrival;
+            let Arrival {
+                from,
+                mut bytes,
+                ..
+            } = arrival;
             let len = fill(room, &mut bytes);
             (TakeAnswer::Came(from, bytes), Ok(Some((from, len))))
         }

@@ -23,11 +23,7 @@ pub(crate) fn ports_of(alloc: Global, config: &NodeConfig) -> Result<Vec<Port>, 
 }
 
 /// Adds the control port of a slot, unless its number is 0.
-fn push_control(
-    ports: &mut Vec<Port>,
-    config: &NodeConfig,
-    slot: usize,
-) -> Result<(), AllocError>
+fn push_control(ports: &mut Vec<Port>, config: &NodeConfig, slot: usize) -> Result<(), AllocError>
     requires slot { slot < length config.now.slots }
     requires few { length config.now.slots ≤ 16 }
     ensures { OnOk result (ports.new.items ++ control_ports (slot + 1) (drop (slot + 1) config.now.slots)

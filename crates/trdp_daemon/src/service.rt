@@ -114,10 +114,7 @@ impl Service {
 ///
 /// # Errors
 /// Want of memory for these.
-fn lists(
-    alloc: Global,
-    config: &NodeConfig,
-) -> Result<(Vec<Option<Place>>, Vec<u8>), AllocError>
+fn lists(alloc: Global, config: &NodeConfig) -> Result<(Vec<Option<Place>>, Vec<u8>), AllocError>
     ensures { IfOk result (λ made. made.0.items
         ≡ (opened_service config.now).places) }
 {

@@ -23,7 +23,6 @@ const APPLICATION: Place = Place {
     port: 9000,
 };
 
-
 /// A daemon whose application publishes in the first turn and puts a value in the second; the take
 /// and the give of these numbers fail, counted from 1, 0 for none.
 fn daemon(
@@ -39,7 +38,11 @@ fn daemon(
     wire.fail_take(failing_take)?;
     wire.fail_give(failing_give)?;
     let clock = MemoryClock::new(alloc, &[0, 1, 100_000, 200_000])?;
-    Ok(Daemon::new(alloc, config, wire, clock).ok().ok_or("no memory")?)
+    Ok(
+        Daemon::new(alloc, config, wire, clock)
+            .ok()
+            .ok_or("no memory")?,
+    )
 }
 
 /// Totals without want of memory.
@@ -64,13 +67,18 @@ fn three_turns(
     let mut daemon = daemon(rt.alloc(), failing_take, failing_give)?;
     let found = daemon.run(3);
     assert_eq!(rt; found, counts, "take {failing_take}, give {failing_give}");
-    assert_eq!(rt; daemon.wire().bytes(), offers, "take {failing_take}, give {failing_give}");
+    assert_eq!(rt;
+        daemon.wire().bytes(),
+        offers,
+        "take {failing_take}, give {failing_give}"
+    );
     Ok(())
 }
 
 #[test]
 fn three_turns_offer_two_answers_and_a_telegram(rt: HostRuntime) -> Result<(), Fail> {
-    let offers = b"0 handle 1\n0 done\n\0\0\0\0\x01\0\x50\x64\0\0\0\x64\0\0\0\0\0\0\0\0\0\0\0\x02\0\0\0\0\0\0\0\0\0\0\0\0\xec\x17\x9c\x94\x0a\x0b\0\0";
+    let offers =
+        b"0 handle 1\n0 done\n\0\0\0\0\x01\0\x50\x64\0\0\0\x64\0\0\0\0\0\0\0\0\0\0\0\x02\0\0\0\0\0\0\0\0\0\0\0\0\xec\x17\x9c\x94\x0a\x0b\0\0";
     three_turns(&rt, 0, 0, offers, totals(2, 3, 0, 0))?;
     three_turns(&rt, 0, 1, offers, totals(2, 3, 1, 0))?;
     three_turns(&rt, 0, 2, offers, totals(2, 3, 1, 0))?;

@@ -94,7 +94,11 @@ impl Wire for UdpWire {
             Some(socket) => send(socket, to, bytes),
             None => false,
         };
-        if sent { Ok(()) } else { fail(&mut self.failures) }
+        if sent {
+            Ok(())
+        } else {
+            fail(&mut self.failures)
+        }
     }
 
     fn failures(&self) -> u64 {
