@@ -93,6 +93,13 @@ impl Node {
         }
     }
 
+    /// The node's latest moment, in microseconds, at most 2^62.
+    pub fn now(&self) -> u64
+        ensures { result ≡ self.now.globals.now }
+    {
+        self.globals.now
+    }
+
     /// Takes the moment `t`, in microseconds: room for the records of all that is due comes first,
     /// and then each due object fires.
     ///

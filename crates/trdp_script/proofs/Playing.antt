@@ -41,7 +41,7 @@ labelled_other : (n : ℕ) (r : RecordModel) (records : List RecordModel) (other
 labelled_other n r records other rest = rw other rest
 
 -- the records of a slot, as records of that slot
-own_labelled : (n : ℕ) (records : List RecordModel) → labelled n (records_of n records) ≡ slots_own n records
+pub own_labelled : (n : ℕ) (records : List RecordModel) → labelled n (records_of n records) ≡ slots_own n records
 own_labelled n [] = refl
 own_labelled n (r ∷ records) = elim (eqb_tells r.slot n) [
   | inl same ↦ labelled_here n r records same.0 same.1 (own_labelled n records)
@@ -53,7 +53,7 @@ own_past : (slots : List SlotState) (records : List RecordModel) → ((s : ℕ) 
 own_past slots records none s past = sym (own_labelled s records) ∙ ap (labelled s) (none s (slice_get_past slots s past))
 
 -- slots past the last add nothing
-by_slot_past : (slots : List SlotState) (records : List RecordModel) → ((s : ℕ) → slice_get slots s ≡ None → records_of s records ≡ []) → (k n : ℕ) → n ≡ length slots + k → by_slot n records ≡ by_slot (length slots) records
+pub by_slot_past : (slots : List SlotState) (records : List RecordModel) → ((s : ℕ) → slice_get slots s ≡ None → records_of s records ≡ []) → (k n : ℕ) → n ≡ length slots + k → by_slot n records ≡ by_slot (length slots) records
 by_slot_past slots records none zero n is = let same : n ≡ length slots = omega (arith, is) in ap (λ m. by_slot m records) same
 by_slot_past slots records none (suc k) zero is = absurd (omega (arith, is))
 by_slot_past slots records none (suc k) (suc n) is =
@@ -81,7 +81,7 @@ slots_text_after setup g event records (slot ∷ slots) n m is each =
     ∙ slots_text_after setup g event records slots (suc n) m more (λ i s other is there. let next : s ≡ n + suc i = omega (arith, is) in each (suc i) s other next there)
 
 -- no fault, where the node took the event
-no_fault : (fault : Option NodeFault) → FaultIs fault (Ok tt) → fault ≡ None
+pub no_fault : (fault : Option NodeFault) → FaultIs fault (Ok tt) → fault ≡ None
 no_fault None is = refl
 no_fault (Some fault) is = absurd is
 

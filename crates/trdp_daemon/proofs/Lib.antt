@@ -1,0 +1,10 @@
+pub mod Links
+pub mod Tellings
+pub mod Steps
+pub mod Services
+pub mod Visits
+pub mod Turns
+pub mod Daemons
+pub mod ControlPorts
+pub mod Places
+pub mod GiveRows

@@ -1,0 +1,84 @@
+-- What an event came to.
+use Rattle.std.proofs.Common.{◌≡◌, ℕ, List, [], Option, Some, None, refl, sym, ◌∙◌, ap, subst, length, suc, zero, append-nil}
+use Rattle.trdp_base.specs.declared.place.Place.{Place}
+use Rattle.trdp_engine.specs.Events.{EventModel}
+use Rattle.trdp_engine.specs.Records.{RecordModel}
+use Rattle.trdp_engine.specs.NodeStates.{NodeState}
+use Rattle.trdp_engine.specs.Alone.{refused_as}
+use Rattle.trdp_script.specs.ScriptText.{node_after}
+use Rattle.trdp_script.specs.SlotOrder.{by_slot}
+use Rattle.trdp_script.proofs.Orders.{by_slot_suc, by_slot_zero}
+use Rattle.trdp_daemon.specs.declared.link.Link.{Link}
+use Rattle.trdp_daemon.specs.declared.service.Service.{Service}
+use Rattle.trdp_daemon.specs.Told.{Taking, Give}
+use Rattle.trdp_daemon.specs.Effects.{ServiceState, Effect, EventLost, TextsLost, event_effect, event_records, missing, offering, records_telling}
+use Rattle.trdp_daemon.specs.Links.{Carries}
+use Rattle.trdp_daemon.specs.Tellings.{Tells}
+use Rattle.trdp_daemon.specs.declared.port.Port.TheVariants.{Operator}
+use Rattle.trdp_daemon.specs.Visits.{operator_event, operator_text}
+use Rattle.trdp_daemon.proofs.Links.{carries_both}
+use Rattle.trdp_daemon.specs.Services.{Comes, ComesWith, service_state}
+
+-- no records are of any slot
+pub no_records : (n : ℕ) (records : List RecordModel) → records ≡ [] → by_slot n records ≡ []
+no_records zero records none = by_slot_zero records
+no_records (suc n) records none = by_slot_suc n records ∙ rw none (append-nil (by_slot n []) ∙ no_records n [] refl)
+
+-- an event was taken, or refused, and its records were told but for these texts
+pub comes_event : {W : Type 0} {takings_in : W → Option (List Taking)} {gives_in : W → Option (List Give)} {a b : Link W} (old new : Service) (event : EventModel) (places : List (Option Place)) (records : List RecordModel)
+    → new.node ≡ node_after old.node event → new.places.items ≡ old.places.items → places ≡ old.places.items → records ≡ event_records old.node event
+    → (told : Tells takings_in gives_in places a b records) → Comes takings_in gives_in old new a b [] (event_effect (service_state old) event (TextsLost told.marks))
+unfolding event_effect
+comes_event {W} {takings_in} {gives_in} {a} {b} old new event places records node kept same all told = record {
+  service_is = ap (λ n. let s : ServiceState = record { node = n; places = new.places.items } in s) node ∙ ap (λ l. let s : ServiceState = record { node = node_after old.node event; places = l } in s) kept;
+  carried = subst (λ (l : List RecordModel). Carries takings_in gives_in a b [] (records_telling old.places.items told.marks l)) all
+      (subst (λ (l : List (Option Place)). Carries takings_in gives_in a b [] (records_telling l told.marks records)) same told.carried);
+}
+
+-- an event was taken, or refused, and its records were told
+pub comes_told : {W : Type 0} {takings_in : W → Option (List Taking)} {gives_in : W → Option (List Give)} {a b : Link W} (old new : Service) (event : EventModel) (places : List (Option Place)) (records : List RecordModel)
+    → new.node ≡ node_after old.node event → new.places.items ≡ old.places.items → places ≡ old.places.items → records ≡ event_records old.node event
+    → Tells takings_in gives_in places a b records → ComesWith takings_in gives_in old new a b (event_effect (service_state old) event)
+comes_told old new event places records node kept same all told =
+    record { loss = TextsLost told.marks; comes = comes_event old new event places records node kept same all told }
+
+-- an event was lost
+pub comes_lost : {W : Type 0} {takings_in : W → Option (List Taking)} {gives_in : W → Option (List Give)} {a b : Link W} (old new : Service) (event : EventModel) → new.node ≡ old.node → new.places.items ≡ old.places.items
+    → Carries takings_in gives_in a b [] missing → ComesWith takings_in gives_in old new a b (event_effect (service_state old) event)
+unfolding event_effect
+comes_lost {W} {takings_in} {gives_in} {a} {b} old new event node kept carried = record {
+  loss = EventLost;
+  comes = record {
+    service_is = ap (λ n. let s : ServiceState = record { node = n; places = new.places.items } in s) node ∙ ap (λ l. let s : ServiceState = record { node = old.node; places = l } in s) kept;
+    carried = carried;
+  };
+}
+
+-- an event of the operator was taken, or refused, its records were told and it was answered
+pub comes_answered : {W : Type 0} {takings_in : W → Option (List Taking)} {gives_in : W → Option (List Give)} {a b c : Link W} (old new : Service) (event : EventModel) (from : Place) (places : List (Option Place)) (records : List RecordModel) (text : List ℕ)
+    → new.node ≡ node_after old.node event → new.places.items ≡ old.places.items → places ≡ old.places.items → records ≡ event_records old.node event
+    → text ≡ operator_text (refused_as (length old.node.slots) old.node.globals event)
+    → Tells takings_in gives_in places a b records → Carries takings_in gives_in b c [] (offering Operator from text)
+    → ComesWith takings_in gives_in old new a c (operator_event (service_state old) from event)
+unfolding operator_event
+comes_answered {W} {takings_in} {gives_in} {a} {b} {c} old new event from places records text node kept same all said told answered =
+    let first = comes_event old new event places records node kept same all told in
+    record {
+      loss = TextsLost told.marks;
+      comes = record {
+        service_is = first.service_is;
+        carried = carries_both first.carried (subst (λ (l : List ℕ). Carries takings_in gives_in b c [] (offering Operator from l)) said answered);
+      };
+    }
+
+-- an event of the operator was lost
+pub comes_unanswered : {W : Type 0} {takings_in : W → Option (List Taking)} {gives_in : W → Option (List Give)} {a b : Link W} (old new : Service) (event : EventModel) (from : Place) → new.node ≡ old.node → new.places.items ≡ old.places.items
+    → Carries takings_in gives_in a b [] missing → ComesWith takings_in gives_in old new a b (operator_event (service_state old) from event)
+unfolding operator_event
+comes_unanswered {W} {takings_in} {gives_in} {a} {b} old new event from node kept carried = record {
+  loss = EventLost;
+  comes = record {
+    service_is = ap (λ n. let s : ServiceState = record { node = n; places = new.places.items } in s) node ∙ ap (λ l. let s : ServiceState = record { node = old.node; places = l } in s) kept;
+    carried = carried;
+  };
+}

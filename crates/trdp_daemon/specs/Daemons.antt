@@ -1,0 +1,48 @@
+-- A daemon, and what its turns make of it.
+use Rattle.std.specs.Prelude.{◌≡◌, ℕ, List, Option, None, All, length, map}
+use Rattle.std.specs.List.{flat_map}
+use Rattle.trdp_base.specs.declared.place.Place.{Place}
+use Rattle.trdp_dataset.specs.Configs.{ConfigModel}
+use Rattle.trdp_engine.specs.NodeStates.{NodeState, opened_node}
+use Rattle.trdp_daemon.specs.declared.totals.Totals.{Totals}
+use Rattle.trdp_daemon.specs.Told.{Adds, Taking, Give}
+use Rattle.trdp_daemon.specs.Counting.{no_totals, totals_after}
+use Rattle.trdp_daemon.specs.Effects.{ServiceState}
+use Rattle.trdp_daemon.specs.Ports.{ports_of}
+use Rattle.trdp_daemon.specs.Turns.{Turn, TakesAt, takings_of, turns_effect, opened_service}
+
+-- a daemon: its node and the control places of the slots, its wire, its clock, and what it counted
+pub record DaemonState (W C : Type 0) : Type 0 where
+  pub service : ServiceState
+  pub wire : W
+  pub clock : C
+  pub totals : Totals
+
+-- a daemon that was just made
+abbrev pub opened_daemon : {W C : Type 0} → ConfigModel → W → C → DaemonState W C
+opened_daemon config wire clock = record {
+  service = opened_service config;
+  wire = wire;
+  clock = clock;
+  totals = no_totals;
+}
+
+-- n turns were taken, each with one reading of the clock and one take at each port in order: the
+-- gives are exactly what the turns offer, whatever they answered; the wire tells its takes and
+-- gives, and the clock its readings, by these functions
+pub record TakesTurns {W C : Type 0} (takings_in : W → Option (List Taking))
+    (gives_in : W → Option (List Give)) (readings_in : C → Option (List ℕ)) (n : ℕ)
+    (old new : DaemonState W C) : Type 0 where
+  pub turns : List Turn
+  pub gives : List Give
+  pub count : length turns ≡ n
+  pub ports : All (TakesAt (ports_of old.service.node.config)) turns
+  pub read : Adds (readings_in old.clock) (readings_in new.clock)
+      (map (λ turn. turn.reading) turns)
+  pub took : Adds (takings_in old.wire) (takings_in new.wire) (flat_map takings_of turns)
+  pub gave : Adds (gives_in old.wire) (gives_in new.wire) gives
+  pub offers : map (λ give. give.offer) gives ≡ (turns_effect old.service turns).telling.offers
+  pub service : new.service ≡ (turns_effect old.service turns).service
+  pub config : new.service.node.config ≡ old.service.node.config
+  pub totals : new.totals ≡ totals_after old.totals (flat_map takings_of turns) gives
+      (turns_effect old.service turns).telling.missed

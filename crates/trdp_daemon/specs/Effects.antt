@@ -1,0 +1,147 @@
+-- What one event gives: the datagrams that are offered, and the entries that are lost for want of
+-- memory.
+use Rattle.std.specs.Prelude.{ℕ, suc, ◌+◌, List, [], ◌∷◌, ◌++◌, Bool, true, false, length}
+use Rattle.std.specs.Prelude.{Option, Some, None, slice_index_or, codes}
+use Rattle.trdp_base.specs.declared.place.Place.{Place}
+use Rattle.trdp_filter.specs.declared.globals.Globals.{Globals}
+use Rattle.trdp_engine.specs.declared.fault.NodeFault.{NodeFault}
+use Rattle.trdp_engine.specs.declared.record.Protocol.{Protocol}
+use Rattle.trdp_engine.specs.declared.record.Protocol.TheVariants.{Pd as PdData, Md as MdData}
+use Rattle.trdp_engine.specs.Alone.{refused_as, records_after}
+use Rattle.trdp_engine.specs.Configs.{NodeSetup, setup_of}
+use Rattle.trdp_engine.specs.Events.{EventModel}
+use Rattle.trdp_engine.specs.NodeStates.{NodeState}
+use Rattle.trdp_engine.specs.Records.{Content, Answers, Indicates, Sends, RecordModel, labelled}
+use Rattle.trdp_engine.specs.Slots.{SlotState}
+use Rattle.trdp_script.specs.RecordText.{text_of_record}
+use Rattle.trdp_script.specs.ScriptText.{node_after}
+use Rattle.trdp_daemon.specs.declared.port.Port.{Port}
+use Rattle.trdp_daemon.specs.declared.port.Port.TheVariants.{Pd, Md, Control}
+use Rattle.trdp_daemon.specs.Told.{Offer, offer_to}
+
+-- what is offered, and how many entries were lost for want of memory
+pub record Telling : Type 0 where
+  pub offers : List Offer
+  pub missed : ℕ
+
+abbrev pub silence : Telling
+silence = record { offers = []; missed = 0 }
+
+-- one offer
+abbrev pub offering : Port → Place → List ℕ → Telling
+offering port to bytes = record { offers = offer_to port to bytes ∷ []; missed = 0 }
+
+-- one entry was lost
+abbrev pub missing : Telling
+missing = record { offers = []; missed = 1 }
+
+-- one telling after another
+abbrev pub both : Telling → Telling → Telling
+both first second =
+    record { offers = first.offers ++ second.offers; missed = first.missed + second.missed }
+
+-- a text of a slot goes from its control port to the slot's control place; without one it is
+-- dropped; a text that found no memory is lost
+unfoldable pub text_telling : ℕ → Option Place → Bool → List ℕ → Telling
+text_telling slot None lost text = silence
+text_telling slot (Some to) true text = missing
+text_telling slot (Some to) false text = offering (Control slot) to text
+
+-- the port that telegrams of a protocol leave from
+abbrev pub port_of : Protocol → Port
+port_of PdData = Pd
+port_of MdData = Md
+
+-- the control place of a slot, if it has one
+abbrev pub place_of : List (Option Place) → ℕ → Option Place
+place_of places slot = slice_index_or places slot None
+
+-- a telegram goes where it is sent to; what else a record says goes as its line
+unfoldable pub content_telling : List (Option Place) → Bool → RecordModel → Content → Telling
+content_telling places lost r (Answers answer) =
+    text_telling r.slot (place_of places r.slot) lost (text_of_record r)
+content_telling places lost r (Indicates indication) =
+    text_telling r.slot (place_of places r.slot) lost (text_of_record r)
+content_telling places lost r (Sends protocol to telegram) =
+    offering (port_of protocol) to telegram
+
+abbrev pub record_telling : List (Option Place) → Bool → RecordModel → Telling
+record_telling places lost r = content_telling places lost r r.content
+
+-- whether the first of some records lost its text; past the last mark none did
+abbrev pub is_first_lost : List Bool → Bool
+is_first_lost [] = false
+is_first_lost (lost ∷ marks) = lost
+
+-- the marks of the records behind the first
+abbrev pub later_marks : List Bool → List Bool
+later_marks [] = []
+later_marks (lost ∷ marks) = marks
+
+-- records one after another, of which the marks say whether the text was lost
+abbrev pub records_telling : List (Option Place) → List Bool → List RecordModel → Telling
+records_telling places marks [] = silence
+records_telling places marks (r ∷ records) =
+    both (record_telling places (is_first_lost marks) r)
+    (records_telling places (later_marks marks) records)
+
+-- the records that these slots, of which the first has the number s, get at an event that the node
+-- takes: slots rising, each slot's in their order
+abbrev pub slots_records : NodeSetup → Globals → EventModel → ℕ → List SlotState
+    → List RecordModel
+slots_records setup g event s [] = []
+slots_records setup g event s (slot ∷ slots) =
+    labelled s (records_after setup s slot g event)
+    ++ slots_records setup g event (suc s) slots
+
+-- the records of an event with this fault, which the node takes no notice of, or with none
+abbrev pub records_unless : Option NodeFault → NodeState → EventModel → List RecordModel
+records_unless (Some fault) node event = []
+records_unless None node event =
+    slots_records (setup_of node.config) node.globals event 0 node.slots
+
+-- the records of an event
+abbrev pub event_records : NodeState → EventModel → List RecordModel
+event_records node event =
+    records_unless (refused_as (length node.slots) node.globals event) node event
+
+-- a node, and the control place of each of its slots: where the latest datagram came from that read
+-- as a line of the slot; none before the first
+pub record ServiceState : Type 0 where
+  pub node : NodeState
+  pub places : List (Option Place)
+
+-- what was lost for want of memory of a reading of the clock or of a datagram
+pub data Loss : Type 0 where
+  LineLost : Loss  -- it wasn't read as a line
+  EventLost : Loss  -- it was read, and the node didn't take it
+  TextsLost : (marks : List Bool) → Loss  -- the texts of those of its records
+
+-- where a service comes to, and what it tells
+pub record Effect : Type 0 where
+  pub service : ServiceState
+  pub telling : Telling
+
+-- nothing happens
+abbrev pub still : ServiceState → Effect
+still service = record { service = service; telling = silence }
+
+-- something is told, and nothing else happens
+abbrev pub telling_only : ServiceState → Telling → Effect
+telling_only service telling = record { service = service; telling = telling }
+
+-- one thing after another
+abbrev pub then_effect : Effect → (ServiceState → Effect) → Effect
+then_effect first next = record {
+  service = (next first.service).service;
+  telling = both first.telling (next first.service).telling;
+}
+
+-- the node takes an event, and tells its records
+unfoldable pub event_effect : ServiceState → EventModel → Loss → Effect
+event_effect service event LineLost = telling_only service missing
+event_effect service event EventLost = telling_only service missing
+event_effect service event (TextsLost marks) = record {
+  service = record service { node = node_after service.node event };
+  telling = records_telling service.places marks (event_records service.node event);
+}

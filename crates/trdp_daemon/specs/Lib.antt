@@ -1,0 +1,12 @@
+pub mod Counting
+pub mod Daemons
+pub mod Effects
+pub mod Links
+pub mod MemoryClocks
+pub mod Ports
+pub mod Rows
+pub mod Services
+pub mod Tellings
+pub mod Told
+pub mod Turns
+pub mod Visits

@@ -1,0 +1,21 @@
+-- The ports that a daemon takes datagrams from.
+use Rattle.std.specs.Prelude.{ℕ, suc, ◌==◌, if◌then◌else◌, List, [], ◌∷◌, ◌++◌}
+use Rattle.trdp_dataset.specs.Configs.{ConfigModel, SlotModel}
+use Rattle.trdp_daemon.specs.declared.port.Port.{Port}
+use Rattle.trdp_daemon.specs.declared.port.Port.TheVariants.{Pd, Md, Operator, Control}
+
+-- a port; none where its number is 0
+unfoldable pub port_unless_0 : ℕ → Port → List Port
+port_unless_0 number port = if number == 0 then [] else port ∷ []
+
+-- the control ports of slots, of which the first has the number s
+unfoldable pub control_ports : ℕ → List SlotModel → List Port
+control_ports s [] = []
+control_ports s (slot ∷ slots) =
+    port_unless_0 slot.control_port (Control s) ++ control_ports (suc s) slots
+
+-- the ports of a turn, in order: process data, message data, the operator's, and the slots' control
+-- ports; one whose number is 0 is passed over
+unfoldable pub ports_of : ConfigModel → List Port
+ports_of config =
+    Pd ∷ Md ∷ (port_unless_0 config.operator_port Operator ++ control_ports 0 config.slots)

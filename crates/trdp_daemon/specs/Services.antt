@@ -1,0 +1,58 @@
+-- A service on its way.
+use Rattle.std.specs.Prelude.{◌≡◌, ℕ, ◌≤◌, List, Option, [], length, map}
+use Rattle.trdp_dataset.specs.Configs.{ConfigModel}
+use Rattle.trdp_daemon.specs.declared.port.Port.{Port}
+use Rattle.trdp_daemon.specs.declared.visit.Home.{Home}
+use Rattle.trdp_daemon.specs.declared.link.Link.{Link}
+use Rattle.trdp_daemon.specs.declared.service.Service.{Service}
+use Rattle.trdp_daemon.specs.Told.{Taking, Give}
+use Rattle.trdp_daemon.specs.Effects.{ServiceState, Effect, Loss}
+use Rattle.trdp_daemon.specs.Links.{Carries}
+use Rattle.trdp_daemon.specs.Turns.{Visit, visits_effect, Turn, TakesAt, takings_of, turn_effect}
+use Rattle.trdp_daemon.specs.Visits.{own_place}
+
+-- the node and the control places
+abbrev pub service_state : Service → ServiceState
+service_state s = record { node = s.node; places = s.places.items }
+
+-- a service and its link after so many takes and this effect
+pub record Comes {W : Type 0} (takings_in : W → Option (List Taking))
+    (gives_in : W → Option (List Give)) (old new : Service) (link link_then : Link W)
+    (takings : List Taking) (effect : Effect) : Type 0 where
+  pub service_is : service_state new ≡ effect.service
+  pub carried : Carries takings_in gives_in link link_then takings effect.telling
+
+-- the same of an effect that some loss decides
+pub record ComesWith {W : Type 0} (takings_in : W → Option (List Taking))
+    (gives_in : W → Option (List Give)) (old new : Service) (link link_then : Link W)
+    (effect : Loss → Effect) : Type 0 where
+  pub loss : Loss
+  pub comes : Comes takings_in gives_in old new link link_then [] (effect loss)
+
+-- takes were made at these ports, in their order, and nothing else
+pub record TakesAtPorts {W : Type 0} (takings_in : W → Option (List Taking))
+    (gives_in : W → Option (List Give)) (old new : Service) (link link_then : Link W)
+    (ports : List Port) : Type 0 where
+  pub visits : List Visit
+  pub ports_are : map (λ visit. visit.taking.port) visits ≡ ports
+  pub comes : Comes takings_in gives_in old new link link_then
+      (map (λ visit. visit.taking) visits) (visits_effect (service_state old) visits)
+
+-- a turn was taken at this reading of the clock, with takes at these ports in their order
+pub record TakesTurn {W : Type 0} (takings_in : W → Option (List Taking))
+    (gives_in : W → Option (List Give)) (old new : Service) (link link_then : Link W)
+    (ports : List Port) (reading : ℕ) : Type 0 where
+  pub turn : Turn
+  pub reading_is : turn.reading ≡ reading
+  pub takes_at : TakesAt ports turn
+  pub comes : Comes takings_in gives_in old new link link_then (takings_of turn)
+      (turn_effect (service_state old) turn)
+
+-- the places that datagrams of process data and of message data go to at this node
+abbrev pub IsHome : ConfigModel → Home → Type 0
+IsHome config home = (home.pd ≡ own_place config config.pd_port)
+    × (home.md ≡ own_place config config.md_port)
+
+-- a node has at most 16 slots
+abbrev pub IsSound : Service → Type 0
+IsSound s = length s.node.slots ≤ 16

@@ -1,0 +1,34 @@
+-- What was offered for the records of an event.
+use Rattle.std.specs.Prelude.{◌≡◌, ◌==◌, if◌then◌else◌, ℕ, List, [], ◌∷◌, length, Bool, Option}
+use Rattle.trdp_base.specs.declared.place.Place.{Place}
+use Rattle.trdp_engine.specs.Records.{RecordModel}
+use Rattle.trdp_daemon.specs.declared.link.Link.{Link}
+use Rattle.trdp_daemon.specs.Told.{Taking, Give}
+use Rattle.trdp_daemon.specs.Effects.{text_telling, record_telling, records_telling}
+use Rattle.trdp_daemon.specs.Links.{Carries}
+
+-- a text of a slot was told, or lost
+pub record TellsText {W : Type 0} (takings_in : W → Option (List Taking))
+    (gives_in : W → Option (List Give)) (old new : Link W) (slot : ℕ) (to : Option Place)
+    (text : List ℕ) : Type 0 where
+  pub lost : Bool
+  pub carried : Carries takings_in gives_in old new [] (text_telling slot to lost text)
+
+-- a record was told, or lost its text
+pub record TellsRecord {W : Type 0} (takings_in : W → Option (List Taking))
+    (gives_in : W → Option (List Give)) (places : List (Option Place)) (old new : Link W)
+    (r : RecordModel) : Type 0 where
+  pub lost : Bool
+  pub carried : Carries takings_in gives_in old new [] (record_telling places lost r)
+
+-- a record of the slot, and none of another
+abbrev pub if_of_slot : ℕ → RecordModel → List RecordModel
+if_of_slot slot r = if r.slot == slot then r ∷ [] else []
+
+-- records were told in their order, but for those that lost their text
+pub record Tells {W : Type 0} (takings_in : W → Option (List Taking))
+    (gives_in : W → Option (List Give)) (places : List (Option Place)) (old new : Link W)
+    (records : List RecordModel) : Type 0 where
+  pub marks : List Bool
+  pub each : length marks ≡ length records
+  pub carried : Carries takings_in gives_in old new [] (records_telling places marks records)

@@ -1,0 +1,50 @@
+-- What a wire tells of its takes and gives, and a clock of its readings.
+use Rattle.std.specs.Prelude.{◌≡◌, ℕ, List, [], ◌∷◌, ◌++◌, take, Option, Some, None, Result, Ok, Err}
+use Rattle.std.specs.Prelude.{Bool, is_err}
+use Rattle.trdp_base.specs.declared.place.Place.{Place}
+use Rattle.trdp_daemon.specs.declared.port.Port.{Port}
+use Rattle.trdp_daemon.specs.declared.fault.WireFault.{WireFault}
+
+-- what a take answered: a fault, that no datagram was there, or where one came from and its bytes
+pub data Arrived : Type 0 where
+  Failed : Arrived
+  Nothing : Arrived
+  Came : (from : Place) (bytes : List ℕ) → Arrived
+
+-- one take at a port
+pub record Taking : Type 0 where
+  pub port : Port
+  pub arrived : Arrived
+
+-- a datagram that is offered to the wire: the port that it leaves from, where it goes, its bytes
+pub record Offer : Type 0 where
+  pub port : Port
+  pub to : Place
+  pub bytes : List ℕ
+
+-- one give, and whether the wire failed at it
+pub record Give : Type 0 where
+  pub offer : Offer
+  pub failed : Bool
+
+-- what a take answered, which has put the bytes at the front of the room
+abbrev pub arrived_in : Result (Option (Place × ℕ)) WireFault → List ℕ → Arrived
+arrived_in (Err fault) room = Failed
+arrived_in (Ok None) room = Nothing
+arrived_in (Ok (Some found)) room = Came found.0 (take found.1 room)
+
+abbrev pub taking_of : Port → Result (Option (Place × ℕ)) WireFault → List ℕ → Taking
+taking_of port result room = record { port = port; arrived = arrived_in result room }
+
+abbrev pub offer_to : Port → Place → List ℕ → Offer
+offer_to port to bytes = record { port = port; to = to; bytes = bytes }
+
+abbrev pub give_of : Port → Place → List ℕ → Result (Unit {0}) WireFault → Give
+give_of port to bytes result =
+    record { offer = offer_to port to bytes; failed = is_err result }
+
+-- a list that is told afterwards was told before, and these were added to it
+abbrev pub Adds : {X : Type 0} → Option (List X) → Option (List X) → List X → Type 0
+Adds old None more = Unit {0}
+Adds None (Some new) more = ⊥
+Adds (Some old) (Some new) more = new ≡ old ++ more

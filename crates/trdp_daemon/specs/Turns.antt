@@ -1,0 +1,65 @@
+-- A daemon's turns.
+use Rattle.std.specs.Prelude.{◌≡◌, ℕ, List, [], ◌∷◌, length, map, min, max, All, Option, None}
+use Rattle.std.specs.List.{flat_map}
+use Rattle.trdp_base.specs.Moments.{last_moment}
+use Rattle.trdp_dataset.specs.Configs.{ConfigModel}
+use Rattle.trdp_engine.specs.Events.{EventModel, MomentIs}
+use Rattle.trdp_engine.specs.NodeStates.{NodeState, opened_node}
+use Rattle.trdp_daemon.specs.declared.port.Port.{Port}
+use Rattle.trdp_daemon.specs.Told.{Taking, Offer}
+use Rattle.trdp_daemon.specs.Effects.{ServiceState, Effect, Loss, still, then_effect, event_effect}
+use Rattle.trdp_daemon.specs.Visits.{taking_effect}
+
+-- one take, and what was lost of its datagram
+pub record Visit : Type 0 where
+  pub taking : Taking
+  pub loss : Loss
+
+-- one turn: a reading of the clock, what was lost of its moment, and a take at each port
+pub record Turn : Type 0 where
+  pub reading : ℕ
+  pub loss : Loss
+  pub visits : List Visit
+
+-- the moment of a reading: never before the node's, nor past the last one
+abbrev pub moment_of : NodeState → ℕ → EventModel
+moment_of node reading = MomentIs (max node.globals.now (min reading last_moment))
+
+abbrev pub visit_effect : ServiceState → Visit → Effect
+visit_effect service visit =
+    taking_effect service visit.taking.port visit.taking.arrived visit.loss
+
+-- takes one after another
+abbrev pub visits_effect : ServiceState → List Visit → Effect
+visits_effect service [] = still service
+visits_effect service (visit ∷ visits) =
+    then_effect (visit_effect service visit) (λ after. visits_effect after visits)
+
+-- a turn: first the moment, and then each datagram
+abbrev pub turn_effect : ServiceState → Turn → Effect
+turn_effect service turn =
+    then_effect (event_effect service (moment_of service.node turn.reading) turn.loss)
+    (λ after. visits_effect after turn.visits)
+
+-- turns one after another
+abbrev pub turns_effect : ServiceState → List Turn → Effect
+turns_effect service [] = still service
+turns_effect service (turn ∷ turns) =
+    then_effect (turn_effect service turn) (λ after. turns_effect after turns)
+
+-- the takes of a turn
+abbrev pub takings_of : Turn → List Taking
+takings_of turn = map (λ visit. visit.taking) turn.visits
+
+-- a turn takes once at each of these ports, in their order
+abbrev pub TakesAt : List Port → Turn → Type 0
+TakesAt ports turn = map (λ visit. visit.taking.port) turn.visits ≡ ports
+
+-- a node that was just opened, no slot of which has a control place
+abbrev pub opened_service : ConfigModel → ServiceState
+opened_service config =
+    record { node = opened_node config; places = map (λ slot. None) config.slots }
+
+-- all that a daemon of a configuration offers in these turns, its first
+abbrev pub offers_of : ConfigModel → List Turn → List Offer
+offers_of config turns = (turns_effect (opened_service config) turns).telling.offers

@@ -1,0 +1,112 @@
+-- What a datagram at one of the ports gives.
+use Rattle.std.specs.Prelude.{ℕ, List, [], ◌∷◌, ◌++◌, length, codes, slice_set}
+use Rattle.std.specs.Prelude.{Option, Some, None, Result, Ok, Err}
+use Rattle.trdp_base.specs.declared.place.Ip.{Ip}
+use Rattle.trdp_base.specs.declared.place.Place.{Place}
+use Rattle.trdp_dataset.specs.Configs.{ConfigModel}
+use Rattle.trdp_engine.specs.declared.fault.NodeFault.{NodeFault}
+use Rattle.trdp_engine.specs.declared.record.Protocol.TheVariants.{Pd as PdData, Md as MdData}
+use Rattle.trdp_engine.specs.Alone.{refused_as}
+use Rattle.trdp_engine.specs.Events.{EventModel, DatagramIs}
+use Rattle.trdp_script.specs.declared.fault.LineFault.{LineFault}
+use Rattle.trdp_script.specs.declared.fault.LineFault.TheVariants.{TooLong, Unknown, Count}
+use Rattle.trdp_script.specs.declared.fault.LineFault.TheVariants.{BadWord, OutOfMemory}
+use Rattle.trdp_script.specs.RecordText.{text_of_fault, name_of_line_fault}
+use Rattle.trdp_script.specs.PortLines.{control_line_of, operator_line_of}
+use Rattle.trdp_daemon.specs.declared.port.Port.{Port}
+use Rattle.trdp_daemon.specs.declared.port.Port.TheVariants.{Pd, Md, Operator, Control}
+use Rattle.trdp_daemon.specs.Told.{Arrived, Failed, Nothing, Came, Taking}
+use Rattle.trdp_daemon.specs.Effects.{Telling, missing, offering, ServiceState, Effect, still}
+use Rattle.trdp_daemon.specs.Effects.{telling_only, then_effect, event_effect}
+use Rattle.trdp_daemon.specs.Effects.{Loss, LineLost, EventLost, TextsLost}
+
+-- the place of the node's address and that port
+abbrev pub own_place : ConfigModel → ℕ → Place
+own_place config port = record { ip = record { 0 = config.address }; port = port }
+
+-- the answer to a datagram that is no line
+unfoldable pub text_of_line_fault : LineFault → List ℕ
+text_of_line_fault fault = codes "line fault " ++ name_of_line_fault fault ++ codes "\n"
+
+-- a datagram that is no line gets its fault back from the port that it came to; one that found no
+-- memory is lost
+unfoldable pub fault_telling : Port → Place → LineFault → Telling
+fault_telling port from TooLong = offering port from (text_of_line_fault TooLong)
+fault_telling port from Unknown = offering port from (text_of_line_fault Unknown)
+fault_telling port from Count = offering port from (text_of_line_fault Count)
+fault_telling port from BadWord = offering port from (text_of_line_fault BadWord)
+fault_telling port from OutOfMemory = missing
+
+-- the answer to a line of the operator whose event has this fault, or none
+unfoldable pub operator_text : Option NodeFault → List ℕ
+operator_text None = codes "ok\n"
+operator_text (Some fault) = text_of_fault fault
+
+-- what the operator is told of an event, behind the event's records
+abbrev pub operator_answer : ServiceState → Place → EventModel → Telling
+operator_answer service from event = offering Operator from
+    (operator_text (refused_as (length service.node.slots) service.node.globals event))
+
+-- an event of the operator: one that is lost has no answer
+unfoldable pub operator_event : ServiceState → Place → EventModel → Loss → Effect
+operator_event service from event LineLost = telling_only service missing
+operator_event service from event EventLost = telling_only service missing
+operator_event service from event (TextsLost marks) =
+    then_effect (event_effect service event (TextsLost marks))
+    (λ after. telling_only after (operator_answer service from event))
+
+-- a skipped line has no answer
+unfoldable pub skipped_line : ServiceState → Loss → Effect
+skipped_line service LineLost = telling_only service missing
+skipped_line service EventLost = still service
+skipped_line service (TextsLost marks) = still service
+
+-- a datagram at the operator's port
+unfoldable pub operator_effect : ServiceState → Place → Result (Option EventModel) LineFault
+    → Loss → Effect
+operator_effect service from (Err fault) loss =
+    telling_only service (fault_telling Operator from fault)
+operator_effect service from (Ok None) loss = skipped_line service loss
+operator_effect service from (Ok (Some event)) loss = operator_event service from event loss
+
+-- what reads as a line at a slot's control port sets the slot's control place
+abbrev pub with_place : ServiceState → ℕ → Place → ServiceState
+with_place service slot from =
+    record service { places = slice_set service.places slot (Some from) }
+
+-- a call of a slot
+unfoldable pub control_event : ServiceState → ℕ → Place → EventModel → Loss → Effect
+control_event service slot from event LineLost = telling_only service missing
+control_event service slot from event EventLost =
+    event_effect (with_place service slot from) event EventLost
+control_event service slot from event (TextsLost marks) =
+    event_effect (with_place service slot from) event (TextsLost marks)
+
+-- a datagram at the control port of a slot
+unfoldable pub control_effect : ServiceState → ℕ → Place → Result (Option EventModel) LineFault
+    → Loss → Effect
+control_effect service slot from (Err fault) loss =
+    telling_only service (fault_telling (Control slot) from fault)
+control_effect service slot from (Ok None) LineLost = telling_only service missing
+control_effect service slot from (Ok None) EventLost = still (with_place service slot from)
+control_effect service slot from (Ok None) (TextsLost marks) =
+    still (with_place service slot from)
+control_effect service slot from (Ok (Some event)) loss =
+    control_event service slot from event loss
+
+-- a datagram at a port
+unfoldable pub datagram_effect : ServiceState → Port → Place → List ℕ → Loss → Effect
+datagram_effect service Pd from bytes loss = event_effect service (DatagramIs PdData from
+    (own_place service.node.config service.node.config.pd_port) bytes) loss
+datagram_effect service Md from bytes loss = event_effect service (DatagramIs MdData from
+    (own_place service.node.config service.node.config.md_port) bytes) loss
+datagram_effect service Operator from bytes loss =
+    operator_effect service from (operator_line_of bytes) loss
+datagram_effect service (Control slot) from bytes loss =
+    control_effect service slot from (control_line_of slot bytes) loss
+
+-- what a take comes to
+unfoldable pub taking_effect : ServiceState → Port → Arrived → Loss → Effect
+taking_effect service port Failed loss = still service
+taking_effect service port Nothing loss = still service
+taking_effect service port (Came from bytes) loss = datagram_effect service port from bytes loss

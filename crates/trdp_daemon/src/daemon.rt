@@ -1,0 +1,179 @@
+//! The daemon: turn after turn over a wire and a clock.
+
+ghost use Rattle.std.specs.Prelude.{◌≡◌, IfOk};
+ghost use Rattle.trdp_daemon.specs.Ports.{ports_of};
+ghost use Rattle.trdp_daemon.specs.Services.{IsHome};
+
+use crate::clock::Clock;
+use crate::link::Link;
+use crate::port::Port;
+use crate::ports::ports_of;
+use crate::service::Service;
+use crate::totals::Totals;
+use crate::turn::take_turn;
+use crate::visit::Home;
+use crate::wire::Wire;
+use std::alloc::{AllocError, Global};
+use std::marker::Model;
+use trdp_base::Place;
+use trdp_dataset::NodeConfig;
+
+/// Room for a datagram, in bytes: more than the longest over UDP.
+const DATAGRAM_ROOM: usize = 65_536;
+
+/// A node that takes its datagrams from a wire and its time from a clock, and gives the wire what
+/// the node sends.
+#[derive(Drop)]
+pub struct Daemon<W: Wire, C: Clock> {
+    /// Where lines that carry bytes take their memory from.
+    alloc: Global,
+    /// The node, and where its slots' applications are.
+    service: Service,
+    /// Where telegrams go to at the node.
+    home: Home,
+    /// The ports of a turn, in its order.
+    ports: Vec<Port>,
+    /// Room for one datagram.
+    room: Vec<u8>,
+    /// The wire, with the totals.
+    link: Link<W>,
+    clock: C,
+}
+
+impl<W: Wire, C: Clock> Model for Daemon<W, C> {
+    ghost use Rattle.std.specs.Prelude.{◌≡◌, ◌≤◌, length};
+    ghost use Rattle.trdp_daemon.specs.Daemons.{DaemonState};
+    ghost use Rattle.trdp_daemon.specs.Ports.{ports_of};
+    ghost use Rattle.trdp_daemon.specs.Services.{IsHome, IsSound, service_state};
+
+    ghost Value = { DaemonState W C };
+
+    ghost view = { λ d. record {
+      service = service_state d.service;
+      wire = d.link.wire;
+      clock = d.clock;
+      totals = d.link.totals;
+    } };
+
+    ghost invariant = { λ d. IsSound d.service × IsHome d.service.node.config d.home
+        × (d.ports.items ≡ ports_of d.service.node.config) };
+}
+
+impl<W: Wire, C: Clock> Daemon<W, C> {
+    ghost use Rattle.std.specs.Prelude.{◌≡◌, ◌+◌, ℕ, IfOk, IfErr};
+    ghost use Rattle.trdp_daemon.specs.Daemons.{DaemonState, TakesTurns, opened_daemon};
+
+    /// A daemon that has taken no turn: its node is at moment 0, and no slot has a control place.
+    /// All buffers are made here.
+    ///
+    /// # Errors
+    /// Configuration, wire and clock come back for want of memory.
+    pub fn new(
+        alloc: Global,
+        config: NodeConfig,
+        wire: W,
+        clock: C,
+    ) -> Result<Daemon<W, C>, (NodeConfig, W, C)>
+        ensures opened { IfOk result (λ daemon. daemon ≡ opened_daemon config wire clock) }
+        ensures returned { IfErr result (λ back.
+            (back.0 ≡ config) × (back.1 ≡ wire) × (back.2 ≡ clock)) }
+    {
+        match buffers(alloc, &config) {
+            Err(_) => Err((config, wire, clock)),
+            Ok((ports, room)) => {
+                let home = home_of(&config);
+                match Service::new(alloc, config) {
+                    Err(config) => Err((config, wire, clock)),
+                    Ok(service) => Ok(Daemon {
+                        alloc,
+                        service,
+                        home,
+                        ports,
+                        room,
+                        link: Link::new(wire),
+                        clock,
+                    }),
+                }
+            }
+        }
+    }
+
+    /// The totals so far.
+    pub fn totals(&self) -> Totals
+        ensures { result ≡ self.now.totals }
+    {
+        self.link.totals
+    }
+
+    /// The wire.
+    pub fn wire(&self) -> &W
+        ensures { result.now ≡ self.now.wire }
+    {
+        &self.link.wire
+    }
+
+    /// Takes one turn: the moment that the clock says, and then at each port of the configuration
+    /// once, in the order process data, message data, operator, control ports of the slots. Answers
+    /// the totals since the daemon was made.
+    pub fn turn(&mut self) -> Totals
+        ensures turn { TakesTurns W.takings W.gives C.readings 1 self.old self.new }
+        ensures since { (first : DaemonState W C) (n : ℕ)
+            → TakesTurns W.takings W.gives C.readings n first self.old
+            → TakesTurns W.takings W.gives C.readings (n + 1) first self.new }
+        ensures totals { result ≡ self.new.totals }
+    {
+        let reading = self.clock.now();
+        take_turn(
+            self.alloc,
+            &mut self.service,
+            self.home,
+            &self.ports,
+            &mut self.room,
+            reading,
+            &mut self.link,
+        );
+        self.link.totals
+    }
+    /// Takes so many turns. Answers the totals since the daemon was made.
+    pub fn run(&mut self, turns: u32) -> Totals
+        ensures turns { TakesTurns W.takings W.gives C.readings turns self.old self.new }
+        ensures since { (first : DaemonState W C) (n : ℕ)
+            → TakesTurns W.takings W.gives C.readings n first self.old
+            → TakesTurns W.takings W.gives C.readings (n + turns) first self.new }
+        ensures totals { result ≡ self.new.totals }
+    {
+        for _turn in 0..turns {
+            self.turn();
+        }
+        self.totals()
+    }
+}
+
+/// The ports of a turn, and room for a datagram.
+///
+/// # Errors
+/// Want of memory for these.
+fn buffers(alloc: Global, config: &NodeConfig) -> Result<(Vec<Port>, Vec<u8>), AllocError>
+    ensures { IfOk result (λ made. made.0.items ≡ ports_of config.now) }
+{
+    let ports = ports_of(alloc, config)?;
+    let room = vec![in alloc; 0; DATAGRAM_ROOM]?;
+    Ok((ports, room))
+}
+
+/// Where telegrams go to at the node of a configuration.
+fn home_of(config: &NodeConfig) -> Home
+    ensures { IsHome config.now result }
+{
+    let ip = config.address();
+    Home {
+        pd: Place {
+            ip,
+            port: config.pd_port(),
+        },
+        md: Place {
+            ip,
+            port: config.md_port(),
+        },
+    }
+}

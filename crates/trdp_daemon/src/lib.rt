@@ -1,0 +1,35 @@
+//! A node as a device on a network: datagrams come from a wire, time from a clock.
+#![tactic(auto)]
+
+mod answer;
+mod clock;
+mod daemon;
+mod fault;
+mod link;
+mod memory_clock;
+mod memory_wire;
+mod port;
+mod ports;
+mod rows;
+mod run_clock;
+mod service;
+mod telling;
+mod totals;
+mod turn;
+mod udp_wire;
+mod visit;
+mod wire;
+
+pub use clock::Clock;
+pub use daemon::Daemon;
+pub use fault::WireFault;
+pub use memory_clock::MemoryClock;
+pub use memory_wire::MemoryWire;
+pub use port::Port;
+pub use run_clock::RunClock;
+pub use totals::Totals;
+pub use udp_wire::{BindFault, UdpWire};
+pub use wire::Wire;
+
+#[cfg(test)]
+mod tests;

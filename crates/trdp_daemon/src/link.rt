@@ -1,0 +1,91 @@
+//! A wire, with the counts of what came and went.
+
+ghost use Rattle.std.specs.Prelude.{◌≡◌, ◌+◌, ◌-◌, ◌^◌, ◌≤◌, min, [], ◌∷◌, length, IfSome};
+ghost use Rattle.trdp_daemon.specs.Told.{Give};
+ghost use Rattle.trdp_daemon.specs.Counting.{counted, no_totals, totals_after};
+ghost use Rattle.trdp_daemon.specs.Effects.{silence, missing, offering};
+ghost use Rattle.trdp_daemon.specs.Links.{Carries, Takes};
+
+use crate::port::Port;
+use crate::totals::Totals;
+use crate::wire::Wire;
+use trdp_base::Place;
+
+/// A wire, with the counts of what came and went.
+#[derive(Drop)]
+pub(crate) struct Link<W: Wire> {
+    pub(crate) wire: W,
+    pub(crate) totals: Totals,
+}
+
+impl<W: Wire> Link<W> {
+    /// A link over which nothing came and went.
+    pub(crate) fn new(wire: W) -> Link<W>
+        ensures wire { result.wire ≡ wire }
+        ensures totals { result.totals ≡ no_totals }
+    {
+        Link {
+            wire,
+            totals: Totals {
+                taken: 0,
+                offered: 0,
+                lost: 0,
+                unread: 0,
+                memory: 0,
+            },
+        }
+    }
+
+    /// Takes the next datagram at a port, if one is there: it is put at the front of the room, and
+    /// the answer is where it came from and how many bytes it has there. A take at which the wire
+    /// fails is counted, and gives nothing.
+    pub(crate) fn take(&mut self, port: Port, room: &mut [u8]) -> Option<(Place, usize)>
+        ensures within { IfSome result (λ found. found.1 ≤ length room.new) }
+        ensures takes { Takes W.takings W.gives self.old self.new port result room.new }
+    {
+        match self.wire.take(port, room) {
+            Ok(Some(found)) => {
+                self.totals.taken = one_more(self.totals.taken);
+                Some(found)
+            }
+            Ok(None) => None,
+            Err(_) => {
+                self.totals.unread = one_more(self.totals.unread);
+                None
+            }
+        }
+    }
+
+    /// Offers a datagram to the wire. One at which the wire fails is counted, and lost.
+    pub(crate) fn give(&mut self, port: Port, to: Place, bytes: &[u8])
+        ensures { Carries W.takings W.gives self.old self.new [] (offering port to bytes.now) }
+    {
+        let given = self.wire.give(port, to, bytes);
+        count_give(&mut self.totals, given.is_err());
+    }
+
+    /// Counts something that was lost for want of memory.
+    pub(crate) fn miss(&mut self)
+        ensures { Carries W.takings W.gives self.old self.new [] missing }
+    {
+        self.totals.memory = one_more(self.totals.memory);
+    }
+}
+
+/// Counts a give, at which the wire failed or not.
+fn count_give(totals: &mut Totals, failed: bool)
+    ensures { (give : Give) → give.failed ≡ failed
+        → totals.new ≡ totals_after totals.old [] (give ∷ []) 0 }
+{
+    if failed {
+        totals.lost = one_more(totals.lost);
+    }
+    totals.offered = one_more(totals.offered);
+}
+
+/// A count with one more, which stops at its last value.
+fn one_more(count: u64) -> u64
+    ensures { result ≡ counted count 1 }
+{
+    count.saturating_add(1)
+}

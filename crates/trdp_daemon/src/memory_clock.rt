@@ -1,0 +1,75 @@
+//! A clock that reads a list, for tests.
+
+ghost use Rattle.std.specs.Prelude.{◌≡◌, ◌+◌, ◌∷◌, [], min, ◌-◌, ◌^◌, IfOk, length, true};
+ghost use Rattle.trdp_daemon.specs.MemoryClocks.{reading_at, told_readings, readings_first};
+ghost use Rattle.trdp_daemon.specs.Told.{Adds};
+
+use crate::clock::Clock;
+use std::alloc::{AllocError, Global};
+
+/// A clock that reads the numbers of a list in order, and then the last one again and again; of an
+/// empty list it reads 0. It tells its readings, up to 2^64 - 1 of them; after that it tells
+/// nothing.
+#[derive(Drop)]
+pub struct MemoryClock {
+    /// What it reads, in order.
+    moments: Vec<u64>,
+    /// How many readings there were, at most 2^64 - 1.
+    count: u64,
+    /// Whether it tells them.
+    tells: bool,
+}
+
+impl MemoryClock {
+    /// A clock that reads these numbers.
+    ///
+    /// # Errors
+    /// Want of memory for the list.
+    pub fn new(alloc: Global, moments: &[u64]) -> Result<MemoryClock, AllocError>
+        ensures moments { IfOk result (λ clock. clock.moments.items ≡ moments.now) }
+        ensures count { IfOk result (λ clock. clock.count ≡ 0) }
+        ensures tells { IfOk result (λ clock. clock.tells ≡ true) }
+    {
+        let moments = moments.to_vec(alloc)?;
+        Ok(MemoryClock {
+            moments,
+            count: 0,
+            tells: true,
+        })
+    }
+}
+
+impl Clock for MemoryClock {
+    ghost readings = { told_readings };
+
+    fn now(&mut self) -> u64
+        ensures told { Adds (told_readings self.old) (told_readings self.new) (result ∷ []) }
+        ensures reading { result ≡ reading_at self.old.moments.items self.old.count }
+        ensures moments { self.new.moments.items ≡ self.old.moments.items }
+        ensures count { self.new.count ≡ min (self.old.count + 1) (2 ^ 64 - 1) }
+    {
+        let reading = reading_at(&self.moments, self.count);
+        if self.count < u64::MAX {
+            self.count += 1;
+        } else {
+            self.tells = false;
+        }
+        reading
+    }
+}
+
+/// The reading of that index, from 0.
+fn reading_at(moments: &[u64], index: u64) -> u64
+    ensures { result ≡ reading_at moments.now index }
+{
+    let last = moments.len().saturating_sub(1);
+    let index = if index < last as u64 {
+        index as usize
+    } else {
+        last
+    };
+    match moments.get(index) {
+        Some(moment) => *moment,
+        None => 0,
+    }
+}

@@ -1,0 +1,58 @@
+//! The ports that a configuration names.
+
+ghost use Rattle.std.specs.Prelude.{◌≡◌, ◌<◌, ◌≤◌, ◌+◌, ◌++◌, drop, length, IfOk, OnOk};
+ghost use Rattle.trdp_daemon.specs.Ports.{control_ports, port_unless_0, ports_of};
+
+use crate::port::Port;
+use std::alloc::{AllocError, Global};
+use trdp_dataset::NodeConfig;
+
+/// The ports of a turn, in its order.
+///
+/// # Errors
+/// Want of memory for their list.
+pub(crate) fn ports_of(alloc: Global, config: &NodeConfig) -> Result<Vec<Port>, AllocError>
+    ensures { IfOk result (λ ports. ports.items ≡ ports_of config.now) }
+{
+    let mut ports = vec![in alloc; Port::Pd, Port::Md]?;
+    push_unless_0(&mut ports, config.operator_port(), Port::Operator)?;
+    for slot in 0..config.slots() {
+        push_control(&mut ports, config, slot)?;
+    }
+    Ok(ports)
+}
+
+/// Adds the control port of a slot, unless its number is 0.
+fn push_control(ports: &mut Vec<Port>, config: &NodeConfig, slot: usize) -> Result<(), AllocError>
+    requires slot { slot < length config.now.slots }
+    requires few { length config.now.slots ≤ 16 }
+    ensures { OnOk result (ports.new.items ++ control_ports (slot + 1) (drop (slot + 1) config.now.slots)
+        ≡ ports.old.items ++ control_ports slot (drop slot config.now.slots)) }
+{
+    match config.control_port(slot) {
+        Some(number) => {
+            let slot = slot_number(slot);
+            push_unless_0(ports, number, Port::Control(slot))
+        }
+        None => Ok(()),
+    }
+}
+
+/// The index of a slot as its number.
+fn slot_number(slot: usize) -> u16
+    requires { slot < 16 }
+    ensures { result ≡ slot }
+{
+    slot as u16
+}
+
+/// Adds a port, unless its number is 0.
+#[tactic(auto, unfolding(crate::specs::Ports::port_unless_0))]
+fn push_unless_0(ports: &mut Vec<Port>, number: u16, port: Port) -> Result<(), AllocError>
+    ensures { OnOk result (ports.new.items ≡ ports.old.items ++ port_unless_0 number port) }
+{
+    if number != 0 {
+        ports.push(port)?;
+    }
+    Ok(())
+}

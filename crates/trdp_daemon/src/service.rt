@@ -1,0 +1,180 @@
+//! A node, and where its slots' applications are.
+
+ghost use Rattle.std.specs.Prelude.{◌≡◌, ◌≢◌, ◌≤◌, length, slice_set, IfSome, IfNone, IfOk, IfErr};
+ghost use Rattle.std.specs.Prelude.{OnOk, OnErr, Some};
+ghost use Rattle.trdp_engine.specs.Alone.{refused_as};
+ghost use Rattle.trdp_engine.specs.Events.{event_model};
+ghost use Rattle.trdp_script.specs.ScriptText.{node_after};
+ghost use Rattle.trdp_script.specs.SlotOrder.{by_slot};
+ghost use Rattle.trdp_daemon.specs.Effects.{event_records, event_effect};
+ghost use Rattle.trdp_daemon.specs.Services.{ComesWith, IsSound, service_state};
+ghost use Rattle.trdp_daemon.specs.Turns.{opened_service};
+ghost use Rattle.trdp_daemon.specs.Visits.{operator_event};
+
+use crate::answer::operator_text;
+use crate::link::Link;
+use crate::port::Port;
+use crate::telling::tell_records;
+use crate::wire::Wire;
+use std::alloc::{AllocError, Global};
+use trdp_base::Place;
+use trdp_dataset::NodeConfig;
+use trdp_engine::{Event, Node, NodeFault, Outbox};
+
+/// A node, with the control places of its slots and the lists that are used again from event to
+/// event.
+#[derive(Drop)]
+pub(crate) struct Service {
+    pub(crate) node: Node,
+    /// Where the latest datagram came from that read as a line of the slot, for each slot; None
+    /// before the first.
+    pub(crate) places: Vec<Option<Place>>,
+    /// The records of one event.
+    records: Outbox,
+    /// The line of one record.
+    text: Vec<u8>,
+}
+
+/// Room for a record's line, in bytes: more than the longest of a node.
+const TEXT_ROOM: usize = 140_000;
+
+impl Service {
+    /// The service of a configuration before its first event.
+    ///
+    /// # Errors
+    /// The configuration comes back for want of memory.
+    pub(crate) fn new(alloc: Global, config: NodeConfig) -> Result<Service, NodeConfig>
+        ensures opened { IfOk result (λ service. service_state service ≡ opened_service config) }
+        ensures sound { IfOk result (λ service. IsSound service) }
+        ensures returned { IfErr result (λ back. back ≡ config) }
+    {
+        match lists(alloc, &config) {
+            Err(_) => Err(config),
+            Ok((places, text)) => match Node::new(alloc, config) {
+                Err(config) => Err(config),
+                Ok(node) => Ok(Service {
+                    node,
+                    places,
+                    records: Outbox::new(alloc),
+                    text,
+                }),
+            },
+        }
+    }
+
+    /// Gives the node an event, and offers what its records send. An event that finds no memory is
+    /// counted, and lost.
+    pub(crate) fn take_event<W: Wire>(&mut self, event: &Event<'_>, link: &mut Link<W>)
+        requires sound { IsSound self.old }
+        ensures sound { IsSound self.new }
+        ensures config { self.new.node.config ≡ self.old.node.config }
+        ensures comes { ComesWith W.takings W.gives self.old self.new link.old link.new
+            (event_effect (service_state self.old) (event_model event.now)) }
+    {
+        match step(&mut self.node, event, &mut self.records) {
+            Ok(_) => tell_records(&self.records, &self.places, &mut self.text, link),
+            Err(_) => link.miss(),
+        }
+    }
+
+    /// Gives the node an event of the operator, whose answer goes to that place behind what the
+    /// event's records send. An event that finds no memory is counted, and lost: it has no answer.
+    pub(crate) fn take_operator_event<W: Wire>(
+        &mut self,
+        event: &Event<'_>,
+        from: Place,
+        link: &mut Link<W>,
+    )
+        requires sound { IsSound self.old }
+        ensures sound { IsSound self.new }
+        ensures config { self.new.node.config ≡ self.old.node.config }
+        ensures comes { ComesWith W.takings W.gives self.old self.new link.old link.new
+            (operator_event (service_state self.old) from (event_model event.now)) }
+    {
+        match step(&mut self.node, event, &mut self.records) {
+            Ok(fault) => {
+                tell_records(&self.records, &self.places, &mut self.text, link);
+                link.give(Port::Operator, from, operator_text(fault));
+            }
+            Err(_) => link.miss(),
+        }
+    }
+
+    /// Sets the control place of a slot, if there is such a slot.
+    pub(crate) fn set_place(&mut self, slot: u16, from: Place)
+        ensures node { self.new.node ≡ self.old.node }
+        ensures places { self.new.places.items
+            ≡ slice_set self.old.places.items slot (Some from) }
+    {
+        put_place(&mut self.places, usize::from(slot), from);
+    }
+}
+
+/// No control place for each slot, and room for a line.
+///
+/// # Errors
+/// Want of memory for these.
+fn lists(alloc: Global, config: &NodeConfig) -> Result<(Vec<Option<Place>>, Vec<u8>), AllocError>
+    ensures { IfOk result (λ made. made.0.items
+        ≡ (opened_service config.now).places) }
+{
+    let mut places = Vec::new(alloc);
+    for _slot in 0..config.slots() {
+        places.push(None)?;
+    }
+    let text = Vec::with_capacity(alloc, TEXT_ROOM)?;
+    Ok((places, text))
+}
+
+/// Sets the place of that index, if there is one.
+fn put_place(places: &mut Vec<Option<Place>>, index: usize, from: Place)
+    ensures { places.new.items ≡ slice_set places.old.items index (Some from) }
+{
+    if index < places.len() {
+        places[index] = Some(from);
+    }
+}
+
+/// Gives the node an event, whose records are then the only ones of the outbox, and answers its
+/// fault, with which the node takes no notice of it, if it has one.
+///
+/// # Errors
+/// `AllocError` for want of memory; the node is as before.
+fn step(
+    node: &mut Node,
+    event: &Event<'_>,
+    records: &mut Outbox,
+) -> Result<Option<NodeFault>, AllocError>
+    requires slots { length node.old.slots ≤ 16 }
+    ensures fault { IfOk result (λ fault. fault
+        ≡ refused_as (length node.old.slots) node.old.globals (event_model event.now)) }
+    ensures node { OnOk result (node.new ≡ node_after node.old (event_model event.now)) }
+    ensures records { OnOk result (by_slot 16 records.new.records
+        ≡ event_records node.old (event_model event.now)) }
+    ensures kept { OnErr result (node.new ≡ node.old) }
+    ensures count { length node.new.slots ≡ length node.old.slots }
+    ensures config { node.new.config ≡ node.old.config }
+{
+    records.clear();
+    match node.step(event, records) {
+        Ok(()) => Ok(None),
+        Err(fault) => match own_fault(fault) {
+            Some(fault) => Ok(Some(fault)),
+            None => Err(AllocError),
+        },
+    }
+}
+
+/// A fault of an event's own; None for want of memory.
+fn own_fault(fault: NodeFault) -> Option<NodeFault>
+    ensures own { IfSome result (λ own. (own ≡ fault) × (fault ≢ NodeFault.OutOfMemory)) }
+    ensures memory { IfNone result (fault ≡ NodeFault.OutOfMemory) }
+{
+    match fault {
+        NodeFault::OutOfMemory => None,
+        NodeFault::NoSlot => Some(fault),
+        NodeFault::Past => Some(fault),
+        NodeFault::TooLate => Some(fault),
+        NodeFault::NoGroup => Some(fault),
+    }
+}

@@ -1,0 +1,130 @@
+//! What the records of an event send.
+
+ghost use Rattle.std.specs.Prelude.{◌≡◌, ◌==◌, filter};
+ghost use Rattle.trdp_engine.specs.Records.{record_model};
+ghost use Rattle.trdp_script.specs.RecordText.{text_of_record};
+ghost use Rattle.trdp_script.specs.SlotOrder.{by_slot};
+ghost use Rattle.trdp_daemon.specs.Effects.{place_of, port_of};
+ghost use Rattle.trdp_daemon.specs.Tellings.{Tells, TellsRecord, TellsText, if_of_slot};
+
+use crate::link::Link;
+use crate::port::Port;
+use crate::wire::Wire;
+use trdp_base::Place;
+use trdp_engine::{Outbox, Protocol, Record, What};
+use trdp_script::print_record;
+
+/// The number of slots that a node has at most (profile).
+const SLOTS_MAX: u16 = 16;
+
+/// Offers what the records send, slot by slot, slots rising, each slot's in their order.
+pub(crate) fn tell_records<W: Wire>(
+    records: &Outbox,
+    places: &[Option<Place>],
+    text: &mut Vec<u8>,
+    link: &mut Link<W>,
+)
+    ensures { Tells W.takings W.gives places.now link.old link.new
+        (by_slot 16 records.now.records) }
+{
+    for slot in 0..SLOTS_MAX {
+        tell_slot(records, slot, places, text, link);
+    }
+}
+
+/// Offers what the records of one slot send, in their order.
+fn tell_slot<W: Wire>(
+    records: &Outbox,
+    slot: u16,
+    places: &[Option<Place>],
+    text: &mut Vec<u8>,
+    link: &mut Link<W>,
+)
+    ensures { Tells W.takings W.gives places.now link.old link.new
+        (filter (λ r. r.slot == slot) records.now.records) }
+{
+    for i in 0..records.len() {
+        match records.get(i) {
+            Some(record) => tell_of_slot(&record, slot, places, text, link),
+            None => {}
+        }
+    }
+}
+
+/// Offers what a record sends, if it is one of the slot.
+fn tell_of_slot<W: Wire>(
+    record: &Record<'_>,
+    slot: u16,
+    places: &[Option<Place>],
+    text: &mut Vec<u8>,
+    link: &mut Link<W>,
+)
+    ensures { Tells W.takings W.gives places.now link.old link.new
+        (if_of_slot slot (record_model «record».now)) }
+{
+    if record.slot == slot {
+        tell_record(record, places, text, link);
+    }
+}
+
+/// Offers what a record sends: its telegram, or its line at the slot's control port.
+fn tell_record<W: Wire>(
+    record: &Record<'_>,
+    places: &[Option<Place>],
+    text: &mut Vec<u8>,
+    link: &mut Link<W>,
+)
+    ensures { TellsRecord W.takings W.gives places.now link.old link.new
+        (record_model «record».now) }
+{
+    match record.what {
+        What::Send {
+            protocol,
+            to,
+            telegram,
+        } => link.give(port_of(protocol), to, telegram),
+        What::Answer(_) => tell_text(record, place_of(places, record.slot), text, link),
+        What::Indication(_) => tell_text(record, place_of(places, record.slot), text, link),
+    }
+}
+
+/// Offers a record's line at the slot's control port. Without a place to send it to it is dropped;
+/// one that finds no memory is counted, and lost.
+fn tell_text<W: Wire>(
+    record: &Record<'_>,
+    to: Option<Place>,
+    text: &mut Vec<u8>,
+    link: &mut Link<W>,
+)
+    ensures { TellsText W.takings W.gives link.old link.new «record».now.slot to
+        (text_of_record (record_model «record».now)) }
+{
+    let Some(to) = to else {
+        return;
+    };
+    text.clear();
+    match print_record(text, record) {
+        Ok(()) => link.give(Port::Control(record.slot), to, text),
+        Err(_) => link.miss(),
+    }
+}
+
+/// The control place of a slot, if it has one.
+fn place_of(places: &[Option<Place>], slot: u16) -> Option<Place>
+    ensures { result ≡ place_of places.now slot }
+{
+    match places.get(usize::from(slot)) {
+        Some(place) => *place,
+        None => None,
+    }
+}
+
+/// The port that telegrams of a protocol leave from.
+fn port_of(protocol: Protocol) -> Port
+    ensures { result ≡ port_of protocol }
+{
+    match protocol {
+        Protocol::Pd => Port::Pd,
+        Protocol::Md => Port::Md,
+    }
+}

@@ -1,0 +1,64 @@
+//! One turn: the moment, and then a take at each port.
+
+ghost use Rattle.std.specs.Prelude.{◌≡◌, max, min};
+ghost use Rattle.trdp_base.specs.Moments.{last_moment};
+ghost use Rattle.trdp_daemon.specs.Services.{IsHome, IsSound, TakesAtPorts, TakesTurn};
+
+use crate::link::Link;
+use crate::port::Port;
+use crate::service::Service;
+use crate::visit::Home;
+use crate::wire::Wire;
+use std::alloc::Global;
+use trdp_base::MOMENT_MAX;
+use trdp_engine::{Event, Node};
+
+/// Takes the moment of a reading of the clock, and then at each port once.
+pub(crate) fn take_turn<W: Wire>(
+    alloc: Global,
+    service: &mut Service,
+    home: Home,
+    ports: &[Port],
+    room: &mut [u8],
+    reading: u64,
+    link: &mut Link<W>,
+)
+    requires sound { IsSound service.old }
+    requires home { IsHome service.old.node.config home }
+    ensures sound { IsSound service.new }
+    ensures config { service.new.node.config ≡ service.old.node.config }
+    ensures turn { TakesTurn W.takings W.gives service.old service.new link.old link.new
+        ports.now reading }
+{
+    let moment = moment_of(&service.node, reading);
+    service.take_event(&Event::Moment(moment), link);
+    visit_ports(alloc, service, home, ports, room, link);
+}
+
+/// Takes at each port once, in their order.
+fn visit_ports<W: Wire>(
+    alloc: Global,
+    service: &mut Service,
+    home: Home,
+    ports: &[Port],
+    room: &mut [u8],
+    link: &mut Link<W>,
+)
+    requires sound { IsSound service.old }
+    requires home { IsHome service.old.node.config home }
+    ensures sound { IsSound service.new }
+    ensures config { service.new.node.config ≡ service.old.node.config }
+    ensures takes { TakesAtPorts W.takings W.gives service.old service.new link.old link.new
+        ports.now }
+{
+    for i in 0..ports.len() {
+        service.visit(alloc, home, ports[i], room, link);
+    }
+}
+
+/// The moment of a reading of the clock: never before the node's, nor past the last one.
+fn moment_of(node: &Node, reading: u64) -> u64
+    ensures { result ≡ max node.now.globals.now (min reading last_moment) }
+{
+    node.now().max(reading.min(MOMENT_MAX))
+}

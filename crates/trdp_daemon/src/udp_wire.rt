@@ -1,0 +1,197 @@
+//! The system's sockets.
+
+ghost use Rattle.std.specs.Prelude.{◌<◌, ◌≤◌, length, None, IfOk, IfSome, OnErr};
+
+use crate::fault::WireFault;
+use crate::port::Port;
+use crate::wire::Wire;
+use std::io;
+use std::net::{Ipv4Addr, Net, SocketAddr, SocketAddrV4, UdpSocket};
+use thiserror::Error;
+use trdp_base::{Ip, Place};
+use trdp_dataset::NodeConfig;
+
+/// Why the ports of a node aren't bound.
+#[derive(Clone, Copy, Debug, PartialEq, Eq, Error)]
+pub enum BindFault {
+    /// The system refuses one of the ports.
+    #[error("a port of the node can't be bound")]
+    Bind = 1,
+    /// Memory was refused.
+    #[error("there is no memory for the sockets")]
+    OutOfMemory = 2,
+}
+
+/// The UDP ports of a node, which never wait. It tells no takes and gives.
+#[derive(Drop)]
+pub struct UdpWire {
+    pd: UdpSocket,
+    md: UdpSocket,
+    /// The operator's port; None where the node has none.
+    operator: Option<UdpSocket>,
+    /// The control port of each slot; None where the slot has none.
+    controls: Vec<Option<UdpSocket>>,
+    /// How often the system refused a take or a give, at most 2^64 - 1.
+    failures: u64,
+}
+
+impl UdpWire {
+    /// Binds the ports that a configuration names, at its address.
+    ///
+    /// # Errors
+    /// `Bind` where the system refuses one, `OutOfMemory`.
+    pub fn bind<R: Net + AllocGlobal>(rt: &R, config: &NodeConfig) -> Result<UdpWire, BindFault> {
+        let ip = config.address();
+        let pd = open(rt, ip, config.pd_port())?;
+        let md = open(rt, ip, config.md_port())?;
+        let operator = open_unless_0(rt, ip, config.operator_port())?;
+        let controls = open_controls(rt, config)?;
+        Ok(UdpWire {
+            pd,
+            md,
+            operator,
+            controls,
+            failures: 0,
+        })
+    }
+
+    /// The socket of a port, if the node has it.
+    fn socket(&self, port: Port) -> Option<&UdpSocket> {
+        match port {
+            Port::Pd => Some(&self.pd),
+            Port::Md => Some(&self.md),
+            Port::Operator => self.operator.as_ref(),
+            Port::Control(slot) => match self.controls.get(usize::from(slot)) {
+                Some(control) => control.as_ref(),
+                None => None,
+            },
+        }
+    }
+}
+
+impl Wire for UdpWire {
+    ghost takings = { λ _. None };
+
+    ghost gives = { λ _. None };
+
+    ghost faults = { λ wire. wire.failures };
+
+    fn take(&mut self, port: Port, room: &mut [u8]) -> Result<Option<(Place, usize)>, WireFault> {
+        match self.socket(port) {
+            Some(socket) => match receive(socket, room) {
+                Ok(found) => Ok(found),
+                Err(_) => {
+                    fail(&mut self.failures)?;
+                    Ok(None)
+                }
+            },
+            None => Ok(None),
+        }
+    }
+
+    fn give(&mut self, port: Port, to: Place, bytes: &[u8]) -> Result<(), WireFault> {
+        let sent = match self.socket(port) {
+            Some(socket) => send(socket, to, bytes),
+            None => false,
+        };
+        if sent {
+            Ok(())
+        } else {
+            fail(&mut self.failures)
+        }
+    }
+
+    fn failures(&self) -> u64 {
+        self.failures
+    }
+}
+
+/// Fails, unless the count of failures is at its last value.
+fn fail(failures: &mut u64) -> Result<(), WireFault>
+    ensures { OnErr result (failures.old < failures.new) }
+{
+    if *failures < u64::MAX {
+        *failures += 1;
+        Err(WireFault)
+    } else {
+        Ok(())
+    }
+}
+
+/// What is there at a socket: where it came from, and how many bytes it has at the room's front.
+fn receive(socket: &UdpSocket, room: &mut [u8]) -> io::Result<Option<(Place, usize)>>
+    ensures { IfOk result (λ found. IfSome found (λ f. f.1 ≤ length room.new)) }
+{
+    match socket.recv_from(room) {
+        Ok((len, SocketAddr::V4(from))) => {
+            let place = Place {
+                ip: Ip(from.ip().to_bits()),
+                port: from.port(),
+            };
+            Ok(Some((place, len)))
+        }
+        Ok((_, SocketAddr::V6(_))) => Ok(None),
+        Err(error) if error.kind() == io::ErrorKind::WouldBlock => Ok(None),
+        Err(error) => Err(error),
+    }
+}
+
+/// Sends all of a datagram, or says that it couldn't.
+fn send(socket: &UdpSocket, to: Place, bytes: &[u8]) -> bool {
+    let to = SocketAddr::V4(SocketAddrV4::new(Ipv4Addr::from_bits(to.ip.0), to.port));
+    match socket.send_to(bytes, to) {
+        Ok(len) => len == bytes.len(),
+        Err(_) => false,
+    }
+}
+
+/// A socket at a port, which never waits.
+fn bind_socket<R: Net>(rt: &R, ip: Ip, port: u16) -> io::Result<UdpSocket> {
+    let place = SocketAddr::V4(SocketAddrV4::new(Ipv4Addr::from_bits(ip.0), port));
+    let socket = UdpSocket::bind(rt, place)?;
+    socket.set_nonblocking(true)?;
+    Ok(socket)
+}
+
+/// A socket at a port.
+///
+/// # Errors
+/// `Bind` and `OutOfMemory`.
+fn open<R: Net>(rt: &R, ip: Ip, port: u16) -> Result<UdpSocket, BindFault> {
+    match bind_socket(rt, ip, port) {
+        Ok(socket) => Ok(socket),
+        Err(error) if error.kind() == io::ErrorKind::OutOfMemory => Err(BindFault::OutOfMemory),
+        Err(_) => Err(BindFault::Bind),
+    }
+}
+
+/// A socket at a port, and none at port 0.
+///
+/// # Errors
+/// `Bind` and `OutOfMemory`.
+fn open_unless_0<R: Net>(rt: &R, ip: Ip, port: u16) -> Result<Option<UdpSocket>, BindFault> {
+    if port == 0 {
+        return Ok(None);
+    }
+    Ok(Some(open(rt, ip, port)?))
+}
+
+/// The control ports of the slots.
+///
+/// # Errors
+/// `Bind` and `OutOfMemory`.
+fn open_controls<R: Net + AllocGlobal>(
+    rt: &R,
+    config: &NodeConfig,
+) -> Result<Vec<Option<UdpSocket>>, BindFault> {
+    let mut controls = Vec::new(rt.alloc());
+    for slot in 0..config.slots() {
+        if let Some(port) = config.control_port(slot) {
+            let control = open_unless_0(rt, config.address(), port)?;
+            if controls.push(control).is_err() {
+                return Err(BindFault::OutOfMemory);
+            }
+        }
+    }
+    Ok(controls)
+}

@@ -1,0 +1,50 @@
+//! What datagrams come from and go to.
+
+ghost use Rattle.std.specs.Prelude.{◌≡◌, ◌<◌, ◌≤◌, [], ◌∷◌, length, IfOk, IfSome, OnErr};
+ghost use Rattle.trdp_daemon.specs.Told.{Adds, give_of, taking_of};
+
+use crate::fault::WireFault;
+use crate::port::Port;
+use trdp_base::Place;
+
+/// A wire at the ports of a node, which never waits. It may tell what it took and gave.
+pub trait Wire {
+    ghost use Rattle.std.specs.Prelude.{ℕ, List, Option};
+    ghost use Rattle.trdp_daemon.specs.Told.{Give, Taking};
+
+    /// What each take answered, in order; none where this wire doesn't tell.
+    ghost takings: { Self → Option (List Taking) };
+
+    /// What was given, in order, and whether the wire failed at it; none where this wire doesn't
+    /// tell.
+    ghost gives: { Self → Option (List Give) };
+
+    /// How often the wire has failed.
+    ghost faults: { Self → ℕ };
+
+    /// Takes the next datagram at a port, if one is there: it is put at the front of the room, cut
+    /// to it, and the answer is where it came from and how many bytes it has there.
+    ///
+    /// # Errors
+    /// `WireFault`, where the wire fails; its failures rise then.
+    fn take(&mut self, port: Port, room: &mut [u8]) -> Result<Option<(Place, usize)>, WireFault>
+        ensures within { IfOk result (λ found. IfSome found (λ f. f.1 ≤ length room.new)) }
+        ensures takes { Adds (takings self.old) (takings self.new)
+            (taking_of port result room.new ∷ []) }
+        ensures gives_nothing { Adds (gives self.old) (gives self.new) [] }
+        ensures fault { OnErr result (faults self.old < faults self.new) };
+
+    /// Sends a datagram from a port to a place.
+    ///
+    /// # Errors
+    /// `WireFault`, where the wire fails; its failures rise then.
+    fn give(&mut self, port: Port, to: Place, bytes: &[u8]) -> Result<(), WireFault>
+        ensures offers { Adds (gives self.old) (gives self.new)
+            (give_of port to bytes.now result ∷ []) }
+        ensures takes_nothing { Adds (takings self.old) (takings self.new) [] }
+        ensures fault { OnErr result (faults self.old < faults self.new) };
+
+    /// How often the wire has failed; it stops at 2^64 - 1.
+    fn failures(&self) -> u64
+        ensures { result ≡ faults self.now };
+}
