@@ -126,7 +126,8 @@ impl Registry {
     /// How many bytes the zero value of a dataset takes, at most 65,388: every number in it is 0,
     /// and so each array of size 0 is empty. None where no dataset has that identifier.
     pub fn zero_size(&self, id: u32) -> Option<usize>
-        ensures value { result ≡ (if is_known self.now id then Some (zero_size self.now id) else None) }
+        ensures value { result
+            ≡ (if is_known self.now id then Some (zero_size self.now id) else None) }
         ensures bound { IfSome result (λ n. n ≤ 65388) }
     {
         match self.datasets.index_of(id) {

@@ -9,7 +9,8 @@ use crate::datasets::Datasets;
 use crate::element::{Element, Form};
 use std::alloc::{AllocError, Global};
 
-/// One more byte than a zero value may have: every size above is taken for this one, so that no sum overflows.
+/// One more byte than a zero value may have: every size above is taken for this one, so that no
+/// sum overflows.
 const TOO_BIG: u64 = 65389;
 
 /// The sum with so many of a size, at most [`TOO_BIG`].
@@ -24,7 +25,8 @@ fn added(total: u32, count: u16, size: u32) -> u32
 #[tactic(auto, unfolding(crate::specs::ZeroSizes::form_size))]
 fn form_size(datasets: &Datasets, sizes: &[u32], form: Form) -> u32
     requires { length sizes.now ≡ length datasets.now }
-    ensures { (depth : ℕ) → sizes.now ≡ size_row datasets.now depth → result ≡ min (form_size (dataset_size datasets.now depth) form) 65389 }
+    ensures { (depth : ℕ) → sizes.now ≡ size_row datasets.now depth
+        → result ≡ min (form_size (dataset_size datasets.now depth) form) 65389 }
 {
     match form {
         Form::Unsigned(width) | Form::Signed(width) => width.len() as u32,
@@ -40,7 +42,9 @@ fn form_size(datasets: &Datasets, sizes: &[u32], form: Form) -> u32
 /// The zero values of elements, one after the other.
 fn entries_size(datasets: &Datasets, sizes: &[u32], elements: &[Element]) -> u32
     requires { length sizes.now ≡ length datasets.now }
-    ensures { (depth : ℕ) → sizes.now ≡ size_row datasets.now depth → result ≡ min (entries_size (form_size (dataset_size datasets.now depth)) elements.now) 65389 }
+    ensures { (depth : ℕ) → sizes.now ≡ size_row datasets.now depth
+        → result
+        ≡ min (entries_size (form_size (dataset_size datasets.now depth)) elements.now) 65389 }
 {
     let mut total = 0;
     for element in elements {
@@ -54,7 +58,8 @@ fn entries_size(datasets: &Datasets, sizes: &[u32], elements: &[Element]) -> u32
 #[tactic(auto, unfolding(crate::specs::ZeroSizes::dataset_size))]
 fn dataset_size(datasets: &Datasets, sizes: &[u32], id: u32) -> u32
     requires { length sizes.now ≡ length datasets.now }
-    ensures { (depth : ℕ) → sizes.now ≡ size_row datasets.now depth → result ≡ min (dataset_size datasets.now (suc depth) id) 65389 }
+    ensures { (depth : ℕ) → sizes.now ≡ size_row datasets.now depth
+        → result ≡ min (dataset_size datasets.now (suc depth) id) 65389 }
 {
     match datasets.elements(id) {
         Some(elements) => entries_size(datasets, sizes, elements),
@@ -66,7 +71,9 @@ fn dataset_size(datasets: &Datasets, sizes: &[u32], id: u32) -> u32
 fn one_deeper(alloc: Global, datasets: &Datasets, sizes: &[u32]) -> Result<Vec<u32>, AllocError>
     requires { length sizes.now ≡ length datasets.now }
     ensures len { IfOk result (λ next. length next.items ≡ length datasets.now) }
-    ensures row { IfOk result (λ next. (depth : ℕ) → sizes.now ≡ size_row datasets.now depth → next.items ≡ size_row datasets.now (suc depth)) }
+    ensures row { IfOk result
+        (λ next. (depth : ℕ) → sizes.now ≡ size_row datasets.now depth
+        → next.items ≡ size_row datasets.now (suc depth)) }
 {
     let mut next = Vec::new(alloc);
     for i in 0..datasets.len() {

@@ -3,8 +3,8 @@
 use std::test::Fail;
 use trdp_dataset::Registry;
 
-/// Two datasets of one length, of which the second holds three of the first, and two with an array of a counted
-/// size, of which the second holds the first.
+/// Two datasets of one length, of which the second holds three of the first, and two with an array
+/// of a counted size, of which the second holds the first.
 const DATASETS: &[u8] = br#"
 [[dataset]]
 id = 1001

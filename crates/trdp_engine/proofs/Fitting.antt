@@ -1,6 +1,7 @@
 -- What keeps the value of each subscription one of its dataset: the first value, a time-out, and what is taken.
-use Rattle.std.proofs.Common.{◌≡◌, ℕ, List, [], ◌∷◌, ◌++◌, length, map, Some, None, Option, Ok, Bool, true, false, refl}
+use Rattle.std.proofs.Common.{◌≡◌, ℕ, List, [], ◌∷◌, ◌++◌, length, Some, None, Option, Ok, Bool, true, false, refl}
 use Rattle.std.specs.Prelude.{replicate, not, nat_lt, ◌==◌, ◌&&◌, if◌then◌else◌}
+use Rattle.std.specs.List.{flat_map}
 use Rattle.trdp_dataset.specs.Datasets.{is_known}
 use Rattle.trdp_dataset.specs.Registries.{IsRegistry}
 use Rattle.trdp_dataset.specs.ZeroSizes.{zero_size as registry_zero_size}
@@ -12,25 +13,35 @@ use Rattle.trdp_base.specs.declared.place.Place.{Place}
 use Rattle.trdp_head.specs.PdTelegrams.{PdTelegram}
 use Rattle.trdp_filter.specs.declared.globals.Globals.{Globals}
 use Rattle.trdp_filter.specs.Telegrams.{TelegramModel, PdIs}
-use Rattle.trdp_pd.specs.declared.any_object.AnyObject.{AnyObject}
-use Rattle.trdp_pd.specs.declared.any_object.AnyObject.TheVariants.{Publisher, Subscription, Requester}
+use Rattle.trdp_table.specs.declared.any_object.AnyObject.{AnyObject}
+use Rattle.trdp_table.specs.declared.any_object.AnyObject.TheVariants.{Publisher, Subscription, Requester}
+use Rattle.trdp_table.specs.declared.kind.Kind.{Kind}
+use Rattle.trdp_table.specs.declared.kind.Kind.TheVariants.{Publisher as Publishing, Subscription as Subscribing, Requester as Requesting}
+use Rattle.trdp_table.specs.Kinds.{kind_of, is_same_kind}
+use Rattle.trdp_pd.specs.declared.object.Fired.{Fired}
+use Rattle.trdp_pd.specs.declared.object.Fired.TheVariants.{Nothing, Data, Silent}
+use Rattle.trdp_pd.specs.declared.object.Taken.{Taken}
+use Rattle.trdp_pd.specs.declared.object.Taken.TheVariants.{Nothing as TakenNothing, Stored, Alive, Pulled}
 use Rattle.trdp_pd.specs.declared.terms.Behaviour.{Behaviour}
 use Rattle.trdp_pd.specs.declared.terms.Behaviour.TheVariants.{Zero, Keep}
 use Rattle.trdp_pd.specs.declared.terms.SubscriptionTerms.{SubscriptionTerms}
+use Rattle.trdp_pd.specs.Publishers.{PublisherState}
+use Rattle.trdp_pd.specs.Requesters.{RequesterState}
+use Rattle.trdp_filter.specs.Counts.{topo_valid}
 use Rattle.trdp_pd.specs.Subscriptions.{SubscriptionState, first_size, subscribed, is_accepted, is_for, is_stale, value_after_time_out}
-use Rattle.trdp_pd.specs.Objects.{after_taking, after_firing}
-use Rattle.trdp_engine.specs.declared.object.Entry.{Entry}
+use Rattle.trdp_table.specs.Objects.{after_taking, after_firing, taken, fired}
 use Rattle.trdp_engine.specs.declared.fault.Refusal.{Refusal}
 use Rattle.trdp_engine.specs.declared.fault.Refusal.TheVariants.{Timeout, Range, NoDataset, TooLong}
 use Rattle.trdp_engine.specs.Configs.{NodeSetup, is_dataset, zero_size_of, is_fitting}
-use Rattle.trdp_engine.specs.Slots.{SlotState, unchanged, entry_of, changed, without}
+use Rattle.trdp_engine.specs.Slots.{Entry, SlotState, unchanged, entry_of}
+use Rattle.trdp_engine.specs.Acts.{Act, entry_left, left_at, acted}
 use Rattle.trdp_engine.specs.Events.{CallModel, PublishCall, PutCall, UnpublishCall, SubscribeCall, GetCall, UnsubscribeCall, OpenPullCall, PullCall, ClosePullCall, CallIs}
-use Rattle.trdp_engine.specs.Calls.{opening_refusal, opened_unless, dataset_refusal, subscribe_refusal, put_refusal, put_unless, with_value, closed_unless, pulled_unless, called, is_span}
-use Rattle.trdp_engine.specs.Pulls.{after_pull}
-use Rattle.trdp_engine.specs.Datagrams.{fits_object, is_for_entry, entry_after_telegram, is_valid_at, received_if}
-use Rattle.trdp_engine.specs.Moments.{is_due, entry_after_moment, moved_to}
+use Rattle.trdp_engine.specs.Calls.{opening_refusal, opened_unless, dataset_refusal, subscribe_refusal, value_refusal, puts_unless, puts, ends, shows, at_entry, at_object, called, is_span}
+use Rattle.trdp_engine.specs.Pulls.{pulls_if, pulls}
+use Rattle.trdp_engine.specs.Datagrams.{fits_object, is_acting, left_taking, after_telegram, is_valid_at, received_if}
+use Rattle.trdp_engine.specs.Moments.{is_due, left_firing, after_moment, moved_to}
 use Rattle.trdp_marshal.specs.Items.{ItemModel}
-use Rattle.trdp_engine.specs.Values.{item_refusal, item_bytes, valued_unless, valued, valued_at}
+use Rattle.trdp_engine.specs.Values.{item_refusal_of, bytes_for, valued_unless, takes_item, valued, valued_at}
 use Rattle.trdp_engine.specs.Looks.{as_subscription, subscription_of, subscription_at}
 use Rattle.trdp_engine.specs.Alone.{plain_effect}
 use Rattle.trdp_engine.specs.Fitting.{ShowsFitting, IsFit, AllFit}
@@ -125,53 +136,61 @@ taking_fits setup (PdIs src dst telegram) globals (Publisher p) fit = tt
 taking_fits setup (PdIs src dst telegram) globals (Subscription s) fit = storing_fits setup s src dst telegram globals fit
 taking_fits setup (PdIs src dst telegram) globals (Requester r) fit = tt
 
-entry_taking_fits : (setup : NodeSetup) (telegram : TelegramModel) (globals : Globals) (entry : Entry) → IsFit setup entry.object → IsFit setup (entry_after_telegram setup telegram globals entry).object
-entry_taking_fits setup telegram globals entry fit = either (is_for_entry telegram globals entry) refl
-  where
-    either : (b : Bool) → is_for_entry telegram globals entry ≡ b → IsFit setup (entry_after_telegram setup telegram globals entry).object
-    either true is = rw is (taking_fits setup telegram globals entry.object fit)
-    either false is = rw is fit
+-- what is left of an object shows what the object should
+abbrev pub IsLeftFit : NodeSetup → Option AnyObject → Type 0
+IsLeftFit setup None = Unit {0}
+IsLeftFit setup (Some object) = IsFit setup object
 
-entry_firing_fits : (setup : NodeSetup) (globals : Globals) → IsRegistry setup.registry → (entry : Entry) → IsFit setup entry.object → IsFit setup (entry_after_moment globals entry).object
+left_taking_fits : (setup : NodeSetup) (taken : Taken) (object : AnyObject) → IsFit setup object → IsLeftFit setup (left_taking taken object)
+left_taking_fits setup TakenNothing object fit = fit
+left_taking_fits setup Stored object fit = fit
+left_taking_fits setup Alive object fit = fit
+left_taking_fits setup (Pulled head) object fit = fit
+
+left_firing_fits : (setup : NodeSetup) (fired : Fired) (object : AnyObject) → IsFit setup object → IsLeftFit setup (left_firing fired object)
+left_firing_fits setup Nothing object fit = fit
+left_firing_fits setup (Data head) object fit = fit
+left_firing_fits setup Silent object fit = fit
+
+entry_left_fits : (setup : NodeSetup) (entry : Entry) (left : Option AnyObject) → IsLeftFit setup left → AllFit setup (entry_left entry left)
+entry_left_fits setup entry None fit = tt
+entry_left_fits setup entry (Some object) fit = (fit, tt)
+
+entry_taking_fits : (setup : NodeSetup) (telegram : TelegramModel) (globals : Globals) (objects : List Entry) (entry : Entry) → IsFit setup entry.object → AllFit setup (after_telegram setup telegram globals objects entry)
+entry_taking_fits setup telegram globals objects entry fit = either (is_acting telegram globals objects entry) refl
+  where
+    fits : Bool
+    fits = fits_object setup telegram entry.object
+
+    either : (b : Bool) → is_acting telegram globals objects entry ≡ b → AllFit setup (after_telegram setup telegram globals objects entry)
+    either true is = rw is (entry_left_fits setup entry _ (left_taking_fits setup (taken entry.object telegram globals fits) _ (taking_fits setup telegram globals entry.object fit)))
+    either false is = rw is (fit, tt)
+
+entry_firing_fits : (setup : NodeSetup) (globals : Globals) → IsRegistry setup.registry → (entry : Entry) → IsFit setup entry.object → AllFit setup (after_moment globals entry)
 entry_firing_fits setup globals sound entry fit = either (is_due globals.now entry) refl
   where
-    either : (b : Bool) → is_due globals.now entry ≡ b → IsFit setup (entry_after_moment globals entry).object
-    either true is = rw is (firing_fits setup globals entry.object sound fit)
-    either false is = rw is fit
+    either : (b : Bool) → is_due globals.now entry ≡ b → AllFit setup (after_moment globals entry)
+    either true is = rw is (entry_left_fits setup entry _ (left_firing_fits setup (fired entry.object globals) _ (firing_fits setup globals entry.object sound fit)))
+    either false is = rw is (fit, tt)
 
-AllFit-map : (setup : NodeSetup) (f : Entry → Entry) → ((e : Entry) → IsFit setup e.object → IsFit setup (f e).object) → (objects : List Entry) → AllFit setup objects → AllFit setup (map f objects)
-AllFit-map setup f keeps [] all = tt
-AllFit-map setup f keeps (e ∷ objects) all = (keeps e all.0, AllFit-map setup f keeps objects all.1)
+AllFit-append : (setup : NodeSetup) (objects others : List Entry) → AllFit setup objects → AllFit setup others → AllFit setup (objects ++ others)
+AllFit-append setup [] others all more = more
+AllFit-append setup (e ∷ objects) others all more = (all.0, AllFit-append setup objects others all.1 more)
 
-AllFit-push : (setup : NodeSetup) (objects : List Entry) (entry : Entry) → AllFit setup objects → IsFit setup entry.object → AllFit setup (objects ++ entry ∷ [])
-AllFit-push setup [] entry all fit = (fit, tt)
-AllFit-push setup (e ∷ objects) entry all fit = (all.0, AllFit-push setup objects entry all.1 fit)
+AllFit-each : (setup : NodeSetup) (f : Entry → List Entry) → ((e : Entry) → IsFit setup e.object → AllFit setup (f e)) → (objects : List Entry) → AllFit setup objects → AllFit setup (flat_map f objects)
+AllFit-each setup f keeps [] all = tt
+AllFit-each setup f keeps (e ∷ objects) all = AllFit-append setup (f e) (flat_map f objects) (keeps e all.0) (AllFit-each setup f keeps objects all.1)
 
-AllFit-without : (setup : NodeSetup) (h : ℕ) (objects : List Entry) → AllFit setup objects → AllFit setup (without h objects)
-AllFit-without setup h [] all = tt
-AllFit-without setup h (e ∷ objects) all = either setup h e objects (e.handle == h) refl all (AllFit-without setup h objects all.1)
+-- one object acted
+AllFit-acted : (setup : NodeSetup) (h : ℕ) (left : Option AnyObject) → IsLeftFit setup left → (objects : List Entry) → AllFit setup objects → AllFit setup (acted h left objects)
+AllFit-acted setup h left fit objects all = AllFit-each setup (left_at h left) keeps objects all
   where
-    either : (setup : NodeSetup) (h : ℕ) (e : Entry) (objects : List Entry) (b : Bool) → (e.handle == h) ≡ b → AllFit setup (e ∷ objects) → AllFit setup (without h objects) → AllFit setup (without h (e ∷ objects))
-    either setup h e objects true is all rest = rw is all.1
-    either setup h e objects false is all rest = rw is (all.0, rest)
+    either : (e : Entry) (b : Bool) → (e.handle == h) ≡ b → IsFit setup e.object → AllFit setup (left_at h left e)
+    either e true is old = rw is (entry_left_fits setup e left fit)
+    either e false is old = rw is (old, tt)
 
-with_value_fits : (setup : NodeSetup) (bytes : List ℕ) (object : AnyObject) → IsFit setup object → IsFit setup (with_value bytes object)
-with_value_fits setup bytes (Publisher p) fit = tt
-with_value_fits setup bytes (Subscription s) fit = fit
-with_value_fits setup bytes (Requester r) fit = tt
-
-after_pull_fits : (setup : NodeSetup) (object : AnyObject) → IsFit setup object → IsFit setup (after_pull object)
-after_pull_fits setup (Publisher p) fit = tt
-after_pull_fits setup (Subscription s) fit = fit
-after_pull_fits setup (Requester r) fit = tt
-
-AllFit-changed : (setup : NodeSetup) (h : ℕ) (change : AnyObject → AnyObject) → ((object : AnyObject) → IsFit setup object → IsFit setup (change object)) → (objects : List Entry) → AllFit setup objects → AllFit setup (changed h change objects)
-AllFit-changed setup h change keeps [] all = tt
-AllFit-changed setup h change keeps (e ∷ objects) all = either setup h change keeps e objects (e.handle == h) refl all (AllFit-changed setup h change keeps objects all.1)
-  where
-    either : (setup : NodeSetup) (h : ℕ) (change : AnyObject → AnyObject) → ((object : AnyObject) → IsFit setup object → IsFit setup (change object)) → (e : Entry) (objects : List Entry) (b : Bool) → (e.handle == h) ≡ b → AllFit setup (e ∷ objects) → AllFit setup (changed h change objects) → AllFit setup (changed h change (e ∷ objects))
-    either setup h change keeps e objects true is all rest = rw is (keeps e.object all.0, all.1)
-    either setup h change keeps e objects false is all rest = rw is (all.0, rest)
+    keeps : (e : Entry) → IsFit setup e.object → AllFit setup (left_at h left e)
+    keeps e old = either e (e.handle == h) refl old
 
 -- a subscription that isn't refused is of a dataset that values may be of
 if_none : (b : Bool) (refusal : Refusal) (later : Option Refusal) → (if b then Some refusal else later) ≡ None → (b ≡ false) × (later ≡ None)
@@ -184,8 +203,8 @@ not_false false is = absurd (cc)
 
 subscribed_dataset : (setup : NodeSetup) (slot : SlotState) (terms : SubscriptionTerms) → subscribe_refusal setup slot terms ≡ None → is_dataset setup terms.dataset ≡ true
 subscribed_dataset setup slot terms is =
-    let opens : Option Refusal = dataset_refusal setup terms.dataset (opening_refusal slot 1) in
-    let longest : Option Refusal = if nat_lt 1432 (zero_size_of setup terms.dataset) then Some TooLong else opening_refusal slot 1 in
+    let opens : Option Refusal = dataset_refusal setup terms.dataset (opening_refusal slot Subscribing) in
+    let longest : Option Refusal = if nat_lt 1432 (zero_size_of setup terms.dataset) then Some TooLong else opening_refusal slot Subscribing in
     let timed = if_none (not (is_span terms.supervision)) Timeout (if nat_lt terms.filter.high.0 terms.filter.low.0 then Some Range else opens) is in
     let ranged = if_none (nat_lt terms.filter.high.0 terms.filter.low.0) Range opens timed.1 in
     let known = if_none (not (is_dataset setup terms.dataset)) NoDataset longest ranged.1 in
@@ -193,53 +212,40 @@ subscribed_dataset setup slot terms is =
 
 opened_fits : (setup : NodeSetup) (refusal : Option Refusal) (slot : SlotState) (object : AnyObject) → AllFit setup slot.objects → (refusal ≡ None → IsFit setup object) → AllFit setup (opened_unless refusal slot object).slot.objects
 opened_fits setup (Some refusal) slot object all fit = all
-opened_fits setup None slot object all fit = AllFit-push setup slot.objects _ all (fit refl)
+opened_fits setup None slot object all fit = AllFit-append setup slot.objects _ all (fit refl, tt)
 
-put_fits : (setup : NodeSetup) (refusal : Option Refusal) (slot : SlotState) (h : ℕ) (bytes : List ℕ) → AllFit setup slot.objects → AllFit setup (put_unless refusal slot h bytes).slot.objects
-put_fits setup (Some refusal) slot h bytes all = all
-put_fits setup None slot h bytes all = AllFit-changed setup h (with_value bytes) (with_value_fits setup bytes) slot.objects all
+-- what calls leave of an object
+puts_unless_fits : (setup : NodeSetup) (refusal : Option Refusal) (bytes : List ℕ) (p : PublisherState) → IsLeftFit setup (puts_unless refusal bytes p).left
+puts_unless_fits setup (Some refusal) bytes p = tt
+puts_unless_fits setup None bytes p = tt
 
-closed_fits : (setup : NodeSetup) (refusal : Option Refusal) (slot : SlotState) (h : ℕ) → AllFit setup slot.objects → AllFit setup (closed_unless refusal slot h).slot.objects
-closed_fits setup (Some refusal) slot h all = all
-closed_fits setup None slot h all = AllFit-without setup h slot.objects all
+puts_fits : (setup : NodeSetup) (bytes : List ℕ) (object : AnyObject) → IsFit setup object → IsLeftFit setup (puts setup bytes object).left
+puts_fits setup bytes (Publisher p) fit = puts_unless_fits setup (value_refusal setup p.terms.dataset bytes) bytes p
+puts_fits setup bytes (Subscription s) fit = fit
+puts_fits setup bytes (Requester r) fit = tt
 
-pulled_fits : (setup : NodeSetup) (refusal : Option Refusal) (slot : SlotState) (h : ℕ) → AllFit setup slot.objects → AllFit setup (pulled_unless refusal slot h).slot.objects
-pulled_fits setup (Some refusal) slot h all = all
-pulled_fits setup None slot h all = AllFit-changed setup h after_pull (after_pull_fits setup) slot.objects all
-
--- a moment
-pub moved_fits : (setup : NodeSetup) (slot : SlotState) (globals : Globals) → IsRegistry setup.registry → AllFit setup slot.objects → AllFit setup (moved_to slot globals).slot.objects
-moved_fits setup slot globals sound all = AllFit-map setup (entry_after_moment globals) (entry_firing_fits setup globals sound) slot.objects all
-
--- a datagram
-pub received_fits : (setup : NodeSetup) (slot : SlotState) (globals : Globals) (telegram : Option TelegramModel) → AllFit setup slot.objects → AllFit setup (received_if setup slot globals telegram).slot.objects
-received_fits setup slot globals None all = all
-received_fits setup slot globals (Some telegram) all = either (is_valid_at globals telegram) refl
+ends_fits : (setup : NodeSetup) (kind : Kind) (object : AnyObject) → IsFit setup object → IsLeftFit setup (ends kind object).left
+ends_fits setup kind object fit = either (is_same_kind (kind_of object) kind) refl
   where
-    either : (b : Bool) → is_valid_at globals telegram ≡ b → AllFit setup (received_if setup slot globals (Some telegram)).slot.objects
-    either true is = rw is (AllFit-map setup (entry_after_telegram setup telegram globals) (entry_taking_fits setup telegram globals) slot.objects all)
-    either false is = rw is all
+    either : (b : Bool) → is_same_kind (kind_of object) kind ≡ b → IsLeftFit setup (ends kind object).left
+    either true is = rw is tt
+    either false is = rw is fit
 
--- a call
-pub called_fits : (setup : NodeSetup) (slot : SlotState) (globals : Globals) (call : CallModel) → IsRegistry setup.registry → AllFit setup slot.objects → AllFit setup (called setup slot globals call).slot.objects
-called_fits setup slot globals (PublishCall terms) sound all = opened_fits setup _ slot _ all (λ is. tt)
-called_fits setup slot globals (PutCall handle bytes) sound all = put_fits setup _ slot handle bytes all
-called_fits setup slot globals (UnpublishCall handle) sound all = closed_fits setup _ slot handle all
-called_fits setup slot globals (SubscribeCall terms) sound all =
-    opened_fits setup (subscribe_refusal setup slot terms) slot _ all (λ is. subscribed_fits setup terms globals.now sound (subscribed_dataset setup slot terms is))
-called_fits setup slot globals (GetCall handle) sound all = all
-called_fits setup slot globals (UnsubscribeCall handle) sound all = closed_fits setup _ slot handle all
-called_fits setup slot globals (OpenPullCall terms) sound all = opened_fits setup _ slot _ all (λ is. tt)
-called_fits setup slot globals (PullCall handle) sound all = pulled_fits setup _ slot handle all
-called_fits setup slot globals (ClosePullCall handle) sound all = closed_fits setup _ slot handle all
+pulls_if_fits : (setup : NodeSetup) (valid : Bool) (r : RequesterState) → IsLeftFit setup (pulls_if valid r).left
+pulls_if_fits setup true r = tt
+pulls_if_fits setup false r = tt
 
--- a value handed over as an item
-pub valued_fits : (setup : NodeSetup) (slot : SlotState) (handle : ℕ) (item : ItemModel) → AllFit setup slot.objects → AllFit setup (valued setup slot handle item).slot.objects
-valued_fits setup slot handle item all = either (item_refusal setup item (entry_of handle slot.objects)) (item_bytes setup item (entry_of handle slot.objects))
+pulls_fits : (setup : NodeSetup) (globals : Globals) (object : AnyObject) → IsFit setup object → IsLeftFit setup (pulls globals object).left
+pulls_fits setup globals (Publisher p) fit = tt
+pulls_fits setup globals (Subscription s) fit = fit
+pulls_fits setup globals (Requester r) fit = pulls_if_fits setup (topo_valid r.terms.topo globals.topo) r
+
+takes_item_fits : (setup : NodeSetup) (item : ItemModel) (object : AnyObject) → IsFit setup object → IsLeftFit setup (takes_item setup item object).left
+takes_item_fits setup item object fit = either (item_refusal_of setup item object)
   where
-    either : (refusal : Option Refusal) (bytes : List ℕ) → AllFit setup (valued_unless refusal setup slot handle bytes).slot.objects
-    either (Some refusal) bytes = all
-    either None bytes = put_fits setup (put_refusal setup bytes (entry_of handle slot.objects)) slot handle bytes all
+    either : (refusal : Option Refusal) → IsLeftFit setup (valued_unless refusal setup item object).left
+    either (Some refusal) = fit
+    either None = puts_fits setup (bytes_for setup item object) object fit
 
 -- the object of a handle is one of them
 found_fits : (setup : NodeSetup) (handle : ℕ) (objects : List Entry) (entry : Entry) → AllFit setup objects → entry_of handle objects ≡ Some entry → IsFit setup entry.object
@@ -252,6 +258,44 @@ found_fits setup handle (e ∷ objects) entry all is = either setup handle e obj
         let one : e ≡ entry = cc in
         rw (← one) all.0
     either setup handle e objects entry false same all is rest = rest (rw same at is)
+
+-- a call at one object
+at_object_fits : (setup : NodeSetup) (slot : SlotState) (handle : ℕ) (act : AnyObject → Act) → ((object : AnyObject) → IsFit setup object → IsLeftFit setup (act object).left) → AllFit setup slot.objects → AllFit setup (at_object slot handle act).slot.objects
+at_object_fits setup slot handle act keeps all = either (entry_of handle slot.objects) refl
+  where
+    either : (found : Option Entry) → entry_of handle slot.objects ≡ found → AllFit setup (at_entry found slot handle act).slot.objects
+    either None is = all
+    either (Some entry) is = AllFit-acted setup handle (act entry.object).left (keeps entry.object (found_fits setup handle slot.objects entry all is)) slot.objects all
+
+-- a moment
+pub moved_fits : (setup : NodeSetup) (slot : SlotState) (globals : Globals) → IsRegistry setup.registry → AllFit setup slot.objects → AllFit setup (moved_to slot globals).slot.objects
+moved_fits setup slot globals sound all = AllFit-each setup (after_moment globals) (entry_firing_fits setup globals sound) slot.objects all
+
+-- a datagram
+pub received_fits : (setup : NodeSetup) (slot : SlotState) (globals : Globals) (telegram : Option TelegramModel) → AllFit setup slot.objects → AllFit setup (received_if setup slot globals telegram).slot.objects
+received_fits setup slot globals None all = all
+received_fits setup slot globals (Some telegram) all = either (is_valid_at globals telegram) refl
+  where
+    either : (b : Bool) → is_valid_at globals telegram ≡ b → AllFit setup (received_if setup slot globals (Some telegram)).slot.objects
+    either true is = rw is (AllFit-each setup (after_telegram setup telegram globals slot.objects) (entry_taking_fits setup telegram globals slot.objects) slot.objects all)
+    either false is = rw is all
+
+-- a call
+pub called_fits : (setup : NodeSetup) (slot : SlotState) (globals : Globals) (call : CallModel) → IsRegistry setup.registry → AllFit setup slot.objects → AllFit setup (called setup slot globals call).slot.objects
+called_fits setup slot globals (PublishCall terms) sound all = opened_fits setup _ slot _ all (λ is. tt)
+called_fits setup slot globals (PutCall handle bytes) sound all = at_object_fits setup slot handle (puts setup bytes) (puts_fits setup bytes) all
+called_fits setup slot globals (UnpublishCall handle) sound all = at_object_fits setup slot handle (ends Publishing) (ends_fits setup Publishing) all
+called_fits setup slot globals (SubscribeCall terms) sound all =
+    opened_fits setup (subscribe_refusal setup slot terms) slot _ all (λ is. subscribed_fits setup terms globals.now sound (subscribed_dataset setup slot terms is))
+called_fits setup slot globals (GetCall handle) sound all = at_object_fits setup slot handle shows (λ object fit. fit) all
+called_fits setup slot globals (UnsubscribeCall handle) sound all = at_object_fits setup slot handle (ends Subscribing) (ends_fits setup Subscribing) all
+called_fits setup slot globals (OpenPullCall terms) sound all = opened_fits setup _ slot _ all (λ is. tt)
+called_fits setup slot globals (PullCall handle) sound all = at_object_fits setup slot handle (pulls globals) (pulls_fits setup globals) all
+called_fits setup slot globals (ClosePullCall handle) sound all = at_object_fits setup slot handle (ends Requesting) (ends_fits setup Requesting) all
+
+-- a value handed over as an item
+pub valued_fits : (setup : NodeSetup) (slot : SlotState) (handle : ℕ) (item : ItemModel) → AllFit setup slot.objects → AllFit setup (valued setup slot handle item).slot.objects
+valued_fits setup slot handle item all = at_object_fits setup slot handle (takes_item setup item) (takes_item_fits setup item) all
 
 as_subscription_fits : (setup : NodeSetup) (object : AnyObject) (s : SubscriptionState) → IsFit setup object → as_subscription object ≡ Ok s → ShowsFitting setup s
 as_subscription_fits setup (Publisher p) s fit is = absurd (cc)

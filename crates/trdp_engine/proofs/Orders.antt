@@ -1,13 +1,16 @@
 -- The object that fires first, and what is left to fire.
-use Rattle.std.proofs.Common.{◌≡◌, ℕ, ◌+◌, ◌<◌, ◌≤◌, List, [], ◌∷◌, ◌++◌, length, filter, Option, Some, None, Bool, true, false, refl, ◌∙◌, ap, arith, length-append}
-use Rattle.std.specs.Prelude.{nat_le, if◌then◌else◌, unwrap_or, option_map}
+use Rattle.std.proofs.Common.{◌≡◌, ℕ, ◌+◌, ◌<◌, ◌≤◌, List, [], ◌∷◌, ◌++◌, length, drop, filter, Option, Some, None, Bool, true, false, refl, ◌∙◌, sym, ap, arith}
+use Rattle.std.specs.Prelude.{nat_le, if◌then◌else◌, unwrap_or, option_map, slice_get, IfSome}
+use Rattle.std.specs.List.{sum_by}
+use Rattle.std.proofs.lemmas.List.Sums.{sum_by-cons}
 use Rattle.std.proofs.lemmas.Bool.Decides.{nat_tests}
 use Rattle.std.proofs.lemmas.List.Elements.{filter-append}
-use Rattle.trdp_pd.specs.Objects.{due_of}
-use Rattle.trdp_engine.specs.declared.object.Entry.{Entry}
+use Rattle.trdp_table.specs.Objects.{due_of}
+use Rattle.trdp_engine.specs.Slots.{Entry}
 use Rattle.trdp_engine.specs.Handles.{AllAbove, IsRising}
 use Rattle.trdp_engine.specs.Moments.{is_due, is_before, inserted, in_order}
-use Rattle.trdp_engine.specs.Firing.{sooner, due_time, first_from, AllAfter, IsFirst}
+use Rattle.trdp_engine.specs.Firing.{sooner, due_time, first_from, AllAfter, FiresFirst, IsFirst}
+use Rattle.trdp_engine.proofs.Each.{reads, dropped}
 
 -- these are due no earlier
 abbrev AllFrom : ℕ → List Entry → Type 0
@@ -174,14 +177,126 @@ in_order-first x (y ∷ before) after all all' = rw (in_order-first x before aft
 filter-in : (t : ℕ) (x : Entry) (before after : List Entry) → is_due t x ≡ true → filter (is_due t) (before ++ x ∷ after) ≡ filter (is_due t) before ++ x ∷ filter (is_due t) after
 filter-in t x before after is = filter-append (is_due t) before (x ∷ after) ∙ rw is refl
 
-filter-out : (t : ℕ) (x : Entry) (before after : List Entry) → is_due t x ≡ false → filter (is_due t) (before ++ x ∷ after) ≡ filter (is_due t) before ++ filter (is_due t) after
-filter-out t x before after is = filter-append (is_due t) before (x ∷ after) ∙ rw is refl
+-- the first of all in order
+pub first_in_order : (t : ℕ) (objects : List Entry) (at : ℕ) (f : FiresFirst t objects at) → in_order (filter (is_due t) objects) ≡ f.entry ∷ in_order (filter (is_due t) f.before ++ filter (is_due t) f.after)
+first_in_order t objects at f =
+    ap (λ (es : List Entry). in_order (filter (is_due t) es)) f.split
+    ∙ (ap in_order (filter-in t f.entry f.before f.after f.due)
+    ∙ in_order-first f.entry (filter (is_due t) f.before) (filter (is_due t) f.after) f.first_before f.first_after)
 
--- the first fires, and then the others in order
-pub in_order-fires : (t : ℕ) (x x' : Entry) (before after : List Entry) → is_due t x ≡ true → is_due t x' ≡ false → AllAfter x (filter (is_due t) before) → AllAfter x (filter (is_due t) after) → in_order (filter (is_due t) (before ++ x ∷ after)) ≡ x ∷ in_order (filter (is_due t) (before ++ x' ∷ after))
-in_order-fires t x x' before after is not all all' =
-    rw (filter-in t x before after is, filter-out t x' before after not)
-    (in_order-first x (filter (is_due t) before) (filter (is_due t) after) all all')
+-- and where it stands
+pub first_stands : (t : ℕ) (objects : List Entry) (at : ℕ) (f : FiresFirst t objects at) → slice_get objects at ≡ Some f.entry
+first_stands t objects at f = rw (f.split, f.index) (got_at f.before f.entry f.after)
+  where
+    got_at : (before : List Entry) (entry : Entry) (after : List Entry) → slice_get (before ++ entry ∷ after) (length before) ≡ Some entry
+    got_at [] entry after = refl
+    got_at (x ∷ before) entry after = got_at before entry after
 
-pub count-fires : (t : ℕ) (x x' : Entry) (before after : List Entry) → is_due t x ≡ true → is_due t x' ≡ false → length (filter (is_due t) (before ++ x ∷ after)) ≡ length (filter (is_due t) (before ++ x' ∷ after)) + 1
-count-fires t x x' before after is not = rw (filter-in t x before after is, filter-out t x' before after not) (omega (arith, length-append {A = Entry}))
+-- Some of the objects in order are those objects in order.
+
+-- it fires after none of these
+abbrev NoneBefore : Entry → List Entry → Type 0
+NoneBefore x [] = Unit {0}
+NoneBefore x (y ∷ ys) = (is_before y x ≡ false) × NoneBefore x ys
+
+-- each of these fires after none of those behind it
+abbrev AreOrdered : List Entry → Type 0
+AreOrdered [] = Unit {0}
+AreOrdered (x ∷ xs) = NoneBefore x xs × AreOrdered xs
+
+none_before-trans : (x y z : Entry) → is_before y x ≡ false → is_before z y ≡ false → is_before z x ≡ false
+none_before-trans x y z one two = grind (arith, nat_tests)
+
+NoneBefore-trans : (x y : Entry) (zs : List Entry) → is_before y x ≡ false → NoneBefore y zs → NoneBefore x zs
+NoneBefore-trans x y [] one all = tt
+NoneBefore-trans x y (z ∷ zs) one all = (none_before-trans x y z one all.0, NoneBefore-trans x y zs one all.1)
+
+NoneBefore-inserted : (x y : Entry) (zs : List Entry) → is_before y x ≡ false → NoneBefore x zs → NoneBefore x (inserted y zs)
+NoneBefore-inserted x y [] one all = (one, tt)
+NoneBefore-inserted x y (z ∷ zs) one all = either (is_before z y) refl (NoneBefore-inserted x y zs one all.1)
+  where
+    either : (b : Bool) → is_before z y ≡ b → NoneBefore x (inserted y zs) → NoneBefore x (inserted y (z ∷ zs))
+    either true way rest = rw way (all.0, rest)
+    either false way rest = rw way (one, all)
+
+AreOrdered-inserted : (x : Entry) (ys : List Entry) → AreOrdered ys → AreOrdered (inserted x ys)
+AreOrdered-inserted x [] ordered = (tt, tt)
+AreOrdered-inserted x (y ∷ ys) ordered = either (is_before y x) refl (AreOrdered-inserted x ys ordered.1)
+  where
+    either : (b : Bool) → is_before y x ≡ b → AreOrdered (inserted x ys) → AreOrdered (inserted x (y ∷ ys))
+    either true way rest = rw way (NoneBefore-inserted y x ys (not_after y x way) ordered.0, rest)
+    either false way rest = rw way ((way, NoneBefore-trans x y ys way ordered.0), ordered)
+
+AreOrdered-in_order : (xs : List Entry) → AreOrdered (in_order xs)
+AreOrdered-in_order [] = tt
+AreOrdered-in_order (x ∷ xs) = AreOrdered-inserted x (in_order xs) (AreOrdered-in_order xs)
+
+NoneBefore-filter : (q : Entry → Bool) (x : Entry) (ys : List Entry) → NoneBefore x ys → NoneBefore x (filter q ys)
+NoneBefore-filter q x [] all = tt
+NoneBefore-filter q x (y ∷ ys) all = either (q y) refl (NoneBefore-filter q x ys all.1)
+  where
+    either : (b : Bool) → q y ≡ b → NoneBefore x (filter q ys) → NoneBefore x (filter q (y ∷ ys))
+    either true is rest = rw is (all.0, rest)
+    either false is rest = rw is rest
+
+inserted_in_front : (x : Entry) (ys : List Entry) → NoneBefore x ys → inserted x ys ≡ x ∷ ys
+inserted_in_front x [] all = refl
+inserted_in_front x (y ∷ ys) all = rw all.0 refl
+
+filter-yes : (q : Entry → Bool) (x : Entry) (xs : List Entry) → q x ≡ true → filter q (x ∷ xs) ≡ x ∷ filter q xs
+filter-yes q x xs is = rw is refl
+
+filter-no : (q : Entry → Bool) (x : Entry) (xs : List Entry) → q x ≡ false → filter q (x ∷ xs) ≡ filter q xs
+filter-no q x xs is = rw is refl
+
+-- what the test doesn't pass might as well not have been inserted
+inserted_out : (q : Entry → Bool) (x : Entry) (ys : List Entry) → q x ≡ false → filter q (inserted x ys) ≡ filter q ys
+inserted_out q x [] is = rw is refl
+inserted_out q x (y ∷ ys) is = either (is_before y x) refl (q y) refl (inserted_out q x ys is)
+  where
+    either : (b : Bool) → is_before y x ≡ b → (c : Bool) → q y ≡ c → filter q (inserted x ys) ≡ filter q ys → filter q (inserted x (y ∷ ys)) ≡ filter q (y ∷ ys)
+    either true way true of rest = rw (way, of, rest) refl
+    either true way false of rest = rw (way, of) rest
+    either false way c of rest = rw way (filter-no q x (y ∷ ys) is)
+
+-- what the test passes may be inserted afterwards
+inserted_in : (q : Entry → Bool) (x : Entry) (ys : List Entry) → q x ≡ true → AreOrdered ys → filter q (inserted x ys) ≡ inserted x (filter q ys)
+inserted_in q x [] is ordered = rw is refl
+inserted_in q x (y ∷ ys) is ordered = either (is_before y x) refl (q y) refl (inserted_in q x ys is ordered.1)
+  where
+    either : (b : Bool) → is_before y x ≡ b → (c : Bool) → q y ≡ c → filter q (inserted x ys) ≡ inserted x (filter q ys) → filter q (inserted x (y ∷ ys)) ≡ inserted x (filter q (y ∷ ys))
+    either true way true of rest = rw (way, of) (rw way (ap (λ (es : List Entry). y ∷ es) rest))
+    either true way false of rest = rw (way, of) rest
+    either false way c of rest =
+        let all : NoneBefore x (y ∷ ys) = (way, NoneBefore-trans x y ys way ordered.0) in
+        rw way (filter-yes q x (y ∷ ys) is ∙ sym (inserted_in_front x (filter q (y ∷ ys)) (NoneBefore-filter q x (y ∷ ys) all)))
+
+pub in_order-filter : (q : Entry → Bool) (xs : List Entry) → in_order (filter q xs) ≡ filter q (in_order xs)
+in_order-filter q [] = refl
+in_order-filter q (x ∷ xs) = either (q x) refl (in_order-filter q xs)
+  where
+    either : (b : Bool) → q x ≡ b → in_order (filter q xs) ≡ filter q (in_order xs) → in_order (filter q (x ∷ xs)) ≡ filter q (in_order (x ∷ xs))
+    either true is rest =
+        ap in_order (filter-yes q x xs is)
+        ∙ (ap (inserted x) rest ∙ sym (inserted_in q x (in_order xs) is (AreOrdered-in_order xs)))
+    either false is rest = ap in_order (filter-no q x xs is) ∙ (rest ∙ sym (inserted_out q x (in_order xs) is))
+
+-- A sum over objects in order is the sum over them.
+
+sum-inserted : (f : Entry → ℕ) (x : Entry) (ys : List Entry) → sum_by f (inserted x ys) ≡ f x + sum_by f ys
+sum-inserted f x [] = sum_by-cons f x []
+sum-inserted f x (y ∷ ys) = either (is_before y x) refl (sum-inserted f x ys)
+  where
+    either : (b : Bool) → is_before y x ≡ b → sum_by f (inserted x ys) ≡ f x + sum_by f ys → sum_by f (inserted x (y ∷ ys)) ≡ f x + sum_by f (y ∷ ys)
+    either true way rest = rw way (omega (arith, rest, sum_by-cons f y (inserted x ys), sum_by-cons f y ys))
+    either false way rest = rw way (sum_by-cons f x (y ∷ ys))
+
+pub sum-in_order : (f : Entry → ℕ) (xs : List Entry) → sum_by f (in_order xs) ≡ sum_by f xs
+sum-in_order f [] = refl
+sum-in_order f (x ∷ xs) = sum-inserted f x (in_order xs) ∙ (ap (λ (n : ℕ). f x + n) (sum-in_order f xs) ∙ sym (sum_by-cons f x xs))
+
+-- one more object, which stands before those that were looked at
+pub first_before : (t : ℕ) (objects : List Entry) (i n : ℕ) (due : Option ℕ) → n ≡ i + 1 → i < length objects → IfSome (slice_get objects i) (λ entry. due ≡ due_time t (due_of entry.object)) → sooner (first_from t n (drop n objects)) i due ≡ first_from t i (drop i objects)
+first_before t objects i n due after lt is =
+    let r = reads objects i (λ entry. due ≡ due_time t (due_of entry.object)) lt is in
+    rw (after, r.holds, dropped objects i r.item r.at) refl

@@ -59,7 +59,7 @@ one_event old now next records records_now records_next events event s slot (Som
 
 pub so_far : (old now : NodeState) (records records_now : List RecordModel) (events : List EventModel) (s : ℕ) (slot : SlotState) → RunsAsAloneSoFar old now records records_now events s slot → RunsAsAlone old now records records_now events s slot
 so_far old now records records_now events s slot r =
-    let end = rw append-nil at (r.run_so_far []) in
+    let end = rw (append-nil events) at (r.run_so_far []) in
     record {
       slot_is = rw r.is_here (ap Some (sym (ap (λ (run : Run). run.slot) end)));
       globals_are = sym (ap (λ (run : Run). run.globals) end);

@@ -1,6 +1,6 @@
 -- A step of a node: what each slot sees of it, and what it adds to the outbox.
-use Rattle.std.proofs.Common.{zero, suc, ◌≡◌, ℕ, ◌≤◌, ◌<◌, List, [], ◌∷◌, ◌++◌, length, map, refl, ◌∙◌, ap, sym, arith, append_assoc, Some, None, Option, false}
-use Rattle.std.specs.Prelude.{slice_get, nat_le, nat_lt}
+use Rattle.std.proofs.Common.{zero, suc, ◌≡◌, ℕ, ◌+◌, take, ◌≤◌, ◌<◌, List, [], ◌∷◌, ◌++◌, length, map, refl, ◌∙◌, ap, sym, arith, append_assoc, Some, None, Option, false}
+use Rattle.std.specs.Prelude.{slice_get, option_map, nat_le, nat_lt}
 use Rattle.std.proofs.lemmas.Bool.Decides.{nat_tests}
 use Rattle.std.proofs.lemmas.List.{append-nil}
 use Rattle.trdp_base.specs.Moments.{last_moment}
@@ -78,3 +78,12 @@ pub opened_fit : (setup : NodeSetup) (slots : List SlotModel) → EachFits setup
 opened_fit setup [] s slot is = absurd (cc)
 opened_fit setup (x ∷ slots) zero slot is = let empty : opened_slot x.quotas ≡ slot = cc in rw (← empty) tt
 opened_fit setup (x ∷ slots) (suc s) slot is = opened_fit setup slots s slot is
+
+-- the quotas of one more slot of a configuration
+quotas_next : (slots : List SlotModel) (i : ℕ) (quotas : List ℕ) → Some quotas ≡ option_map (λ slot. slot.quotas) (slice_get slots i) → map (λ slot. slot.quotas) (take (suc i) slots) ≡ map (λ slot. slot.quotas) (take i slots) ++ quotas ∷ []
+quotas_next [] i quotas is = absurd (cc)
+quotas_next (x ∷ slots) zero quotas is = let same : quotas ≡ x.quotas = cc in rw same refl
+quotas_next (x ∷ slots) (suc i) quotas is = ap (λ (rest : List (List ℕ)). x.quotas ∷ rest) (quotas_next slots i quotas is)
+
+pub quotas_more : (slots : List SlotModel) (i : ℕ) (quotas : List ℕ) → Some quotas ≡ option_map (λ slot. slot.quotas) (slice_get slots i) → map (λ slot. slot.quotas) (take (i + 1) slots) ≡ map (λ slot. slot.quotas) (take i slots) ++ quotas ∷ []
+quotas_more slots i quotas is = let next : i + 1 ≡ suc i = omega arith in rw next (quotas_next slots i quotas is)

@@ -1,18 +1,13 @@
--- A change of each slot of a node, and a change of one slot.
-use Rattle.std.proofs.Common.{zero, suc, ◌≡◌, ℕ, ◌+◌, ◌<◌, ◌≤◌, List, [], ◌∷◌, ◌++◌, length, get_or, take, drop, map, refl, ◌∙◌, ap, sym, arith, append_assoc, Some, None, true, false, Bool, Result, Ok, Err, OnOk, OnErr}
-use Rattle.std.specs.Prelude.{slice_get, slice_set, option_map, ◌==◌, if◌then◌else◌}
-use Rattle.std.proofs.lemmas.Option.{slice_get_read}
-use Rattle.trdp_dataset.specs.Configs.{SlotModel}
-use Rattle.trdp_engine.proofs.Steps.{appends_none}
-use Rattle.std.specs.List.{sum_by}
+-- A change of each slot of a node, and a change of one slot after the other.
+use Rattle.std.proofs.Common.{zero, suc, ◌≡◌, ℕ, ◌+◌, ◌<◌, ◌≤◌, List, [], ◌∷◌, ◌++◌, length, map, refl, ◌∙◌, ap, sym, arith, append_assoc, Some, None, true, false, Bool}
+use Rattle.std.specs.Prelude.{slice_get, slice_set, ◌==◌, nat_lt, if◌then◌else◌}
+use Rattle.std.proofs.lemmas.Option.{slice_get_within}
 use Rattle.std.proofs.lemmas.Bool.Decides.{nat_tests}
-use Rattle.std.proofs.lemmas.List.{map-append, append-nil, length-append, length-map, length-take, length-drop, take_all, drop_all, take_at}
+use Rattle.std.proofs.lemmas.List.{map-append, append-nil, length-set}
 use Rattle.std.proofs.lemmas.List.Elements.{filter-append}
-use Rattle.std.proofs.lemmas.List.Sums.{sum_by-cons}
 use Rattle.trdp_engine.specs.Records.{Content, RecordModel, labelled, records_of}
-use Rattle.trdp_engine.specs.Slots.{SlotState, Outcome, unchanged, opened_slot}
+use Rattle.trdp_engine.specs.Slots.{SlotState, Outcome, unchanged}
 use Rattle.trdp_engine.specs.NodeStates.{HasOutcome, Appends}
-use Rattle.trdp_engine.proofs.Each.{next_drop, next_set}
 
 pub records_of-append : (s : ℕ) (xs ys : List RecordModel) → records_of s (xs ++ ys) ≡ records_of s xs ++ records_of s ys
 records_of-append s xs ys = ap (map (λ r. r.content)) (filter-append (λ r. r.slot == s) xs ys) ∙ map-append _ _ _
@@ -29,24 +24,6 @@ records_of-other s r (c ∷ contents) other = rw other (records_of-other s r con
 abbrev pub all_records : ℕ → (SlotState → Outcome) → List SlotState → List RecordModel
 all_records k f [] = []
 all_records k f (slot ∷ slots) = labelled k (f slot).records ++ all_records (k + 1) f slots
-
--- one turn of a loop over the slots
-pub record Turns (f : SlotState → Outcome) (size : SlotState → ℕ) (all now : List SlotState) (i : ℕ) (x : SlotState) (records records_then : List RecordModel) : Type 0 where
-  pub items : slice_set now i (f x).slot ≡ map (λ slot. (f slot).slot) (take (i + 1) all) ++ drop (i + 1) all
-  pub told : records_then ++ all_records (i + 1) f (drop (i + 1) all) ≡ records ++ all_records i f (drop i all)
-  pub size_is : sum_by size (drop i all) ≡ size x + sum_by size (drop (i + 1) all)
-
-pub turn : (f : SlotState → Outcome) (size : SlotState → ℕ) (all now : List SlotState) (i : ℕ) (x : SlotState) (records records_then : List RecordModel) → now ≡ map (λ slot. (f slot).slot) (take i all) ++ drop i all → i < length now → x ≡ get_or now i x → records_then ≡ records ++ labelled i (f x).records → Turns f size all now i x records records_then
-turn f size all now i x records records_then are lt is told =
-    let g : SlotState → SlotState = λ slot. (f slot).slot in
-    let lt' : i < length (map g (take i all) ++ drop i all) = rw are at lt in
-    let is' : x ≡ get_or (map g (take i all) ++ drop i all) i x = rw are at is in
-    let next = next_drop g all i x lt' is' in
-    record {
-      items = rw are (next_set g all i x lt' is');
-      told = rw (next, told) (append_assoc records _ _);
-      size_is = rw next (sum_by-cons size x (drop (i + 1) all));
-    }
 
 -- none of the records from number k on is for a slot below it
 below_all : (f : SlotState → Outcome) (s k : ℕ) (slots : List SlotState) → s < k → records_of s (all_records k f slots) ≡ []
@@ -77,7 +54,7 @@ none_of_all f (suc i) k n (x ∷ slots) at none =
     records_of-append n (labelled k (f x).records) (all_records (k + 1) f slots)
     ∙ rw (records_of-other n k (f x).records other) (none_of_all f i (k + 1) n slots (omega (arith, at)) none)
 
-get-map : (f : SlotState → SlotState) (slots : List SlotState) (s : ℕ) (slot : SlotState) → slice_get slots s ≡ Some slot → slice_get (map f slots) s ≡ Some (f slot)
+pub get-map : (f : SlotState → SlotState) (slots : List SlotState) (s : ℕ) (slot : SlotState) → slice_get slots s ≡ Some slot → slice_get (map f slots) s ≡ Some (f slot)
 get-map f [] s slot is = absurd (cc)
 get-map f (x ∷ slots) zero slot is = let same : x ≡ slot = cc in rw same refl
 get-map f (x ∷ slots) (suc s) slot is = get-map f slots s slot is
@@ -98,39 +75,13 @@ each_appends f slots records = record {
       ∙ (ap (λ (cs : List Content). records_of s records ++ cs) (none_of_all f s 0 s slots (omega arith) none) ∙ append-nil (records_of s records));
 }
 
--- the end of a loop over the slots
-record Ends (f : SlotState → Outcome) (all now : List SlotState) (n : ℕ) (records records_then : List RecordModel) : Type 0 where
-  items : take n (now ++ drop (length now) all) ≡ map (λ slot. (f slot).slot) all
-  told : records_then ≡ records ++ all_records 0 f all
-
-end_of : (f : SlotState → Outcome) (all now : List SlotState) (i k n : ℕ) (records records_then : List RecordModel) → now ≡ map (λ slot. (f slot).slot) (take i all) ++ drop i all → records_then ++ all_records k f (drop i all) ≡ records ++ all_records 0 f all → length now ≤ i → n ≡ length all → Ends f all now n records records_then
-end_of f all now i k n records records_then are told past same =
-    let g : SlotState → SlotState = λ slot. (f slot).slot in
-    let long : length now ≡ length all = rw are (length-append (map g (take i all)) (drop i all) ∙ omega (arith, length-map (take i all) g, length-take i all, length-drop i all)) in
-    let end : length all ≤ i = omega (arith, long, past) in
-    let none = drop_all i all end in
-    let whole : now ≡ map g all = are ∙ rw (none, take_all i all end, append-nil) refl in
-    record {
-      items = take_at now (drop (length now) all) n (omega (arith, long, same)) ∙ whole;
-      told = sym (append-nil records_then) ∙ (rw none at told);
-    }
-
-pub swept_parts : (f : SlotState → Outcome) (all now : List SlotState) (i k n : ℕ) (records records_then : List RecordModel) → now ≡ map (λ slot. (f slot).slot) (take i all) ++ drop i all → records_then ++ all_records k f (drop i all) ≡ records ++ all_records 0 f all → length now ≤ i → n ≡ length all → (s : ℕ) (slot : SlotState) → slice_get all s ≡ Some slot → HasOutcome (take n (now ++ drop (length now) all)) records records_then s (f slot)
-swept_parts f all now i k n records records_then are told past same s slot is =
-    let e = end_of f all now i k n records records_then are told past same in
-    rw (e.items, e.told) (each_part f all records s slot is)
-
-pub swept_appends : (f : SlotState → Outcome) (all now : List SlotState) (i k n : ℕ) (records records_then : List RecordModel) → now ≡ map (λ slot. (f slot).slot) (take i all) ++ drop i all → records_then ++ all_records k f (drop i all) ≡ records ++ all_records 0 f all → length now ≤ i → n ≡ length all → Appends all records records_then
-swept_appends f all now i k n records records_then are told past same =
-    let e = end_of f all now i k n records records_then are told past same in
-    rw e.told (each_appends f all records)
-
-get-set : (xs : List SlotState) (i : ℕ) (x y : SlotState) → slice_get xs i ≡ Some x → slice_get (slice_set xs i y) i ≡ Some y
+-- a list of which one element was changed
+pub get-set : (xs : List SlotState) (i : ℕ) (x y : SlotState) → slice_get xs i ≡ Some x → slice_get (slice_set xs i y) i ≡ Some y
 get-set [] i x y is = absurd (cc)
 get-set (z ∷ xs) zero x y is = refl
 get-set (z ∷ xs) (suc i) x y is = get-set xs i x y is
 
-get-set_other : (xs : List SlotState) (i j : ℕ) (y : SlotState) → (i == j) ≡ false → slice_get (slice_set xs i y) j ≡ slice_get xs j
+pub get-set_other : (xs : List SlotState) (i j : ℕ) (y : SlotState) → (i == j) ≡ false → slice_get (slice_set xs i y) j ≡ slice_get xs j
 get-set_other [] i j y differ = refl
 get-set_other (z ∷ xs) zero zero y differ = absurd (cc)
 get-set_other (z ∷ xs) zero (suc j) y differ = refl
@@ -169,24 +120,79 @@ one_appends f slots s x records at = record {
     other r none true own = let same : s ≡ r = grind (arith, nat_tests) in let both : Some x ≡ None = sym at ∙ (ap (slice_get slots) same ∙ none) in absurd (cc)
     other r none false differ = records_of-other r s (f x).records differ
 
--- the slot of a number
-pub read_at : (slots : List SlotState) (i s : ℕ) (x : SlotState) → i ≡ s → i < length slots → x ≡ get_or slots i x → slice_get slots s ≡ Some x
-read_at slots i s x same lt is = rw (← same) (slice_get_read slots (length slots) i x refl lt is)
+-- One slot after the other comes to its outcome, in any order.
 
--- one slot was served, or nothing has changed
-pub served_parts : {T E : Type 0} (result : Result T E) (f : SlotState → Outcome) (slots : List SlotState) (i s : ℕ) (x y : SlotState) (records records_then : List RecordModel) → i ≡ s → slice_get slots s ≡ Some x → OnOk result (y ≡ (f x).slot) → OnOk result (records_then ≡ records ++ labelled s (f x).records) → OnOk result ((r : ℕ) (slot : SlotState) → slice_get slots r ≡ Some slot → HasOutcome (slice_set slots i y) records records_then r (if s == r then f slot else unchanged slot))
-served_parts (Ok done) f slots i s x y records records_then same at is told = λ r slot there. rw (same, is, told) (one_part f slots s x records at r slot there)
-served_parts (Err fault) f slots i s x y records records_then same at is told = tt
+-- the slot that comes to its outcome now
+pub own_next : (slots now : List SlotState) (records records_now : List RecordModel) (s : ℕ) (slot : SlotState) (outcome : Outcome) → HasOutcome now records records_now s (unchanged slot) → slots ≡ slice_set now s outcome.slot → HasOutcome slots records (records_now ++ labelled s outcome.records) s outcome
+own_next slots now records records_now s slot outcome had is = record {
+  slot_is = ap (λ (xs : List SlotState). slice_get xs s) is ∙ get-set now s slot outcome.slot had.slot_is;
+  records_are =
+      records_of-append s records_now (labelled s outcome.records)
+      ∙ rw (records_of-labelled s outcome.records, had.records_are, append-nil) refl;
+}
 
-pub served_appends : {T E : Type 0} (result : Result T E) (f : SlotState → Outcome) (slots : List SlotState) (s : ℕ) (x : SlotState) (records records_then : List RecordModel) → slice_get slots s ≡ Some x → OnOk result (records_then ≡ records ++ labelled s (f x).records) → OnErr result (records_then ≡ records) → Appends slots records records_then
-served_appends (Ok done) f slots s x records records_then at told none = rw told (one_appends f slots s x records at)
-served_appends (Err fault) f slots s x records records_then at told none = appends_none slots records records_then none
+-- and another one, which keeps its own
+pub other_next : (slots now : List SlotState) (records records_now : List RecordModel) (s r : ℕ) (outcome own : Outcome) → (s == r) ≡ false → HasOutcome now records records_now r own → slots ≡ slice_set now s outcome.slot → HasOutcome slots records (records_now ++ labelled s outcome.records) r own
+other_next slots now records records_now s r outcome own differ had is = record {
+  slot_is = ap (λ (xs : List SlotState). slice_get xs r) is ∙ (get-set_other now s r outcome.slot differ ∙ had.slot_is);
+  records_are =
+      records_of-append r records_now (labelled s outcome.records)
+      ∙ (rw (records_of-other r s outcome.records differ) (append-nil (records_of r records_now)) ∙ had.records_are);
+}
 
--- one more slot of the configuration is opened
-opened_next : (slots : List SlotModel) (i : ℕ) (quotas : List ℕ) → Some quotas ≡ option_map (λ slot. slot.quotas) (slice_get slots i) → map (λ slot. opened_slot slot.quotas) (take (suc i) slots) ≡ map (λ slot. opened_slot slot.quotas) (take i slots) ++ opened_slot quotas ∷ []
-opened_next [] i quotas is = absurd (cc)
-opened_next (x ∷ slots) zero quotas is = let same : quotas ≡ x.quotas = cc in rw same refl
-opened_next (x ∷ slots) (suc i) quotas is = ap (λ (rest : List SlotState). opened_slot x.quotas ∷ rest) (opened_next slots i quotas is)
+-- records of a slot that is there are added
+pub appends_next : (slots : List SlotState) (records records_now : List RecordModel) (s : ℕ) (slot : SlotState) (contents : List Content) → slice_get slots s ≡ Some slot → Appends slots records records_now → Appends slots records (records_now ++ labelled s contents)
+appends_next slots records records_now s slot contents at before = record {
+  more = before.more ++ labelled s contents;
+  front = ap (λ (rs : List RecordModel). rs ++ labelled s contents) before.front ∙ append_assoc records before.more (labelled s contents);
+  none_else = λ r none.
+      records_of-append r records_now (labelled s contents)
+      ∙ (rw (records_of-other r s contents (other r none (s == r) refl)) (append-nil (records_of r records_now)) ∙ before.none_else r none);
+}
+  where
+    other : (r : ℕ) → slice_get slots r ≡ None → (b : Bool) → (s == r) ≡ b → (s == r) ≡ false
+    other r none true own =
+        let same : s ≡ r = grind (arith, nat_tests) in
+        let both : Some slot ≡ None = sym at ∙ (ap (slice_get slots) same ∙ none) in
+        absurd (cc)
+    other r none false differ = differ
 
-pub opened_more : (slots : List SlotModel) (i : ℕ) (quotas : List ℕ) → Some quotas ≡ option_map (λ slot. slot.quotas) (slice_get slots i) → map (λ slot. opened_slot slot.quotas) (take (i + 1) slots) ≡ map (λ slot. opened_slot slot.quotas) (take i slots) ++ opened_slot quotas ∷ []
-opened_more slots i quotas is = let next : i + 1 ≡ suc i = omega arith in rw next (opened_next slots i quotas is)
+-- the slots of lower numbers have their outcome, and the others are unchanged
+abbrev pub outcome_below : (SlotState → Outcome) → ℕ → ℕ → SlotState → Outcome
+outcome_below f k s slot = if nat_lt s k then f slot else unchanged slot
+
+-- the slots of numbers below k have come to their outcomes
+pub record HaveMoved (f : SlotState → Outcome) (k : ℕ) (slots now : List SlotState) (records records_now : List RecordModel) : Type 0 where
+  pub parts : (s : ℕ) (slot : SlotState) → slice_get slots s ≡ Some slot → HasOutcome now records records_now s (outcome_below f k s slot)
+  pub appends : Appends slots records records_now
+  pub count : length now ≡ length slots
+
+-- the slot whose turn it is hasn't moved yet
+pub not_yet : (f : SlotState → Outcome) (k : ℕ) (slots now : List SlotState) (records records_now : List RecordModel) (slot : SlotState) → HaveMoved f k slots now records records_now → slice_get slots k ≡ Some slot → HasOutcome now records records_now k (unchanged slot)
+not_yet f k slots now records records_now slot moved at =
+    let none : nat_lt k k ≡ false = grind (arith, nat_tests) in
+    rw none at (moved.parts k slot at)
+
+pub moved_next : (f : SlotState → Outcome) (k : ℕ) (slots now then_slots : List SlotState) (records records_now records_then : List RecordModel) (slot : SlotState) → HaveMoved f k slots now records records_now → slice_get slots k ≡ Some slot → then_slots ≡ slice_set now k (f slot).slot → records_then ≡ records_now ++ labelled k (f slot).records → HaveMoved f (k + 1) slots then_slots records records_then
+moved_next f k slots now then_slots records records_now records_then slot moved at is told = record {
+  parts = λ s other there. rw told (part s other there (k == s) refl);
+  appends = rw told (appends_next slots records records_now k slot (f slot).records at moved.appends);
+  count = rw is (length-set now k (f slot).slot ∙ moved.count);
+}
+  where
+    part : (s : ℕ) (other : SlotState) → slice_get slots s ≡ Some other → (b : Bool) → (k == s) ≡ b → HasOutcome then_slots records (records_now ++ labelled k (f slot).records) s (outcome_below f (k + 1) s other)
+    part s other there true own =
+        let same : k ≡ s = grind (arith, nat_tests) in
+        let one : slot ≡ other = same_some (sym at ∙ (ap (slice_get slots) same ∙ there)) in
+        let below : nat_lt k (k + 1) ≡ true = grind (arith, nat_tests) in
+        rw (← same, ← one, below) (own_next then_slots now records records_now k slot (f slot) (not_yet f k slots now records records_now slot moved at) is)
+    part s other there false differ =
+        let same : nat_lt s (k + 1) ≡ nat_lt s k = grind (arith, nat_tests) in
+        rw same (other_next then_slots now records records_now k s (f slot) (outcome_below f k s other) differ (moved.parts s other there) is)
+
+-- all have moved
+pub all_moved : (f : SlotState → Outcome) (k : ℕ) (slots now : List SlotState) (records records_now : List RecordModel) → length slots ≤ k → HaveMoved f k slots now records records_now → (s : ℕ) (slot : SlotState) → slice_get slots s ≡ Some slot → HasOutcome now records records_now s (f slot)
+all_moved f k slots now records records_now past moved s slot at =
+    let lt : s < length slots = slice_get_within slots s slot at in
+    let below : nat_lt s k ≡ true = let within : s < k = omega (arith, lt, past) in grind (arith, nat_tests) in
+    rw below at (moved.parts s slot at)

@@ -2,9 +2,10 @@
 -- leaves of the moment.
 use Rattle.std.specs.Prelude.{◌≡◌, ℕ, ◌+◌, ◌++◌, List, [], ◌∷◌, length, Option, Some, None, true}
 use Rattle.std.specs.Prelude.{nat_le, filter, if◌then◌else◌}
-use Rattle.trdp_engine.specs.declared.object.Entry.{Entry}
-use Rattle.trdp_pd.specs.Objects.{due_of}
-use Rattle.trdp_engine.specs.Moments.{is_due, is_before}
+use Rattle.std.specs.Prelude.{option_map, slice_get}
+use Rattle.trdp_table.specs.Objects.{due_of}
+use Rattle.trdp_engine.specs.Slots.{Entry}
+use Rattle.trdp_engine.specs.Moments.{is_due, is_before, in_order}
 
 -- the due moment, if it has come by t
 abbrev pub due_time : ℕ → Option ℕ → Option ℕ
@@ -44,3 +45,8 @@ pub record FiresFirst (t : ℕ) (objects : List Entry) (at : ℕ) : Type 0 where
 abbrev pub IsFirst : ℕ → List Entry → Option ℕ → Type 0
 IsFirst t objects None = filter (is_due t) objects ≡ []
 IsFirst t objects (Some at) = FiresFirst t objects at
+
+-- the handle of the object that fires next, if one is due
+abbrev pub IsNext : ℕ → List Entry → Option ℕ → Type 0
+IsNext t objects next =
+    next ≡ option_map (λ entry. entry.handle) (slice_get (in_order (filter (is_due t) objects)) 0)

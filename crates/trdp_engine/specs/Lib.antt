@@ -1,6 +1,7 @@
 pub mod Configs
 pub mod Records
 pub mod Slots
+pub mod Acts
 pub mod Looks
 pub mod Events
 pub mod Pulls
@@ -14,7 +15,11 @@ pub mod Fitting
 pub mod ShownItems
 pub mod NodeStates
 pub mod Handles
+pub mod Quiet
 pub mod Firing
 pub mod Outboxes
 pub mod Rooms
 pub mod NodeRuns
+pub mod Acting
+pub mod Noted
+pub mod Asked

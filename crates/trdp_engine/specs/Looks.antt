@@ -1,13 +1,12 @@
 -- A look at a subscription.
 use Rattle.std.specs.Prelude.{ℕ, List, Option, Some, None, Result, Ok, Err}
-use Rattle.trdp_pd.specs.declared.any_object.AnyObject.{AnyObject}
-use Rattle.trdp_pd.specs.declared.any_object.AnyObject.TheVariants.{Publisher, Subscription}
-use Rattle.trdp_pd.specs.declared.any_object.AnyObject.TheVariants.{Requester}
+use Rattle.trdp_table.specs.declared.any_object.AnyObject.{AnyObject}
+use Rattle.trdp_table.specs.declared.any_object.AnyObject.TheVariants.{Publisher, Subscription}
+use Rattle.trdp_table.specs.declared.any_object.AnyObject.TheVariants.{Requester}
 use Rattle.trdp_pd.specs.Subscriptions.{SubscriptionState}
-use Rattle.trdp_engine.specs.declared.object.Entry.{Entry}
 use Rattle.trdp_engine.specs.declared.look.LookFault.{LookFault}
 use Rattle.trdp_engine.specs.declared.look.LookFault.TheVariants.{NoHandle, WrongKind}
-use Rattle.trdp_engine.specs.Slots.{entry_of}
+use Rattle.trdp_engine.specs.Slots.{Entry, entry_of}
 
 -- the object as a subscription; an object of another kind is none
 abbrev pub as_subscription : AnyObject → Result SubscriptionState LookFault

@@ -1,19 +1,19 @@
 -- What a moment does to a slot.
-use Rattle.std.specs.Prelude.{ℕ, List, [], ◌∷◌, Bool, ◌==◌, ◌&&◌, ◌||◌, nat_lt, map, filter}
+use Rattle.std.specs.Prelude.{ℕ, List, [], ◌∷◌, Bool, ◌==◌, ◌&&◌, ◌||◌, nat_lt, filter, Option, Some}
 use Rattle.std.specs.Prelude.{if◌then◌else◌, unwrap_or}
 use Rattle.std.specs.List.{flat_map}
 use Rattle.trdp_head.specs.declared.pd.PdHead.{PdHead}
 use Rattle.trdp_filter.specs.declared.globals.Globals.{Globals}
-use Rattle.trdp_pd.specs.declared.any_object.AnyObject.{AnyObject}
-use Rattle.trdp_pd.specs.declared.any_object.AnyObject.TheVariants.{Publisher, Subscription}
-use Rattle.trdp_pd.specs.declared.any_object.AnyObject.TheVariants.{Requester}
+use Rattle.trdp_table.specs.declared.any_object.AnyObject.{AnyObject}
+use Rattle.trdp_table.specs.declared.any_object.AnyObject.TheVariants.{Publisher, Subscription}
+use Rattle.trdp_table.specs.declared.any_object.AnyObject.TheVariants.{Requester}
 use Rattle.trdp_pd.specs.declared.object.Fired.{Fired}
 use Rattle.trdp_pd.specs.declared.object.Fired.TheVariants.{Nothing, Data, Silent}
 use Rattle.trdp_pd.specs.Due.{is_due_by}
-use Rattle.trdp_pd.specs.Objects.{due_of, after_firing, fired}
-use Rattle.trdp_engine.specs.declared.object.Entry.{Entry}
+use Rattle.trdp_table.specs.Objects.{due_of, after_firing, fired}
 use Rattle.trdp_engine.specs.Records.{Content, Indicates, SilentIs, value_sent}
-use Rattle.trdp_engine.specs.Slots.{SlotState, Outcome}
+use Rattle.trdp_engine.specs.Slots.{Entry, SlotState, Outcome}
+use Rattle.trdp_engine.specs.Acts.{Act, entry_left}
 
 -- the object is due by t
 abbrev pub is_due : ℕ → Entry → Bool
@@ -48,23 +48,32 @@ firing_records handle object Nothing = []
 firing_records handle object (Data head) = sends_data object head
 firing_records handle object Silent = Indicates (SilentIs handle) ∷ []
 
--- the records of an object that fires
-abbrev pub records_firing : Globals → Entry → List Content
-records_firing globals entry =
-    firing_records entry.handle entry.object (fired entry.object globals)
+-- what is left of an object that did this as it fired: no object of process data ends with it
+abbrev pub left_firing : Fired → AnyObject → Option AnyObject
+left_firing Nothing object = Some object
+left_firing (Data head) object = Some object
+left_firing Silent object = Some object
 
--- an object after the moment: it fired if it was due
-abbrev pub entry_after_moment : Globals → Entry → Entry
-entry_after_moment globals entry =
+-- the act of an object that fires
+abbrev pub firing_act : Globals → Entry → Act
+firing_act globals entry = record {
+  left = left_firing (fired entry.object globals) (after_firing entry.object globals);
+  records = firing_records entry.handle entry.object (fired entry.object globals);
+}
+
+-- what a moment leaves of an object of a slot's list: it fired if it was due
+abbrev pub after_moment : Globals → Entry → List Entry
+after_moment globals entry =
     if is_due globals.now entry
-    then record { handle = entry.handle; object = after_firing entry.object globals }
-    else entry
+    then entry_left entry (firing_act globals entry).left
+    else entry ∷ []
 
 -- effect of the moment that the globals show: each object that is due fires once, in the order of
 -- firing
 abbrev pub moved_to : SlotState → Globals → Outcome
 moved_to slot globals = record {
-  slot = record slot { objects = map (entry_after_moment globals) slot.objects };
+  slot = record slot { objects = flat_map (after_moment globals) slot.objects };
   records =
-      flat_map (records_firing globals) (in_order (filter (is_due globals.now) slot.objects));
+      flat_map (λ entry. (firing_act globals entry).records)
+      (in_order (filter (is_due globals.now) slot.objects));
 }

@@ -1,50 +1,35 @@
 -- What a pull does, and where a pull request is answered.
-use Rattle.std.specs.Prelude.{List, [], ◌∷◌, Option, Some, None, ◌==◌, if◌then◌else◌}
+use Rattle.std.specs.Prelude.{List, [], ◌∷◌, Some, Bool, true, false, ◌==◌, if◌then◌else◌}
 use Rattle.trdp_base.specs.declared.place.Place.{Place}
 use Rattle.trdp_head.specs.declared.pd.PdHead.{PdHead}
 use Rattle.trdp_head.specs.PdBytes.{pd_bytes}
 use Rattle.trdp_filter.specs.declared.globals.Globals.{Globals}
 use Rattle.trdp_filter.specs.Counts.{topo_valid}
 use Rattle.trdp_filter.specs.Telegrams.{TelegramModel, PdIs}
-use Rattle.trdp_pd.specs.declared.any_object.AnyObject.{AnyObject}
-use Rattle.trdp_pd.specs.declared.any_object.AnyObject.TheVariants.{Publisher, Subscription}
-use Rattle.trdp_pd.specs.declared.any_object.AnyObject.TheVariants.{Requester}
-use Rattle.trdp_pd.specs.Requesters.{pulling}
+use Rattle.trdp_table.specs.declared.any_object.AnyObject.{AnyObject}
+use Rattle.trdp_table.specs.declared.any_object.AnyObject.TheVariants.{Publisher, Subscription}
+use Rattle.trdp_table.specs.declared.any_object.AnyObject.TheVariants.{Requester}
+use Rattle.trdp_pd.specs.Requesters.{RequesterState, pulling}
 use Rattle.trdp_engine.specs.Configs.{NodeSetup}
-use Rattle.trdp_engine.specs.declared.object.Entry.{Entry}
-use Rattle.trdp_engine.specs.declared.fault.Refusal.{Refusal}
-use Rattle.trdp_engine.specs.declared.fault.Refusal.TheVariants.{NoHandle, WrongKind, State}
+use Rattle.trdp_engine.specs.declared.fault.Refusal.TheVariants.{WrongKind, State}
 use Rattle.trdp_engine.specs.declared.record.Protocol.TheVariants.{Pd}
-use Rattle.trdp_engine.specs.Records.{Content, Sends, value_sent}
+use Rattle.trdp_engine.specs.Records.{Content, DoneIs, Answers, Sends, value_sent}
+use Rattle.trdp_engine.specs.Acts.{Act, refuses}
 
--- why an object doesn't pull: it is no requester, or its topology counts don't match the node's
-abbrev pub object_pull_refusal : Globals → AnyObject → Option Refusal
-object_pull_refusal globals (Publisher p) = Some WrongKind
-object_pull_refusal globals (Subscription s) = Some WrongKind
-object_pull_refusal globals (Requester r) =
-    if topo_valid r.terms.topo globals.topo then None else Some State
+-- a requester whose topology counts match the node's is answered, and then its pull request goes
+-- out without payload
+abbrev pub pulls_if : Bool → RequesterState → Act
+pulls_if false r = refuses (Requester r) State
+pulls_if true r = record {
+  left = Some (Requester (pulling r).object);
+  records = Answers DoneIs ∷ Sends Pd r.terms.to (pd_bytes (pulling r).head []) ∷ [];
+}
 
--- first refusal of a pull by the object of a handle
-abbrev pub pull_refusal : Globals → Option Entry → Option Refusal
-pull_refusal globals None = Some NoHandle
-pull_refusal globals (Some entry) = object_pull_refusal globals entry.object
-
--- an object once it pulled: a requester has counted its pull request
-abbrev pub after_pull : AnyObject → AnyObject
-after_pull (Publisher p) = Publisher p
-after_pull (Subscription s) = Subscription s
-after_pull (Requester r) = Requester (pulling r).object
-
--- the pull request that an object sends, which has no payload
-abbrev pub pull_request : AnyObject → List Content
-pull_request (Publisher p) = []
-pull_request (Subscription s) = []
-pull_request (Requester r) = Sends Pd r.terms.to (pd_bytes (pulling r).head []) ∷ []
-
--- the pull request that the object of a handle sends
-abbrev pub pull_request_of : Option Entry → List Content
-pull_request_of None = []
-pull_request_of (Some entry) = pull_request entry.object
+-- the act of an object that is to pull
+abbrev pub pulls : Globals → AnyObject → Act
+pulls globals (Publisher p) = refuses (Publisher p) WrongKind
+pulls globals (Subscription s) = refuses (Subscription s) WrongKind
+pulls globals (Requester r) = pulls_if (topo_valid r.terms.topo globals.topo) r
 
 -- where a pull request is answered: at its reply address, at the node's own process data port, or
 -- where it has no such address at the place that it came from

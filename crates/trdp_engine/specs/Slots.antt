@@ -1,10 +1,16 @@
 -- An application slot.
-use Rattle.std.specs.Prelude.{ℕ, ◌+◌, List, [], ◌∷◌, ◌++◌, find, count_by, Option, ◌==◌}
-use Rattle.std.specs.Prelude.{if◌then◌else◌}
-use Rattle.trdp_pd.specs.declared.any_object.AnyObject.{AnyObject}
-use Rattle.trdp_pd.specs.Objects.{kind_of}
-use Rattle.trdp_engine.specs.declared.object.Entry.{Entry}
+use Rattle.std.specs.Prelude.{ℕ, ◌+◌, List, [], ◌∷◌, ◌++◌, map, find, count_by, Option, ◌==◌}
+use Rattle.trdp_table.specs.declared.any_object.AnyObject.{AnyObject}
+use Rattle.trdp_table.specs.declared.kind.Kind.{Kind}
+use Rattle.trdp_table.specs.Kinds.{kind_of, is_same_kind}
+use Rattle.trdp_table.specs.Tables.{Keyed, SlotTable, TableState}
 use Rattle.trdp_engine.specs.Records.{Content}
+
+-- an object under its handle, with the kind for whose quota it counts: the one that it was made as
+pub record Entry : Type 0 where
+  pub handle : ℕ
+  pub kind : Kind
+  pub object : AnyObject
 
 -- an application slot: a quota for each kind of object, the next handle, and its objects by
 -- rising handle
@@ -26,9 +32,9 @@ unchanged slot = record { slot = slot; records = [] }
 abbrev pub opened_slot : List ℕ → SlotState
 opened_slot quotas = record { quotas = quotas; next = 1; objects = [] }
 
--- how many objects are of the kind with that index in the quotas
-abbrev pub count_of : ℕ → List Entry → ℕ
-count_of kind objects = count_by (λ entry. kind_of entry.object == kind) objects
+-- how many objects count for the quota of a kind
+abbrev pub count_of : Kind → List Entry → ℕ
+count_of kind objects = count_by (λ entry. is_same_kind entry.kind kind) objects
 
 -- the object of a handle
 abbrev pub entry_of : ℕ → List Entry → Option Entry
@@ -39,19 +45,24 @@ abbrev pub with_object : SlotState → AnyObject → SlotState
 with_object slot object =
     record slot {
       next = slot.next + 1;
-      objects = slot.objects ++ record { handle = slot.next; object = object } ∷ [];
+      objects =
+          slot.objects
+          ++ record { handle = slot.next; kind = kind_of object; object = object } ∷ [];
     }
 
--- the objects, the one of the handle changed
-abbrev pub changed : ℕ → (AnyObject → AnyObject) → List Entry → List Entry
-changed handle change [] = []
-changed handle change (entry ∷ entries) =
-    if entry.handle == handle
-    then record { handle = entry.handle; object = change entry.object } ∷ entries
-    else entry ∷ changed handle change entries
+-- an object of the table as its slot knows it, without its key
+abbrev pub entry_of_keyed : Keyed → Entry
+entry_of_keyed keyed =
+    record { handle = keyed.handle; kind = keyed.kind; object = keyed.object }
 
--- the objects but the one of the handle
-abbrev pub without : ℕ → List Entry → List Entry
-without handle [] = []
-without handle (entry ∷ entries) =
-    if entry.handle == handle then entries else entry ∷ without handle entries
+-- a slot of the table, without keys
+abbrev pub slot_of : SlotTable → SlotState
+slot_of slot = record {
+  quotas = slot.quotas;
+  next = slot.next;
+  objects = map entry_of_keyed slot.objects;
+}
+
+-- the slots of the table, without keys
+abbrev pub slots_of : TableState → List SlotState
+slots_of table = map slot_of table

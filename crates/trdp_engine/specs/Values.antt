@@ -9,17 +9,17 @@ use Rattle.trdp_marshal.specs.declared.fault.MarshalFault.TheVariants.{OutOfMemo
 use Rattle.trdp_marshal.specs.Items.{ItemModel}
 use Rattle.trdp_marshal.specs.Spelling.{spelling}
 use Rattle.trdp_marshal.specs.Faults.{encode_fault}
-use Rattle.trdp_pd.specs.declared.any_object.AnyObject.{AnyObject}
-use Rattle.trdp_pd.specs.declared.any_object.AnyObject.TheVariants.{Publisher, Subscription}
-use Rattle.trdp_pd.specs.declared.any_object.AnyObject.TheVariants.{Requester}
-use Rattle.trdp_engine.specs.declared.object.Entry.{Entry}
+use Rattle.trdp_table.specs.declared.any_object.AnyObject.{AnyObject}
+use Rattle.trdp_table.specs.declared.any_object.AnyObject.TheVariants.{Publisher, Subscription}
+use Rattle.trdp_table.specs.declared.any_object.AnyObject.TheVariants.{Requester}
 use Rattle.trdp_engine.specs.declared.fault.Refusal.{Refusal}
 use Rattle.trdp_engine.specs.declared.fault.Refusal.TheVariants.{NoHandle, WrongKind, NoDataset}
 use Rattle.trdp_engine.specs.declared.fault.Refusal.TheVariants.{TooLong, Shape}
 use Rattle.trdp_engine.specs.declared.value.SpellFault.{SpellFault}
 use Rattle.trdp_engine.specs.declared.value.SpellFault.TheVariants.{Refused, NoMemory}
-use Rattle.trdp_engine.specs.Slots.{SlotState, Outcome, entry_of, unchanged}
-use Rattle.trdp_engine.specs.Calls.{refused, put_refusal, put_unless}
+use Rattle.trdp_engine.specs.Slots.{Entry, SlotState, Outcome, unchanged}
+use Rattle.trdp_engine.specs.Acts.{Act, refuses}
+use Rattle.trdp_engine.specs.Calls.{puts, at_object}
 
 -- the refusal of an item that has no bytes, by what marshalling says
 abbrev pub marshal_refusal : Option MarshalFault → Option Refusal
@@ -53,17 +53,19 @@ abbrev pub item_bytes : NodeSetup → ItemModel → Option Entry → List ℕ
 item_bytes setup item None = []
 item_bytes setup item (Some entry) = bytes_for setup item entry.object
 
+-- the act of an object that is handed such an item
+abbrev pub valued_unless : Option Refusal → NodeSetup → ItemModel → AnyObject → Act
+valued_unless (Some refusal) setup item object = refuses object refusal
+valued_unless None setup item object = puts setup (bytes_for setup item object) object
+
 -- an item that has bytes is put as these bytes are
-abbrev pub valued_unless : Option Refusal → NodeSetup → SlotState → ℕ → List ℕ → Outcome
-valued_unless (Some refusal) setup slot handle bytes = refused slot refusal
-valued_unless None setup slot handle bytes =
-    put_unless (put_refusal setup bytes (entry_of handle slot.objects)) slot handle bytes
+abbrev pub takes_item : NodeSetup → ItemModel → AnyObject → Act
+takes_item setup item object =
+    valued_unless (item_refusal_of setup item object) setup item object
 
 -- effect of a value handed over as an item
 abbrev pub valued : NodeSetup → SlotState → ℕ → ItemModel → Outcome
-valued setup slot handle item =
-    valued_unless (item_refusal setup item (entry_of handle slot.objects)) setup slot handle
-    (item_bytes setup item (entry_of handle slot.objects))
+valued setup slot handle item = at_object slot handle (takes_item setup item)
 
 -- the same at slot s, when it is slot r that hands the value over
 abbrev pub valued_at : NodeSetup → ℕ → ℕ → SlotState → ℕ → ItemModel → Outcome

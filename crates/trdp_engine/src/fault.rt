@@ -5,6 +5,7 @@ ghost use Rattle.std.specs.Prelude.{◌≡◌, ◌≢◌, Err, true, false};
 use crate::look::LookFault;
 use std::alloc::AllocError;
 use thiserror::Error;
+use trdp_table::TableFault;
 
 /// Why an event is not admitted: the first of these that applies (profile). Node and outbox stay
 /// as they were.
@@ -107,6 +108,20 @@ impl From<LookFault> for Refusal {
         match fault {
             LookFault::NoHandle => Refusal::NoHandle,
             LookFault::WrongKind => Refusal::WrongKind,
+        }
+    }
+}
+
+impl From<TableFault> for Refusal {
+    ghost use Rattle.std.specs.Prelude.{◌≡◌};
+    ghost use Rattle.trdp_engine.specs.Calls.{table_refusal};
+
+    ghost from_gives = { λ fault refusal. refusal ≡ table_refusal fault };
+
+    fn from(fault: TableFault) -> Refusal {
+        match fault {
+            TableFault::Quota => Refusal::Quota,
+            TableFault::Exhausted => Refusal::Exhausted,
         }
     }
 }

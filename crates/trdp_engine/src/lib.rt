@@ -7,25 +7,31 @@
 //! (`trdp_worked`) show that with ample memory every event is taken and every item shown.
 #![tactic(auto)]
 
+mod asked;
+mod calls;
 mod datagram;
-mod entries;
 mod event;
 mod fault;
 mod laws;
 mod look;
 mod moment;
 mod node;
-mod object;
+mod objects;
 mod opening;
 mod outbox;
 mod peek;
+mod publishers;
 mod pull;
+mod quiet_slots;
 mod reception;
 mod record;
+mod requesters;
+mod room;
 mod run;
 mod shown;
-mod slot;
 mod slots;
+mod start;
+mod subscriptions;
 mod value;
 
 pub use event::{Call, Event};

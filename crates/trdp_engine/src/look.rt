@@ -1,11 +1,12 @@
 //! A look at a subscription of a slot.
 
-ghost use Rattle.std.specs.Prelude.{◌≡◌, IfOk, IfErr, Ok, Err};
-ghost use Rattle.trdp_engine.specs.Looks.{subscription_at};
+ghost use Rattle.std.specs.Prelude.{◌≡◌, ◌<◌, length, IfOk, IfErr, Ok, Err};
+ghost use Rattle.trdp_engine.specs.Looks.{as_subscription, subscription_at};
+ghost use Rattle.trdp_engine.specs.Acting.{slot_at};
 
-use crate::entries::entry_at;
-use crate::object::Entry;
-use trdp_pd::{AnyObject, Subscription};
+use crate::objects::object_of;
+use trdp_pd::Subscription;
+use trdp_table::{AnyObject, Table};
 
 /// Why a slot has no such subscription: the first of these that applies (profile).
 #[derive(Clone, Copy, Debug, PartialEq, Eq)]
@@ -16,19 +17,33 @@ pub enum LookFault {
     WrongKind,
 }
 
-/// The subscription of that handle among the objects.
+/// The object as a subscription.
+///
+/// # Errors
+/// `WrongKind` where it is none.
+pub fn as_subscription(object: &AnyObject) -> Result<&Subscription, LookFault>
+    ensures found { IfOk result (λ s. as_subscription object.now ≡ Ok s.now) }
+    ensures fault { IfErr result (λ fault. as_subscription object.now ≡ Err fault) }
+{
+    match object {
+        AnyObject::Publisher(_) | AnyObject::Requester(_) => Err(LookFault::WrongKind),
+        AnyObject::Subscription(subscription) => Ok(subscription),
+    }
+}
+
+/// The subscription of that handle in slot `s`.
 ///
 /// # Errors
 /// The first that applies of `NoHandle` and `WrongKind`.
-pub fn subscription_at(objects: &[Entry], handle: u32) -> Result<&Subscription, LookFault>
-    ensures found { IfOk result (λ s. subscription_at handle objects.now ≡ Ok s.now) }
-    ensures fault { IfErr result (λ fault. subscription_at handle objects.now ≡ Err fault) }
+pub fn subscription_at(table: &Table, s: u16, handle: u32) -> Result<&Subscription, LookFault>
+    requires { s < length table.now }
+    ensures found { IfOk result
+        (λ found. subscription_at handle (slot_at s table.now).objects ≡ Ok found.now) }
+    ensures fault { IfErr result
+        (λ fault. subscription_at handle (slot_at s table.now).objects ≡ Err fault) }
 {
-    match entry_at(objects, handle) {
+    match object_of(table, s, handle) {
         None => Err(LookFault::NoHandle),
-        Some(entry) => match &entry.object {
-            AnyObject::Publisher(_) | AnyObject::Requester(_) => Err(LookFault::WrongKind),
-            AnyObject::Subscription(subscription) => Ok(subscription),
-        },
+        Some(object) => as_subscription(object),
     }
 }

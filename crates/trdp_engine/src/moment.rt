@@ -1,29 +1,35 @@
 //! What a moment does to the objects of a slot.
 
-ghost use Rattle.std.specs.Prelude.{◌≡◌, ℕ, ◌+◌, ◌*◌, ◌<◌, ◌≤◌, ◌++◌, length, Option, IfSome};
-ghost use Rattle.std.specs.Prelude.{true, slice_get, slice_set, vec_capacity, map, filter};
-ghost use Rattle.std.specs.List.{flat_map};
+ghost use Rattle.std.specs.Prelude.{◌≡◌, ◌+◌, ◌*◌, ◌<◌, ◌≤◌, ◌++◌, ◌∷◌, [], length, IfSome};
+ghost use Rattle.std.specs.Prelude.{true, slice_get, filter};
 ghost use Rattle.trdp_base.specs.Moments.{last_moment};
 ghost use Rattle.trdp_head.specs.declared.pd.TheConstants.{PD_TELEGRAM_MAX};
-ghost use Rattle.trdp_engine.specs.Handles.{IsRising};
-ghost use Rattle.trdp_pd.specs.Objects.{due_of};
+ghost use Rattle.trdp_pd.specs.Due.{is_due_by};
+ghost use Rattle.trdp_table.specs.Kinds.{kind_of};
+ghost use Rattle.trdp_table.specs.Objects.{due_of, after_firing, fired};
+ghost use Rattle.trdp_table.specs.TableLaws.{object_limit};
+ghost use Rattle.trdp_engine.specs.Slots.{entry_of};
 ghost use Rattle.trdp_engine.specs.Records.{labelled};
-ghost use Rattle.trdp_engine.specs.Moments.{is_due, in_order, sends_data, records_firing};
-ghost use Rattle.trdp_engine.specs.Moments.{entry_after_moment};
-ghost use Rattle.trdp_engine.specs.Firing.{due_time, sooner, IsFirst};
+ghost use Rattle.trdp_engine.specs.Moments.{is_due, sends_data, firing_records, firing_act};
+ghost use Rattle.trdp_engine.specs.Moments.{moved_to};
+ghost use Rattle.trdp_engine.specs.Rooms.{HasRoom, kind_room, entries_room};
+ghost use Rattle.trdp_engine.specs.Acting.{slot_at, MayAct, TookWithin, Becomes, ActsAt};
+ghost use Rattle.trdp_engine.specs.Firing.{due_time, sooner, IsFirst, IsNext};
 
-use crate::object::Entry;
+use crate::objects::{handle_at, object_at};
 use crate::outbox::Outbox;
 use crate::record::Indication;
+use crate::room::Room;
 use trdp_filter::Globals;
 use trdp_head::{PD_TELEGRAM_MAX, PdHead};
-use trdp_pd::{AnyObject, Fired, Object};
+use trdp_pd::{Fired, Object};
+use trdp_table::{AnyObject, Table};
 
 /// The object's due moment, if it has come by `t`.
-fn due_time(entry: &Entry, t: u64) -> Option<u64>
-    ensures { result ≡ due_time t (due_of entry.now.object) }
+fn due_time(object: &AnyObject, t: u64) -> Option<u64>
+    ensures { result ≡ due_time t (due_of object.now) }
 {
-    match entry.object.due() {
+    match object.due() {
         None => None,
         Some(due) => { if due <= t { Some(due) } else { None } }
     }
@@ -48,19 +54,41 @@ fn sooner(first: Option<(usize, u64)>, at: usize, due: Option<u64>) -> Option<(u
     }
 }
 
-/// The index of the object that fires first of those that are due by `t`.
-fn first_due(objects: &[Entry], t: u64) -> Option<usize>
-    requires { IsRising objects.now }
-    ensures { IsFirst t objects.now result }
+/// The due moment of the object of that index in slot `s`, if it has come by `t`.
+fn due_time_at(table: &Table, s: u16, index: usize, t: u64) -> Option<u64>
+    requires slot { s < length table.now }
+    ensures { IfSome (slice_get (slot_at s table.now).objects index)
+        (λ entry. result ≡ due_time t (due_of entry.object)) }
 {
+    match object_at(table, s, index) {
+        None => None,
+        Some(object) => due_time(object, t),
+    }
+}
+
+/// The index of the object of slot `s` that fires first of those that are due by `t`.
+fn first_due(table: &Table, s: u16, t: u64) -> Option<usize>
+    requires { s < length table.now }
+    ensures { IsFirst t (slot_at s table.now).objects result }
+{
+    table.sound();
     let mut first = None;
-    for at in (0..objects.len()).rev() {
-        first = sooner(first, at, due_time(&objects[at], t));
+    for index in (0..table.count(s)).rev() {
+        first = sooner(first, index, due_time_at(table, s, index, t));
     }
     match first {
         None => None,
         Some(found) => Some(found.0),
     }
+}
+
+/// The handle of the object of slot `s` that fires next of those that are due by `t`.
+fn next_due(table: &Table, s: u16, t: u64) -> Option<u32>
+    requires { s < length table.now }
+    ensures { IsNext t (slot_at s table.now).objects result }
+{
+    let index = first_due(table, s, t)?;
+    handle_at(table, s, index)
 }
 
 /// Records the data of a publisher, with its value, under this header.
@@ -79,89 +107,87 @@ fn push_data(object: &AnyObject, head: &PdHead, s: u16, out: &mut Outbox)
     }
 }
 
-/// Fires one object that is due.
-fn fire(entry: &mut Entry, globals: &Globals, s: u16, out: &mut Outbox)
-    requires due { is_due globals.now.now entry.old ≡ true }
+/// Fires one object that is due, of that handle.
+fn fire_object(object: &mut AnyObject, handle: u32, globals: &Globals, s: u16, out: &mut Outbox)
+    requires due { is_due_by globals.now.now (due_of object.old) ≡ true }
     requires now { globals.now.now ≤ last_moment }
-    requires row { 0 < out.old.row_room }
-    requires bytes { PD_TELEGRAM_MAX ≤ out.old.byte_room }
-    ensures entry { entry.new ≡ entry_after_moment globals.entry.now entry.old }
-    ensures records { out.new.records
-        ≡ out.old.records ++ labelled s (records_firing globals.entry.now entry.old) }
-    ensures row_room { out.old.row_room ≤ out.new.row_room + 1 }
-    ensures byte_room { out.old.byte_room ≤ out.new.byte_room + PD_TELEGRAM_MAX }
-{
-    match entry.object.fire(globals) {
-        Fired::Nothing => {}
-        Fired::Data(head) => push_data(&entry.object, &head, s, out),
-        Fired::Silent => out.push_indication(s, Indication::Silent(entry.handle)),
-    }
-}
-
-/// Fires the object of that index.
-fn fire_at(objects: &mut Vec<Entry>, at: usize, globals: &Globals, s: u16, out: &mut Outbox)
-    requires within { at < length objects.old.items }
-    requires due { IfSome (slice_get objects.old.items at)
-        (λ entry. is_due globals.now.now entry ≡ true) }
-    requires now { globals.now.now ≤ last_moment }
-    requires row { 0 < out.old.row_room }
-    requires bytes { PD_TELEGRAM_MAX ≤ out.old.byte_room }
-    ensures items { IfSome (slice_get objects.old.items at)
-        (λ entry.
-        objects.new.items ≡ slice_set objects.old.items at (entry_after_moment
-        globals.entry.now entry)) }
-    ensures records { IfSome (slice_get objects.old.items at)
-        (λ entry.
-        out.new.records ≡ out.old.records ++ labelled s (records_firing globals.entry.now
-        entry)) }
-    ensures capacity { vec_capacity objects.new ≡ vec_capacity objects.old }
-    ensures row_room { out.old.row_room ≤ out.new.row_room + 1 }
-    ensures byte_room { out.old.byte_room ≤ out.new.byte_room + PD_TELEGRAM_MAX }
-{
-    let entry = &mut objects[at];
-    fire(entry, globals, s, out);
-}
-
-/// Fires the objects that are due, once each, in the order of their due moments and handles.
-pub fn fire_all(objects: &mut Vec<Entry>, globals: &Globals, s: u16, out: &mut Outbox)
-    requires rising { IsRising objects.old.items }
-    requires now { globals.now.now ≤ last_moment }
-    requires rows { length (filter (is_due globals.now.now) objects.old.items) ≤ out.old.row_room }
-    requires bytes { PD_TELEGRAM_MAX * length (filter (is_due globals.now.now) objects.old.items)
-        ≤ out.old.byte_room }
-    ensures items { objects.new.items
-        ≡ map (entry_after_moment globals.entry.now) objects.old.items }
+    requires room { HasRoom out.old (kind_room (kind_of object.old)) }
+    ensures object { object.new ≡ after_firing object.old globals.entry.now }
     ensures records { out.new.records
         ≡ out.old.records
-        ++ labelled s
-        (flat_map (records_firing globals.entry.now)
-        (in_order (filter (is_due globals.entry.now.now) objects.old.items))) }
-    ensures capacity { vec_capacity objects.new ≡ vec_capacity objects.old }
-    ensures row_room { out.old.row_room
-        ≤ out.new.row_room
-        + length (filter (is_due globals.entry.now.now) objects.old.items) }
-    ensures byte_room { out.old.byte_room
-        ≤ out.new.byte_room
-        + PD_TELEGRAM_MAX * length (filter (is_due globals.entry.now.now) objects.old.items) }
+        ++ labelled s (firing_records handle object.old (fired object.old globals.entry.now)) }
+    ensures within { TookWithin out.old out.new (kind_room (kind_of object.old)) }
 {
-    while let Some(at) = first_due(objects, globals.now) {
-        fire_at(objects, at, globals, s, out);
+    match object.fire(globals) {
+        Fired::Nothing => {}
+        Fired::Data(head) => push_data(object, &head, s, out),
+        Fired::Silent => out.push_indication(s, Indication::Silent(handle)),
     }
 }
 
-/// How many of the objects are due by `t`.
-pub fn count_due(objects: &[Entry], t: u64) -> usize
-    ensures count { result ≡ length (filter (is_due t) objects.now) }
-    ensures within { result ≤ length objects.now }
+/// Fires the object of that handle in slot `s`, which is due.
+fn fire(table: &mut Table, s: u16, handle: u32, globals: &Globals, out: &mut Outbox)
+    requires slot { s < length table.old }
+    requires may { MayAct (slot_at s table.old) handle out.old }
+    requires due { IfSome (entry_of handle (slot_at s table.old).objects)
+        (λ entry. is_due globals.now.now entry ≡ true) }
+    requires now { globals.now.now ≤ last_moment }
+    ensures { ActsAt s handle (firing_act globals.entry.now) table.old table.new out.old out.new }
 {
-    objects.iter().filter(|entry| is_due(entry, t)).count()
+    table.sound();
+    if let Some(key) = table.find(s, handle) {
+        if let Some(object) = table.get_mut(key) {
+            fire_object(object, handle, globals, s, out);
+        }
+    }
 }
 
-fn is_due(entry: &Entry, t: u64) -> bool
-    ensures { result ≡ is_due t entry.now }
+/// Fires the objects of slot `s` that are due, once each, in the order of their due moments and
+/// handles.
+pub fn fire_all(table: &mut Table, s: u16, globals: &Globals, out: &mut Outbox)
+    requires slot { s < length table.old }
+    requires now { globals.now.now ≤ last_moment }
+    requires room { HasRoom out.old
+        (entries_room (filter (is_due globals.now.now) (slot_at s table.old).objects)) }
+    ensures becomes { Becomes s (moved_to (slot_at s table.old) globals.entry.now) table.old
+        table.new out.old out.new }
+    ensures within { TookWithin out.old out.new
+        (entries_room (filter (is_due globals.entry.now.now) (slot_at s table.old).objects)) }
 {
-    match entry.object.due() {
-        None => false,
-        Some(due) => due <= t,
+    table.sound();
+    while let Some(handle) = next_due(table, s, globals.now) {
+        fire(table, s, handle, globals, out);
     }
+}
+
+/// Room for what the object of that index in slot `s` may give as it fires, if it is due by `t`.
+fn due_room_at(table: &Table, s: u16, index: usize, t: u64) -> Room
+    requires { s < length table.now }
+    ensures room { IfSome (slice_get (slot_at s table.now).objects index)
+        (λ entry. result ≡ entries_room (filter (is_due t) (entry ∷ []))) }
+    ensures rows { result.rows ≤ 1 }
+    ensures bytes { result.bytes ≤ 1472 }
+{
+    match object_at(table, s, index) {
+        None => Room::none(),
+        Some(object) => match due_time(object, t) {
+            None => Room::none(),
+            Some(_) => Room::of(object),
+        },
+    }
+}
+
+/// Room for what fires in slot `s` by `t`, in microseconds.
+pub fn due_room_in(table: &Table, s: u16, t: u64) -> Room
+    requires { s < length table.now }
+    ensures room { result ≡ entries_room (filter (is_due t) (slot_at s table.now).objects) }
+    ensures rows { result.rows ≤ object_limit }
+    ensures bytes { result.bytes ≤ 1472 * object_limit }
+{
+    table.sound();
+    let mut room = Room::none();
+    for index in 0..table.count(s) {
+        room = room.plus(due_room_at(table, s, index, t));
+    }
+    room
 }

@@ -11,23 +11,27 @@ ghost use Rattle.trdp_marshal.specs.Items.{model_of};
 ghost use Rattle.trdp_engine.specs.Values.{valued_at};
 ghost use Rattle.trdp_engine.specs.Configs.{setup_of};
 
+use crate::calls::{put_value, serve};
+use crate::datagram::Addressee;
 use crate::event::{Call, Event};
 use crate::fault::NodeFault;
+use crate::look::subscription_at;
 use crate::outbox::Outbox;
 use crate::peek::PeekFault;
+use crate::quiet_slots::wake;
 use crate::reception::hear;
 use crate::record::Protocol;
 use crate::shown::{ValueFault, item_shown};
-use crate::slot::Slot;
-use crate::slots::{due_in, move_slots, open_slots, put_value_in, serve_in, slot_at};
+use crate::slots::{due_room, move_slots};
+use crate::start::parts;
 use std::alloc::Global;
 use std::marker::Model;
 use trdp_base::{MOMENT_MAX, Place, Topo};
 use trdp_dataset::NodeConfig;
 use trdp_filter::{Globals, Groups};
-use trdp_head::PD_TELEGRAM_MAX;
 use trdp_marshal::Item;
 use trdp_pd::Peek;
+use trdp_table::Table;
 
 /// The communication node of one end device. It serves each slot of its configuration.
 #[derive(Drop)]
@@ -38,24 +42,39 @@ pub struct Node {
     config: NodeConfig,
     /// Its latest moment in microseconds, its topology counts, and the groups that it leads.
     globals: Globals,
-    /// Its slots in the order of the configuration, 1 to 16.
-    slots: Vec<Slot>,
+    /// The objects of its slots, 1 to 16, in the order of the configuration.
+    table: Table,
+    /// The objects that act at the telegram that is being handled; between events it says nothing.
+    /// It has room for all objects, so that a telegram takes no memory for it.
+    noted: Vec<Addressee>,
+    /// For each slot a moment, in microseconds, before which none of its objects is due, so that an
+    /// earlier one costs one comparison; 0 from an event that may change it on.
+    quiet: Vec<u64>,
 }
 
 impl Model for Node {
-    ghost use Rattle.std.specs.Prelude.{◌≤◌, length};
+    ghost use Rattle.std.specs.Prelude.{◌≤◌, ◌*◌, vec_capacity};
     ghost use Rattle.trdp_base.specs.Moments.{last_moment};
     ghost use Rattle.trdp_dataset.specs.Registries.{IsRegistry};
     ghost use Rattle.trdp_engine.specs.Configs.{setup_of};
     ghost use Rattle.trdp_engine.specs.NodeStates.{NodeState};
+    ghost use Rattle.trdp_table.specs.TableLaws.{object_limit};
+    ghost use Rattle.trdp_engine.specs.Slots.{slots_of};
     ghost use Rattle.trdp_engine.specs.Fitting.{EachFits};
+    ghost use Rattle.trdp_engine.specs.Quiet.{IsQuiet};
 
     ghost Value = { NodeState };
 
-    ghost view = { λ n. record { config = n.config; globals = n.globals; slots = n.slots.items } };
+    ghost view = { λ n. record {
+      config = n.config;
+      globals = n.globals;
+      slots = slots_of n.table;
+    } };
 
     ghost invariant = { λ n. (n.globals.now ≤ last_moment) × IsRegistry n.config.registry
-        × (length n.slots.items ≤ 16) × EachFits (setup_of n.config) n.slots.items };
+        × EachFits (setup_of n.config) (slots_of n.table)
+        × (16 * object_limit ≤ vec_capacity n.noted)
+        × IsQuiet n.quiet.items (slots_of n.table) };
 }
 
 impl Node {
@@ -75,9 +94,9 @@ impl Node {
         ensures returned { IfErr result (λ back. back ≡ config) }
     {
         config.registry().sound();
-        match open_slots(alloc, &config) {
+        match parts(alloc, &config) {
             Err(_) => Err(config),
-            Ok(slots) => {
+            Ok((table, noted, quiet)) => {
                 let globals = Globals {
                     now: 0,
                     topo: Topo { etb: 0, op_trn: 0 },
@@ -87,7 +106,9 @@ impl Node {
                     alloc,
                     config,
                     globals,
-                    slots,
+                    table,
+                    noted,
+                    quiet,
                 })
             }
         }
@@ -100,8 +121,7 @@ impl Node {
         self.globals.now
     }
 
-    /// Takes the moment `t`, in microseconds: room for the records of all that is due comes first,
-    /// and then each due object fires.
+    /// Takes the moment `t`, in microseconds: room for all records first, then each due object fires.
     ///
     /// # Errors
     /// The first that applies of `Past`, `TooLate` and `OutOfMemory`.
@@ -130,10 +150,10 @@ impl Node {
         if t > MOMENT_MAX {
             return Err(NodeFault::TooLate);
         }
-        let due = due_in(&self.slots, t);
-        out.reserve(due, PD_TELEGRAM_MAX * due)?;
+        let room = due_room(&self.table, &self.quiet, t);
+        out.reserve(room.rows, room.bytes)?;
         self.globals.now = t;
-        move_slots(&mut self.slots, &self.globals, out);
+        move_slots(&mut self.table, &mut self.quiet, &self.globals, out);
         Ok(())
     }
 
@@ -168,8 +188,7 @@ impl Node {
         Ok(())
     }
 
-    /// Takes a datagram. One that is no telegram, or of a protocol that isn't served yet, changes
-    /// nothing.
+    /// Takes a datagram. One that is no telegram, or of message data, changes nothing.
     ///
     /// # Errors
     /// `OutOfMemory`, where it concerns a slot.
@@ -203,7 +222,9 @@ impl Node {
         ensures appends { Appends self.old.slots out.old.records out.new.records }
     {
         hear(
-            &mut self.slots,
+            &mut self.table,
+            &mut self.quiet,
+            &mut self.noted,
             &self.config,
             protocol,
             src,
@@ -239,11 +260,11 @@ impl Node {
             (CallIs s (call_model call.now)) r slot) }
         ensures appends { Appends self.old.slots out.old.records out.new.records }
     {
-        if usize::from(s) >= self.slots.len() {
+        if usize::from(s) >= self.table.slots() {
             return Err(NodeFault::NoSlot);
         }
-        serve_in(
-            &mut self.slots,
+        serve(
+            &mut self.table,
             s,
             self.alloc,
             &self.config,
@@ -251,6 +272,7 @@ impl Node {
             &self.globals,
             out,
         )?;
+        wake(&mut self.quiet, s);
         Ok(())
     }
 
@@ -268,7 +290,6 @@ impl Node {
         ensures unrecorded { OnErr result (out.new.records ≡ out.old.records) }
         ensures memory { result ≡ Err NodeFault.OutOfMemory
             → MayTakeMemory self.old (event_model event.now) }
-
         ensures full { result ≡ Err NodeFault.OutOfMemory
             → MayLackMemory self.old out.old (event_model event.now) }
         ensures still { result ≡ Err NodeFault.OutOfMemory
@@ -319,7 +340,6 @@ impl Node {
             else None) result }
         ensures kept { OnErr result (self.new ≡ self.old) }
         ensures unrecorded { OnErr result (out.new.records ≡ out.old.records) }
-
         ensures config { self.new.config ≡ self.old.config }
         ensures globals { self.new.globals ≡ self.old.globals }
         ensures count { length self.new.slots ≡ length self.old.slots }
@@ -329,18 +349,20 @@ impl Node {
             (valued_at (setup_of self.old.config) slot s state handle (model_of item.now))) }
         ensures appends { Appends self.old.slots out.old.records out.new.records }
     {
-        if usize::from(slot) >= self.slots.len() {
+        if usize::from(slot) >= self.table.slots() {
             return Err(NodeFault::NoSlot);
         }
-        put_value_in(
-            &mut self.slots,
+        put_value(
+            &mut self.table,
             slot,
             alloc,
             &self.config,
             handle,
             item,
+            &self.globals,
             out,
         )?;
+        wake(&mut self.quiet, slot);
         Ok(())
     }
 
@@ -352,14 +374,14 @@ impl Node {
     pub fn peek(&self, slot: u16, handle: u32) -> Result<Peek<'_>, PeekFault>
         ensures { peeked result ≡ peek_in (slice_get self.now.slots slot) handle }
     {
-        match slot_at(&self.slots, slot) {
-            None => Err(PeekFault::NoSlot),
-            Some(slot) => Ok(slot.subscription(handle)?.peek()),
+        if usize::from(slot) >= self.table.slots() {
+            return Err(PeekFault::NoSlot);
         }
+        Ok(subscription_at(&self.table, slot, handle)?.peek())
     }
 
-    /// The item that the subscription of that handle shows, in every state of it: the one whose
-    /// bytes, as a value of the subscription's dataset, are those that `peek` shows.
+    /// The item that the subscription of that handle shows, in every state of it: it spells, as a
+    /// value of the subscription's dataset, the bytes that `peek` shows.
     ///
     /// # Errors
     /// The first that applies of `NoSlot`, `NoHandle`, `WrongKind` (the object is no
@@ -368,12 +390,10 @@ impl Node {
         ensures { ShowsItem (setup_of self.now.config)
             (showing_in (slice_get self.now.slots slot) handle) result }
     {
-        match slot_at(&self.slots, slot) {
-            None => Err(ValueFault::NoSlot),
-            Some(slot) => {
-                let subscription = slot.subscription(handle)?;
-                item_shown(alloc, &self.config, subscription)
-            }
+        if usize::from(slot) >= self.table.slots() {
+            return Err(ValueFault::NoSlot);
         }
+        let subscription = subscription_at(&self.table, slot, handle)?;
+        item_shown(alloc, &self.config, subscription)
     }
 }

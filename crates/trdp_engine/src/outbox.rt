@@ -16,7 +16,7 @@ use crate::record::{Answer, Indication, Protocol, Record, What};
 use std::alloc::{AllocError, Global};
 use std::marker::Model;
 use trdp_base::Place;
-use trdp_head::{PdHead, pd_length, write_pd};
+use trdp_head::{PdHead, push_pd};
 use trdp_pd::{Peek, ValueState};
 
 /// An answer without bytes.
@@ -227,7 +227,7 @@ impl Outbox {
             ≤ self.new.byte_room + pd_length_of (length payload.now) }
     {
         let at = self.bytes.len();
-        let len = append_pd(&mut self.bytes, head, payload);
+        let len = push_pd(head, payload, &mut self.bytes);
         append_row(
             &mut self.rows,
             Row {
@@ -305,22 +305,6 @@ fn append(bytes: &mut Vec<u8>, more: &[u8]) -> usize
 {
     bytes.extend_from_slice(more).unwrap();
     more.len()
-}
-
-/// Writes a telegram at the end of the bytes, within their room, and answers its length.
-fn append_pd(bytes: &mut Vec<u8>, head: &PdHead, payload: &[u8]) -> usize
-    requires payload { length payload.now ≤ 1432 }
-    requires room { vec_len bytes.old + pd_length_of (length payload.now)
-        ≤ vec_capacity bytes.old }
-    ensures items { bytes.new.items ≡ bytes.old.items ++ pd_bytes head.now payload.now }
-    ensures length { result ≡ pd_length_of (length payload.now) }
-    ensures len { vec_len bytes.new ≡ vec_len bytes.old + pd_length_of (length payload.now) }
-    ensures capacity { vec_capacity bytes.old ≤ vec_capacity bytes.new }
-{
-    let at = bytes.len();
-    let len = pd_length(payload.len());
-    bytes.resize(at + len, 0).unwrap();
-    write_pd(head, payload, &mut bytes[at..])
 }
 
 fn append_row(rows: &mut Vec<Row>, row: Row)

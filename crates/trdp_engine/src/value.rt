@@ -9,7 +9,7 @@ use crate::fault::Refusal;
 use std::alloc::Global;
 use trdp_dataset::NodeConfig;
 use trdp_marshal::{Item, MarshalFault, encode};
-use trdp_pd::AnyObject;
+use trdp_table::AnyObject;
 
 /// Why an item has no bytes for an object.
 #[derive(Clone, Copy)]

@@ -1,8 +1,8 @@
 //! Headers of TRDP telegrams, read and written (IEC 61375-2-3, the TRDP annex).
 //!
 //! A telegram that is read lends its payload; one that is written goes to the front of a given
-//! room, or to the end of a list that has room. Nothing here takes memory. Numbers are big-endian, but for the frame check, whose least
-//! significant byte comes first.
+//! room, or to the end of a list that has room. Nothing here takes memory. Numbers are big-endian,
+//! but for the frame check, whose least significant byte comes first.
 #![tactic(auto)]
 
 mod check;

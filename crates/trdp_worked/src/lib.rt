@@ -33,3 +33,6 @@ mod subscriptions;
 mod telegrams;
 #[cfg(test)]
 mod values;
+mod views;
+
+pub use views::{foreign_datagram_drops_out, refused_call_stays, stale_telegram_stays};

@@ -1,6 +1,6 @@
 //! Writing a process data telegram.
 
-ghost use Rattle.std.specs.Prelude.{ℕ, ◌≡◌, ◌≤◌, ◌+◌, ◌-◌, ◌++◌, length, take, drop, replicate};
+ghost use Rattle.std.specs.Prelude.{ℕ, ◌≡◌, ◌≤◌, ◌+◌, ◌++◌, length, take, drop};
 ghost use Rattle.std.specs.Prelude.{vec_len, vec_capacity};
 ghost use Rattle.trdp_head.specs.Checks.{with_check};
 ghost use Rattle.trdp_head.specs.PdKinds.{code_of};
@@ -99,8 +99,8 @@ fn append(list: &mut Vec<u8>, bytes: &[u8])
 /// Adds the telegram at the end of the list, within its room, and answers its length
 /// (IEC 61375-2-3).
 ///
-/// It is the telegram that [`write_pd`] writes. The payload has at most 1432 bytes, and the list room
-/// for the length that [`pd_length`] says.
+/// It is the telegram that [`write_pd`] writes. The payload has at most 1432 bytes, and the list
+/// room for the length that [`pd_length`] says.
 pub fn push_pd(head: &PdHead, payload: &[u8], list: &mut Vec<u8>) -> usize
     requires payload { length payload.now ≤ 1432 }
     requires room { vec_len list.old + pd_length_of (length payload.now)

@@ -1,31 +1,60 @@
-use Rattle.std.proofs.Common.{arith, sym, ◌∙◌}
-use Rattle.trdp_engine.proofs.Firing.{turn, none_fires}
+use Rattle.std.proofs.Common.{refl, ◌∙◌, arith}
+use Rattle.trdp_engine.specs.Acting.{slot_at}
+use Rattle.trdp_engine.proofs.Tables.{rising}
+use Rattle.trdp_engine.proofs.Firing.{next_is, none_next}
+use Rattle.trdp_engine.proofs.Moving.{next_is_due, next_may, fires_one, moment_ends}
 use Rattle.trdp_engine.proofs.moment.fire_all.Goals as goal
 
-pub loop-at-smaller : goal.loop-at-smaller
-loop-at-smaller c =
-    let m = turn c.args.globals.now c.args.s c.loop-at.objects.items c.fire_at.new.objects.items c.loop-at.out.records c.fire_at.new.out.records c.in-Some.at c.loop-at.invariant.rising (rw c.deref.ensures.value at c.in-Some.ensures) c.fire_at.ensures.items c.fire_at.ensures.records in
-    omega (arith, m.count)
+pub loop-handle-init : goal.loop-handle-init
+loop-handle-init c = record {
+  slot = c.requires.slot;
+  rising = rising c.args.table.now c.args.s c.sound.ensures.sound;
+  slots = refl;
+  told = refl;
+  room = c.requires.room;
+  row_room = omega arith;
+  byte_room = omega arith;
+}
 
-pub loop-at-preserved : goal.loop-at-preserved
-loop-at-preserved c =
-    let m = turn c.args.globals.now c.args.s c.loop-at.objects.items c.fire_at.new.objects.items c.loop-at.out.records c.fire_at.new.out.records c.in-Some.at c.loop-at.invariant.rising (rw c.deref.ensures.value at c.in-Some.ensures) c.fire_at.ensures.items c.fire_at.ensures.records in
+pub fire-requires-clause-may : goal.fire-requires-clause-may
+fire-requires-clause-may c =
+    let slot = slot_at c.args.s c.loop-handle.table in
+    next_may c.args.globals.now slot c.in-Some.handle c.loop-handle.out
+    (next_is c.args.globals.now.now slot.objects c.in-Some.handle c.loop-handle.invariant.rising c.in-Some.ensures)
+    c.loop-handle.invariant.room
+
+pub fire-requires-clause-due : goal.fire-requires-clause-due
+fire-requires-clause-due c =
+    let objects = (slot_at c.args.s c.loop-handle.table).objects in
+    next_is_due c.args.globals.now.now objects c.in-Some.handle
+    (next_is c.args.globals.now.now objects c.in-Some.handle c.loop-handle.invariant.rising c.in-Some.ensures)
+
+pub loop-handle-smaller : goal.loop-handle-smaller
+loop-handle-smaller c =
+    let objects = (slot_at c.args.s c.loop-handle.table).objects in
+    let n = next_is c.args.globals.now.now objects c.in-Some.handle c.loop-handle.invariant.rising c.in-Some.ensures in
+    (fires_one c.args.globals.now c.args.s c.in-Some.handle c.loop-handle.table c.fire.new.table c.loop-handle.out c.fire.new.out c.loop-handle.invariant.slot c.loop-handle.invariant.rising n c.fire.ensures).fewer
+
+pub loop-handle-preserved : goal.loop-handle-preserved
+loop-handle-preserved c =
+    let objects = (slot_at c.args.s c.loop-handle.table).objects in
+    let n = next_is c.args.globals.now.now objects c.in-Some.handle c.loop-handle.invariant.rising c.in-Some.ensures in
+    let f = fires_one c.args.globals.now c.args.s c.in-Some.handle c.loop-handle.table c.fire.new.table c.loop-handle.out c.fire.new.out c.loop-handle.invariant.slot c.loop-handle.invariant.rising n c.fire.ensures in
     record {
-      rising = m.rising;
-      items = m.items ∙ c.loop-at.invariant.items;
-      told = m.told ∙ c.loop-at.invariant.told;
-      capacity = c.fire_at.ensures.capacity ∙ c.loop-at.invariant.capacity;
-      rows = omega (arith, m.count);
-      bytes = omega (arith, m.count);
-      row_room = omega (arith, m.count, c.fire_at.ensures.row_room, c.loop-at.invariant.row_room);
-      byte_room = omega (arith, m.count, c.fire_at.ensures.byte_room, c.loop-at.invariant.byte_room);
+      slot = f.slot;
+      rising = f.rising;
+      slots = f.slots ∙ c.loop-handle.invariant.slots;
+      told = f.told ∙ c.loop-handle.invariant.told;
+      room = record {
+        rows = omega (arith, f.row_room, c.loop-handle.invariant.room.rows);
+        bytes = omega (arith, f.byte_room, c.loop-handle.invariant.room.bytes);
+      };
+      row_room = omega (arith, f.row_room, c.loop-handle.invariant.row_room);
+      byte_room = omega (arith, f.byte_room, c.loop-handle.invariant.byte_room);
     }
 
-pub returns-clause-items : goal.returns-clause-items
-returns-clause-items c = sym (none_fires c.args.globals.now c.loop-at.objects.items (rw c.deref.ensures.value at c.in_default.ensures)) ∙ c.loop-at.invariant.items
-
-pub returns-clause-row_room : goal.returns-clause-row_room
-returns-clause-row_room c = omega (arith, c.loop-at.invariant.row_room)
-
-pub returns-clause-byte_room : goal.returns-clause-byte_room
-returns-clause-byte_room c = omega (arith, c.loop-at.invariant.byte_room)
+pub returns-clause-becomes : goal.returns-clause-becomes
+returns-clause-becomes c =
+    moment_ends c.args.globals.now c.args.s c.args.table.now c.loop-handle.table c.args.out.now c.loop-handle.out c.loop-handle.invariant.slot
+    (none_next c.args.globals.now.now (slot_at c.args.s c.loop-handle.table).objects c.in_default.ensures)
+    c.loop-handle.invariant.slots c.loop-handle.invariant.told

@@ -1,23 +1,22 @@
-use Rattle.std.proofs.Common.{◌≡◌, ◌*◌, ◌≤◌, ◌+◌, ◌++◌, length, filter, map, vec_capacity}
-use Rattle.std.specs.List.{flat_map}
-use Rattle.trdp_head.specs.declared.pd.TheConstants.{PD_TELEGRAM_MAX}
-use Rattle.trdp_engine.specs.Records.{labelled}
+use Rattle.std.proofs.Common.{◌≡◌, ◌<◌, ◌≤◌, ◌+◌, length}
+use Rattle.trdp_engine.specs.Acting.{slot_at}
 use Rattle.trdp_engine.specs.Handles.{IsRising}
-use Rattle.trdp_engine.specs.Moments.{is_due, in_order, records_firing, entry_after_moment}
+use Rattle.trdp_engine.specs.Moments.{in_order}
+use Rattle.trdp_engine.specs.Rooms.{HasRoom, entries_room}
+use Rattle.trdp_engine.proofs.Moving.{moment_slots, moment_records, due_at}
 use Rattle.trdp_engine.proofs.moment.fire_all.Given as goal
 
 -- what was recorded and what is left to fire give the whole moment
-abbrev pub invariant-loop-at : goal.invariant-loop-at
-invariant-loop-at l = record {
-  rising : IsRising l.objects.items;
-  items : map (entry_after_moment l.globals) l.objects.items ≡ map (entry_after_moment l.globals) l.fn.objects.items;
-  told : l.out.records ++ labelled l.s (flat_map (records_firing l.globals) (in_order (filter (is_due l.globals.now) l.objects.items))) ≡ l.fn.out.records ++ labelled l.s (flat_map (records_firing l.globals) (in_order (filter (is_due l.globals.now) l.fn.objects.items)));
-  capacity : vec_capacity l.objects ≡ vec_capacity l.fn.objects;
-  rows : length (filter (is_due l.globals.now) l.objects.items) ≤ l.out.row_room;
-  bytes : PD_TELEGRAM_MAX * length (filter (is_due l.globals.now) l.objects.items) ≤ l.out.byte_room;
-  row_room : l.fn.out.row_room + length (filter (is_due l.globals.now) l.objects.items) ≤ l.out.row_room + length (filter (is_due l.globals.now) l.fn.objects.items);
-  byte_room : l.fn.out.byte_room + PD_TELEGRAM_MAX * length (filter (is_due l.globals.now) l.objects.items) ≤ l.out.byte_room + PD_TELEGRAM_MAX * length (filter (is_due l.globals.now) l.fn.objects.items);
+abbrev pub invariant-loop-handle : goal.invariant-loop-handle
+invariant-loop-handle l = record {
+  slot : l.s < length l.table;
+  rising : IsRising (slot_at l.s l.table).objects;
+  slots : moment_slots l.globals l.s l.table ≡ moment_slots l.globals l.s l.fn.table;
+  told : moment_records l.globals l.s l.table l.out.records ≡ moment_records l.globals l.s l.fn.table l.fn.out.records;
+  room : HasRoom l.out (entries_room (due_at l.globals l.s l.table));
+  row_room : l.fn.out.row_room + (entries_room (due_at l.globals l.s l.table)).rows ≤ l.out.row_room + (entries_room (due_at l.globals l.s l.fn.table)).rows;
+  byte_room : l.fn.out.byte_room + (entries_room (due_at l.globals l.s l.table)).bytes ≤ l.out.byte_room + (entries_room (due_at l.globals l.s l.fn.table)).bytes;
 }
 
-abbrev pub decreases-loop-at : goal.decreases-loop-at
-decreases-loop-at l = length (filter (is_due l.globals.now) l.objects.items)
+abbrev pub decreases-loop-handle : goal.decreases-loop-handle
+decreases-loop-handle l = length (in_order (due_at l.globals l.s l.table))

@@ -1,27 +1,39 @@
-use Rattle.std.proofs.Common.{arith, ◌∙◌, sym, ap, length, filter}
-use Rattle.trdp_engine.specs.Moments.{moved_to, is_due}
-use Rattle.trdp_engine.proofs.Sweeps.{turn, swept_parts, swept_appends}
+use Rattle.std.proofs.Common.{◌<◌, length, refl, arith}
+use Rattle.std.proofs.lemmas.Option.{slice_get_read}
+use Rattle.trdp_engine.specs.Slots.{slots_of}
+use Rattle.trdp_engine.specs.Moments.{moved_to}
+use Rattle.trdp_engine.proofs.Tables.{slots_length}
+use Rattle.trdp_engine.proofs.Sweeps.{all_moved}
+use Rattle.trdp_engine.proofs.Moving.{slot_room, slot_moves, slot_passes}
+use Rattle.trdp_engine.proofs.Quiet.{noted, none_yet}
 use Rattle.trdp_engine.proofs.slots.move_slots.Goals as goal
+use Rattle.trdp_engine.proofs.slots.move_slots.Goals.{then-index-globals, else-index-globals}
 
-pub loop-slot-preserved : goal.loop-slot-preserved
-loop-slot-preserved c =
-    let told = rw (← c.slot-item.is, c.loop-slot.invariant.number) at c.move_to.ensures.records in
-    let slot = rw (← c.slot-item.is) at c.move_to.ensures.slot in
-    let rows = rw (← c.slot-item.is) at c.move_to.ensures.row_room in
-    let bytes = rw (← c.slot-item.is) at c.move_to.ensures.byte_room in
-    let m = turn (λ slot. moved_to slot c.args.globals.now) (λ slot. length (filter (is_due c.args.globals.now.now) slot.objects)) c.args.slots.now.items c.loop-slot.slot-items c.loop-slot.slot-index c.slot-item.result c.loop-slot.out.records c.move_to.new.out.records c.loop-slot.invariant.items (omega arith) c.slot-item.is told in
-    record {
-      number = omega arith;
-      items = rw slot m.items;
-      told = rw c.loop-slot.invariant.number (m.told ∙ (rw c.loop-slot.invariant.number at c.loop-slot.invariant.told));
-      rows = omega (arith, m.size_is, rows);
-      bytes = omega (arith, m.size_is, bytes);
-    }
+pub fire_all-requires-clause-room : goal.fire_all-requires-clause-room
+fire_all-requires-clause-room c =
+    slot_room c.args.globals.now c.loop-s.s c.args.table.now c.loop-s.table c.args.out.now.records c.loop-s.out (omega (arith, c.slots-s-end.ensures.count)) c.loop-s.invariant.moved c.loop-s.invariant.room
+
+pub loop-s-preserved : goal.loop-s-preserved
+loop-s-preserved c =
+    let lt : c.loop-s.s < length c.args.table.now = omega (arith, c.slots-s-end.ensures.count) in
+    let now : c.loop-s.s < length c.loop-s.table = omega (arith, lt, c.loop-s.invariant.moved.count, slots_length c.args.table.now, slots_length c.loop-s.table) in
+    let within : c.loop-s.s < length c.loop-s.quiet.items = omega (arith, now, c.loop-s.invariant.quiet.count, slots_length c.loop-s.table) in
+    elim c.if-index-globals.branch [
+      | then-index-globals w ↦
+          let m = slot_moves c.args.globals.now c.loop-s.s c.args.table.now c.loop-s.table w.fire_all.new.table c.args.out.now.records c.loop-s.out w.fire_all.new.out lt c.loop-s.invariant.moved c.loop-s.invariant.room w.fire_all.ensures.becomes w.fire_all.ensures.within in
+          rw (w.table-is, w.out-is, w.quiet-is) (record {
+            moved = m.moved;
+            room = m.room;
+            quiet = noted c.loop-s.quiet.items c.loop-s.s w.earliest_in.result c.loop-s.table w.fire_all.new.table _ c.loop-s.invariant.quiet now w.fire_all.ensures.becomes.slots w.earliest_in.ensures;
+          })
+      | else-index-globals w ↦
+          let at = slice_get_read c.loop-s.quiet.items (length c.loop-s.quiet.items) c.loop-s.s c.index.result.now refl within c.index.ensures in
+          let none = none_yet c.loop-s.quiet.items c.loop-s.s c.args.globals.now.now c.index.result.now c.loop-s.table c.loop-s.invariant.quiet now at w.if-index-globals.false in
+          let m = slot_passes c.args.globals.now c.loop-s.s c.args.table.now c.loop-s.table c.args.out.now.records c.loop-s.out lt c.loop-s.invariant.moved c.loop-s.invariant.room none in
+          rw (w.table-is, w.out-is, w.quiet-is) (record { moved = m.moved; room = m.room; quiet = c.loop-s.invariant.quiet })
+    ]
 
 pub returns-clause-parts : goal.returns-clause-parts
 returns-clause-parts c =
-    swept_parts (λ slot. moved_to slot c.args.globals.now) c.args.slots.now.items c.loop-slot.slot-items c.loop-slot.slot-index c.loop-slot.s c.args.slots.now.len c.args.out.now.records c.loop-slot.out.records c.loop-slot.invariant.items c.loop-slot.invariant.told (omega arith) (sym c.deref_mut-slot-items.ensures.len ∙ ap length c.deref_mut-slot-items.ensures.value)
-
-pub returns-clause-appends : goal.returns-clause-appends
-returns-clause-appends c =
-    swept_appends (λ slot. moved_to slot c.args.globals.now) c.args.slots.now.items c.loop-slot.slot-items c.loop-slot.slot-index c.loop-slot.s c.args.slots.now.len c.args.out.now.records c.loop-slot.out.records c.loop-slot.invariant.items c.loop-slot.invariant.told (omega arith) (sym c.deref_mut-slot-items.ensures.len ∙ ap length c.deref_mut-slot-items.ensures.value)
+    let count = slots_length c.args.table.now in
+    all_moved (λ slot. moved_to slot c.args.globals.now) c.loop-s.s (slots_of c.args.table.now) (slots_of c.loop-s.table) c.args.out.now.records c.loop-s.out.records (omega (arith, count, c.slots-s-end.ensures.count)) c.loop-s.invariant.moved

@@ -1,11 +1,34 @@
+use Rattle.std.proofs.Common.{◌<◌, length, arith}
 use Rattle.trdp_marshal.specs.Items.{model_of}
 use Rattle.trdp_engine.specs.Configs.{setup_of}
-use Rattle.trdp_engine.specs.Values.{valued_at}
+use Rattle.trdp_engine.specs.Slots.{slots_of}
+use Rattle.trdp_engine.specs.Values.{valued, valued_at}
 use Rattle.trdp_engine.proofs.Fitting.{valued_at_fits}
+use Rattle.trdp_engine.proofs.Tables.{slots_length}
+use Rattle.trdp_engine.proofs.Parts.{became_parts, became_appends, became_count}
+use Rattle.trdp_engine.proofs.Quiet.{woken}
 use Rattle.trdp_engine.proofs.Steps.{outcomes_fit}
 use Rattle.trdp_engine.proofs.node.Node.put_value.Goals as goal
 
+pub returns-clause-values : goal.returns-clause-values
+returns-clause-values c =
+    let there : c.args.slot < length c.self.inside.table = omega arith in
+    rw (← c.self.view_is)
+    (became_parts (λ slot. valued (setup_of c.self.inside.config) slot c.args.handle (model_of c.args.item.now)) c.args.slot c.self.inside.table c.put_value.new.table c.args.out.now c.put_value.new.out there c.in_ok-put_value.ensures.becomes)
+
+pub returns-clause-appends : goal.returns-clause-appends
+returns-clause-appends c =
+    let there : c.args.slot < length c.self.inside.table = omega arith in
+    rw (← c.self.view_is)
+    (became_appends (λ slot. valued (setup_of c.self.inside.config) slot c.args.handle (model_of c.args.item.now)) c.args.slot c.self.inside.table c.put_value.new.table c.args.out.now c.put_value.new.out there c.in_ok-put_value.ensures.becomes)
+
+pub wake-requires : goal.wake-requires
+wake-requires c = omega (arith, slots_length c.self.inside.table, c.self.invariant.4.count)
+
 pub invariant_of-self-2 : goal.invariant_of-self-2
 invariant_of-self-2 c =
-    let fits = outcomes_fit (setup_of c.self.inside.config) (λ r slot. valued_at (setup_of c.self.inside.config) c.args.slot r slot c.args.handle (model_of c.args.item.now)) c.self.inside.slots.items c.put_value_in.new.slots.items _ _ c.in_ok-put_value_in.ensures.count c.in_ok-put_value_in.ensures.parts (λ r slot fit. valued_at_fits (setup_of c.self.inside.config) c.args.slot r slot c.args.handle (model_of c.args.item.now) fit) c.self.invariant.3 in
-    (c.self.invariant.0, c.self.invariant.1, rw c.in_ok-put_value_in.ensures.count c.self.invariant.2, fits)
+    let there : c.args.slot < length c.self.inside.table = omega arith in
+    let parts = became_parts (λ slot. valued (setup_of c.self.inside.config) slot c.args.handle (model_of c.args.item.now)) c.args.slot c.self.inside.table c.put_value.new.table c.args.out.now c.put_value.new.out there c.in_ok-put_value.ensures.becomes in
+    let count = became_count c.args.slot _ c.self.inside.table c.put_value.new.table c.args.out.now c.put_value.new.out c.in_ok-put_value.ensures.becomes in
+    let fits = outcomes_fit (setup_of c.self.inside.config) (λ r slot. valued_at (setup_of c.self.inside.config) c.args.slot r slot c.args.handle (model_of c.args.item.now)) (slots_of c.self.inside.table) (slots_of c.put_value.new.table) _ _ count parts (λ r slot fit. valued_at_fits (setup_of c.self.inside.config) c.args.slot r slot c.args.handle (model_of c.args.item.now) fit) c.self.invariant.2 in
+    (c.self.invariant.0, c.self.invariant.1, fits, c.self.invariant.3, rw c.wake.ensures (woken c.self.inside.quiet.items c.args.slot (slots_of c.self.inside.table) (slots_of c.put_value.new.table) _ c.self.invariant.4 c.in_ok-put_value.ensures.becomes.slots))

@@ -1,8 +1,10 @@
 use Rattle.std.proofs.Common.{refl}
 use Rattle.trdp_engine.specs.Configs.{setup_of}
 use Rattle.trdp_engine.specs.Events.{DatagramIs}
+use Rattle.trdp_engine.specs.Slots.{slots_of}
 use Rattle.trdp_engine.specs.Datagrams.{telegram_of, received_if}
 use Rattle.trdp_engine.proofs.Fitting.{received_fits}
+use Rattle.trdp_engine.proofs.Parts.{same_count}
 use Rattle.trdp_engine.proofs.Steps.{plain_steps, outcomes_fit}
 use Rattle.trdp_engine.proofs.node.Node.step_datagram.Goals as goal
 
@@ -14,5 +16,6 @@ returns-clause-steps c =
 
 pub invariant_of-self-2 : goal.invariant_of-self-2
 invariant_of-self-2 c =
-    let fits = outcomes_fit (setup_of c.self.inside.config) (λ s slot. received_if (setup_of c.self.inside.config) slot c.self.inside.globals (telegram_of c.args.protocol c.args.src c.args.dst c.args.bytes.now)) c.self.inside.slots.items c.hear.new.slots.items _ _ c.in_ok-hear.ensures.count c.in_ok-hear.ensures.parts (λ s slot fit. received_fits (setup_of c.self.inside.config) slot c.self.inside.globals (telegram_of c.args.protocol c.args.src c.args.dst c.args.bytes.now) fit) c.self.invariant.3 in
-    (c.self.invariant.0, c.self.invariant.1, rw c.in_ok-hear.ensures.count c.self.invariant.2, fits)
+    let count = same_count c.self.inside.table c.hear.new.table c.in_ok-hear.ensures.count in
+    let fits = outcomes_fit (setup_of c.self.inside.config) (λ s slot. received_if (setup_of c.self.inside.config) slot c.self.inside.globals (telegram_of c.args.protocol c.args.src c.args.dst c.args.bytes.now)) (slots_of c.self.inside.table) (slots_of c.hear.new.table) _ _ count c.in_ok-hear.ensures.parts (λ s slot fit. received_fits (setup_of c.self.inside.config) slot c.self.inside.globals (telegram_of c.args.protocol c.args.src c.args.dst c.args.bytes.now) fit) c.self.invariant.2 in
+    (c.self.invariant.0, c.self.invariant.1, fits, rw c.in_ok-hear.ensures.capacity c.self.invariant.3, c.in_ok-hear.ensures.quiet)

@@ -1,20 +1,17 @@
-use Rattle.std.proofs.Common.{sym, refl}
+use Rattle.std.proofs.Common.{◌<◌, length, arith}
 use Rattle.trdp_engine.specs.Configs.{setup_of}
+use Rattle.trdp_engine.specs.Acting.{slot_at}
 use Rattle.trdp_engine.proofs.Fitting.{subscription_fits}
+use Rattle.trdp_engine.proofs.Tables.{slot_there}
 use Rattle.trdp_engine.proofs.node.Node.value_of.Goals as goal
 
 pub item_shown-requires : goal.item_shown-requires
 item_shown-requires c =
-    let found = rw c.deref.ensures.value at c.in-Some.ensures in
-    let fit = c.self.invariant.3 c.args.slot c.in-Some.slot.now (sym found) in
-    subscription_fits (setup_of c.self.inside.config) c.args.handle c.in-Some.slot.now.objects c.in_ok-subscription-in-Some.subscription.now fit c.in_ok-subscription-in-Some.ensures.found
+    let there : c.args.slot < length c.self.inside.table = omega arith in
+    let fit = c.self.invariant.2 c.args.slot (slot_at c.args.slot c.self.inside.table) (slot_there c.self.inside.table c.args.slot there) in
+    subscription_fits (setup_of c.self.inside.config) c.args.handle (slot_at c.args.slot c.self.inside.table).objects c.in_ok-subscription.subscription.now fit c.in_ok-subscription.ensures.found
 
-pub returns-in-None : goal.returns-in-None
-returns-in-None c =
-    let none = rw c.deref.ensures.value at c.in-None.ensures in
-    rw (← c.self.view_is, ← none) refl
-
-pub returns-in_ok-subscription-in-Some : goal.returns-in_ok-subscription-in-Some
-returns-in_ok-subscription-in-Some c =
-    let found = rw c.deref.ensures.value at c.in-Some.ensures in
-    rw (← c.self.view_is, ← found, c.in_ok-subscription-in-Some.ensures.found) c.item_shown.ensures
+pub returns : goal.returns
+returns c =
+    let there : c.args.slot < length c.self.inside.table = omega arith in
+    rw (← c.self.view_is, slot_there c.self.inside.table c.args.slot there, c.in_ok-subscription.ensures.found) c.item_shown.ensures

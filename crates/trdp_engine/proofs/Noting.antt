@@ -1,0 +1,130 @@
+-- The objects that act at a telegram are noted, slot by slot, with the room for what they may give.
+use Rattle.std.proofs.Common.{zero, suc, ◌≡◌, ℕ, ◌+◌, ◌<◌, ◌≤◌, List, [], ◌∷◌, ◌++◌, length, drop, filter, add-one, Some, refl, ◌∙◌, sym, ap, arith, append_assoc}
+use Rattle.std.specs.Prelude.{slice_get, IfSome}
+use Rattle.std.specs.List.{flat_map}
+use Rattle.std.proofs.lemmas.List.{map-append, append-nil, drop_all}
+use Rattle.std.proofs.lemmas.List.Elements.{filter-append}
+use Rattle.std.proofs.lemmas.List.Sums.{sum_by-append}
+use Rattle.std.proofs.lemmas.Option.{same_Some}
+use Rattle.trdp_filter.specs.declared.globals.Globals.{Globals}
+use Rattle.trdp_filter.specs.Telegrams.{TelegramModel}
+use Rattle.trdp_table.specs.Kinds.{kind_of}
+use Rattle.trdp_engine.specs.declared.datagram.Addressee.{Addressee}
+use Rattle.trdp_engine.specs.declared.room.Room.{Room}
+use Rattle.trdp_engine.specs.Slots.{Entry, SlotState}
+use Rattle.trdp_engine.specs.Rooms.{kind_room, entries_room}
+use Rattle.trdp_engine.specs.Datagrams.{is_for_entry, acting}
+use Rattle.trdp_engine.specs.Noted.{noted_as, noted_from}
+
+-- the item at an index, and what follows it
+record Split {A : Type 0} (xs : List A) (i : ℕ) : Type 0 where
+  item : A
+  at : slice_get xs i ≡ Some item
+  rest : drop i xs ≡ item ∷ drop (i + 1) xs
+
+split : {A : Type 0} (xs : List A) (i : ℕ) → i < length xs → Split xs i
+split [] i lt = absurd (omega (arith, lt))
+split (x ∷ xs) zero lt = record { item = x; at = refl; rest = refl }
+split (x ∷ xs) (suc i) lt =
+    let others = split xs i (omega (arith, lt)) in
+    record { item = others.item; at = others.at; rest = others.rest ∙ rw (add-one, add-one) refl }
+
+-- both rooms together
+abbrev pub both_rooms : Room → Room → Room
+both_rooms a b = record { rows = a.rows + b.rows; bytes = a.bytes + b.bytes }
+
+rows_of-append : (xs ys : List Entry) → (entries_room (xs ++ ys)).rows ≡ (entries_room xs).rows + (entries_room ys).rows
+rows_of-append xs ys = sum_by-append (λ entry. (kind_room (kind_of entry.object)).rows) xs ys
+
+bytes_of-append : (xs ys : List Entry) → (entries_room (xs ++ ys)).bytes ≡ (entries_room xs).bytes + (entries_room ys).bytes
+bytes_of-append xs ys = sum_by-append (λ entry. (kind_room (kind_of entry.object)).bytes) xs ys
+
+-- rooms of as many records and bytes are one
+pub same_room : (a b : Room) → a.rows ≡ b.rows → a.bytes ≡ b.bytes → a ≡ b
+same_room a b rows bytes =
+    ap (λ (n : ℕ). let r : Room = record { rows = n; bytes = a.bytes } in r) rows
+    ∙ ap (λ (n : ℕ). let r : Room = record { rows = b.rows; bytes = n } in r) bytes
+
+-- these and these entries still to come are all, noted behind what was noted and with their room
+pub record Notes (before noted : List Addressee) (room : Room) (next : List Addressee) (later : Room) (last : List Addressee) (all : Room) : Type 0 where
+  pub items : noted ++ next ≡ before ++ last
+  pub rows : room.rows + later.rows ≡ all.rows
+  pub bytes : room.bytes + later.bytes ≡ all.bytes
+
+-- those of a slot from an index on are still to come
+abbrev pub NotesIn : TelegramModel → Globals → ℕ → List Entry → List Addressee → List Addressee → Room → ℕ → Type 0
+NotesIn telegram globals s objects before noted room i =
+    Notes before noted room (noted_as s (acting telegram globals (drop i objects))) (entries_room (acting telegram globals (drop i objects))) (noted_as s (acting telegram globals objects)) (entries_room (acting telegram globals objects))
+
+pub notes_first : (telegram : TelegramModel) (globals : Globals) (s : ℕ) (objects : List Entry) (before : List Addressee) → NotesIn telegram globals s objects before before (record { rows = 0; bytes = 0 }) 0
+notes_first telegram globals s objects before = record { items = refl; rows = omega arith; bytes = omega arith }
+
+-- one turn within a slot
+pub notes_next : (telegram : TelegramModel) (globals : Globals) (s : ℕ) (objects : List Entry) (before noted noted_then : List Addressee) (room more : Room) (i : ℕ) → i < length objects → NotesIn telegram globals s objects before noted room i → IfSome (slice_get objects i) (λ entry. noted_then ≡ noted ++ noted_as s (filter (is_for_entry telegram globals) (entry ∷ []))) → IfSome (slice_get objects i) (λ entry. more ≡ entries_room (filter (is_for_entry telegram globals) (entry ∷ []))) → NotesIn telegram globals s objects before noted_then (both_rooms room more) (i + 1)
+notes_next telegram globals s objects before noted noted_then room more i lt notes told within =
+    let one = split objects i lt in
+    let own : List Entry = filter (is_for_entry telegram globals) (one.item ∷ []) in
+    let others : List Entry = acting telegram globals (drop (i + 1) objects) in
+    let left : acting telegram globals (drop i objects) ≡ own ++ others =
+    ap (filter (is_for_entry telegram globals)) one.rest ∙ filter-append (is_for_entry telegram globals) (one.item ∷ []) (drop (i + 1) objects) in
+    let told_one : noted_then ≡ noted ++ noted_as s own = rw one.at at told in
+    let within_one : more ≡ entries_room own = rw one.at at within in
+    let items = rw left at notes.items in
+    let rows = rw left at notes.rows in
+    let bytes = rw left at notes.bytes in
+    record {
+      items = rw told_one (append_assoc noted (noted_as s own) (noted_as s others) ∙ (ap (λ (xs : List Addressee). noted ++ xs) (sym (map-append _ own others)) ∙ items));
+      rows = omega (arith, rows, rows_of-append own others, ap (λ (r : Room). r.rows) within_one);
+      bytes = omega (arith, bytes, bytes_of-append own others, ap (λ (r : Room). r.bytes) within_one);
+    }
+
+pub notes_end_items : (telegram : TelegramModel) (globals : Globals) (s : ℕ) (objects : List Entry) (before noted : List Addressee) (room : Room) (i : ℕ) → length objects ≤ i → NotesIn telegram globals s objects before noted room i → noted ≡ before ++ noted_as s (acting telegram globals objects)
+notes_end_items telegram globals s objects before noted room i past notes =
+    let items = rw (drop_all i objects past) at notes.items in
+    sym (append-nil noted) ∙ items
+
+pub notes_end_room : (telegram : TelegramModel) (globals : Globals) (s : ℕ) (objects : List Entry) (before noted : List Addressee) (room : Room) (i : ℕ) → length objects ≤ i → NotesIn telegram globals s objects before noted room i → room ≡ entries_room (acting telegram globals objects)
+notes_end_room telegram globals s objects before noted room i past notes =
+    let rows = rw (drop_all i objects past) at notes.rows in
+    let bytes = rw (drop_all i objects past) at notes.bytes in
+    same_room room (entries_room (acting telegram globals objects)) (omega (arith, rows)) (omega (arith, bytes))
+
+-- those that act in these slots
+abbrev pub acting_in : TelegramModel → Globals → List SlotState → List Entry
+acting_in telegram globals slots = flat_map (λ slot. acting telegram globals slot.objects) slots
+
+-- those of the slots from a number on are still to come
+abbrev pub NotesAll : TelegramModel → Globals → List SlotState → List Addressee → Room → ℕ → Type 0
+NotesAll telegram globals slots noted room s =
+    Notes [] noted room (noted_from s telegram globals (drop s slots)) (entries_room (acting_in telegram globals (drop s slots))) (noted_from 0 telegram globals slots) (entries_room (acting_in telegram globals slots))
+
+pub notes_all_first : (telegram : TelegramModel) (globals : Globals) (slots : List SlotState) (noted : List Addressee) → noted ≡ [] → NotesAll telegram globals slots noted (record { rows = 0; bytes = 0 }) 0
+notes_all_first telegram globals slots noted empty = rw empty (record { items = refl; rows = omega arith; bytes = omega arith })
+
+-- one turn over the slots
+pub notes_all_next : (telegram : TelegramModel) (globals : Globals) (slots : List SlotState) (slot : SlotState) (noted noted_then : List Addressee) (room more : Room) (s : ℕ) → s < length slots → slice_get slots s ≡ Some slot → NotesAll telegram globals slots noted room s → noted_then ≡ noted ++ noted_as s (acting telegram globals slot.objects) → more ≡ entries_room (acting telegram globals slot.objects) → NotesAll telegram globals slots noted_then (both_rooms room more) (s + 1)
+notes_all_next telegram globals slots slot noted noted_then room more s lt there notes told within =
+    let one = split slots s lt in
+    let is : one.item ≡ slot = same_Some one.item slot (sym one.at ∙ there) in
+    let left : drop s slots ≡ slot ∷ drop (s + 1) slots = rw is at one.rest in
+    let own : List Entry = acting telegram globals slot.objects in
+    let others : List Entry = acting_in telegram globals (drop (s + 1) slots) in
+    let items = rw left at notes.items in
+    let rows = rw left at notes.rows in
+    let bytes = rw left at notes.bytes in
+    record {
+      items = rw told (append_assoc noted (noted_as s own) (noted_from (s + 1) telegram globals (drop (s + 1) slots)) ∙ items);
+      rows = omega (arith, rows, rows_of-append own others, ap (λ (r : Room). r.rows) within);
+      bytes = omega (arith, bytes, bytes_of-append own others, ap (λ (r : Room). r.bytes) within);
+    }
+
+pub notes_all_end_items : (telegram : TelegramModel) (globals : Globals) (slots : List SlotState) (noted : List Addressee) (room : Room) (s : ℕ) → length slots ≤ s → NotesAll telegram globals slots noted room s → noted ≡ noted_from 0 telegram globals slots
+notes_all_end_items telegram globals slots noted room s past notes =
+    let items = rw (drop_all s slots past) at notes.items in
+    sym (append-nil noted) ∙ items
+
+pub notes_all_end_room : (telegram : TelegramModel) (globals : Globals) (slots : List SlotState) (noted : List Addressee) (room : Room) (s : ℕ) → length slots ≤ s → NotesAll telegram globals slots noted room s → room ≡ entries_room (acting_in telegram globals slots)
+notes_all_end_room telegram globals slots noted room s past notes =
+    let rows = rw (drop_all s slots past) at notes.rows in
+    let bytes = rw (drop_all s slots past) at notes.bytes in
+    same_room room (entries_room (acting_in telegram globals slots)) (omega (arith, rows)) (omega (arith, bytes))

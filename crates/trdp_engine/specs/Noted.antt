@@ -1,0 +1,21 @@
+-- The objects that act at a telegram, noted by slot and handle.
+use Rattle.std.specs.Prelude.{ℕ, ◌+◌, List, [], ◌∷◌, ◌++◌, map}
+use Rattle.trdp_filter.specs.declared.globals.Globals.{Globals}
+use Rattle.trdp_filter.specs.Telegrams.{TelegramModel}
+use Rattle.trdp_engine.specs.declared.datagram.Addressee.{Addressee}
+use Rattle.trdp_engine.specs.Slots.{Entry, SlotState}
+use Rattle.trdp_engine.specs.Datagrams.{acting}
+
+-- these objects of slot s
+abbrev pub noted_as : ℕ → List Entry → List Addressee
+noted_as s entries =
+    map
+    (λ entry. let a : Addressee = record { slot = s; handle = entry.handle } in a)
+    entries
+
+-- the objects that act at a telegram, of all slots from number s on
+abbrev pub noted_from : ℕ → TelegramModel → Globals → List SlotState → List Addressee
+noted_from s telegram globals [] = []
+noted_from s telegram globals (slot ∷ slots) =
+    noted_as s (acting telegram globals slot.objects)
+    ++ noted_from (s + 1) telegram globals slots

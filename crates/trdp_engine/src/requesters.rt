@@ -1,0 +1,56 @@
+//! Calls about requesters.
+
+ghost use Rattle.std.specs.Prelude.{◌≡◌, ◌<◌, ◌++◌, length, slice_set, Some};
+ghost use Rattle.trdp_engine.specs.Events.{OpenPullCall};
+ghost use Rattle.trdp_engine.specs.Configs.{NodeSetup};
+ghost use Rattle.trdp_engine.specs.Slots.{slots_of};
+ghost use Rattle.trdp_engine.specs.Records.{labelled};
+ghost use Rattle.trdp_engine.specs.Pulls.{pulls};
+ghost use Rattle.trdp_engine.specs.Calls.{opening_refusal, opened_unless, answered};
+ghost use Rattle.trdp_engine.specs.Outboxes.{plain_answer_model};
+ghost use Rattle.trdp_engine.specs.Rooms.{HasRoom, call_room};
+ghost use Rattle.trdp_engine.specs.Acting.{slot_at};
+ghost use Rattle.trdp_pd.specs.Requesters.{opened};
+ghost use Rattle.trdp_table.specs.declared.kind.Kind.TheVariants.{Requester as Requesting};
+
+use crate::fault::Refusal;
+use crate::opening::open;
+use crate::outbox::{Outbox, PlainAnswer};
+use trdp_filter::{Globals, topo_valid};
+use trdp_pd::{Requester, RequesterTerms};
+use trdp_table::{AnyObject, Table};
+
+/// Makes a requester in slot `s`. It needs no memory.
+pub fn open_pull(table: &mut Table, s: u16, terms: &RequesterTerms) -> PlainAnswer
+    requires { s < length table.old }
+    ensures outcome { opened_unless (opening_refusal (slot_at s table.old) Requesting)
+        (slot_at s table.old) (AnyObject.Requester (opened terms.now))
+        ≡ answered (slot_at s table.new) (plain_answer_model result) }
+    ensures others { slots_of table.new ≡ slice_set (slots_of table.old) s (slot_at s table.new) }
+{
+    open(table, s, AnyObject::Requester(Requester::new(terms)))
+}
+
+/// Lets the object pull, and records the answer and its pull request.
+pub fn pull(object: &mut AnyObject, globals: &Globals, s: u16, out: &mut Outbox)
+    requires { HasRoom out.old call_room }
+    ensures object { Some object.new ≡ (pulls globals.entry.now object.old).left }
+    ensures records { out.new.records
+        ≡ out.old.records ++ labelled s (pulls globals.entry.now object.old).records }
+{
+    match object {
+        AnyObject::Publisher(_) | AnyObject::Subscription(_) => {
+            out.push_plain_answer(s, PlainAnswer::Refused(Refusal::WrongKind));
+        }
+        AnyObject::Requester(requester) => {
+            if !topo_valid(requester.topo(), globals.topo) {
+                out.push_plain_answer(s, PlainAnswer::Refused(Refusal::State));
+                return;
+            }
+            let to = requester.to();
+            let head = requester.pull();
+            out.push_plain_answer(s, PlainAnswer::Done);
+            out.push_pd(s, to, &head, b"");
+        }
+    }
+}

@@ -1,0 +1,63 @@
+//! What a new node begins with.
+
+ghost use Rattle.std.specs.Prelude.{◌≡◌, ◌*◌, ◌≤◌, length, IfOk, map, vec_capacity};
+ghost use Rattle.trdp_table.specs.TableLaws.{object_limit};
+ghost use Rattle.trdp_engine.specs.Slots.{opened_slot, slots_of};
+ghost use Rattle.trdp_engine.specs.Quiet.{IsQuiet};
+
+use crate::datagram::Addressee;
+use std::alloc::{AllocError, Global};
+use trdp_base::Quotas;
+use trdp_dataset::NodeConfig;
+use trdp_table::Table;
+
+/// The most objects of a node: 256 of each of six kinds in each of 16 slots (profile).
+const NOTED_MAX: usize = 24_576;
+
+/// The quotas of each slot of the configuration.
+///
+/// # Errors
+/// Want of memory for the list.
+fn quotas_of(alloc: Global, config: &NodeConfig) -> Result<Vec<Quotas>, AllocError>
+    ensures quotas { IfOk result
+        (λ quotas. quotas.items ≡ map (λ slot. slot.quotas) config.now.slots) }
+    ensures few { IfOk result (λ quotas. length quotas.items ≤ 16) }
+{
+    let mut quotas = Vec::new(alloc);
+    for s in 0..config.slots() {
+        quotas.push(config.quotas(s).unwrap())?;
+    }
+    Ok(quotas)
+}
+
+/// A table with an empty slot for each slot of the configuration.
+///
+/// # Errors
+/// Want of memory for the slots.
+fn open_slots(alloc: Global, config: &NodeConfig) -> Result<Table, AllocError>
+    ensures { IfOk result
+        (λ table. slots_of table ≡ map (λ slot. opened_slot slot.quotas) config.now.slots) }
+{
+    let quotas = quotas_of(alloc, config)?;
+    Table::new(alloc, &quotas)
+}
+
+/// The empty table of a configuration, room to note all objects that it can hold, and moment 0
+/// for each of its slots.
+///
+/// # Errors
+/// Want of memory for one of them.
+pub fn parts(
+    alloc: Global,
+    config: &NodeConfig,
+) -> Result<(Table, Vec<Addressee>, Vec<u64>), AllocError>
+    ensures slots { IfOk result
+        (λ parts. slots_of parts.0 ≡ map (λ slot. opened_slot slot.quotas) config.now.slots) }
+    ensures capacity { IfOk result (λ parts. 16 * object_limit ≤ vec_capacity parts.1) }
+    ensures quiet { IfOk result (λ parts. IsQuiet parts.2.items (slots_of parts.0)) }
+{
+    let table = open_slots(alloc, config)?;
+    let noted = Vec::with_capacity(alloc, NOTED_MAX)?;
+    let quiet = vec![in alloc; 0u64; table.slots()]?;
+    Ok((table, noted, quiet))
+}

@@ -1,0 +1,14 @@
+-- A slot for the worked examples of views.
+use Rattle.std.specs.Prelude.{[], ◌∷◌}
+use Rattle.trdp_pd.specs.Subscriptions.{SubscriptionState}
+use Rattle.trdp_table.specs.declared.any_object.AnyObject.TheVariants.{Subscription}
+use Rattle.trdp_table.specs.declared.kind.Kind.TheVariants.{Subscription as Subscribing}
+use Rattle.trdp_engine.specs.Slots.{SlotState}
+
+-- a slot whose only object is this subscription
+abbrev pub with_subscription : SubscriptionState → SlotState
+with_subscription s = record {
+  quotas = [];
+  next = 2;
+  objects = record { handle = 1; kind = Subscribing; object = Subscription s } ∷ [];
+}
