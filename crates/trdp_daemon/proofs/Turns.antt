@@ -14,7 +14,7 @@ use Rattle.trdp_daemon.specs.Turns.{Visit, visit_effect, visits_effect, Turn, ta
 use Rattle.trdp_daemon.proofs.Links.{carries_none, carries_both}
 use Rattle.trdp_daemon.proofs.Tellings.{both_assoc, both_silence, silence_both}
 
-abbrev effect_of : ServiceState → Telling → Effect
+abbrev pub effect_of : ServiceState → Telling → Effect
 effect_of service telling = record { service = service; telling = telling }
 
 -- one effect after two others

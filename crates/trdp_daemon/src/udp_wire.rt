@@ -2,7 +2,7 @@
 
 ghost use Rattle.std.specs.Prelude.{◌<◌, ◌≤◌, length, None, IfOk, IfSome, OnErr};
 
-use crate::fault::WireFault;
+use crate::fault::{WireFault, fail};
 use crate::port::Port;
 use crate::wire::Wire;
 use std::io;
@@ -103,18 +103,6 @@ impl Wire for UdpWire {
 
     fn failures(&self) -> u64 {
         self.failures
-    }
-}
-
-/// Fails, unless the count of failures is at its last value.
-fn fail(failures: &mut u64) -> Result<(), WireFault>
-    ensures { OnErr result (failures.old < failures.new) }
-{
-    if *failures < u64::MAX {
-        *failures += 1;
-        Err(WireFault)
-    } else {
-        Ok(())
     }
 }
 
