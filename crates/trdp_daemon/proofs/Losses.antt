@@ -1,5 +1,5 @@
 -- Where no loss is counted, nothing was lost.
-use Rattle.std.proofs.Common.{◌≡◌, ◌+◌, ℕ, Bool, true, false, List, [], ◌∷◌, Option, Some, None, Result, Ok, Err, refl, ◌∙◌, ap, arith, map}
+use Rattle.std.proofs.Common.{◌≡◌, ℕ, Bool, true, false, List, [], ◌∷◌, Option, Some, None, Result, Ok, Err, refl, ◌∙◌, ap, arith, map}
 use Rattle.trdp_base.specs.declared.place.Place.{Place}
 use Rattle.trdp_engine.specs.Events.{EventModel}
 use Rattle.trdp_engine.specs.Records.{RecordModel, Content, Answers, Indicates, Sends}
@@ -9,7 +9,7 @@ use Rattle.trdp_script.specs.RecordText.{text_of_record}
 use Rattle.trdp_daemon.specs.declared.port.Port.{Port}
 use Rattle.trdp_daemon.specs.declared.port.Port.TheVariants.{Pd, Md, Operator, Control}
 use Rattle.trdp_daemon.specs.Told.{Arrived, Failed, Nothing, Came}
-use Rattle.trdp_daemon.specs.Effects.{Telling, both, text_telling, place_of, content_telling, record_telling, is_first_lost, later_marks, records_telling, event_records, ServiceState, Effect, Loss, LineLost, EventLost, TextsLost, then_effect, telling_only, event_effect}
+use Rattle.trdp_daemon.specs.Effects.{both, text_telling, place_of, content_telling, record_telling, is_first_lost, later_marks, records_telling, event_records, ServiceState, Loss, LineLost, EventLost, TextsLost, then_effect, telling_only, event_effect}
 use Rattle.trdp_daemon.specs.Visits.{operator_answer, operator_event, skipped_line, operator_effect, with_place, control_event, control_effect, datagram_effect, taking_effect}
 use Rattle.trdp_daemon.specs.Turns.{Visit, visit_effect, visits_effect, Turn, turn_effect, turns_effect, moment_of, unlost, unlost_visit}
 use Rattle.trdp_daemon.proofs.Turns.{effect_of}

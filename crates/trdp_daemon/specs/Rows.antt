@@ -1,5 +1,5 @@
 -- What a wire in memory remembers, and what it tells of that.
-use Rattle.std.specs.Prelude.{◌≡◌, ℕ, ◌+◌, ◌≤◌, List, [], ◌∷◌, ◌++◌, take, drop, length, map}
+use Rattle.std.specs.Prelude.{ℕ, ◌+◌, List, [], ◌∷◌, take, drop, length}
 use Rattle.std.specs.Prelude.{Bool, Option, Some, None, if◌then◌else◌}
 use Rattle.trdp_base.specs.declared.place.Place.{Place}
 use Rattle.trdp_daemon.specs.declared.port.Port.{Port}

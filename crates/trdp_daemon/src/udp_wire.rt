@@ -1,6 +1,6 @@
 //! The system's sockets.
 
-ghost use Rattle.std.specs.Prelude.{◌<◌, ◌≤◌, length, None, IfOk, IfSome, OnErr};
+ghost use Rattle.std.specs.Prelude.{◌≡◌, ◌<◌, ◌≤◌, length, None, IfOk, IfSome};
 
 use crate::fault::{WireFault, fail};
 use crate::port::Port;
@@ -40,7 +40,9 @@ impl UdpWire {
     ///
     /// # Errors
     /// `Bind` where the system refuses one, `OutOfMemory`.
-    pub fn bind<R: Net + AllocGlobal>(rt: &R, config: &NodeConfig) -> Result<UdpWire, BindFault> {
+    pub fn bind<R: Net + AllocGlobal>(rt: &R, config: &NodeConfig) -> Result<UdpWire, BindFault>
+        ensures failures { IfOk result (λ wire. wire.failures ≡ 0) }
+    {
         let ip = config.address();
         let pd = open(rt, ip, config.pd_port())?;
         let md = open(rt, ip, config.md_port())?;
