@@ -1,5 +1,5 @@
 -- A daemon's turns, one after another.
-use Rattle.std.proofs.Common.{◌≡◌, suc, ◌+◌, ℕ, List, [], ◌∷◌, ◌++◌, Option, refl, sym, ◌∙◌, ap, subst, length, map, arith, append-nil, length-append}
+use Rattle.std.proofs.Common.{◌≡◌, ◌+◌, ℕ, List, [], ◌∷◌, ◌++◌, Option, refl, sym, ◌∙◌, ap, subst, length, map, arith, append-nil, length-append}
 use Rattle.std.specs.Prelude.{All}
 use Rattle.std.specs.List.{flat_map}
 use Rattle.std.proofs.lemmas.List.{map-append}
@@ -9,14 +9,14 @@ use Rattle.std.proofs.lemmas.List.Elements.{All-append, All-push}
 use Rattle.trdp_daemon.specs.declared.link.Link.{Link}
 use Rattle.trdp_daemon.specs.declared.port.Port.{Port}
 use Rattle.trdp_daemon.specs.declared.service.Service.{Service}
-use Rattle.trdp_daemon.specs.Told.{Adds, Taking, Give, Offer}
+use Rattle.trdp_daemon.specs.Told.{Adds, Taking, Give}
 use Rattle.trdp_daemon.specs.Counting.{totals_after}
 use Rattle.trdp_daemon.specs.Daemons.{DaemonState, TakesTurns}
-use Rattle.trdp_daemon.specs.Effects.{ServiceState, Effect, Telling, both, silence, then_effect}
+use Rattle.trdp_daemon.specs.Effects.{Telling, then_effect}
 use Rattle.trdp_daemon.specs.Links.{Carries}
 use Rattle.trdp_daemon.specs.Ports.{ports_of}
-use Rattle.trdp_daemon.specs.Services.{Comes, TakesTurn, service_state}
-use Rattle.trdp_daemon.specs.Turns.{Turn, TakesAt, takings_of, turn_effect, turns_effect}
+use Rattle.trdp_daemon.specs.Services.{TakesTurn, service_state}
+use Rattle.trdp_daemon.specs.Turns.{TakesAt, takings_of, turn_effect, turns_effect}
 use Rattle.trdp_daemon.proofs.Links.{adds_none, adds_both, totals_both}
 use Rattle.trdp_daemon.proofs.Tellings.{both_silence}
 use Rattle.trdp_daemon.proofs.Turns.{turns_append}

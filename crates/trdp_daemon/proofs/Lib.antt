@@ -8,3 +8,4 @@ pub mod Daemons
 pub mod ControlPorts
 pub mod Places
 pub mod GiveRows
+pub mod Losses

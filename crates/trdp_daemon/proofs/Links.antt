@@ -1,12 +1,12 @@
 -- What came and went at a link, one thing after another.
-use Rattle.std.proofs.Common.{◌≡◌, zero, suc, ◌+◌, ◌-◌, ◌^◌, min, ℕ, Bool, true, false, List, [], ◌∷◌, ◌++◌, length, map, Option, Some, None, refl, sym, ◌∙◌, ap, arith, append_assoc, append-nil, length-append}
+use Rattle.std.proofs.Common.{◌≡◌, zero, suc, ◌+◌, ◌-◌, ◌^◌, min, ℕ, Bool, List, [], ◌++◌, length, map, Option, Some, None, refl, sym, ◌∙◌, ap, arith, append_assoc, append-nil, length-append}
 use Rattle.std.specs.Prelude.{filter}
 use Rattle.std.proofs.lemmas.List.{map-append}
 use Rattle.std.proofs.lemmas.List.Elements.{filter-append}
 use Rattle.trdp_daemon.specs.declared.link.Link.{Link}
 use Rattle.trdp_daemon.specs.declared.totals.Totals.{Totals}
-use Rattle.trdp_daemon.specs.Told.{Adds, Taking, Give, Offer}
-use Rattle.trdp_daemon.specs.Counting.{counted, totals_after, came_in, unread_in, lost_in, has_come, has_failed}
+use Rattle.trdp_daemon.specs.Told.{Adds, Taking, Give}
+use Rattle.trdp_daemon.specs.Counting.{counted, totals_after, has_come, has_failed}
 use Rattle.trdp_daemon.specs.Effects.{Telling, silence, both}
 use Rattle.trdp_daemon.specs.Links.{Carries}
 

@@ -1,5 +1,5 @@
 -- No place for each slot.
-use Rattle.std.proofs.Common.{◌≡◌, suc, zero, ◌+◌, ℕ, List, [], ◌∷◌, ◌++◌, Option, None, refl, sym, ◌∙◌, ap, length, map, replicate, arith}
+use Rattle.std.proofs.Common.{◌≡◌, suc, zero, ◌+◌, ℕ, List, [], ◌∷◌, ◌++◌, Option, None, refl, ◌∙◌, ap, length, map, replicate, arith}
 
 nones : (B : Type 0) → ℕ → List (Option B)
 nones B n = replicate n (let none : Option B = None in none)

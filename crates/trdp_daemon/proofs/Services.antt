@@ -1,9 +1,8 @@
 -- What an event came to.
-use Rattle.std.proofs.Common.{◌≡◌, ℕ, List, [], Option, Some, None, refl, sym, ◌∙◌, ap, subst, length, suc, zero, append-nil}
+use Rattle.std.proofs.Common.{◌≡◌, ℕ, List, [], Option, refl, ◌∙◌, ap, subst, length, suc, zero, append-nil}
 use Rattle.trdp_base.specs.declared.place.Place.{Place}
 use Rattle.trdp_engine.specs.Events.{EventModel}
 use Rattle.trdp_engine.specs.Records.{RecordModel}
-use Rattle.trdp_engine.specs.NodeStates.{NodeState}
 use Rattle.trdp_engine.specs.Alone.{refused_as}
 use Rattle.trdp_script.specs.ScriptText.{node_after}
 use Rattle.trdp_script.specs.SlotOrder.{by_slot}
@@ -11,7 +10,7 @@ use Rattle.trdp_script.proofs.Orders.{by_slot_suc, by_slot_zero}
 use Rattle.trdp_daemon.specs.declared.link.Link.{Link}
 use Rattle.trdp_daemon.specs.declared.service.Service.{Service}
 use Rattle.trdp_daemon.specs.Told.{Taking, Give}
-use Rattle.trdp_daemon.specs.Effects.{ServiceState, Effect, EventLost, TextsLost, event_effect, event_records, missing, offering, records_telling}
+use Rattle.trdp_daemon.specs.Effects.{ServiceState, EventLost, TextsLost, event_effect, event_records, missing, offering, records_telling}
 use Rattle.trdp_daemon.specs.Links.{Carries}
 use Rattle.trdp_daemon.specs.Tellings.{Tells}
 use Rattle.trdp_daemon.specs.declared.port.Port.TheVariants.{Operator}

@@ -1,5 +1,5 @@
 -- What was offered for records, one after another.
-use Rattle.std.proofs.Common.{◌≡◌, suc, ◌+◌, ℕ, true, false, Bool, List, [], ◌∷◌, ◌++◌, length, take, Option, Some, None, refl, sym, ◌∙◌, ap, arith, append-nil, length-append, subst, inl, inr}
+use Rattle.std.proofs.Common.{◌≡◌, suc, ◌+◌, ℕ, true, false, Bool, List, [], ◌∷◌, ◌++◌, length, take, Option, Some, None, refl, sym, ◌∙◌, ap, arith, append-nil, length-append, subst}
 use Rattle.std.specs.Prelude.{◌==◌, filter, slice_get}
 use Rattle.std.proofs.lemmas.Bool.Decides.{nat_tests}
 use Rattle.std.proofs.lemmas.List.Elements.{filter-append}
@@ -11,8 +11,8 @@ use Rattle.trdp_engine.specs.Records.{RecordModel, Content, Answers, Indicates, 
 use Rattle.trdp_script.specs.RecordText.{text_of_record}
 use Rattle.trdp_daemon.specs.declared.port.Port.TheVariants.{Control}
 use Rattle.trdp_daemon.specs.declared.link.Link.{Link}
-use Rattle.trdp_daemon.specs.Told.{Taking, Give, Offer}
-use Rattle.trdp_daemon.specs.Effects.{Telling, silence, both, missing, offering, text_telling, content_telling, port_of, place_of, record_telling, records_telling, is_first_lost, later_marks}
+use Rattle.trdp_daemon.specs.Told.{Taking, Give}
+use Rattle.trdp_daemon.specs.Effects.{Telling, silence, both, missing, offering, text_telling, content_telling, port_of, place_of, record_telling, records_telling}
 use Rattle.trdp_daemon.specs.Links.{Carries}
 use Rattle.trdp_daemon.specs.Tellings.{Tells, TellsRecord, TellsText, if_of_slot}
 use Rattle.trdp_daemon.proofs.Links.{carries_none, carries_both}

@@ -1,20 +1,18 @@
 -- A turn, and turns one after another.
-use Rattle.std.proofs.Common.{◌≡◌, suc, ◌+◌, ◌<◌, ℕ, List, [], ◌∷◌, ◌++◌, Option, refl, sym, ◌∙◌, ap, subst, length, map, take, arith, append_assoc}
+use Rattle.std.proofs.Common.{◌≡◌, ◌+◌, ℕ, List, [], ◌∷◌, ◌++◌, Option, refl, sym, ◌∙◌, ap, subst, map, take}
 use Rattle.std.proofs.lemmas.List.{map-append}
-use Rattle.std.proofs.Math.Seq.{take-suc}
-use Rattle.std.specs.Prelude.{slice_index}
 use Rattle.trdp_daemon.specs.declared.link.Link.{Link}
 use Rattle.trdp_daemon.specs.declared.port.Port.{Port}
 use Rattle.trdp_daemon.specs.declared.service.Service.{Service}
 use Rattle.trdp_daemon.specs.Told.{Taking, Give}
-use Rattle.trdp_daemon.specs.Effects.{ServiceState, Effect, Telling, both, silence, still, then_effect, event_effect}
+use Rattle.trdp_daemon.specs.Effects.{ServiceState, Effect, Telling, both, still, then_effect, event_effect}
 use Rattle.trdp_daemon.specs.Links.{Carries}
 use Rattle.trdp_daemon.specs.Services.{Comes, ComesWith, TakesAtPorts, TakesTurn, service_state}
-use Rattle.trdp_daemon.specs.Turns.{Visit, visit_effect, visits_effect, Turn, takings_of, turn_effect, turns_effect, moment_of}
+use Rattle.trdp_daemon.specs.Turns.{Visit, visit_effect, visits_effect, Turn, turn_effect, turns_effect, moment_of}
 use Rattle.trdp_daemon.proofs.Links.{carries_none, carries_both}
-use Rattle.trdp_daemon.proofs.Tellings.{both_assoc, both_silence, silence_both}
+use Rattle.trdp_daemon.proofs.Tellings.{both_assoc, silence_both}
 
-abbrev effect_of : ServiceState → Telling → Effect
+abbrev pub effect_of : ServiceState → Telling → Effect
 effect_of service telling = record { service = service; telling = telling }
 
 -- one effect after two others

@@ -1,5 +1,5 @@
 -- What a datagram at a port came to.
-use Rattle.std.proofs.Common.{◌≡◌, ℕ, List, [], ◌∷◌, Option, Some, None, Result, Ok, Err, refl, sym, ◌∙◌, ap, subst, take, map}
+use Rattle.std.proofs.Common.{◌≡◌, ℕ, List, [], ◌∷◌, Option, Some, None, Result, Ok, Err, refl, sym, ◌∙◌, ap, subst, take}
 use Rattle.std.specs.Prelude.{slice_set}
 use Rattle.trdp_base.specs.declared.place.Place.{Place}
 use Rattle.trdp_engine.specs.Events.{EventModel, DatagramIs}
@@ -14,10 +14,10 @@ use Rattle.trdp_daemon.specs.declared.port.Port.{Port}
 use Rattle.trdp_daemon.specs.declared.port.Port.TheVariants.{Pd, Md, Operator, Control}
 use Rattle.trdp_daemon.specs.declared.service.Service.{Service}
 use Rattle.trdp_daemon.specs.Told.{Arrived, Failed, Nothing, Came, Taking, Give}
-use Rattle.trdp_daemon.specs.Effects.{ServiceState, Effect, Loss, LineLost, EventLost, TextsLost, Telling, silence, both, missing, event_effect, still}
+use Rattle.trdp_daemon.specs.Effects.{ServiceState, Loss, LineLost, EventLost, TextsLost, Telling, silence, missing, event_effect, still}
 use Rattle.trdp_daemon.specs.Links.{Carries, IsFound, Takes}
 use Rattle.trdp_daemon.specs.Services.{Comes, ComesWith, TakesAtPorts, service_state}
-use Rattle.trdp_daemon.specs.Turns.{Visit, visit_effect, visits_effect}
+use Rattle.trdp_daemon.specs.Turns.{Visit}
 use Rattle.trdp_daemon.specs.Visits.{fault_telling, operator_event, operator_effect, skipped_line, control_effect, control_event, datagram_effect, taking_effect, with_place, own_place}
 use Rattle.trdp_daemon.proofs.Links.{carries_none, carries_both}
 use Rattle.trdp_daemon.proofs.Tellings.{both_silence, silence_both}

@@ -1,5 +1,6 @@
 -- What the totals count.
-use Rattle.std.specs.Prelude.{ℕ, zero, suc, ◌+◌, ◌-◌, ◌^◌, min, List, length, filter, Bool, true, false}
+use Rattle.std.specs.Prelude.{ℕ, zero, suc, ◌+◌, ◌-◌, ◌^◌, min, List, length, filter, Bool, true}
+use Rattle.std.specs.Prelude.{false}
 use Rattle.trdp_daemon.specs.declared.totals.Totals.{Totals}
 use Rattle.trdp_daemon.specs.Told.{Arrived, Failed, Nothing, Came, Taking, Give}
 

@@ -1,9 +1,7 @@
 -- A daemon, and what its turns make of it.
-use Rattle.std.specs.Prelude.{◌≡◌, ℕ, List, Option, None, All, length, map}
+use Rattle.std.specs.Prelude.{◌≡◌, ℕ, List, Option, All, length, map}
 use Rattle.std.specs.List.{flat_map}
-use Rattle.trdp_base.specs.declared.place.Place.{Place}
 use Rattle.trdp_dataset.specs.Configs.{ConfigModel}
-use Rattle.trdp_engine.specs.NodeStates.{NodeState, opened_node}
 use Rattle.trdp_daemon.specs.declared.totals.Totals.{Totals}
 use Rattle.trdp_daemon.specs.Told.{Adds, Taking, Give}
 use Rattle.trdp_daemon.specs.Counting.{no_totals, totals_after}

@@ -1,7 +1,7 @@
 -- What one event gives: the datagrams that are offered, and the entries that are lost for want of
 -- memory.
 use Rattle.std.specs.Prelude.{ℕ, suc, ◌+◌, List, [], ◌∷◌, ◌++◌, Bool, true, false, length}
-use Rattle.std.specs.Prelude.{Option, Some, None, slice_index_or, codes}
+use Rattle.std.specs.Prelude.{Option, Some, None, slice_index_or}
 use Rattle.trdp_base.specs.declared.place.Place.{Place}
 use Rattle.trdp_filter.specs.declared.globals.Globals.{Globals}
 use Rattle.trdp_engine.specs.declared.fault.NodeFault.{NodeFault}

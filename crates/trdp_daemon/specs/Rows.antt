@@ -1,10 +1,13 @@
 -- What a wire in memory remembers, and what it tells of that.
-use Rattle.std.specs.Prelude.{◌≡◌, ℕ, ◌+◌, ◌≤◌, List, [], ◌∷◌, ◌++◌, take, drop, length, map, Bool, Option, Some, None, if◌then◌else◌}
+use Rattle.std.specs.Prelude.{ℕ, ◌+◌, List, [], ◌∷◌, take, drop, length}
+use Rattle.std.specs.Prelude.{Bool, Option, Some, None, if◌then◌else◌}
 use Rattle.trdp_base.specs.declared.place.Place.{Place}
 use Rattle.trdp_daemon.specs.declared.port.Port.{Port}
 use Rattle.trdp_daemon.specs.declared.rows.TakeRow.{TakeRow}
 use Rattle.trdp_daemon.specs.declared.rows.TakeAnswer.{TakeAnswer}
-use Rattle.trdp_daemon.specs.declared.rows.TakeAnswer.TheVariants.{Failed as RowFailed, Nothing as RowNothing, Came as RowCame}
+use Rattle.trdp_daemon.specs.declared.rows.TakeAnswer.TheVariants.{Failed as RowFailed}
+use Rattle.trdp_daemon.specs.declared.rows.TakeAnswer.TheVariants.{Nothing as RowNothing}
+use Rattle.trdp_daemon.specs.declared.rows.TakeAnswer.TheVariants.{Came as RowCame}
 use Rattle.trdp_daemon.specs.declared.rows.GiveRow.{GiveRow}
 use Rattle.trdp_daemon.specs.Told.{Arrived, Failed, Nothing, Came, Taking, Give, offer_to}
 

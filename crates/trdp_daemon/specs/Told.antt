@@ -1,5 +1,6 @@
 -- What a wire tells of its takes and gives, and a clock of its readings.
-use Rattle.std.specs.Prelude.{◌≡◌, ℕ, List, [], ◌∷◌, ◌++◌, take, Option, Some, None, Result, Ok, Err}
+use Rattle.std.specs.Prelude.{◌≡◌, ℕ, List, ◌++◌, take, Option, Some, None, Result, Ok}
+use Rattle.std.specs.Prelude.{Err}
 use Rattle.std.specs.Prelude.{Bool, is_err}
 use Rattle.trdp_base.specs.declared.place.Place.{Place}
 use Rattle.trdp_daemon.specs.declared.port.Port.{Port}

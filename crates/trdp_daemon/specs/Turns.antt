@@ -1,13 +1,13 @@
 -- A daemon's turns.
-use Rattle.std.specs.Prelude.{◌≡◌, ℕ, List, [], ◌∷◌, length, map, min, max, All, Option, None}
-use Rattle.std.specs.List.{flat_map}
+use Rattle.std.specs.Prelude.{◌≡◌, ℕ, List, [], ◌∷◌, map, min, max, None}
 use Rattle.trdp_base.specs.Moments.{last_moment}
 use Rattle.trdp_dataset.specs.Configs.{ConfigModel}
 use Rattle.trdp_engine.specs.Events.{EventModel, MomentIs}
 use Rattle.trdp_engine.specs.NodeStates.{NodeState, opened_node}
 use Rattle.trdp_daemon.specs.declared.port.Port.{Port}
 use Rattle.trdp_daemon.specs.Told.{Taking, Offer}
-use Rattle.trdp_daemon.specs.Effects.{ServiceState, Effect, Loss, still, then_effect, event_effect}
+use Rattle.trdp_daemon.specs.Effects.{ServiceState, Effect, Loss, TextsLost, still, then_effect}
+use Rattle.trdp_daemon.specs.Effects.{event_effect}
 use Rattle.trdp_daemon.specs.Visits.{taking_effect}
 
 -- one take, and what was lost of its datagram
@@ -63,3 +63,14 @@ opened_service config =
 -- all that a daemon of a configuration offers in these turns, its first
 abbrev pub offers_of : ConfigModel → List Turn → List Offer
 offers_of config turns = (turns_effect (opened_service config) turns).telling.offers
+
+-- the same take, or turn, with nothing lost for want of memory
+abbrev pub unlost_visit : Visit → Visit
+unlost_visit visit = record visit { loss = TextsLost [] }
+
+abbrev pub unlost : Turn → Turn
+unlost turn = record {
+  reading = turn.reading;
+  loss = TextsLost [];
+  visits = map unlost_visit turn.visits;
+}

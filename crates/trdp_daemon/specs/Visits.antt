@@ -1,7 +1,6 @@
 -- What a datagram at one of the ports gives.
-use Rattle.std.specs.Prelude.{ℕ, List, [], ◌∷◌, ◌++◌, length, codes, slice_set}
+use Rattle.std.specs.Prelude.{ℕ, List, ◌++◌, length, codes, slice_set}
 use Rattle.std.specs.Prelude.{Option, Some, None, Result, Ok, Err}
-use Rattle.trdp_base.specs.declared.place.Ip.{Ip}
 use Rattle.trdp_base.specs.declared.place.Place.{Place}
 use Rattle.trdp_dataset.specs.Configs.{ConfigModel}
 use Rattle.trdp_engine.specs.declared.fault.NodeFault.{NodeFault}
@@ -15,7 +14,7 @@ use Rattle.trdp_script.specs.RecordText.{text_of_fault, name_of_line_fault}
 use Rattle.trdp_script.specs.PortLines.{control_line_of, operator_line_of}
 use Rattle.trdp_daemon.specs.declared.port.Port.{Port}
 use Rattle.trdp_daemon.specs.declared.port.Port.TheVariants.{Pd, Md, Operator, Control}
-use Rattle.trdp_daemon.specs.Told.{Arrived, Failed, Nothing, Came, Taking}
+use Rattle.trdp_daemon.specs.Told.{Arrived, Failed, Nothing, Came}
 use Rattle.trdp_daemon.specs.Effects.{Telling, missing, offering, ServiceState, Effect, still}
 use Rattle.trdp_daemon.specs.Effects.{telling_only, then_effect, event_effect}
 use Rattle.trdp_daemon.specs.Effects.{Loss, LineLost, EventLost, TextsLost}

@@ -2,7 +2,7 @@
 
 ghost use Rattle.std.specs.Prelude.{◌≡◌, []};
 ghost use Rattle.trdp_daemon.specs.Links.{Carries};
-ghost use Rattle.trdp_daemon.specs.Visits.{fault_telling, operator_text, text_of_line_fault};
+ghost use Rattle.trdp_daemon.specs.Visits.{fault_telling, operator_text};
 
 use crate::link::Link;
 use crate::port::Port;

@@ -41,7 +41,7 @@ pub struct Daemon<W: Wire, C: Clock> {
 }
 
 impl<W: Wire, C: Clock> Model for Daemon<W, C> {
-    ghost use Rattle.std.specs.Prelude.{◌≡◌, ◌≤◌, length};
+    ghost use Rattle.std.specs.Prelude.{◌≡◌};
     ghost use Rattle.trdp_daemon.specs.Daemons.{DaemonState};
     ghost use Rattle.trdp_daemon.specs.Ports.{ports_of};
     ghost use Rattle.trdp_daemon.specs.Services.{IsHome, IsSound, service_state};

@@ -1,10 +1,16 @@
 //! A node as a device on a network: datagrams come from a wire, time from a clock.
+//!
+//! What no contract can say is that memory is there: a daemon that loses every event and counts it
+//! in `memory` meets its contract, and the tests show that with ample memory nothing is lost. What
+//! is told of a wire and a clock is told where these tell; the system's sockets and clock tell
+//! nothing.
 #![tactic(auto)]
 
 mod answer;
 mod clock;
 mod daemon;
 mod fault;
+mod laws;
 mod link;
 mod memory_clock;
 mod memory_wire;
@@ -23,6 +29,7 @@ mod wire;
 pub use clock::Clock;
 pub use daemon::Daemon;
 pub use fault::WireFault;
+pub use laws::nothing_missed;
 pub use memory_clock::MemoryClock;
 pub use memory_wire::MemoryWire;
 pub use port::Port;

@@ -1,9 +1,9 @@
 //! A wire, with the counts of what came and went.
 
-ghost use Rattle.std.specs.Prelude.{◌≡◌, ◌+◌, ◌-◌, ◌^◌, ◌≤◌, min, [], ◌∷◌, length, IfSome};
+ghost use Rattle.std.specs.Prelude.{◌≡◌, ◌≤◌, [], ◌∷◌, length, IfSome};
 ghost use Rattle.trdp_daemon.specs.Told.{Give};
 ghost use Rattle.trdp_daemon.specs.Counting.{counted, no_totals, totals_after};
-ghost use Rattle.trdp_daemon.specs.Effects.{silence, missing, offering};
+ghost use Rattle.trdp_daemon.specs.Effects.{missing, offering};
 ghost use Rattle.trdp_daemon.specs.Links.{Carries, Takes};
 
 use crate::port::Port;

@@ -1,7 +1,7 @@
 //! A clock that reads a list, for tests.
 
-ghost use Rattle.std.specs.Prelude.{◌≡◌, ◌+◌, ◌∷◌, [], min, ◌-◌, ◌^◌, IfOk, length, true};
-ghost use Rattle.trdp_daemon.specs.MemoryClocks.{reading_at, told_readings, readings_first};
+ghost use Rattle.std.specs.Prelude.{◌≡◌, ◌+◌, ◌∷◌, [], min, ◌-◌, ◌^◌, IfOk, true};
+ghost use Rattle.trdp_daemon.specs.MemoryClocks.{reading_at, told_readings};
 ghost use Rattle.trdp_daemon.specs.Told.{Adds};
 
 use crate::clock::Clock;

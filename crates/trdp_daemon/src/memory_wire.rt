@@ -1,11 +1,12 @@
 //! A wire in memory, for tests.
 
 ghost use Rattle.std.specs.Prelude.{◌≡◌, ◌<◌, ◌≤◌, ◌+◌, ◌++◌, ◌∷◌, [], length, take};
-ghost use Rattle.std.specs.Prelude.{IfOk, IfSome, OnErr, vec_len, vec_capacity, option_map, slice_get};
+ghost use Rattle.std.specs.Prelude.{IfOk, IfSome, OnErr, vec_len, vec_capacity, option_map};
+ghost use Rattle.std.specs.Prelude.{slice_get};
 ghost use Rattle.trdp_daemon.specs.Told.{arrived_in};
 ghost use Rattle.trdp_daemon.specs.Rows.{arrived_of, bytes_in, gives_of, row_give, row_to};
 
-use crate::fault::WireFault;
+use crate::fault::{WireFault, fail};
 use crate::port::Port;
 use crate::rows::{Arrival, GiveRow, TakeAnswer, TakeRow};
 use crate::wire::Wire;
@@ -168,7 +169,9 @@ impl MemoryWire {
 }
 
 impl Wire for MemoryWire {
+    ghost use Rattle.std.specs.Prelude.{◌≡◌, ◌<◌, ◌≤◌, ◌+◌, ◌∷◌, [], length, IfOk, IfSome, OnErr};
     ghost use Rattle.trdp_daemon.specs.Rows.{told};
+    ghost use Rattle.trdp_daemon.specs.Told.{Adds, give_of, taking_of};
 
     ghost takings = { λ w. told w.tells w.takings };
 
@@ -176,7 +179,18 @@ impl Wire for MemoryWire {
 
     ghost faults = { λ w. w.failures };
 
-    fn take(&mut self, port: Port, room: &mut [u8]) -> Result<Option<(Place, usize)>, WireFault> {
+    fn take(&mut self, port: Port, room: &mut [u8]) -> Result<Option<(Place, usize)>, WireFault>
+        ensures within { IfOk result (λ found. IfSome found (λ f. f.1 ≤ length room.new)) }
+        ensures takes { Adds (told self.old.tells self.old.takings)
+            (told self.new.tells self.new.takings) (taking_of port result room.new ∷ []) }
+        ensures gives_nothing { Adds (told self.old.tells self.old.gives)
+            (told self.new.tells self.new.gives) [] }
+        ensures fault { OnErr result (self.old.failures < self.new.failures) }
+        ensures tells { 0 < self.old.take_room → self.new.tells ≡ self.old.tells }
+        ensures take_room { self.old.take_room ≤ self.new.take_room + 1 }
+        ensures give_room { self.new.give_room ≡ self.old.give_room }
+        ensures byte_room { self.new.byte_room ≡ self.old.byte_room }
+    {
         if self.taken.len() >= self.taken.capacity() {
             self.tells = false;
             fail(&mut self.failures)?;
@@ -196,7 +210,18 @@ impl Wire for MemoryWire {
         result
     }
 
-    fn give(&mut self, port: Port, to: Place, bytes: &[u8]) -> Result<(), WireFault> {
+    fn give(&mut self, port: Port, to: Place, bytes: &[u8]) -> Result<(), WireFault>
+        ensures offers { Adds (told self.old.tells self.old.gives)
+            (told self.new.tells self.new.gives) (give_of port to bytes.now result ∷ []) }
+        ensures takes_nothing { Adds (told self.old.tells self.old.takings)
+            (told self.new.tells self.new.takings) [] }
+        ensures fault { OnErr result (self.old.failures < self.new.failures) }
+        ensures tells { 0 < self.old.give_room → length bytes.now ≤ self.old.byte_room
+            → self.new.tells ≡ self.old.tells }
+        ensures take_room { self.new.take_room ≡ self.old.take_room }
+        ensures give_room { self.old.give_room ≤ self.new.give_room + 1 }
+        ensures byte_room { self.old.byte_room ≤ self.new.byte_room + length bytes.now }
+    {
         if self.given.len() >= self.given.capacity()
             || bytes.len() > self.bytes.capacity() - self.bytes.len()
         {
@@ -227,18 +252,6 @@ fn given_at(given: &[GiveRow], index: usize) -> Option<(Port, Place, usize)>
     match given.get(index) {
         Some(row) => Some((row.port, row.to, row.len)),
         None => None,
-    }
-}
-
-/// Fails, unless the count of failures is at its last value.
-fn fail(failures: &mut u64) -> Result<(), WireFault>
-    ensures { OnErr result (failures.old < failures.new) }
-{
-    if *failures < u64::MAX {
-        *failures += 1;
-        Err(WireFault)
-    } else {
-        Ok(())
     }
 }
 
@@ -339,7 +352,9 @@ fn fill(room: &mut [u8], bytes: &mut Vec<u8>) -> usize
 /// Adds a row within the room.
 fn push_take(taken: &mut Vec<TakeRow>, row: TakeRow)
     requires { vec_len taken.old < vec_capacity taken.old }
-    ensures { taken.new.items ≡ taken.old.items ++ row ∷ [] }
+    ensures items { taken.new.items ≡ taken.old.items ++ row ∷ [] }
+    ensures len { vec_len taken.new ≡ vec_len taken.old + 1 }
+    ensures capacity { vec_capacity taken.old ≤ vec_capacity taken.new }
 {
     taken.push_reserved(row);
 }
@@ -353,6 +368,10 @@ fn push_give(given: &mut Vec<GiveRow>, held: &mut Vec<u8>, row: GiveRow, bytes: 
     ensures gives { gives_of held.new.items given.new.items
         ≡ gives_of held.old.items given.old.items ++ row_give row bytes.now ∷ [] }
     ensures whole { bytes_in given.new.items ≡ length held.new.items }
+    ensures given_len { vec_len given.new ≡ vec_len given.old + 1 }
+    ensures given_capacity { vec_capacity given.old ≤ vec_capacity given.new }
+    ensures held_len { vec_len held.new ≡ vec_len held.old + length bytes.now }
+    ensures held_capacity { vec_capacity held.old ≤ vec_capacity held.new }
 {
     given.push_reserved(row);
     append(held, bytes);
@@ -361,7 +380,9 @@ fn push_give(given: &mut Vec<GiveRow>, held: &mut Vec<u8>, row: GiveRow, bytes: 
 /// Adds bytes at the end, within the room.
 fn append(held: &mut Vec<u8>, bytes: &[u8])
     requires { vec_len held.old + length bytes.now ≤ vec_capacity held.old }
-    ensures { held.new.items ≡ held.old.items ++ bytes.now }
+    ensures items { held.new.items ≡ held.old.items ++ bytes.now }
+    ensures len { vec_len held.new ≡ vec_len held.old + length bytes.now }
+    ensures capacity { vec_capacity held.old ≤ vec_capacity held.new }
 {
     held.extend_from_slice(bytes).unwrap();
 }

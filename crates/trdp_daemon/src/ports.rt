@@ -26,7 +26,8 @@ pub(crate) fn ports_of(alloc: Global, config: &NodeConfig) -> Result<Vec<Port>, 
 fn push_control(ports: &mut Vec<Port>, config: &NodeConfig, slot: usize) -> Result<(), AllocError>
     requires slot { slot < length config.now.slots }
     requires few { length config.now.slots ≤ 16 }
-    ensures { OnOk result (ports.new.items ++ control_ports (slot + 1) (drop (slot + 1) config.now.slots)
+    ensures { OnOk result
+        (ports.new.items ++ control_ports (slot + 1) (drop (slot + 1) config.now.slots)
         ≡ ports.old.items ++ control_ports slot (drop slot config.now.slots)) }
 {
     match config.control_port(slot) {

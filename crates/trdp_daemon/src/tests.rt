@@ -1,7 +1,9 @@
 //! A daemon over a wire and a clock in memory, with values from outside.
 
-use crate::{Daemon, MemoryClock, MemoryWire, Port, Totals};
+use crate::{BindFault, Daemon, MemoryClock, MemoryWire, Port, RunClock, Totals, UdpWire};
 use std::alloc::Global;
+use std::io;
+use std::net::{Ipv4Addr, SocketAddr, SocketAddrV4, UdpSocket};
 use std::process::Abort;
 use std::test::Fail;
 use trdp_base::{Ip, Place};
@@ -105,4 +107,45 @@ fn offers_leave_from_their_ports(rt: HostRuntime) -> Result<(), Fail> {
     assert_eq!(&rt; wire.len(), 3);
     assert_eq!(&rt; daemon.run(0), totals(2, 3, 0, 0));
     Ok(())
+}
+
+/// A node on this machine.
+const LOOPBACK: &[u8] = b"
+[node]
+address = \"127.0.0.1\"
+pd_port = 17924
+md_port = 17925
+[[slot]]
+publishers = 1
+control_port = 18900
+";
+
+#[test]
+fn a_client_at_a_control_port_is_answered(rt: HostRuntime) -> Result<(), Fail> {
+    let config = NodeConfig::from_toml(rt.alloc(), LOOPBACK)?;
+    let wire = UdpWire::bind(&rt, &config)?;
+    assert_eq!(&rt; UdpWire::bind(&rt, &config).err(), Some(BindFault::Bind));
+    let home = Ipv4Addr::from_bits(0x7f00_0001);
+    let client = UdpSocket::bind(&rt, SocketAddr::V4(SocketAddrV4::new(home, 0)))?;
+    client.set_nonblocking(true)?;
+    let control = SocketAddr::V4(SocketAddrV4::new(home, 18900));
+    client.send_to(b"publish 100 0 100000 0 0 0 127.0.0.1:17999", control)?;
+    let clock = RunClock::new(&rt);
+    let mut daemon = Daemon::new(rt.alloc(), config, wire, clock)
+        .ok()
+        .ok_or("no memory")?;
+    let mut room = [0; 64];
+    for _turn in 0..1_000_000u32 {
+        daemon.turn();
+        match client.recv_from(&mut room) {
+            Ok((len, _)) => {
+                let (text, _) = room.split_at(len);
+                assert_eq!(&rt; text, b"0 handle 1\n".as_slice());
+                return Ok(());
+            }
+            Err(error) if error.kind() == io::ErrorKind::WouldBlock => {}
+            Err(error) => return Err(error.into()),
+        }
+    }
+    Err("no answer".into())
 }

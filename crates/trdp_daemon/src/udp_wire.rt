@@ -1,8 +1,8 @@
 //! The system's sockets.
 
-ghost use Rattle.std.specs.Prelude.{◌<◌, ◌≤◌, length, None, IfOk, IfSome, OnErr};
+ghost use Rattle.std.specs.Prelude.{◌≡◌, ◌<◌, ◌≤◌, length, None, IfOk, IfSome};
 
-use crate::fault::WireFault;
+use crate::fault::{WireFault, fail};
 use crate::port::Port;
 use crate::wire::Wire;
 use std::io;
@@ -40,7 +40,9 @@ impl UdpWire {
     ///
     /// # Errors
     /// `Bind` where the system refuses one, `OutOfMemory`.
-    pub fn bind<R: Net + AllocGlobal>(rt: &R, config: &NodeConfig) -> Result<UdpWire, BindFault> {
+    pub fn bind<R: Net + AllocGlobal>(rt: &R, config: &NodeConfig) -> Result<UdpWire, BindFault>
+        ensures failures { IfOk result (λ wire. wire.failures ≡ 0) }
+    {
         let ip = config.address();
         let pd = open(rt, ip, config.pd_port())?;
         let md = open(rt, ip, config.md_port())?;
@@ -103,18 +105,6 @@ impl Wire for UdpWire {
 
     fn failures(&self) -> u64 {
         self.failures
-    }
-}
-
-/// Fails, unless the count of failures is at its last value.
-fn fail(failures: &mut u64) -> Result<(), WireFault>
-    ensures { OnErr result (failures.old < failures.new) }
-{
-    if *failures < u64::MAX {
-        *failures += 1;
-        Err(WireFault)
-    } else {
-        Ok(())
     }
 }
 

@@ -1,4 +1,4 @@
-use Rattle.std.proofs.Common.{◌≡◌, length, arith, ◌++◌, ap, sym, ◌∙◌}
+use Rattle.std.proofs.Common.{◌≡◌, length, arith, ◌++◌, ap, ◌∙◌}
 use Rattle.trdp_daemon.specs.declared.port.Port.TheVariants.{Operator}
 use Rattle.trdp_daemon.specs.Ports.{port_unless_0}
 use Rattle.trdp_daemon.proofs.ControlPorts.{ports_start, ports_end}

@@ -1,4 +1,4 @@
-use Rattle.std.proofs.Common.{◌+◌, ◌≡◌, arith, subst, ℕ}
+use Rattle.std.proofs.Common.{◌≡◌, arith, subst, ℕ}
 use Rattle.trdp_daemon.specs.Daemons.{TakesTurns}
 use Rattle.trdp_daemon.proofs.Daemons.{no_turns, turns_both}
 use Rattle.trdp_daemon.proofs.daemon.Daemon.run.Goals as goal

@@ -1,9 +1,7 @@
-use Rattle.std.proofs.Common.{List, Option, sym, ◌∙◌, ap}
+use Rattle.std.proofs.Common.{sym, ◌∙◌, ap}
 use Rattle.std.specs.Option.{option_map}
-use Rattle.trdp_base.specs.declared.place.Place.{Place}
 use Rattle.trdp_engine.specs.Events.{event_model}
 use Rattle.trdp_script.specs.PortLines.{control_line_of}
-use Rattle.trdp_daemon.specs.Effects.{ServiceState}
 use Rattle.trdp_daemon.proofs.Visits.{reads_ok, control_refused, control_skipped, control_took, placed}
 use Rattle.trdp_daemon.proofs.service.Service.take_control.Goals as goal
 
