@@ -14,12 +14,15 @@ use Rattle.trdpd.specs.Programs.{TakesNoConfig}
 -- what is told of a daemon's totals, without the end of the line
 abbrev pub text_of_totals : Totals → List ℕ
 text_of_totals totals =
-    codes "taken " ++ text_of_number totals.taken ++ codes " offered " ++ text_of_number totals.offered
-    ++ codes " lost " ++ text_of_number totals.lost ++ codes " unread " ++ text_of_number totals.unread
+    codes "taken " ++ text_of_number totals.taken
+    ++ codes " offered " ++ text_of_number totals.offered
+    ++ codes " lost " ++ text_of_number totals.lost
+    ++ codes " unread " ++ text_of_number totals.unread
     ++ codes " memory " ++ text_of_number totals.memory
 
--- these are the totals of a node of that configuration after its first n turns: each turn took once
--- at each port in order, and the gives are exactly what the turns offer, whatever they answered
+-- these are the totals of a node of that configuration after its first n turns: each turn took
+-- once at each port in order, and the gives are exactly what the turns offer, whatever they
+-- answered
 pub record CountsTurns (config : ConfigModel) (n : ℕ) (totals : Totals) : Type 0 where
   pub turns : List Turn
   pub gives : List Give

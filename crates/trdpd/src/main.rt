@@ -1,13 +1,14 @@
-//! The program `trdpd`: a communication node that takes its events from a script, or from a network.
+//! The program `trdpd`: a communication node, whose events come from a script or from a network.
 //!
 //! `trdpd run CONFIG` reads the configuration of a node from the file CONFIG (TOML), and where
 //! nothing is wrong with it the script from standard input. What the node gives its slots goes to
 //! standard output.
 //!
-//! `trdpd serve CONFIG --turns N` reads the configuration in the same way, binds the node's UDP ports
-//! at its address, and takes N turns without sleeping. Then `taken T offered O lost L unread U memory
-//! M` goes to standard output: the datagrams that came, those that were offered to the network, how
-//! many of these it refused, the takes that failed, and what was lost for want of memory.
+//! `trdpd serve CONFIG --turns N` reads the configuration in the same way, binds the node's UDP
+//! ports at its address, and takes N turns without sleeping. Then `taken T offered O lost L unread
+//! U memory M` goes to standard output: the datagrams that came, those that were offered to the
+//! network, how many of these it refused, the takes that failed, and what was lost for want of
+//! memory.
 //!
 //! The exit status is
 //! - 0 at the script's end, and after the last turn;
@@ -17,16 +18,17 @@
 //!   `config fault OutOfMemory`;
 //! - 2 for other words, with the usage;
 //! - 3 for a bad line, with `line N fault NAME`;
-//! - 4 after a `read fault`, a `write fault`, a `memory fault`, or a `bind fault`, where the system
-//!   refuses a port.
+//! - 4 after a `read fault`, a `write fault` or a `memory fault`, and after a `bind fault`, where
+//!   the system refuses a port.
 //!
 //! What a script gives, and where it stops, is the contract of `trdp_script::run_script`, which
-//! `run_program` repeats with the exit status. What the totals of a service count is the contract of
-//! `trdp_daemon::Daemon::run`, which `serve_program` repeats with the exit status and the line. No
-//! contract says that the outside works: a `run_program` or `serve_program` that answers 1 at once
-//! meets its contract, as if memory had run out while the configuration was read, and the system's
-//! sockets don't tell what they took and gave. The functions of this module and of `command` have no clauses: how the
-//! command line is read, which is `clap`'s, how the file is read, and status 2 are tried by hand.
+//! `run_program` repeats with the exit status. What the totals count is the contract of
+//! `trdp_daemon::Daemon::run`, which `serve_program` repeats with the exit status and the line;
+//! what the system's sockets took and gave no contract tells. Nor does one say that the outside
+//! works: a `run_program` or a `serve_program` that answers 1 at once meets its contract, as if
+//! memory had run out while the configuration was read. The functions of this module and of
+//! `command` have no clauses: how the command line is read, which is `clap`'s, how the file is
+//! read, and status 2 are tried by hand.
 #![tactic(auto)]
 
 mod command;

@@ -14,10 +14,10 @@ use std::time::Clock;
 use trdp_daemon::{BindFault, Daemon, RunClock, Totals, UdpWire};
 use trdp_dataset::NodeConfig;
 
-/// Serves a node of that configuration (TOML) over the system's sockets: binds its UDP ports, takes
-/// so many turns without sleeping, writes the line of their totals to the writer, and answers the
-/// exit status: 0 after that line, 1 where the configuration isn't taken, and else 4; a fault gives
-/// one line on `errors` (profile).
+/// Serves a node of that configuration (TOML) over the system's sockets: binds its UDP ports,
+/// takes so many turns without sleeping, writes the line of their totals to the writer, and
+/// answers the exit status: 0 after that line, 1 where the configuration isn't taken, and else 4;
+/// a fault gives one line on `errors` (profile).
 ///
 /// The configuration is looked at first, and then the ports are bound: where it isn't taken,
 /// nothing is written.
@@ -99,8 +99,8 @@ fn bind<H: Net + AllocGlobal>(rt: &H, config: &NodeConfig) -> Result<UdpWire, Se
     }
 }
 
-/// The totals of a service as the program prints them (profile): `taken T offered O lost L unread U
-/// memory M`. To show them takes no memory.
+/// The totals of a service as the program prints them (profile): `taken T offered O lost L unread
+/// U memory M`. To show them takes no memory.
 #[derive(Clone, Copy, Debug)]
 struct TotalsText(Totals);
 
