@@ -1,10 +1,12 @@
--- Why a run ends before the end of its script.
+-- Why a run ends before the end of its script, and why a service comes to no good end.
 use Rattle.std.specs.Prelude.{ℕ, List, ◌++◌, codes, Result, Ok, Err}
 use Rattle.trdp_base.specs.NumberText.{text_of_number}
 use Rattle.trdp_script.specs.RecordText.{name_of_line_fault}
 use Rattle.trdp_script.specs.declared.script.ScriptFault.{ScriptFault}
 use Rattle.trdp_script.specs.declared.script.ScriptFault.TheVariants.{Line, Read, Write}
 use Rattle.trdp_script.specs.declared.script.ScriptFault.TheVariants.{OutOfMemory}
+use Rattle.trdpd.specs.declared.faults.ServeFault.{ServeFault}
+use Rattle.trdpd.specs.declared.faults.ServeFault.TheVariants as serve
 
 -- the exit status of a script: 0 at its end, 3 for a bad line, and else 4
 abbrev pub status_of_script : Result (Unit {0}) ScriptFault → ℕ
@@ -21,3 +23,9 @@ text_of_script_fault (Line n fault) =
 text_of_script_fault Read = codes "read fault"
 text_of_script_fault Write = codes "write fault"
 text_of_script_fault OutOfMemory = codes "memory fault"
+
+-- what is told of a service's fault, without the end of the line
+abbrev pub text_of_serve_fault : ServeFault → List ℕ
+text_of_serve_fault serve.Bind = codes "bind fault"
+text_of_serve_fault serve.Write = codes "write fault"
+text_of_serve_fault serve.OutOfMemory = codes "memory fault"

@@ -1,4 +1,4 @@
-//! The words of a script's fault, as the program prints them.
+//! The words of the faults of a script and of a service, as the program prints them.
 
 ghost use Rattle.std.specs.Prelude.{◌≡◌};
 ghost use Rattle.trdpd.specs.Faults.{status_of_script};
@@ -38,5 +38,35 @@ pub fn script_status(end: Result<(), ScriptFault>) -> u8
         Ok(()) => 0,
         Err(ScriptFault::Line(..)) => 3,
         Err(ScriptFault::Read | ScriptFault::Write | ScriptFault::OutOfMemory) => 4,
+    }
+}
+
+/// The exit status of a service that comes to no good end (profile).
+pub const SERVE_FAULT_STATUS: u8 = 4;
+
+/// Why a service comes to no good end. As the program prints it (profile) it is `bind fault`,
+/// `write fault` or `memory fault`; to show it takes no memory.
+#[derive(Clone, Copy, Debug, PartialEq, Eq)]
+pub enum ServeFault {
+    /// The system refuses one of the ports.
+    Bind,
+    /// The output can't be written.
+    Write,
+    /// Memory was refused.
+    OutOfMemory,
+}
+
+impl fmt::Display for ServeFault {
+    ghost use Rattle.std.specs.Prelude.{Some};
+    ghost use Rattle.trdpd.specs.Faults.{text_of_serve_fault};
+
+    ghost output = { λ fault. Some (text_of_serve_fault fault) };
+
+    fn fmt<W: fmt::Write>(&self, f: &mut fmt::Formatter<W>) -> fmt::Result {
+        f.write_str(match self {
+            ServeFault::Bind => "bind fault",
+            ServeFault::Write => "write fault",
+            ServeFault::OutOfMemory => "memory fault",
+        })
     }
 }

@@ -1,36 +1,50 @@
-//! The program `trdpd`: a communication node that takes its events from a script.
+//! The program `trdpd`: a communication node, whose events come from a script or from a network.
 //!
 //! `trdpd run CONFIG` reads the configuration of a node from the file CONFIG (TOML), and where
 //! nothing is wrong with it the script from standard input. What the node gives its slots goes to
-//! standard output. The exit status is
-//! - 0 at the script's end;
+//! standard output.
+//!
+//! `trdpd serve CONFIG --turns N` reads the configuration in the same way, binds the node's UDP
+//! ports at its address, and takes N turns without sleeping. Then `taken T offered O lost L unread
+//! U memory M` goes to standard output: the datagrams that came, those that were offered to the
+//! network, how many of these it refused, the takes that failed, and what was lost for want of
+//! memory.
+//!
+//! The exit status is
+//! - 0 at the script's end, and after the last turn;
 //! - 1 where the configuration isn't taken, with `config fault NAME` on standard error. Behind
 //!   the name stands the key of a Missing or WrongType and the number of a dataset for NoDataset.
 //!   A file that can't be read is `config fault Unreadable`, and want of memory while it is read
 //!   `config fault OutOfMemory`;
 //! - 2 for other words, with the usage;
 //! - 3 for a bad line, with `line N fault NAME`;
-//! - 4 after a `read fault`, a `write fault` or a `memory fault`.
+//! - 4 after a `read fault`, a `write fault` or a `memory fault`, and after a `bind fault`, where
+//!   the system refuses a port.
 //!
 //! What a script gives, and where it stops, is the contract of `trdp_script::run_script`, which
-//! `run_program` repeats with the exit status. No contract says that the outside works: a
-//! `run_program` that answers 1 at once meets its contract, as if memory had run out while the
-//! configuration was read. The functions of this module and of `command` have no clauses: how the
-//! command line is read, which is `clap`'s, how the file is read, and status 2 are tried by hand.
+//! `run_program` repeats with the exit status. What the totals count is the contract of
+//! `trdp_daemon::Daemon::run`, which `serve_program` repeats with the exit status and the line;
+//! what the system's sockets took and gave no contract tells. Nor does one say that the outside
+//! works: a `run_program` or a `serve_program` that answers 1 at once meets its contract, as if
+//! memory had run out while the configuration was read. The functions of this module and of
+//! `command` have no clauses: how the command line is read, which is `clap`'s, how the file is
+//! read, and status 2 are tried by hand.
 #![tactic(auto)]
 
 mod command;
 mod config_names;
 mod faults;
 mod program;
+mod serve;
 #[cfg(test)]
 mod tests;
 
 use clap::error::ErrorKind;
-use command::read_words;
+use command::{Task, read_words};
 use config_names::ConfigFaultText;
 use faults::{ScriptFaultText, script_status};
 use program::{CONFIG_STATUS, run_program};
+use serve::serve_program;
 use std::fmt::Display;
 use std::process::ExitCode;
 use std::{env, fs, io};
@@ -42,7 +56,7 @@ const USAGE_STATUS: u8 = 2;
 
 /// What is told of words that aren't text.
 const NO_TEXT: &str = "error: a word of the command line isn't valid UTF-8\n\n\
-     Usage: trdpd run <CONFIG>\n\n\
+     Usage: trdpd <COMMAND>\n\n\
      For more information, try '--help'.\n";
 
 fn main(rt: HostRuntime) -> ExitCode {
@@ -53,7 +67,8 @@ fn main(rt: HostRuntime) -> ExitCode {
 fn status(rt: &HostRuntime) -> u8 {
     match given_words(rt) {
         Ok(words) => match read_words(rt.alloc(), &words) {
-            Ok(path) => run_file(rt, path),
+            Ok(Task::Run { path }) => run_file(rt, path),
+            Ok(Task::Serve { path, turns }) => serve_file(rt, path, turns),
             Err(error) => refuse(rt, &error, error.kind() == ErrorKind::OutOfMemory),
         },
         Err(error) => refuse(rt, NO_TEXT, error.kind() == io::ErrorKind::OutOfMemory),
@@ -63,21 +78,37 @@ fn status(rt: &HostRuntime) -> u8 {
 /// Runs the script at standard input over the configuration of a file, and answers the exit
 /// status.
 fn run_file(rt: &HostRuntime, path: &str) -> u8 {
-    match fs::read(rt, path) {
-        Ok(config) => run_program(
+    match read_file(rt, path) {
+        Some(config) => run_program(
             rt,
             &config,
             &mut rt.stdin(),
             &mut rt.stdout(),
             &mut rt.stderr(),
         ),
+        None => CONFIG_STATUS,
+    }
+}
+
+/// Serves the configuration of a file for so many turns, and answers the exit status.
+fn serve_file(rt: &HostRuntime, path: &str, turns: u32) -> u8 {
+    match read_file(rt, path) {
+        Some(config) => serve_program(rt, &config, turns, &mut rt.stdout(), &mut rt.stderr()),
+        None => CONFIG_STATUS,
+    }
+}
+
+/// Reads the configuration's file, or tells why that can't be done.
+fn read_file(rt: &HostRuntime, path: &str) -> Option<Vec<u8>> {
+    match fs::read(rt, path) {
+        Ok(config) => Some(config),
         Err(error) if error.kind() == io::ErrorKind::OutOfMemory => {
             tell(rt, ConfigFaultText(ConfigFault::OutOfMemory));
-            CONFIG_STATUS
+            None
         }
         Err(_) => {
             tell(rt, "config fault Unreadable");
-            CONFIG_STATUS
+            None
         }
     }
 }

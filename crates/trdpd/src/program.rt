@@ -1,6 +1,6 @@
 //! A run of the program: the configuration first, and then the script.
 
-ghost use Rattle.std.specs.Prelude.{◌≡◌, ◌⊎◌, ℕ, List, Some, Ok, IfOk, IfErr};
+ghost use Rattle.std.specs.Prelude.{◌≡◌, ◌⊎◌, ℕ, List, Some, Ok, IfOk, IfErr, OnOk};
 ghost use Rattle.std.specs.Io.KnownBytes.{Keeps};
 ghost use Rattle.trdp_dataset.specs.Configs.{Reads, config_of};
 ghost use Rattle.trdpd.specs.Programs.{IsConfig, IsConfigFault, RunsProgram};
@@ -50,13 +50,14 @@ pub fn run_program<H: AllocGlobal, R: Read, W: Write, E: Write>(
 ///
 /// # Errors
 /// The fault of the configuration, or want of memory in its place.
-fn read_config<E: Write>(
+pub fn read_config<E: Write>(
     alloc: Global,
     config: &[u8],
     errors: &mut E,
 ) -> Result<NodeConfig, ConfigFault>
     ensures taken { IfOk result (λ taken. Reads config_of config.now (Ok taken)) }
     ensures fault { IfErr result (IsConfigFault config.now) }
+    ensures faultless { OnOk result (Keeps (E.contents errors.old) (E.contents errors.new)) }
 {
     match NodeConfig::from_toml(alloc, config) {
         Ok(taken) => Ok(taken),

@@ -2,6 +2,7 @@
 
 use crate::faults::{ScriptFaultText, script_status};
 use crate::program::run_program;
+use crate::serve::serve_program;
 use std::io;
 use std::io::{Read, Write};
 use std::process::Abort;
@@ -188,4 +189,50 @@ fn want_of_memory_is_told(rt: HostRuntime) -> Result<(), Fail> {
     );
     assert_eq!(&rt; script_status(Err(fault)), 4);
     Ok(())
+}
+
+/// A node at the loopback address, with a control port of its one slot.
+const LOOPBACK: &[u8] = b"[node]\naddress = \"127.0.0.1\"\npd_port = 27224\nmd_port = 27225\n\
+    [[slot]]\npublishers = 1\ncontrol_port = 27226\n";
+
+/// A node at the loopback address whose two ports are one.
+const ONE_PORT: &[u8] = b"[node]\naddress = \"127.0.0.1\"\npd_port = 27234\nmd_port = 27234\n\
+    [[slot]]\n";
+
+#[test]
+fn serves_no_turn(rt: HostRuntime) {
+    let mut output = Vec::new(rt.alloc());
+    let mut error = Vec::new(rt.alloc());
+    let status = serve_program(&rt, LOOPBACK, 0, &mut output, &mut error);
+    assert_eq!(rt; error.as_slice(), b"".as_slice());
+    assert_eq!(rt;
+        output.as_slice(),
+        b"taken 0 offered 0 lost 0 unread 0 memory 0\n".as_slice()
+    );
+    assert_eq!(rt; status, 0);
+}
+
+#[test]
+fn tells_the_fault_of_a_service(rt: HostRuntime) {
+    static FAULTS: [(&[u8], &[u8], u8); 2] = [
+        (b"", b"config fault Missing node\n", 1),
+        (ONE_PORT, b"bind fault\n", 4),
+    ];
+    for (config, text, wanted) in FAULTS {
+        let mut output = Vec::new(rt.alloc());
+        let mut error = Vec::new(rt.alloc());
+        let status = serve_program(&rt, config, 1, &mut output, &mut error);
+        assert_eq!(rt; output.as_slice(), b"".as_slice());
+        assert_eq!(rt; error.as_slice(), text);
+        assert_eq!(rt; status, wanted);
+    }
+}
+
+#[test]
+fn a_failing_writer_ends_the_service(rt: HostRuntime) {
+    let config = b"[node]\naddress = \"127.0.0.1\"\npd_port = 27244\nmd_port = 27245\n[[slot]]\n";
+    let mut error = Vec::new(rt.alloc());
+    let status = serve_program(&rt, config, 0, &mut FailingWriter, &mut error);
+    assert_eq!(rt; error.as_slice(), b"write fault\n".as_slice());
+    assert_eq!(rt; status, 4);
 }
