@@ -25,6 +25,7 @@ mod words;
 pub use fault::LineFault;
 pub use line::{LINE_MAX, Line, read_line};
 pub use names::line_fault_name;
+pub use output::write_whole;
 pub use port::{read_control, read_operator};
 pub use print::print_record;
 pub use script::{ScriptFault, run_script};

@@ -59,7 +59,10 @@ pub fn flush<W: Write>(output: &mut Vec<u8>, writer: &mut W) -> Result<(), Scrip
 }
 
 /// Writes all of the bytes. An error leaves a front of them written.
-fn write_whole<W: Write>(writer: &mut W, bytes: &[u8]) -> Result<(), ScriptFault>
+///
+/// # Errors
+/// `Write` where the writer fails.
+pub fn write_whole<W: Write>(writer: &mut W, bytes: &[u8]) -> Result<(), ScriptFault>
     ensures ok { OnOk result (Appends (W.contents writer.old) (W.contents writer.new) bytes.now) }
     ensures err { OnErr result
         (PartlyWrites (W.contents writer.old) (W.contents writer.new) bytes.now) }

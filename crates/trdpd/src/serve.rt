@@ -1,9 +1,9 @@
 //! A service of the program: the configuration first, then the sockets, and then the turns.
 
-ghost use Rattle.std.specs.Prelude.{◌≡◌, ◌⊎◌, ◌++◌, codes, IfOk, OnOk};
+ghost use Rattle.std.specs.Prelude.{◌≡◌, ◌⊎◌, ◌++◌, codes, IfOk, OnOk, OnErr};
 ghost use Rattle.std.specs.Io.KnownBytes.{Appends, Keeps};
 ghost use Rattle.trdpd.specs.Programs.{IsConfig};
-ghost use Rattle.trdpd.specs.Serving.{CountsTurns, ServesProgram, text_of_totals};
+ghost use Rattle.trdpd.specs.Serving.{CountsTurns, ServesProgram, WritesNoTotals, text_of_totals};
 
 use crate::faults::{SERVE_FAULT_STATUS, ServeFault};
 use crate::program::{CONFIG_STATUS, read_config};
@@ -13,6 +13,7 @@ use std::net::Net;
 use std::time::Clock;
 use trdp_daemon::{BindFault, Daemon, RunClock, Totals, UdpWire};
 use trdp_dataset::NodeConfig;
+use trdp_script::write_whole;
 
 /// Serves a node of that configuration (TOML) over the system's sockets: binds its UDP ports,
 /// takes so many turns without sleeping, writes the line of their totals to the writer, and
@@ -58,12 +59,17 @@ fn serve<H: Net + Clock + AllocGlobal, W: Write>(
     turns: u32,
     writer: &mut W,
 ) -> Result<(), ServeFault>
-    ensures { OnOk result ((totals : Totals) × CountsTurns config turns totals
+    ensures ok { OnOk result ((totals : Totals) × CountsTurns config turns totals
         × Appends (W.contents writer.old) (W.contents writer.new)
         (text_of_totals totals ++ codes "\n")) }
+    ensures err { OnErr result
+        (WritesNoTotals config turns (W.contents writer.old) (W.contents writer.new)) }
 {
     let totals = take_turns(rt, config, turns)?;
-    match writeln!(writer, "{}", TotalsText(totals)) {
+    let Ok(line) = format!(in rt.alloc(); "{}\n", TotalsText(totals)) else {
+        return Err(ServeFault::OutOfMemory);
+    };
+    match write_whole(writer, line.as_bytes()) {
         Ok(()) => Ok(()),
         Err(_) => Err(ServeFault::Write),
     }
