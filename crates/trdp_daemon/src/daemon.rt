@@ -37,6 +37,7 @@ pub struct Daemon<W: Wire, C: Clock> {
     room: Vec<u8>,
     /// The wire, with the totals.
     link: Link<W>,
+    /// Where each turn has its time from.
     clock: C,
 }
 
@@ -134,6 +135,7 @@ impl<W: Wire, C: Clock> Daemon<W, C> {
         );
         self.link.totals
     }
+
     /// Takes so many turns. Answers the totals since the daemon was made.
     pub fn run(&mut self, turns: u32) -> Totals
         ensures turns { TakesTurns W.takings W.gives C.readings turns self.old self.new }

@@ -3,7 +3,10 @@
 //! What no contract can say is that memory is there: a daemon that loses every event and counts it
 //! in `memory` meets its contract, and the tests show that with ample memory nothing is lost. What
 //! is told of a wire and a clock is told where these tell; the system's sockets and clock tell
-//! nothing.
+//! nothing. So a [`UdpWire`] at which nothing ever comes, or that sends nothing, and a [`RunClock`]
+//! that stands still meet their contracts, as a network or a clock may be so; that they work is
+//! tested. Nor does a contract say yet what [`MemoryWire::arrive`], `fail_take` and `fail_give` lay
+//! down: the tests show that it arrives, and fails.
 #![tactic(auto)]
 
 mod answer;

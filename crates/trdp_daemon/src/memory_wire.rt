@@ -20,6 +20,7 @@ use trdp_base::Place;
 /// fault, and from then on it tells nothing.
 #[derive(Drop)]
 pub struct MemoryWire {
+    /// Where what is laid down takes its memory from.
     alloc: Global,
     /// What is to arrive, in the order in which it was laid down.
     arrivals: Vec<Arrival>,

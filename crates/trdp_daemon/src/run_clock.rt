@@ -10,6 +10,7 @@ use std::time::Instant;
 /// repeats its last number, at first 0. It tells no readings.
 #[derive(Drop)]
 pub struct RunClock<'a, R: time::Clock> {
+    /// The system, which has the clock.
     rt: &'a R,
     /// The first moment that the system's clock told; None before.
     start: Option<Instant>,

@@ -25,7 +25,9 @@ pub enum BindFault {
 /// The UDP ports of a node, which never wait. It tells no takes and gives.
 #[derive(Drop)]
 pub struct UdpWire {
+    /// The port of process data.
     pd: UdpSocket,
+    /// The port of message data.
     md: UdpSocket,
     /// The operator's port; None where the node has none.
     operator: Option<UdpSocket>,

@@ -14,7 +14,7 @@ use Rattle.trdp_engine.specs.Slots.{Entry, SlotState, entry_of}
 use Rattle.trdp_engine.specs.Acts.{Act, left_at, acted}
 use Rattle.trdp_engine.specs.Calls.{at_object, at_entry, refused}
 use Rattle.trdp_engine.specs.Configs.{NodeSetup}
-use Rattle.trdp_engine.specs.Handles.{AllAbove, IsRising}
+use Rattle.trdp_engine.proofs.Handles.{AllAbove, IsRising}
 use Rattle.trdp_engine.specs.Values.{item_refusal, takes_item, valued}
 use Rattle.trdp_engine.specs.Outboxes.{OutboxState}
 use Rattle.trdp_engine.specs.Acting.{slot_at, Becomes}

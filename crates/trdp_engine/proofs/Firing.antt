@@ -17,7 +17,7 @@ use Rattle.trdp_table.specs.ObjectLaws.{due-firing}
 use Rattle.trdp_engine.specs.Slots.{Entry, SlotState, entry_of}
 use Rattle.trdp_engine.specs.Acts.{entry_left, left_at, acted}
 use Rattle.trdp_engine.specs.Acting.{act_of}
-use Rattle.trdp_engine.specs.Handles.{IsRising}
+use Rattle.trdp_engine.proofs.Handles.{IsRising}
 use Rattle.trdp_engine.specs.Moments.{is_due, is_before, inserted, in_order, left_firing, firing_records, firing_act, after_moment, moved_to}
 use Rattle.trdp_engine.specs.Firing.{FiresFirst, IsNext}
 use Rattle.trdp_engine.proofs.Orders.{first_in_order, first_stands, in_order-filter, sum-in_order}

@@ -1,3 +1,4 @@
+pub mod Handles
 pub mod Tables
 pub mod Quiet
 pub mod Asking

@@ -8,7 +8,7 @@ use Rattle.trdp_engine.specs.declared.room.Room.{Room}
 use Rattle.trdp_engine.specs.Records.{Content, RecordModel, labelled}
 use Rattle.trdp_engine.specs.Slots.{Entry, SlotState, Outcome, unchanged, entry_of, slots_of}
 use Rattle.trdp_engine.specs.Acting.{slot_at, MayAct, TookWithin, Becomes, ActsAt, act_of}
-use Rattle.trdp_engine.specs.Handles.{IsRising}
+use Rattle.trdp_engine.proofs.Handles.{IsRising}
 use Rattle.trdp_engine.specs.Moments.{is_due, in_order, firing_act, moved_to}
 use Rattle.trdp_engine.specs.Outboxes.{OutboxState}
 use Rattle.trdp_engine.specs.Rooms.{HasRoom, entries_room, moment_room}

@@ -19,7 +19,7 @@ use Rattle.trdp_engine.specs.declared.room.Room.{Room}
 use Rattle.trdp_engine.specs.Records.{Content, RecordModel, labelled}
 use Rattle.trdp_engine.specs.Slots.{Entry, SlotState, Outcome, entry_of, slots_of}
 use Rattle.trdp_engine.specs.Acts.{Act, entry_left, left_at, acted}
-use Rattle.trdp_engine.specs.Handles.{AllAbove, IsRising}
+use Rattle.trdp_engine.proofs.Handles.{AllAbove, IsRising}
 use Rattle.trdp_engine.specs.Outboxes.{OutboxState}
 use Rattle.trdp_engine.specs.Rooms.{HasRoom, kind_room, entries_room}
 use Rattle.trdp_engine.specs.Acting.{slot_at, MayAct, ActsAt, act_of}

@@ -7,7 +7,7 @@ use Rattle.std.proofs.lemmas.Bool.Decides.{nat_tests}
 use Rattle.std.proofs.lemmas.List.Elements.{filter-append}
 use Rattle.trdp_table.specs.Objects.{due_of}
 use Rattle.trdp_engine.specs.Slots.{Entry}
-use Rattle.trdp_engine.specs.Handles.{AllAbove, IsRising}
+use Rattle.trdp_engine.proofs.Handles.{AllAbove, IsRising}
 use Rattle.trdp_engine.specs.Moments.{is_due, is_before, inserted, in_order}
 use Rattle.trdp_engine.specs.Firing.{sooner, due_time, first_from, AllAfter, FiresFirst, IsFirst}
 use Rattle.trdp_engine.proofs.Each.{reads, dropped}

@@ -12,7 +12,7 @@ use Rattle.trdp_table.specs.Tables.{Keyed, SlotTable, TableState, opened_slot, s
 use Rattle.trdp_table.specs.TableLaws.{AllAbove as AllKeyedAbove, IsRising as AreKeyedRising, IsTable}
 use Rattle.trdp_engine.specs.Slots.{Entry, SlotState, entry_of, entry_of_keyed, slot_of, slots_of}
 use Rattle.trdp_engine.specs.Acts.{left_at, acted}
-use Rattle.trdp_engine.specs.Handles.{AllAbove, IsRising}
+use Rattle.trdp_engine.proofs.Handles.{AllAbove, IsRising}
 use Rattle.trdp_engine.specs.Acting.{slot_at}
 
 -- How a slot is read.

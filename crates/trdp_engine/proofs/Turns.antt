@@ -16,7 +16,7 @@ use Rattle.trdp_engine.specs.Outboxes.{OutboxState}
 use Rattle.trdp_engine.specs.Rooms.{kind_room}
 use Rattle.trdp_engine.proofs.Tables.{slots_length, slot_there, slot_within, slot_is, handle_found, ExchangesAlone, IsReached, reached_entry, reached_touched}
 use Rattle.trdp_engine.proofs.Sweeps.{get-set}
-use Rattle.trdp_engine.specs.Handles.{AllAbove, IsRising}
+use Rattle.trdp_engine.proofs.Handles.{AllAbove, IsRising}
 use Rattle.trdp_engine.specs.Slots.{Entry, SlotState, Outcome, entry_of, entry_of_keyed, slots_of}
 
 -- one outcome, and then the next

@@ -14,7 +14,6 @@ pub mod Values
 pub mod Fitting
 pub mod ShownItems
 pub mod NodeStates
-pub mod Handles
 pub mod Quiet
 pub mod Firing
 pub mod Outboxes

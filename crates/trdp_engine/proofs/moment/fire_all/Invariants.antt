@@ -1,6 +1,6 @@
 use Rattle.std.proofs.Common.{◌≡◌, ◌<◌, ◌≤◌, ◌+◌, length}
 use Rattle.trdp_engine.specs.Acting.{slot_at}
-use Rattle.trdp_engine.specs.Handles.{IsRising}
+use Rattle.trdp_engine.proofs.Handles.{IsRising}
 use Rattle.trdp_engine.specs.Moments.{in_order}
 use Rattle.trdp_engine.specs.Rooms.{HasRoom, entries_room}
 use Rattle.trdp_engine.proofs.Moving.{moment_slots, moment_records, due_at}
