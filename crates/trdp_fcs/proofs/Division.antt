@@ -1,11 +1,11 @@
 -- The register's steps are the division's.
 use Rattle.std.proofs.Math.Nat.{one-le-pow, pow-succ', pow-le-pow_right}
-use Rattle.std.proofs.Common.{lit<, subst, append_assoc, ◌≡◌, ℕ, zero, suc, ◌+◌, ◌-◌, ◌*◌, ◌/◌, ◌%◌, ◌^◌, ◌<◌, ◌≤◌, true, false, cond, eqb, List, [], ◌∷◌, ◌++◌, length, drop, replicate, refl, sym, ap, ◌∙◌, arith, bit_xor}
+use Rattle.std.proofs.Common.{subst, append_assoc, ◌≡◌, ℕ, zero, suc, ◌+◌, ◌-◌, ◌*◌, ◌/◌, ◌%◌, ◌^◌, ◌<◌, ◌≤◌, true, false, cond, eqb, List, [], ◌∷◌, ◌++◌, length, drop, replicate, refl, sym, ap, ◌∙◌, arith, bit_xor}
 use Rattle.std.specs.Prelude.{flat_map}
 use lib.Bits.{xor_zero_r, xor_assoc, xor_comm, xor_mod, xor_shr, xor_lt}
 use Rattle.trdp_fcs.specs.Bits.{bits_from_bottom, number_from_bottom, inverted}
 use Rattle.trdp_fcs.specs.Division.{add_front, divide}
-use Rattle.trdp_fcs.specs.FrameCheck.{generator, frame_check_of}
+use Rattle.trdp_fcs.specs.FrameCheck.{generator}
 use Rattle.trdp_fcs.specs.Register.{step, steps}
 
 -- two sums are one
@@ -138,12 +138,3 @@ after-fits m t k d e dh (x ∷ xs) r h small =
 -- the generator's bits but the first are those of the register's divisor, the lowest first
 reversed : generator ≡ 1 ∷ bits_from_bottom 32 0xEDB88320
 reversed = refl
-
--- the inverted register is the frame check
-pub whole : (bytes : List ℕ) → AreSmall 8 bytes → 4294967295 - after 0xEDB88320 8 bytes 4294967295 ≡ frame_check_of bytes
-unfolding frame_check_of
-whole bytes small =
-    let fits : after 0xEDB88320 8 bytes 4294967295 < 2 ^ 32 = after-fits 8 24 32 0xEDB88320 refl (lit< tt) bytes 4294967295 (lit< tt) small in
-    let form = divided 8 24 31 0xEDB88320 refl bytes 4294967295 (lit< tt) (lit< tt) small in
-    sym (number_from_bottom-inverted 32 (after 0xEDB88320 8 bytes 4294967295) fits)
-    ∙ ap (λ (bs : List ℕ). number_from_bottom (inverted bs)) (sym form)

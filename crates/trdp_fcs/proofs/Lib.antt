@@ -1,2 +1,5 @@
 pub mod Division
 pub mod FrameCheck
+pub mod Pieces
+pub mod LookUp
+pub mod Zeros

@@ -1,29 +1,101 @@
 //! The register of the division: what is left of the message so far, the next bit lowest.
+//!
+//! Bytes are taken eight at once, then four, then one by one. They act as zeros do that follow
+//! their sum with the register. Past zeros each byte of the register acts for itself, and what it
+//! leads to stands in a table.
 
 ghost use Rattle.std.specs.Prelude.{◌≡◌, bit_xor};
-ghost use Rattle.trdp_fcs.specs.Register.{step, steps};
+ghost use Rattle.trdp_fcs.specs.Register.{past_zeros, past, tables};
 
-/// The generator of IEEE 802.3, 0x104C11DB7, without its first bit and from the lowest bit up.
-const GENERATOR: u32 = 0xEDB8_8320;
+use crate::tables::TABLES;
 
-/// The register after one more byte of the message.
-pub(crate) fn with_byte(register: u32, byte: u8) -> u32
-    ensures { result ≡ steps 0xEDB88320 8 (bit_xor register byte) }
+/// The register after these bytes of the message.
+pub(crate) fn past(register: u32, bytes: &[u8]) -> u32
+    ensures { result ≡ past bytes.now register }
 {
-    let mut shifted = register ^ u32::from(byte);
-    for _ in 0..8u8 {
-        shifted = shift(shifted);
+    let mut register = register;
+    let mut rest = bytes;
+    while let Some((eight, behind)) = rest.split_first_chunk::<8>() {
+        register = past_eight(register, eight);
+        rest = behind;
     }
-    shifted
+    past_few(register, rest)
 }
 
-/// The register after one bit: the generator is subtracted where the bit that is dropped is 1.
-fn shift(register: u32) -> u32
-    ensures { result ≡ step 0xEDB88320 register }
+/// The register after these bytes, four at once where there are four.
+#[inline(always)]
+fn past_few(register: u32, bytes: &[u8]) -> u32
+    ensures { result ≡ past bytes.now register }
 {
-    if register % 2 == 1 {
-        (register >> 1) ^ GENERATOR
-    } else {
-        register >> 1
+    let (mut register, rest) = match bytes.split_first_chunk::<4>() {
+        Some((four, behind)) => (past_four(register, four), behind),
+        None => (register, bytes),
+    };
+    for byte in rest {
+        register = past_byte(register, *byte);
     }
+    register
+}
+
+/// The register after eight bytes. What the back four lead to comes first, since it doesn't wait
+/// for the register.
+#[inline(always)]
+fn past_eight(register: u32, bytes: &[u8; 8]) -> u32
+    ensures { result ≡ past bytes.now register }
+{
+    let [a, b, c, d, e, f, g, h] = *bytes;
+    let back = past_four_zeros(u32::from_le_bytes([e, f, g, h]));
+    back ^ past_eight_zeros(register ^ u32::from_le_bytes([a, b, c, d]))
+}
+
+/// The register after four bytes.
+#[inline(always)]
+fn past_four(register: u32, bytes: &[u8; 4]) -> u32
+    ensures { result ≡ past bytes.now register }
+{
+    past_four_zeros(register ^ u32::from_le_bytes(*bytes))
+}
+
+/// The register after one byte.
+#[inline(always)]
+fn past_byte(register: u32, byte: u8) -> u32
+    ensures { result ≡ past_zeros 1 (bit_xor register byte) }
+{
+    let mixed = register ^ u32::from(byte);
+    let [low, _, _, _] = mixed.to_le_bytes();
+    tables()[0][usize::from(low)] ^ (mixed >> 8)
+}
+
+/// The register after eight bytes of 0.
+#[inline(always)]
+fn past_eight_zeros(register: u32) -> u32
+    ensures { result ≡ past_zeros 8 register }
+{
+    let [a, b, c, d] = register.to_le_bytes();
+    let tables = tables();
+    tables[7][usize::from(a)]
+        ^ tables[6][usize::from(b)]
+        ^ tables[5][usize::from(c)]
+        ^ tables[4][usize::from(d)]
+}
+
+/// The register after four bytes of 0.
+#[inline(always)]
+fn past_four_zeros(register: u32) -> u32
+    ensures { result ≡ past_zeros 4 register }
+{
+    let [a, b, c, d] = register.to_le_bytes();
+    let tables = tables();
+    tables[3][usize::from(a)]
+        ^ tables[2][usize::from(b)]
+        ^ tables[1][usize::from(c)]
+        ^ tables[0][usize::from(d)]
+}
+
+/// The tables, of which it is proved here that each number is right.
+#[inline(always)]
+fn tables() -> &'static [[u32; 256]; 8]
+    ensures { result.now ≡ tables 8 }
+{
+    &TABLES
 }

@@ -2,13 +2,22 @@
 
 ghost use Rattle.std.specs.Prelude.{◌≤◌};
 
-use crate::frame_check;
+use crate::{Running, frame_check, plain};
 
 #[test]
 fn texts_have_the_published_checks(rt: HostRuntime) {
     assert_eq!(rt; frame_check(b""), 0);
     assert_eq!(rt; frame_check(b"a"), 0xe8b7_be43);
     assert_eq!(rt; frame_check(b"123456789"), 0xcbf4_3926);
+}
+
+#[test]
+fn pieces_have_the_check_of_the_whole(rt: HostRuntime) {
+    let mut running = Running::start();
+    running.feed(b"1234");
+    running.feed(b"");
+    running.feed(b"56789");
+    assert_eq!(rt; running.finish(), 0xcbf4_3926);
 }
 
 // The 36 bytes of a process data header with comId 100.
@@ -19,6 +28,20 @@ fn a_header_has_its_check(rt: HostRuntime) {
         0, 0, 0, 0, 0, 0, 0, 0, 0,
     ];
     assert_eq!(rt; frame_check(&header), 0x949c_17ec);
+}
+
+// Each number of eights, of fours and of single bytes up to 19 bytes.
+#[test]
+fn tables_agree_with_single_bits(rt: HostRuntime) {
+    let text = b"0123456789 ABCDEFGH";
+    for length in 0..20usize {
+        let (bytes, _) = text.split_at(length);
+        assert_eq!(rt;
+            frame_check(bytes),
+            plain::frame_check(bytes),
+            "at {length}"
+        );
+    }
 }
 
 /// The check of so many bytes `i * 7 + 3` modulo 256.
