@@ -6,17 +6,18 @@ use Rattle.std.proofs.lemmas.List.{map-append}
 use Rattle.std.proofs.lemmas.Grind.{flat_map-append}
 use Rattle.std.proofs.lemmas.List.Concat.{flat_map-cons}
 use Rattle.std.proofs.lemmas.List.Elements.{All-append, All-push}
+use Rattle.trdp_dataset.specs.Configs.{ConfigModel}
 use Rattle.trdp_daemon.specs.declared.link.Link.{Link}
 use Rattle.trdp_daemon.specs.declared.port.Port.{Port}
 use Rattle.trdp_daemon.specs.declared.service.Service.{Service}
 use Rattle.trdp_daemon.specs.Told.{Adds, Taking, Give}
-use Rattle.trdp_daemon.specs.Counting.{totals_after}
-use Rattle.trdp_daemon.specs.Daemons.{DaemonState, TakesTurns}
+use Rattle.trdp_daemon.specs.Counting.{no_totals, totals_after}
+use Rattle.trdp_daemon.specs.Daemons.{DaemonState, TakesTurns, HasServed, opened_daemon}
 use Rattle.trdp_daemon.specs.Effects.{Telling, then_effect}
 use Rattle.trdp_daemon.specs.Links.{Carries}
 use Rattle.trdp_daemon.specs.Ports.{ports_of}
 use Rattle.trdp_daemon.specs.Services.{TakesTurn, service_state}
-use Rattle.trdp_daemon.specs.Turns.{TakesAt, takings_of, turn_effect, turns_effect}
+use Rattle.trdp_daemon.specs.Turns.{TakesAt, takings_of, turn_effect, turns_effect, opened_service}
 use Rattle.trdp_daemon.proofs.Links.{adds_none, adds_both, totals_both}
 use Rattle.trdp_daemon.proofs.Tellings.{both_silence}
 use Rattle.trdp_daemon.proofs.Turns.{turns_append}
@@ -92,6 +93,51 @@ turns_both {W} {C} {takings_in} {gives_in} {readings_in} {m} {n} {a} {b} {c} p q
           ∙ ap (λ e. totals_after a.totals (flat_map takings_of (p.turns ++ q.turns)) (p.gives ++ q.gives) e.telling.missed) all;
     }
 
--- one turn more
-pub turn_more : {W C : Type 0} {takings_in : W → Option (List Taking)} {gives_in : W → Option (List Give)} {readings_in : C → Option (List ℕ)} {a b c : DaemonState W C} (n : ℕ) → TakesTurns takings_in gives_in readings_in n a b → TakesTurns takings_in gives_in readings_in 1 b c → TakesTurns takings_in gives_in readings_in (n + 1) a c
-turn_more n p q = turns_both p q
+-- turns from the first on
+pub served : {W C : Type 0} {takings_in : W → Option (List Taking)} {gives_in : W → Option (List Give)} {readings_in : C → Option (List ℕ)} {config : ConfigModel} {wire : W} {clock : C} {n : ℕ} {d : DaemonState W C}
+    → TakesTurns takings_in gives_in readings_in n (opened_daemon config wire clock) d → HasServed takings_in gives_in readings_in config wire clock n d
+served p = record {
+  turns = p.turns;
+  gives = p.gives;
+  count = p.count;
+  ports = p.ports;
+  read = p.read;
+  took = p.took;
+  gave = p.gave;
+  offers = p.offers;
+  service = p.service;
+  config_is = p.config;
+  totals = p.totals;
+}
+
+from_first : {W C : Type 0} {takings_in : W → Option (List Taking)} {gives_in : W → Option (List Give)} {readings_in : C → Option (List ℕ)} {config : ConfigModel} {wire : W} {clock : C} {n : ℕ} {d : DaemonState W C}
+    → HasServed takings_in gives_in readings_in config wire clock n d → TakesTurns takings_in gives_in readings_in n (opened_daemon config wire clock) d
+from_first p = record {
+  turns = p.turns;
+  gives = p.gives;
+  count = p.count;
+  ports = p.ports;
+  read = p.read;
+  took = p.took;
+  gave = p.gave;
+  offers = p.offers;
+  service = p.service;
+  config = p.config_is;
+  totals = p.totals;
+}
+
+pub served_on : {W C : Type 0} {takings_in : W → Option (List Taking)} {gives_in : W → Option (List Give)} {readings_in : C → Option (List ℕ)} {config : ConfigModel} {wire : W} {clock : C} {m n : ℕ} {d e : DaemonState W C}
+    → HasServed takings_in gives_in readings_in config wire clock m d → TakesTurns takings_in gives_in readings_in n d e → HasServed takings_in gives_in readings_in config wire clock (m + n) e
+served_on p q = served (turns_both (from_first p) q)
+
+opened_is : {W C : Type 0} (config : ConfigModel) (wire : W) (clock : C) (s : Service) (l : Link W) → service_state s ≡ opened_service config → l.wire ≡ wire → l.totals ≡ no_totals → daemon_of s l clock ≡ opened_daemon config wire clock
+opened_is {W} {C} config wire clock s l service same none =
+    ap (λ x. let d : DaemonState W C = record { service = x; wire = l.wire; clock = clock; totals = l.totals } in d) service
+    ∙ ap (λ x. let d : DaemonState W C = record { service = opened_service config; wire = x; clock = clock; totals = l.totals } in d) same
+    ∙ ap (λ x. let d : DaemonState W C = record { service = opened_service config; wire = wire; clock = clock; totals = x } in d) none
+
+pub served_none : {W C : Type 0} (takings_in : W → Option (List Taking)) (gives_in : W → Option (List Give)) (readings_in : C → Option (List ℕ)) (config : ConfigModel) (wire : W) (clock : C) (s : Service) (l : Link W)
+    → service_state s ≡ opened_service config → l.wire ≡ wire → l.totals ≡ no_totals → HasServed takings_in gives_in readings_in config wire clock 0 (daemon_of s l clock)
+served_none {W} {C} takings_in gives_in readings_in config wire clock s l service same none =
+    let first = opened_daemon config wire clock in
+    served (subst (λ (d : DaemonState W C). TakesTurns takings_in gives_in readings_in 0 first d) (sym (opened_is config wire clock s l service same none)) (no_turns takings_in gives_in readings_in first))

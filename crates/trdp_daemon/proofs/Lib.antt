@@ -9,3 +9,5 @@ pub mod ControlPorts
 pub mod Places
 pub mod GiveRows
 pub mod Losses
+pub mod TakeRows
+pub mod MemoryWires

@@ -1,5 +1,5 @@
 -- Where no loss is counted, nothing was lost.
-use Rattle.std.proofs.Common.{◌≡◌, ℕ, Bool, true, false, List, [], ◌∷◌, Option, Some, None, Result, Ok, Err, refl, ◌∙◌, ap, arith, map}
+use Rattle.std.proofs.Common.{◌≡◌, ℕ, Bool, true, false, List, [], ◌∷◌, Option, Some, None, Result, Ok, Err, refl, ◌∙◌, ap, arith, map, if◌then◌else◌}
 use Rattle.trdp_base.specs.declared.place.Place.{Place}
 use Rattle.trdp_engine.specs.Events.{EventModel}
 use Rattle.trdp_engine.specs.Records.{RecordModel, Content, Answers, Indicates, Sends}
@@ -9,8 +9,8 @@ use Rattle.trdp_script.specs.RecordText.{text_of_record}
 use Rattle.trdp_daemon.specs.declared.port.Port.{Port}
 use Rattle.trdp_daemon.specs.declared.port.Port.TheVariants.{Pd, Md, Operator, Control}
 use Rattle.trdp_daemon.specs.Told.{Arrived, Failed, Nothing, Came}
-use Rattle.trdp_daemon.specs.Effects.{both, text_telling, place_of, content_telling, record_telling, is_first_lost, later_marks, records_telling, event_records, ServiceState, Loss, LineLost, EventLost, TextsLost, then_effect, telling_only, event_effect}
-use Rattle.trdp_daemon.specs.Visits.{operator_answer, operator_event, skipped_line, operator_effect, with_place, control_event, control_effect, datagram_effect, taking_effect}
+use Rattle.trdp_daemon.specs.Effects.{both, text_telling, place_of, content_telling, record_telling, is_first_lost, later_marks, records_telling, event_records, ServiceState, Loss, LineLost, EventLost, TextsLost, then_effect, telling_only, event_effect, event_taken, Effect, may_take_memory, missing}
+use Rattle.trdp_daemon.specs.Visits.{operator_answer, operator_taken, operator_event, skipped_line, operator_effect, with_place, control_event, control_effect, datagram_effect, taking_effect}
 use Rattle.trdp_daemon.specs.Turns.{Visit, visit_effect, visits_effect, Turn, turn_effect, turns_effect, moment_of, unlost, unlost_visit}
 use Rattle.trdp_daemon.proofs.Turns.{effect_of}
 
@@ -34,16 +34,20 @@ records_kept places marks (r ∷ records) none =
     ap (λ t. both t (records_telling places (later_marks marks) records)) (record_kept places (is_first_lost marks) r r.content first)
     ∙ ap (λ t. both (record_telling places false r) t) (records_kept places (later_marks marks) records rest)
 
+lost_kept : (b : Bool) (s : ServiceState) (effect : Effect) → (if b then telling_only s missing else effect).telling.missed ≡ 0 → (if b then telling_only s missing else effect) ≡ effect
+lost_kept true s effect none = absurd (omega (arith, none))
+lost_kept false s effect none = refl
+
 event_kept : (s : ServiceState) (event : EventModel) (loss : Loss) → (event_effect s event loss).telling.missed ≡ 0 → event_effect s event loss ≡ event_effect s event (TextsLost [])
 unfolding event_effect
-event_kept s event LineLost none = absurd (omega (arith, none))
-event_kept s event EventLost none = absurd (omega (arith, none))
+event_kept s event LineLost none = lost_kept (may_take_memory s.node event) s (event_taken s event []) none
+event_kept s event EventLost none = lost_kept (may_take_memory s.node event) s (event_taken s event []) none
 event_kept s event (TextsLost marks) none = ap (effect_of (event_effect s event (TextsLost marks)).service) (records_kept s.places marks (event_records s.node event) none)
 
 operator_event_kept : (s : ServiceState) (from : Place) (event : EventModel) (loss : Loss) → (operator_event s from event loss).telling.missed ≡ 0 → operator_event s from event loss ≡ operator_event s from event (TextsLost [])
 unfolding operator_event
 operator_event_kept s from event LineLost none = absurd (omega (arith, none))
-operator_event_kept s from event EventLost none = absurd (omega (arith, none))
+operator_event_kept s from event EventLost none = lost_kept (may_take_memory s.node event) s (operator_taken s from event []) none
 operator_event_kept s from event (TextsLost marks) none =
     let first : (event_effect s event (TextsLost marks)).telling.missed ≡ 0 = omega (arith, none) in
     ap (λ e. then_effect e (λ after. telling_only after (operator_answer s from event))) (event_kept s event (TextsLost marks) first)

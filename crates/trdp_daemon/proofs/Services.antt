@@ -1,7 +1,9 @@
 -- What an event came to.
-use Rattle.std.proofs.Common.{◌≡◌, ℕ, List, [], Option, refl, ◌∙◌, ap, subst, length, suc, zero, append-nil}
+use Rattle.std.proofs.Common.{◌≡◌, ℕ, List, [], Option, refl, sym, ◌∙◌, ap, subst, true, if◌then◌else◌, length, suc, zero, append-nil}
 use Rattle.trdp_base.specs.declared.place.Place.{Place}
-use Rattle.trdp_engine.specs.Events.{EventModel}
+use Rattle.trdp_engine.specs.Events.{EventModel, MomentIs, TopologyIs, RoleIs, DatagramIs, CallIs}
+use Rattle.trdp_engine.specs.NodeStates.{NodeState, MayTakeMemory, due_in}
+use Rattle.std.proofs.lemmas.Bool.{lt-ltb, ltb-true}
 use Rattle.trdp_engine.specs.Records.{RecordModel}
 use Rattle.trdp_engine.specs.Alone.{refused_as}
 use Rattle.trdp_script.specs.ScriptText.{node_after}
@@ -10,11 +12,11 @@ use Rattle.trdp_script.proofs.Orders.{by_slot_suc, by_slot_zero}
 use Rattle.trdp_daemon.specs.declared.link.Link.{Link}
 use Rattle.trdp_daemon.specs.declared.service.Service.{Service}
 use Rattle.trdp_daemon.specs.Told.{Taking, Give}
-use Rattle.trdp_daemon.specs.Effects.{ServiceState, EventLost, TextsLost, event_effect, event_records, missing, offering, records_telling}
+use Rattle.trdp_daemon.specs.Effects.{ServiceState, Effect, EventLost, TextsLost, event_effect, event_records, event_taken, lost_or, may_take_memory, missing, offering, records_telling, telling_only}
 use Rattle.trdp_daemon.specs.Links.{Carries}
 use Rattle.trdp_daemon.specs.Tellings.{Tells}
 use Rattle.trdp_daemon.specs.declared.port.Port.TheVariants.{Operator}
-use Rattle.trdp_daemon.specs.Visits.{operator_event, operator_text}
+use Rattle.trdp_daemon.specs.Visits.{operator_event, operator_taken, operator_text}
 use Rattle.trdp_daemon.proofs.Links.{carries_both}
 use Rattle.trdp_daemon.specs.Services.{Comes, ComesWith, service_state}
 
@@ -41,16 +43,41 @@ pub comes_told : {W : Type 0} {takings_in : W → Option (List Taking)} {gives_i
 comes_told old new event places records node kept same all told =
     record { loss = TextsLost told.marks; comes = comes_event old new event places records node kept same all told }
 
+-- memory may be wanting for an event
+pub wanting : (node : NodeState) (event : EventModel) → MayTakeMemory node event → may_take_memory node event ≡ true
+unfolding may_take_memory
+wanting node (MomentIs t) may = lt-ltb 0 (due_in t node.slots) may
+wanting node (TopologyIs topo) may = absurd may
+wanting node (RoleIs group leader) may = absurd may
+wanting node (DatagramIs protocol src dst bytes) may = may
+wanting node (CallIs s call) may = refl
+
+pub is_wanting : (node : NodeState) (event : EventModel) → may_take_memory node event ≡ true → MayTakeMemory node event
+unfolding may_take_memory
+is_wanting node (MomentIs t) may = ltb-true 0 (due_in t node.slots) may
+is_wanting node (TopologyIs topo) may = absurd (cc)
+is_wanting node (RoleIs group leader) may = absurd (cc)
+is_wanting node (DatagramIs protocol src dst bytes) may = may
+is_wanting node (CallIs s call) may = tt
+
+-- an event is lost there
+lost_there : (s : ServiceState) (event : EventModel) (effect : Effect) → MayTakeMemory s.node event → telling_only s missing ≡ lost_or s event effect
+lost_there s event effect may = ap (λ b. if b then telling_only s missing else effect) (sym (wanting s.node event may))
+
+missed : {W : Type 0} {takings_in : W → Option (List Taking)} {gives_in : W → Option (List Give)} {a b : Link W} (old new : Service) → new.node ≡ old.node → new.places.items ≡ old.places.items
+    → Carries takings_in gives_in a b [] missing → Comes takings_in gives_in old new a b [] (telling_only (service_state old) missing)
+missed old new node kept carried = record {
+  service_is = ap (λ n. let s : ServiceState = record { node = n; places = new.places.items } in s) node ∙ ap (λ l. let s : ServiceState = record { node = old.node; places = l } in s) kept;
+  carried = carried;
+}
+
 -- an event was lost
 pub comes_lost : {W : Type 0} {takings_in : W → Option (List Taking)} {gives_in : W → Option (List Give)} {a b : Link W} (old new : Service) (event : EventModel) → new.node ≡ old.node → new.places.items ≡ old.places.items
-    → Carries takings_in gives_in a b [] missing → ComesWith takings_in gives_in old new a b (event_effect (service_state old) event)
+    → MayTakeMemory old.node event → Carries takings_in gives_in a b [] missing → ComesWith takings_in gives_in old new a b (event_effect (service_state old) event)
 unfolding event_effect
-comes_lost {W} {takings_in} {gives_in} {a} {b} old new event node kept carried = record {
+comes_lost {W} {takings_in} {gives_in} {a} {b} old new event node kept may carried = record {
   loss = EventLost;
-  comes = record {
-    service_is = ap (λ n. let s : ServiceState = record { node = n; places = new.places.items } in s) node ∙ ap (λ l. let s : ServiceState = record { node = old.node; places = l } in s) kept;
-    carried = carried;
-  };
+  comes = subst (λ (e : Effect). Comes takings_in gives_in old new a b [] e) (lost_there (service_state old) event (event_taken (service_state old) event []) may) (missed old new node kept carried);
 }
 
 -- an event of the operator was taken, or refused, its records were told and it was answered
@@ -72,12 +99,9 @@ comes_answered {W} {takings_in} {gives_in} {a} {b} {c} old new event from places
 
 -- an event of the operator was lost
 pub comes_unanswered : {W : Type 0} {takings_in : W → Option (List Taking)} {gives_in : W → Option (List Give)} {a b : Link W} (old new : Service) (event : EventModel) (from : Place) → new.node ≡ old.node → new.places.items ≡ old.places.items
-    → Carries takings_in gives_in a b [] missing → ComesWith takings_in gives_in old new a b (operator_event (service_state old) from event)
+    → MayTakeMemory old.node event → Carries takings_in gives_in a b [] missing → ComesWith takings_in gives_in old new a b (operator_event (service_state old) from event)
 unfolding operator_event
-comes_unanswered {W} {takings_in} {gives_in} {a} {b} old new event from node kept carried = record {
+comes_unanswered {W} {takings_in} {gives_in} {a} {b} old new event from node kept may carried = record {
   loss = EventLost;
-  comes = record {
-    service_is = ap (λ n. let s : ServiceState = record { node = n; places = new.places.items } in s) node ∙ ap (λ l. let s : ServiceState = record { node = old.node; places = l } in s) kept;
-    carried = carried;
-  };
+  comes = subst (λ (e : Effect). Comes takings_in gives_in old new a b [] e) (lost_there (service_state old) event (operator_taken (service_state old) from event []) may) (missed old new node kept carried);
 }

@@ -8,6 +8,7 @@ use Rattle.trdp_daemon.specs.Counting.{no_totals, totals_after}
 use Rattle.trdp_daemon.specs.Effects.{ServiceState}
 use Rattle.trdp_daemon.specs.Ports.{ports_of}
 use Rattle.trdp_daemon.specs.Turns.{Turn, TakesAt, takings_of, turns_effect, opened_service}
+use Rattle.trdp_daemon.specs.Turns.{offers_of, missed_of}
 
 -- a daemon: its node and the control places of the slots, its wire, its clock, and what it counted
 pub record DaemonState (W C : Type 0) : Type 0 where
@@ -44,3 +45,24 @@ pub record TakesTurns {W C : Type 0} (takings_in : W → Option (List Taking))
   pub config : new.service.node.config ≡ old.service.node.config
   pub totals : new.totals ≡ totals_after old.totals (flat_map takings_of turns) gives
       (turns_effect old.service turns).telling.missed
+
+-- a daemon of this configuration has taken n turns since it was made with this wire and clock, each
+-- with one reading of the clock and one take at each port in order: the list of its offers is that
+-- of these turns, whatever the gives answered, and its totals count the datagrams that came, the
+-- gives, those that failed, the takes that failed, and the entries that were lost for want of memory
+pub record HasServed {W C : Type 0} (takings_in : W → Option (List Taking))
+    (gives_in : W → Option (List Give)) (readings_in : C → Option (List ℕ))
+    (config : ConfigModel) (wire : W) (clock : C) (n : ℕ) (daemon : DaemonState W C)
+    : Type 0 where
+  pub turns : List Turn
+  pub gives : List Give
+  pub count : length turns ≡ n
+  pub ports : All (TakesAt (ports_of config)) turns
+  pub read : Adds (readings_in clock) (readings_in daemon.clock) (map (λ turn. turn.reading) turns)
+  pub took : Adds (takings_in wire) (takings_in daemon.wire) (flat_map takings_of turns)
+  pub gave : Adds (gives_in wire) (gives_in daemon.wire) gives
+  pub offers : map (λ give. give.offer) gives ≡ offers_of config turns
+  pub service : daemon.service ≡ (turns_effect (opened_service config) turns).service
+  pub config_is : daemon.service.node.config ≡ config
+  pub totals : daemon.totals
+      ≡ totals_after no_totals (flat_map takings_of turns) gives (missed_of config turns)

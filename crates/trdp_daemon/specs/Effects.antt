@@ -1,7 +1,8 @@
 -- What one event gives: the datagrams that are offered, and the entries that are lost for want of
 -- memory.
 use Rattle.std.specs.Prelude.{ℕ, suc, ◌+◌, List, [], ◌∷◌, ◌++◌, Bool, true, false, length}
-use Rattle.std.specs.Prelude.{Option, Some, None, slice_index_or}
+use Rattle.std.specs.Prelude.{Option, Some, None, slice_index_or, nat_lt, if◌then◌else◌}
+use Rattle.std.specs.List.{list_any}
 use Rattle.trdp_base.specs.declared.place.Place.{Place}
 use Rattle.trdp_filter.specs.declared.globals.Globals.{Globals}
 use Rattle.trdp_engine.specs.declared.fault.NodeFault.{NodeFault}
@@ -9,8 +10,9 @@ use Rattle.trdp_engine.specs.declared.record.Protocol.{Protocol}
 use Rattle.trdp_engine.specs.declared.record.Protocol.TheVariants.{Pd as PdData, Md as MdData}
 use Rattle.trdp_engine.specs.Alone.{refused_as, records_after}
 use Rattle.trdp_engine.specs.Configs.{NodeSetup, setup_of}
-use Rattle.trdp_engine.specs.Events.{EventModel}
-use Rattle.trdp_engine.specs.NodeStates.{NodeState}
+use Rattle.trdp_engine.specs.Datagrams.{concerns, telegram_of}
+use Rattle.trdp_engine.specs.Events.{EventModel, MomentIs, TopologyIs, RoleIs, DatagramIs, CallIs}
+use Rattle.trdp_engine.specs.NodeStates.{NodeState, due_in}
 use Rattle.trdp_engine.specs.Records.{Content, Answers, Indicates, Sends, RecordModel, labelled}
 use Rattle.trdp_engine.specs.Slots.{SlotState}
 use Rattle.trdp_script.specs.RecordText.{text_of_record}
@@ -114,7 +116,7 @@ pub record ServiceState : Type 0 where
 -- what was lost for want of memory of a reading of the clock or of a datagram
 pub data Loss : Type 0 where
   LineLost : Loss  -- it wasn't read as a line
-  EventLost : Loss  -- it was read, and the node didn't take it
+  EventLost : Loss  -- it was read, and the node didn't take it, where memory may be wanting
   TextsLost : (marks : List Bool) → Loss  -- the texts of those of its records
 
 -- where a service comes to, and what it tells
@@ -137,11 +139,30 @@ then_effect first next = record {
   telling = both first.telling (next first.service).telling;
 }
 
--- the node takes an event, and tells its records
-unfoldable pub event_effect : ServiceState → EventModel → Loss → Effect
-event_effect service event LineLost = telling_only service missing
-event_effect service event EventLost = telling_only service missing
-event_effect service event (TextsLost marks) = record {
+-- whether memory may be wanting for an event: a call, a moment by which something is due, a
+-- datagram that concerns a slot
+unfoldable pub may_take_memory : NodeState → EventModel → Bool
+may_take_memory node (MomentIs t) = nat_lt 0 (due_in t node.slots)
+may_take_memory node (TopologyIs topo) = false
+may_take_memory node (RoleIs group leader) = false
+may_take_memory node (DatagramIs protocol src dst bytes) =
+    list_any (concerns node.globals (telegram_of protocol src dst bytes)) node.slots
+may_take_memory node (CallIs s call) = true
+
+-- an event is lost where memory may be wanting for it; elsewhere it comes to this effect
+abbrev pub lost_or : ServiceState → EventModel → Effect → Effect
+lost_or service event effect =
+    if may_take_memory service.node event then telling_only service missing else effect
+
+-- the node takes an event, and tells its records, but for the texts that are marked as lost
+abbrev pub event_taken : ServiceState → EventModel → List Bool → Effect
+event_taken service event marks = record {
   service = record service { node = node_after service.node event };
   telling = records_telling service.places marks (event_records service.node event);
 }
+
+-- an event is lost, or the node takes it
+unfoldable pub event_effect : ServiceState → EventModel → Loss → Effect
+event_effect service event LineLost = lost_or service event (event_taken service event [])
+event_effect service event EventLost = lost_or service event (event_taken service event [])
+event_effect service event (TextsLost marks) = event_taken service event marks

@@ -3,6 +3,7 @@ pub mod Daemons
 pub mod Effects
 pub mod Links
 pub mod MemoryClocks
+pub mod MemoryWires
 pub mod Ports
 pub mod Rows
 pub mod Services

@@ -1,8 +1,17 @@
--- The ports that a daemon takes datagrams from.
+-- Ports, and those that a daemon takes datagrams from.
 use Rattle.std.specs.Prelude.{ℕ, suc, ◌==◌, if◌then◌else◌, List, [], ◌∷◌, ◌++◌}
+use Rattle.std.specs.Prelude.{Bool, true, false}
 use Rattle.trdp_dataset.specs.Configs.{ConfigModel, SlotModel}
 use Rattle.trdp_daemon.specs.declared.port.Port.{Port}
 use Rattle.trdp_daemon.specs.declared.port.Port.TheVariants.{Pd, Md, Operator, Control}
+
+-- whether two ports are the same
+unfoldable pub is_port : Port → Port → Bool
+is_port Pd Pd = true
+is_port Md Md = true
+is_port Operator Operator = true
+is_port (Control slot) (Control other) = slot == other
+is_port _ _ = false
 
 -- a port; none where its number is 0
 unfoldable pub port_unless_0 : ℕ → Port → List Port

@@ -1,6 +1,5 @@
--- What a wire in memory remembers, and what it tells of that.
-use Rattle.std.specs.Prelude.{ℕ, ◌+◌, List, [], ◌∷◌, take, drop, length}
-use Rattle.std.specs.Prelude.{Bool, Option, Some, None, if◌then◌else◌}
+-- What a wire in memory remembers of its takes and gives.
+use Rattle.std.specs.Prelude.{ℕ, ◌+◌, ◌<◌, List, [], ◌∷◌, take, drop, length, slice_get}
 use Rattle.trdp_base.specs.declared.place.Place.{Place}
 use Rattle.trdp_daemon.specs.declared.port.Port.{Port}
 use Rattle.trdp_daemon.specs.declared.rows.TakeRow.{TakeRow}
@@ -9,16 +8,29 @@ use Rattle.trdp_daemon.specs.declared.rows.TakeAnswer.TheVariants.{Failed as Row
 use Rattle.trdp_daemon.specs.declared.rows.TakeAnswer.TheVariants.{Nothing as RowNothing}
 use Rattle.trdp_daemon.specs.declared.rows.TakeAnswer.TheVariants.{Came as RowCame}
 use Rattle.trdp_daemon.specs.declared.rows.GiveRow.{GiveRow}
-use Rattle.trdp_daemon.specs.Told.{Arrived, Failed, Nothing, Came, Taking, Give, offer_to}
+use Rattle.trdp_daemon.specs.MemoryWires.{ArrivalModel, cut_to}
+use Rattle.trdp_daemon.specs.Told.{Arrived, Failed, Nothing, Taking, Give, offer_to}
 
-abbrev pub arrived_of : TakeAnswer → Arrived
-arrived_of RowFailed = Failed
-arrived_of RowNothing = Nothing
-arrived_of (RowCame from bytes) = Came from bytes.items
+-- what a take answered, where these were laid down
+abbrev pub arrived_of : List ArrivalModel → TakeAnswer → Arrived
+arrived_of arrivals RowFailed = Failed
+arrived_of arrivals RowNothing = Nothing
+arrived_of arrivals (RowCame index len) = cut_to len (slice_get arrivals index)
 
 -- the taking of a row
-abbrev pub row_taking : TakeRow → Taking
-row_taking row = record { port = row.port; arrived = arrived_of row.answer }
+abbrev pub row_taking : List ArrivalModel → TakeRow → Taking
+row_taking arrivals row = record { port = row.port; arrived = arrived_of arrivals row.answer }
+
+-- what a take answered is one of n things that were laid down, if it is one
+abbrev pub IsWithin : ℕ → TakeAnswer → Type 0
+IsWithin n RowFailed = Unit {0}
+IsWithin n RowNothing = Unit {0}
+IsWithin n (RowCame index len) = index < n
+
+-- the same of each row
+abbrev pub AllWithin : ℕ → List TakeRow → Type 0
+AllWithin n [] = Unit {0}
+AllWithin n (row ∷ rows) = IsWithin n row.answer × AllWithin n rows
 
 -- the give of a row with these bytes
 abbrev pub row_give : GiveRow → List ℕ → Give
@@ -42,18 +54,3 @@ gives_of bytes (row ∷ rows) =
 abbrev pub bytes_in : List GiveRow → ℕ
 bytes_in [] = 0
 bytes_in (row ∷ rows) = row.len + bytes_in rows
-
--- a wire in memory: its takes and gives, whether it tells them, how often it failed, and how many
--- more takes, gives and bytes of gives find room
-pub record MemoryWireState : Type 0 where
-  pub takings : List Taking
-  pub gives : List Give
-  pub tells : Bool
-  pub failures : ℕ
-  pub take_room : ℕ
-  pub give_room : ℕ
-  pub byte_room : ℕ
-
--- a list, where it is told
-abbrev pub told : {X : Type 0} → Bool → List X → Option (List X)
-told tells xs = if tells then Some xs else None

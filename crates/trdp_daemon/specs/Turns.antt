@@ -64,6 +64,10 @@ opened_service config =
 abbrev pub offers_of : ConfigModel → List Turn → List Offer
 offers_of config turns = (turns_effect (opened_service config) turns).telling.offers
 
+-- how many entries it loses in them for want of memory
+abbrev pub missed_of : ConfigModel → List Turn → ℕ
+missed_of config turns = (turns_effect (opened_service config) turns).telling.missed
+
 -- the same take, or turn, with nothing lost for want of memory
 abbrev pub unlost_visit : Visit → Visit
 unlost_visit visit = record visit { loss = TextsLost [] }

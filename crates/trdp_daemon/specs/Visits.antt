@@ -1,5 +1,5 @@
 -- What a datagram at one of the ports gives.
-use Rattle.std.specs.Prelude.{ℕ, List, ◌++◌, length, codes, slice_set}
+use Rattle.std.specs.Prelude.{ℕ, List, [], ◌++◌, length, codes, slice_set, Bool}
 use Rattle.std.specs.Prelude.{Option, Some, None, Result, Ok, Err}
 use Rattle.trdp_base.specs.declared.place.Place.{Place}
 use Rattle.trdp_dataset.specs.Configs.{ConfigModel}
@@ -16,7 +16,7 @@ use Rattle.trdp_daemon.specs.declared.port.Port.{Port}
 use Rattle.trdp_daemon.specs.declared.port.Port.TheVariants.{Pd, Md, Operator, Control}
 use Rattle.trdp_daemon.specs.Told.{Arrived, Failed, Nothing, Came}
 use Rattle.trdp_daemon.specs.Effects.{Telling, missing, offering, ServiceState, Effect, still}
-use Rattle.trdp_daemon.specs.Effects.{telling_only, then_effect, event_effect}
+use Rattle.trdp_daemon.specs.Effects.{telling_only, then_effect, event_effect, lost_or}
 use Rattle.trdp_daemon.specs.Effects.{Loss, LineLost, EventLost, TextsLost}
 
 -- the place of the node's address and that port
@@ -46,13 +46,18 @@ abbrev pub operator_answer : ServiceState → Place → EventModel → Telling
 operator_answer service from event = offering Operator from
     (operator_text (refused_as (length service.node.slots) service.node.globals event))
 
+-- the node takes an event of the operator, who is then answered
+abbrev pub operator_taken : ServiceState → Place → EventModel → List Bool → Effect
+operator_taken service from event marks =
+    then_effect (event_effect service event (TextsLost marks))
+    (λ after. telling_only after (operator_answer service from event))
+
 -- an event of the operator: one that is lost has no answer
 unfoldable pub operator_event : ServiceState → Place → EventModel → Loss → Effect
 operator_event service from event LineLost = telling_only service missing
-operator_event service from event EventLost = telling_only service missing
-operator_event service from event (TextsLost marks) =
-    then_effect (event_effect service event (TextsLost marks))
-    (λ after. telling_only after (operator_answer service from event))
+operator_event service from event EventLost =
+    lost_or service event (operator_taken service from event [])
+operator_event service from event (TextsLost marks) = operator_taken service from event marks
 
 -- a skipped line has no answer
 unfoldable pub skipped_line : ServiceState → Loss → Effect

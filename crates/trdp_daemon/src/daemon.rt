@@ -62,7 +62,8 @@ impl<W: Wire, C: Clock> Model for Daemon<W, C> {
 
 impl<W: Wire, C: Clock> Daemon<W, C> {
     ghost use Rattle.std.specs.Prelude.{◌≡◌, ◌+◌, ℕ, IfOk, IfErr};
-    ghost use Rattle.trdp_daemon.specs.Daemons.{DaemonState, TakesTurns, opened_daemon};
+    ghost use Rattle.trdp_dataset.specs.Configs.{ConfigModel};
+    ghost use Rattle.trdp_daemon.specs.Daemons.{HasServed, TakesTurns, opened_daemon};
 
     /// A daemon that has taken no turn: its node is at moment 0, and no slot has a control place.
     /// All buffers are made here.
@@ -76,6 +77,8 @@ impl<W: Wire, C: Clock> Daemon<W, C> {
         clock: C,
     ) -> Result<Daemon<W, C>, (NodeConfig, W, C)>
         ensures opened { IfOk result (λ daemon. daemon ≡ opened_daemon config wire clock) }
+        ensures served { IfOk result (λ daemon.
+            HasServed W.takings W.gives C.readings config wire clock 0 daemon) }
         ensures returned { IfErr result (λ back.
             (back.0 ≡ config) × (back.1 ≡ wire) × (back.2 ≡ clock)) }
     {
@@ -118,9 +121,9 @@ impl<W: Wire, C: Clock> Daemon<W, C> {
     /// the totals since the daemon was made.
     pub fn turn(&mut self) -> Totals
         ensures turn { TakesTurns W.takings W.gives C.readings 1 self.old self.new }
-        ensures since { (first : DaemonState W C) (n : ℕ)
-            → TakesTurns W.takings W.gives C.readings n first self.old
-            → TakesTurns W.takings W.gives C.readings (n + 1) first self.new }
+        ensures served { (config : ConfigModel) (wire : W) (clock : C) (n : ℕ)
+            → HasServed W.takings W.gives C.readings config wire clock n self.old
+            → HasServed W.takings W.gives C.readings config wire clock (n + 1) self.new }
         ensures totals { result ≡ self.new.totals }
     {
         let reading = self.clock.now();
@@ -133,15 +136,15 @@ impl<W: Wire, C: Clock> Daemon<W, C> {
             reading,
             &mut self.link,
         );
-        self.link.totals
+        self.totals()
     }
 
     /// Takes so many turns. Answers the totals since the daemon was made.
     pub fn run(&mut self, turns: u32) -> Totals
         ensures turns { TakesTurns W.takings W.gives C.readings turns self.old self.new }
-        ensures since { (first : DaemonState W C) (n : ℕ)
-            → TakesTurns W.takings W.gives C.readings n first self.old
-            → TakesTurns W.takings W.gives C.readings (n + turns) first self.new }
+        ensures served { (config : ConfigModel) (wire : W) (clock : C) (n : ℕ)
+            → HasServed W.takings W.gives C.readings config wire clock n self.old
+            → HasServed W.takings W.gives C.readings config wire clock (n + turns) self.new }
         ensures totals { result ≡ self.new.totals }
     {
         for _turn in 0..turns {

@@ -1,6 +1,7 @@
 //! Why a wire doesn't take or give.
 
-ghost use Rattle.std.specs.Prelude.{◌<◌, OnErr};
+ghost use Rattle.std.specs.Prelude.{◌≡◌, ◌<◌, ◌-◌, ◌^◌, nat_lt, is_err, OnErr};
+ghost use Rattle.trdp_daemon.specs.MemoryWires.{one_more_if};
 
 use thiserror::Error;
 
@@ -13,8 +14,11 @@ pub struct WireFault;
 ///
 /// # Errors
 /// `WireFault`, where the count rose.
+#[tactic(auto, unfolding(crate::specs::MemoryWires::one_more_if))]
 pub(crate) fn fail(failures: &mut u64) -> Result<(), WireFault>
     ensures fault { OnErr result (failures.old < failures.new) }
+    ensures fails { is_err result ≡ nat_lt failures.old (2 ^ 64 - 1) }
+    ensures count { failures.new ≡ one_more_if (is_err result) failures.old }
 {
     if *failures < u64::MAX {
         *failures += 1;

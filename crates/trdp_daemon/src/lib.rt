@@ -1,15 +1,16 @@
 //! A node as a device on a network: datagrams come from a wire, time from a clock.
 //!
-//! What no contract can say is that memory is there: a daemon that loses every event and counts it
-//! in `memory` meets its contract, and the tests show that with ample memory nothing is lost. What
-//! is told of a wire and a clock is told where these tell; the system's sockets and clock tell
-//! nothing. So a [`UdpWire`] at which nothing ever comes, or that sends nothing, and a [`RunClock`]
-//! that stands still meet their contracts, as a network or a clock may be so; that they work is
-//! tested. Nor does a contract say yet what [`MemoryWire::arrive`], `fail_take` and `fail_give` lay
-//! down: the tests show that it arrives, and fails.
+//! What no contract can say is that memory is there: a daemon that loses every text, and every event
+//! for which memory may be wanting, and counts them in `memory`, meets its contract, and the tests
+//! show that with ample memory nothing is lost. What is told of a wire and a clock is told where
+//! these tell; the system's sockets and clock tell nothing. So a [`UdpWire`] at which nothing ever
+//! comes, or that sends nothing, meets its contract, as a network may be so, and so does a
+//! [`RunClock`] that stands still; that they work is tested. For the same reason no contract says
+//! which sockets [`UdpWire::bind`] binds.
 #![tactic(auto)]
 
 mod answer;
+mod arrivals;
 mod clock;
 mod daemon;
 mod fault;
@@ -32,7 +33,7 @@ mod wire;
 pub use clock::Clock;
 pub use daemon::Daemon;
 pub use fault::WireFault;
-pub use laws::nothing_missed;
+pub use laws::{lost_only_where_memory_is_taken, nothing_missed};
 pub use memory_clock::MemoryClock;
 pub use memory_wire::MemoryWire;
 pub use port::Port;

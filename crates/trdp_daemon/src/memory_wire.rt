@@ -1,14 +1,15 @@
 //! A wire in memory, for tests.
 
-ghost use Rattle.std.specs.Prelude.{◌≡◌, ◌<◌, ◌≤◌, ◌+◌, ◌++◌, ◌∷◌, [], length, take};
-ghost use Rattle.std.specs.Prelude.{IfOk, IfSome, OnErr, vec_len, vec_capacity, option_map};
-ghost use Rattle.std.specs.Prelude.{slice_get};
-ghost use Rattle.trdp_daemon.specs.Told.{arrived_in};
-ghost use Rattle.trdp_daemon.specs.Rows.{arrived_of, bytes_in, gives_of, row_give, row_to};
+ghost use Rattle.std.specs.Prelude.{◌≡◌, ◌<◌, ◌≤◌, ◌+◌, ◌++◌, ◌∷◌, [], length};
+ghost use Rattle.std.specs.Prelude.{vec_len, vec_capacity, option_map, slice_get};
+ghost use Rattle.std.specs.Prelude.{◌-◌, ◌^◌, ◌&&◌, nat_lt, is_err, OnErr};
+ghost use Rattle.trdp_daemon.specs.MemoryWires.{one_more_if};
+ghost use Rattle.trdp_daemon.specs.Rows.{bytes_in, gives_of, row_give, row_to};
 
+use crate::arrivals::{Arrival, answer_take, failing_take, is_failing, takes_at};
 use crate::fault::{WireFault, fail};
 use crate::port::Port;
-use crate::rows::{Arrival, GiveRow, TakeAnswer, TakeRow};
+use crate::rows::{GiveRow, TakeRow};
 use crate::wire::Wire;
 use std::alloc::{AllocError, Global};
 use std::marker::Model;
@@ -34,6 +35,8 @@ pub struct MemoryWire {
     given: Vec<GiveRow>,
     /// The bytes of the gives so far, one after the other.
     bytes: Vec<u8>,
+    /// How many more bytes of gives find room.
+    byte_room: usize,
     /// How often it has failed, at most 2^64 - 1.
     failures: u64,
     /// Whether it tells its takes and gives: no call was beyond its rooms.
@@ -41,27 +44,38 @@ pub struct MemoryWire {
 }
 
 impl Model for MemoryWire {
-    ghost use Rattle.std.specs.Prelude.{◌≡◌, ◌-◌, length, map, vec_capacity, vec_len};
-    ghost use Rattle.trdp_daemon.specs.Rows.{MemoryWireState, bytes_in, gives_of, row_taking};
+    ghost use Rattle.std.specs.Prelude.{◌≡◌, ◌≤◌, ◌+◌, ◌-◌, length, map, vec_capacity, vec_len};
+    ghost use Rattle.trdp_daemon.specs.MemoryWires.{MemoryWireState};
+    ghost use Rattle.trdp_daemon.specs.Rows.{AllWithin, bytes_in, gives_of, row_taking};
 
     ghost Value = { MemoryWireState };
 
     ghost view = { λ w. record {
-      takings = map row_taking w.taken.items;
+      laid_down = record {
+        arrivals = w.arrivals.items;
+        failing_takes = w.failing_takes.items;
+        failing_gives = w.failing_gives.items;
+      };
+      takings = map (row_taking w.arrivals.items) w.taken.items;
       gives = gives_of w.bytes.items w.given.items;
       tells = w.tells;
       failures = w.failures;
       take_room = vec_capacity w.taken - vec_len w.taken;
       give_room = vec_capacity w.given - vec_len w.given;
-      byte_room = vec_capacity w.bytes - vec_len w.bytes;
+      byte_room = w.byte_room;
     } };
 
-    ghost invariant = { λ w. bytes_in w.given.items ≡ length w.bytes.items };
+    ghost invariant = { λ w. (bytes_in w.given.items ≡ length w.bytes.items)
+        × AllWithin (length w.arrivals.items) w.taken.items
+        × (vec_len w.bytes + w.byte_room ≤ vec_capacity w.bytes) };
 }
 
 impl MemoryWire {
-    ghost use Rattle.std.specs.Prelude.{◌≡◌, [], IfOk, length, option_map, slice_get, true};
+    ghost use Rattle.std.specs.Prelude.{◌≡◌, [], IfOk, OnOk, OnErr, length, option_map, slice_get};
+    ghost use Rattle.std.specs.Prelude.{true, false, ◌<◌, ◌≤◌};
     ghost use Rattle.std.specs.List.{flat_map};
+    ghost use Rattle.trdp_daemon.specs.MemoryWires.{nothing_laid_down, with_arrival};
+    ghost use Rattle.trdp_daemon.specs.MemoryWires.{is_give_beyond, with_failing_give, with_failing_take};
     ghost use Rattle.trdp_daemon.specs.Rows.{given_to};
 
     /// A wire over which nothing arrives yet, with room for so many takes, gives, and bytes of
@@ -75,6 +89,7 @@ impl MemoryWire {
         gives: usize,
         bytes: usize,
     ) -> Result<MemoryWire, AllocError>
+        ensures laid_down { IfOk result (λ wire. wire.laid_down ≡ nothing_laid_down) }
         ensures takings { IfOk result (λ wire. wire.takings ≡ []) }
         ensures gives { IfOk result (λ wire. wire.gives ≡ []) }
         ensures tells { IfOk result (λ wire. wire.tells ≡ true) }
@@ -85,7 +100,7 @@ impl MemoryWire {
     {
         let taken = Vec::with_capacity(alloc, takes)?;
         let given = Vec::with_capacity(alloc, gives)?;
-        let bytes = Vec::with_capacity(alloc, bytes)?;
+        let byte_list = Vec::with_capacity(alloc, bytes)?;
         Ok(MemoryWire {
             alloc,
             arrivals: Vec::new(alloc),
@@ -93,7 +108,8 @@ impl MemoryWire {
             failing_gives: Vec::new(alloc),
             taken,
             given,
-            bytes,
+            bytes: byte_list,
+            byte_room: bytes,
             failures: 0,
             tells: true,
         })
@@ -133,25 +149,32 @@ impl MemoryWire {
         from: Place,
         bytes: &[u8],
     ) -> Result<(), AllocError>
-        ensures kept { self.new ≡ self.old }
+        ensures laid_down { OnOk result (self.new ≡ with_arrival self.old (record {
+          port = port;
+          at_take = take;
+          from = from;
+          bytes = bytes.now;
+        })) }
+        ensures kept { OnErr result (self.new ≡ self.old) }
     {
         let bytes = bytes.to_vec(self.alloc)?;
         self.arrivals.push(Arrival {
             port,
-            take,
+            at_take: take,
             from,
             bytes,
         })?;
         Ok(())
     }
 
-    /// Lays down that the take of that number fails, counted from 1 over all ports; what was to
-    /// arrive at it is gone.
+    /// Lays down that the take of that number fails, counted from 1 over all ports; what is to
+    /// arrive at it never comes.
     ///
     /// # Errors
     /// Want of memory for it.
     pub fn fail_take(&mut self, number: usize) -> Result<(), AllocError>
-        ensures kept { self.new ≡ self.old }
+        ensures laid_down { OnOk result (self.new ≡ with_failing_take self.old number) }
+        ensures kept { OnErr result (self.new ≡ self.old) }
     {
         self.failing_takes.push(number)?;
         Ok(())
@@ -162,17 +185,30 @@ impl MemoryWire {
     /// # Errors
     /// Want of memory for it.
     pub fn fail_give(&mut self, number: usize) -> Result<(), AllocError>
-        ensures kept { self.new ≡ self.old }
+        ensures laid_down { OnOk result (self.new ≡ with_failing_give self.old number) }
+        ensures kept { OnErr result (self.new ≡ self.old) }
     {
         self.failing_gives.push(number)?;
         Ok(())
+    }
+
+    /// Whether the next give, of so many bytes, is beyond its rooms.
+    #[tactic(auto, unfolding(crate::specs::MemoryWires::is_give_beyond))]
+    fn is_give_beyond(&self, len: usize) -> bool
+        ensures beyond { result ≡ is_give_beyond self.now len }
+        ensures row { result ≡ false → 0 < self.now.give_room }
+        ensures bytes { result ≡ false → len ≤ self.now.byte_room }
+    {
+        self.given.capacity() - self.given.len() == 0 || self.byte_room < len
     }
 }
 
 impl Wire for MemoryWire {
     ghost use Rattle.std.specs.Prelude.{◌≡◌, ◌<◌, ◌≤◌, ◌+◌, ◌∷◌, [], length, IfOk, IfSome, OnErr};
-    ghost use Rattle.trdp_daemon.specs.Rows.{told};
-    ghost use Rattle.trdp_daemon.specs.Told.{Adds, give_of, taking_of};
+    ghost use Rattle.std.specs.Prelude.{is_err};
+    ghost use Rattle.trdp_daemon.specs.MemoryWires.{after_give, after_take, next_arrival};
+    ghost use Rattle.trdp_daemon.specs.MemoryWires.{next_give_fails, room_after, told};
+    ghost use Rattle.trdp_daemon.specs.Told.{Adds, arrived_in, give_of, taking_of};
 
     ghost takings = { λ w. told w.tells w.takings };
 
@@ -187,24 +223,24 @@ impl Wire for MemoryWire {
         ensures gives_nothing { Adds (told self.old.tells self.old.gives)
             (told self.new.tells self.new.gives) [] }
         ensures fault { OnErr result (self.old.failures < self.new.failures) }
-        ensures tells { 0 < self.old.take_room → self.new.tells ≡ self.old.tells }
-        ensures take_room { self.old.take_room ≤ self.new.take_room + 1 }
-        ensures give_room { self.new.give_room ≡ self.old.give_room }
-        ensures byte_room { self.new.byte_room ≡ self.old.byte_room }
+        ensures arrived { arrived_in result room.new
+            ≡ next_arrival self.old port (length room.old) }
+        ensures room { room.new ≡ room_after (arrived_in result room.new) room.old }
+        ensures after { self.new ≡ after_take self.old (taking_of port result room.new) }
     {
         if self.taken.len() >= self.taken.capacity() {
             self.tells = false;
-            fail(&mut self.failures)?;
-            return Ok(None);
+            let (_, result) = failing_take(&mut self.failures);
+            return result;
         }
-        let fails = has(&self.failing_takes, self.taken.len());
-        let take = takes_at(&self.taken, port);
+        let fails = is_failing(&self.failing_takes, self.taken.len() + 1);
+        let number = takes_at(&self.taken, port) + 1;
         let (answer, result) = answer_take(
-            &mut self.arrivals,
+            &self.arrivals,
             &mut self.failures,
             fails,
             port,
-            take,
+            number,
             room,
         );
         push_take(&mut self.taken, TakeRow { port, answer });
@@ -217,19 +253,14 @@ impl Wire for MemoryWire {
         ensures takes_nothing { Adds (told self.old.tells self.old.takings)
             (told self.new.tells self.new.takings) [] }
         ensures fault { OnErr result (self.old.failures < self.new.failures) }
-        ensures tells { 0 < self.old.give_room → length bytes.now ≤ self.old.byte_room
-            → self.new.tells ≡ self.old.tells }
-        ensures take_room { self.new.take_room ≡ self.old.take_room }
-        ensures give_room { self.old.give_room ≤ self.new.give_room + 1 }
-        ensures byte_room { self.old.byte_room ≤ self.new.byte_room + length bytes.now }
+        ensures fails { is_err result ≡ next_give_fails self.old (length bytes.now) }
+        ensures after { self.new ≡ after_give self.old (give_of port to bytes.now result) }
     {
-        if self.given.len() >= self.given.capacity()
-            || bytes.len() > self.bytes.capacity() - self.bytes.len()
-        {
+        if self.is_give_beyond(bytes.len()) {
             self.tells = false;
             return fail(&mut self.failures);
         }
-        let fails = has(&self.failing_gives, self.given.len());
+        let fails = is_failing(&self.failing_gives, self.given.len() + 1);
         let result = fail_if(fails, &mut self.failures);
         let row = GiveRow {
             port,
@@ -237,6 +268,7 @@ impl Wire for MemoryWire {
             len: bytes.len(),
             failed: result.is_err(),
         };
+        self.byte_room -= bytes.len();
         push_give(&mut self.given, &mut self.bytes, row, bytes);
         result
     }
@@ -257,97 +289,13 @@ fn given_at(given: &[GiveRow], index: usize) -> Option<(Port, Place, usize)>
 }
 
 /// Fails where it is to fail, unless the count of failures is at its last value.
+#[tactic(auto, unfolding(crate::specs::MemoryWires::one_more_if))]
 fn fail_if(fails: bool, failures: &mut u64) -> Result<(), WireFault>
-    ensures { OnErr result (failures.old < failures.new) }
+    ensures fault { OnErr result (failures.old < failures.new) }
+    ensures fails { is_err result ≡ nat_lt failures.old (2 ^ 64 - 1) && fails }
+    ensures count { failures.new ≡ one_more_if (is_err result) failures.old }
 {
     if fails { fail(failures) } else { Ok(()) }
-}
-
-/// Whether the call of that index, from 0, is among these, which are counted from 1.
-fn has(numbers: &[usize], index: usize) -> bool {
-    for number in numbers {
-        if *number > 0 && *number - 1 == index {
-            return true;
-        }
-    }
-    false
-}
-
-/// How many takes were made at a port.
-fn takes_at(taken: &[TakeRow], port: Port) -> usize {
-    let mut count = 0;
-    for row in taken {
-        if row.port == port {
-            count = usize::saturating_add(count, 1);
-        }
-    }
-    count
-}
-
-/// What is to arrive at a port behind so many takes there: it is taken out of the list.
-fn arrival_at(arrivals: &mut Vec<Arrival>, port: Port, takes: usize) -> Option<Arrival> {
-    match arrival_index(arrivals, port, takes) {
-        Some(index) => Some(arrivals.remove(index)),
-        None => None,
-    }
-}
-
-/// The index of what is to arrive at a port behind so many takes there, the first of several.
-fn arrival_index(arrivals: &[Arrival], port: Port, takes: usize) -> Option<usize>
-    ensures { IfSome result (λ index. index < length arrivals.now) }
-{
-    for i in 0..arrivals.len() {
-        let arrival = &arrivals[i];
-        if arrival.port == port && arrival.take > 0 && arrival.take - 1 == takes {
-            return Some(i);
-        }
-    }
-    None
-}
-
-/// What a take at a port answers behind so many takes there, and the row that tells of it.
-fn answer_take(
-    arrivals: &mut Vec<Arrival>,
-    failures: &mut u64,
-    fails: bool,
-    port: Port,
-    takes: usize,
-    room: &mut [u8],
-) -> (TakeAnswer, Result<Option<(Place, usize)>, WireFault>)
-    ensures told { arrived_in result.1 room.new ≡ arrived_of result.0 }
-    ensures within { IfOk result.1 (λ found. IfSome found (λ f. f.1 ≤ length room.new)) }
-    ensures fault { OnErr result.1 (failures.old < failures.new) }
-{
-    if fails {
-        return match fail(failures) {
-            Ok(()) => (TakeAnswer::Nothing, Ok(None)),
-            Err(fault) => (TakeAnswer::Failed, Err(fault)),
-        };
-    }
-    match arrival_at(arrivals, port, takes) {
-        None => (TakeAnswer::Nothing, Ok(None)),
-        Some(arrival) => {
-            let Arrival {
-                from,
-                mut bytes,
-                ..
-            } = arrival;
-            let len = fill(room, &mut bytes);
-            (TakeAnswer::Came(from, bytes), Ok(Some((from, len))))
-        }
-    }
-}
-
-/// Cuts bytes to the room, puts them at its front, and answers how many they are.
-fn fill(room: &mut [u8], bytes: &mut Vec<u8>) -> usize
-    ensures within { result ≤ length room.new }
-    ensures bytes { take result room.new ≡ bytes.new.items }
-{
-    bytes.truncate(room.len());
-    let len = bytes.len();
-    let (front, _) = room.split_at_mut(len);
-    front.copy_from_slice(bytes);
-    len
 }
 
 /// Adds a row within the room.
@@ -355,7 +303,7 @@ fn push_take(taken: &mut Vec<TakeRow>, row: TakeRow)
     requires { vec_len taken.old < vec_capacity taken.old }
     ensures items { taken.new.items ≡ taken.old.items ++ row ∷ [] }
     ensures len { vec_len taken.new ≡ vec_len taken.old + 1 }
-    ensures capacity { vec_capacity taken.old ≤ vec_capacity taken.new }
+    ensures capacity { vec_capacity taken.new ≡ vec_capacity taken.old }
 {
     taken.push_reserved(row);
 }
@@ -370,7 +318,7 @@ fn push_give(given: &mut Vec<GiveRow>, held: &mut Vec<u8>, row: GiveRow, bytes: 
         ≡ gives_of held.old.items given.old.items ++ row_give row bytes.now ∷ [] }
     ensures whole { bytes_in given.new.items ≡ length held.new.items }
     ensures given_len { vec_len given.new ≡ vec_len given.old + 1 }
-    ensures given_capacity { vec_capacity given.old ≤ vec_capacity given.new }
+    ensures given_capacity { vec_capacity given.new ≡ vec_capacity given.old }
     ensures held_len { vec_len held.new ≡ vec_len held.old + length bytes.now }
     ensures held_capacity { vec_capacity held.old ≤ vec_capacity held.new }
 {

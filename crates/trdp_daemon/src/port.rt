@@ -1,5 +1,8 @@
 //! The ports of a node's wire.
 
+ghost use Rattle.std.specs.Prelude.{◌≡◌};
+ghost use Rattle.trdp_daemon.specs.Ports.{is_port};
+
 /// A UDP port of the node, by what it is for.
 #[derive(Clone, Copy, Debug, PartialEq, Eq)]
 pub enum Port {
@@ -11,4 +14,14 @@ pub enum Port {
     Operator,
     /// The lines of the application in the slot of that number, from 0 (profile).
     Control(u16),
+}
+
+impl Port {
+    /// Whether it is that port.
+    #[tactic(auto, unfolding(crate::specs::Ports::is_port))]
+    pub(crate) fn is(self, other: Port) -> bool
+        ensures { result ≡ is_port self other }
+    {
+        self == other
+    }
 }

@@ -3,31 +3,19 @@
 use crate::port::Port;
 use trdp_base::Place;
 
-/// A datagram that is to arrive.
-#[derive(Drop)]
-pub(crate) struct Arrival {
-    /// The port that it arrives at.
-    pub(crate) port: Port,
-    /// At which take at that port, from 1.
-    pub(crate) take: usize,
-    /// Where it comes from.
-    pub(crate) from: Place,
-    pub(crate) bytes: Vec<u8>,
-}
-
 /// What one take answered.
-#[derive(Drop)]
+#[derive(Clone, Copy)]
 pub(crate) enum TakeAnswer {
     /// The wire failed.
     Failed,
     /// No datagram was there.
     Nothing,
-    /// A datagram came from that place, with these bytes.
-    Came(Place, Vec<u8>),
+    /// The datagram of that index arrived, of those that were laid down, with so many of its bytes.
+    Came(usize, usize),
 }
 
 /// One take.
-#[derive(Drop)]
+#[derive(Clone, Copy)]
 pub(crate) struct TakeRow {
     pub(crate) port: Port,
     pub(crate) answer: TakeAnswer,

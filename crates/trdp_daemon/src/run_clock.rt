@@ -1,6 +1,6 @@
 //! The system's clock.
 
-ghost use Rattle.std.specs.Prelude.{None};
+ghost use Rattle.std.specs.Prelude.{◌≡◌, None};
 
 use crate::clock::Clock;
 use std::time;
@@ -20,7 +20,10 @@ pub struct RunClock<'a, R: time::Clock> {
 
 impl<'a, R: time::Clock> RunClock<'a, R> {
     /// A clock that hasn't read yet.
-    pub fn new(rt: &'a R) -> RunClock<'a, R> {
+    pub fn new(rt: &'a R) -> RunClock<'a, R>
+        ensures start { result.start ≡ None }
+        ensures last { result.last ≡ 0 }
+    {
         RunClock {
             rt,
             start: None,
@@ -32,7 +35,10 @@ impl<'a, R: time::Clock> RunClock<'a, R> {
 impl<'a, R: time::Clock> Clock for RunClock<'a, R> {
     ghost readings = { λ _. None };
 
-    fn now(&mut self) -> u64 {
+    fn now(&mut self) -> u64
+        ensures told { result ≡ self.new.last }
+        ensures first { self.old.start ≡ None → result ≡ self.old.last }
+    {
         if let Ok(moment) = Instant::now(self.rt) {
             match self.start {
                 Some(start) => self.last = micros_between(start, moment),

@@ -5,6 +5,7 @@ ghost use Rattle.std.specs.Prelude.{IfErr};
 ghost use Rattle.std.specs.Prelude.{OnOk, OnErr, Some};
 ghost use Rattle.trdp_engine.specs.Alone.{refused_as};
 ghost use Rattle.trdp_engine.specs.Events.{event_model};
+ghost use Rattle.trdp_engine.specs.NodeStates.{MayTakeMemory};
 ghost use Rattle.trdp_script.specs.ScriptText.{node_after};
 ghost use Rattle.trdp_script.specs.SlotOrder.{by_slot};
 ghost use Rattle.trdp_daemon.specs.Effects.{event_records, event_effect};
@@ -140,7 +141,7 @@ fn put_place(places: &mut Vec<Option<Place>>, index: usize, from: Place)
 /// fault, with which the node takes no notice of it, if it has one.
 ///
 /// # Errors
-/// `AllocError` for want of memory; the node is as before.
+/// `AllocError` for want of memory, where memory may be wanting; the node is as before.
 fn step(
     node: &mut Node,
     event: &Event<'_>,
@@ -153,6 +154,7 @@ fn step(
     ensures records { OnOk result (by_slot 16 records.new.records
         ≡ event_records node.old (event_model event.now)) }
     ensures kept { OnErr result (node.new ≡ node.old) }
+    ensures memory { OnErr result (MayTakeMemory node.old (event_model event.now)) }
     ensures count { length node.new.slots ≡ length node.old.slots }
     ensures config { node.new.config ≡ node.old.config }
 {

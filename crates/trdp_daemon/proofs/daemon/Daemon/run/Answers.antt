@@ -1,6 +1,6 @@
 use Rattle.std.proofs.Common.{◌≡◌, arith, subst, ℕ}
 use Rattle.trdp_daemon.specs.Daemons.{TakesTurns}
-use Rattle.trdp_daemon.proofs.Daemons.{no_turns, turns_both}
+use Rattle.trdp_daemon.proofs.Daemons.{no_turns, turns_both, served_on}
 use Rattle.trdp_daemon.proofs.daemon.Daemon.run.Goals as goal
 
 pub loop-turn-init : goal.loop-turn-init
@@ -14,5 +14,5 @@ returns-clause-turns g c =
     let all : c.loop-turn._turn ≡ c.args.turns = omega (arith, c.loop-turn-test.false, c.loop-turn.auto._turn-end) in
     subst (λ (n : ℕ). TakesTurns g.W.Wire.takings g.W.Wire.gives g.C.Clock.readings n c.args.self.now c.loop-turn.self) all c.loop-turn.invariant
 
-pub returns-clause-since : goal.returns-clause-since
-returns-clause-since g c = λ first n before. turns_both before (returns-clause-turns g c)
+pub returns-clause-served : goal.returns-clause-served
+returns-clause-served g c = λ config wire clock n before. served_on before (returns-clause-turns g c)

@@ -10,4 +10,4 @@ returns-in-Ok-clause-comes g c =
     (c.operator_text.ensures ∙ ap operator_text c.in-Ok.ensures.fault) c.tell_records.ensures c.give.ensures
 
 pub returns-in-Err-clause-comes : goal.returns-in-Err-clause-comes
-returns-in-Err-clause-comes g c = comes_unanswered c.args.self.now _ (event_model c.args.event.now) c.args.from c.in-Err.ensures.kept refl c.miss.ensures
+returns-in-Err-clause-comes g c = comes_unanswered c.args.self.now _ (event_model c.args.event.now) c.args.from c.in-Err.ensures.kept refl c.in-Err.ensures.memory c.miss.ensures
