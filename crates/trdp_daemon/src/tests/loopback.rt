@@ -1,0 +1,173 @@
+//! Daemons over the system's sockets and clock, all on this machine.
+
+use crate::{BindFault, Clock, Daemon, RunClock, UdpWire};
+use std::net::{Ipv4Addr, Net, SocketAddr, SocketAddrV4, UdpSocket};
+use std::process::Abort;
+use std::test::Fail;
+use std::{io, time};
+use trdp_dataset::NodeConfig;
+
+/// A device that publishes.
+const PUBLISHER: &[u8] = b"
+[node]
+address = \"127.0.0.1\"
+pd_port = 17934
+md_port = 17935
+[[slot]]
+publishers = 1
+control_port = 18910
+";
+
+/// A device that subscribes.
+const SUBSCRIBER: &[u8] = b"
+[node]
+address = \"127.0.0.2\"
+pd_port = 17934
+md_port = 17935
+[[slot]]
+subscriptions = 1
+control_port = 18911
+";
+
+/// A device that no other one is there for.
+const ALONE: &[u8] = b"
+[node]
+address = \"127.0.0.1\"
+pd_port = 17924
+md_port = 17925
+[[slot]]
+publishers = 1
+control_port = 18900
+";
+
+/// How many turns anything may take.
+const PATIENCE: u32 = 1_000_000;
+
+/// How many turns are watched for a second indication.
+const QUIET: u32 = 300_000;
+
+/// A daemon of that configuration.
+fn daemon<'a, H: Net + time::Clock + AllocGlobal>(
+    rt: &'a H,
+    config: &[u8],
+) -> Result<Daemon<UdpWire, RunClock<'a, H>>, Fail> {
+    let config = NodeConfig::from_toml(rt.alloc(), config)?;
+    let wire = UdpWire::bind(rt, &config)?;
+    Ok(
+        Daemon::new(rt.alloc(), config, wire, RunClock::new(rt))
+            .ok()
+            .ok_or("no memory")?,
+    )
+}
+
+/// A socket of an application at that control port, which never waits.
+fn application(rt: &impl Net, ip: u32, port: u16) -> io::Result<UdpSocket> {
+    let home = Ipv4Addr::from_bits(ip);
+    let socket = UdpSocket::bind(rt, SocketAddr::V4(SocketAddrV4::new(home, 0)))?;
+    socket.connect(SocketAddr::V4(SocketAddrV4::new(home, port)))?;
+    socket.set_nonblocking(true)?;
+    Ok(socket)
+}
+
+/// Takes a turn with each daemon.
+fn turn_all<C: Clock>(daemons: &mut [Daemon<UdpWire, C>]) {
+    for daemon in daemons {
+        daemon.turn();
+    }
+}
+
+/// What an application hears within so many turns; nothing where it hears nothing.
+fn hear<'a, C: Clock>(
+    daemons: &mut [Daemon<UdpWire, C>],
+    application: &UdpSocket,
+    turns: u32,
+    room: &'a mut [u8],
+) -> io::Result<&'a [u8]> {
+    for _turn in 0..turns {
+        turn_all(daemons);
+        match application.recv(room) {
+            Ok(len) => {
+                let (text, _) = room.split_at(len);
+                return Ok(text);
+            }
+            Err(error) if error.kind() == io::ErrorKind::WouldBlock => {}
+            Err(error) => return Err(error),
+        }
+    }
+    Ok(b"")
+}
+
+/// Asserts that a line is answered so.
+fn answers<C: Clock>(
+    rt: &impl Abort,
+    daemons: &mut [Daemon<UdpWire, C>],
+    application: &UdpSocket,
+    line: &[u8],
+    answer: &[u8],
+) -> io::Result<()> {
+    let mut room = [0; 64];
+    application.send(line)?;
+    let text = hear(daemons, application, PATIENCE, &mut room)?;
+    assert_eq!(rt; text, answer);
+    Ok(())
+}
+
+/// Asks for the value until there is one, and asserts that it is the one that was put.
+fn shows_value<C: Clock>(
+    rt: &impl Abort,
+    daemons: &mut [Daemon<UdpWire, C>],
+    application: &UdpSocket,
+) -> io::Result<()> {
+    let mut room = [0; 64];
+    for _get in 0..PATIENCE {
+        application.send(b"get 1")?;
+        let text = hear(daemons, application, PATIENCE, &mut room)?;
+        if text != b"0 value Never 0 -\n".as_slice() {
+            assert!(rt; text.starts_with(b"0 value Valid ") && text.ends_with(b" 0a0b\n"));
+            return Ok(());
+        }
+    }
+    Err(io::Error::from(io::ErrorKind::TimedOut))
+}
+
+/// Asserts that an application hears that its subscription is silent, and then nothing.
+fn falls_silent<C: Clock>(
+    rt: &impl Abort,
+    daemons: &mut [Daemon<UdpWire, C>],
+    application: &UdpSocket,
+) -> io::Result<()> {
+    let mut room = [0; 64];
+    let text = hear(daemons, application, PATIENCE, &mut room)?;
+    assert_eq!(rt; text, b"0 silent 1\n".as_slice());
+    let text = hear(daemons, application, QUIET, &mut room)?;
+    assert_eq!(rt; text, b"".as_slice());
+    Ok(())
+}
+
+#[test]
+fn a_client_at_a_control_port_is_answered(rt: HostRuntime) -> Result<(), Fail> {
+    let mut daemons = [daemon(&rt, ALONE)?];
+    let config = NodeConfig::from_toml(rt.alloc(), ALONE)?;
+    assert_eq!(&rt; UdpWire::bind(&rt, &config).err(), Some(BindFault::Bind));
+    let application = application(&rt, 0x7f00_0001, 18900)?;
+    let line = b"publish 100 0 100000 0 0 0 127.0.0.1:17999";
+    answers(&rt, &mut daemons, &application, line, b"0 handle 1\n")?;
+    Ok(())
+}
+
+#[test]
+fn a_device_shows_what_another_one_publishes(rt: HostRuntime) -> Result<(), Fail> {
+    let mut daemons = [daemon(&rt, PUBLISHER)?, daemon(&rt, SUBSCRIBER)?];
+    let first = application(&rt, 0x7f00_0001, 18910)?;
+    let second = application(&rt, 0x7f00_0002, 18911)?;
+    let publish = b"publish 100 0 1000 0 0 0 127.0.0.2:17934";
+    answers(&rt, &mut daemons, &first, publish, b"0 handle 1\n")?;
+    answers(&rt, &mut daemons, &first, b"put 1 0a0b", b"0 done\n")?;
+    // A supervision time that no pause of this process is likely to reach.
+    let subscribe = b"subscribe 100 0 127.0.0.1 127.0.0.1 0.0.0.0 0 0 300000 keep";
+    answers(&rt, &mut daemons, &second, subscribe, b"0 handle 1\n")?;
+    shows_value(&rt, &mut daemons, &second)?;
+    answers(&rt, &mut daemons, &first, b"unpublish 1", b"0 done\n")?;
+    falls_silent(&rt, &mut daemons, &second)?;
+    Ok(())
+}

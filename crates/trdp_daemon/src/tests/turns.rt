@@ -1,0 +1,158 @@
+//! A daemon over a wire and a clock in memory, whose takes, gives and memory fail in turn.
+
+use super::{MemoryDaemon, memory_daemon, totals, turns_give};
+use crate::{MemoryWire, Port, Totals};
+use std::alloc::{AllocError, Global};
+use std::process::Abort;
+use std::test::Fail;
+use trdp_base::{Ip, Place};
+
+/// A node with three ports of its own, and the control port of slot 0.
+const CONFIG: &[u8] = b"
+[node]
+address = \"10.0.0.1\"
+operator_port = 18100
+[[slot]]
+publishers = 4
+control_port = 18000
+[[slot]]
+";
+
+/// The application of slot 0.
+const APPLICATION: Place = Place {
+    ip: Ip(0x0a00_0008),
+    port: 9000,
+};
+
+/// What three turns offer where nothing is lost that comes: two answers and a telegram.
+const THREE_TURNS: &[u8] = b"0 handle 1\n0 done\n\
+    \0\0\0\0\x01\0\x50\x64\0\0\0\x64\0\0\0\0\0\0\0\0\0\0\0\x02\
+    \0\0\0\0\0\0\0\0\0\0\0\0\xec\x17\x9c\x94\x0a\x0b\0\0";
+
+/// What four turns offer then: the publisher's next telegram too.
+const FOUR_TURNS: &[u8] = b"0 handle 1\n0 done\n\
+    \0\0\0\0\x01\0\x50\x64\0\0\0\x64\0\0\0\0\0\0\0\0\0\0\0\x02\
+    \0\0\0\0\0\0\0\0\0\0\0\0\xec\x17\x9c\x94\x0a\x0b\0\0\
+    \0\0\0\x01\x01\0\x50\x64\0\0\0\x64\0\0\0\0\0\0\0\0\0\0\0\x02\
+    \0\0\0\0\0\0\0\0\0\0\0\0\x1f\x87\x6e\xa2\x0a\x0b\0\0";
+
+/// A run: the take and the give that fail, 0 for none, its turns, what they offer, and how many
+/// datagrams came, were offered, got lost, and weren't read. Each turn takes at process data,
+/// message data, the operator's port and the control port of slot 0.
+type Row = (usize, usize, u32, &'static [u8], [u64; 4]);
+
+/// Each take of three turns failing, and each give.
+static ROWS: [Row; 17] = [
+    (0, 0, 3, THREE_TURNS, [2, 3, 0, 0]),
+    (1, 0, 3, THREE_TURNS, [2, 3, 0, 1]),
+    (2, 0, 3, THREE_TURNS, [2, 3, 0, 1]),
+    (3, 0, 3, THREE_TURNS, [2, 3, 0, 1]),
+    (4, 0, 3, b"0 refused NoHandle\n", [1, 1, 0, 1]),
+    (5, 0, 3, THREE_TURNS, [2, 3, 0, 1]),
+    (6, 0, 3, THREE_TURNS, [2, 3, 0, 1]),
+    (7, 0, 3, THREE_TURNS, [2, 3, 0, 1]),
+    (8, 0, 3, b"0 handle 1\n", [1, 1, 0, 1]),
+    (9, 0, 3, THREE_TURNS, [2, 3, 0, 1]),
+    (10, 0, 3, THREE_TURNS, [2, 3, 0, 1]),
+    (11, 0, 3, THREE_TURNS, [2, 3, 0, 1]),
+    (12, 0, 3, THREE_TURNS, [2, 3, 0, 1]),
+    (0, 1, 3, THREE_TURNS, [2, 3, 1, 0]),
+    (0, 2, 3, THREE_TURNS, [2, 3, 1, 0]),
+    (0, 3, 3, THREE_TURNS, [2, 3, 1, 0]),
+    (0, 3, 4, FOUR_TURNS, [2, 4, 1, 0]),
+];
+
+/// What four turns offer, how many datagrams that is, and how often memory was wanting: where it
+/// never was, where it was for the publisher, for the value, and for the moment of the first
+/// telegram, which the next turn makes up for.
+static LOSSES: [(&[u8], u64, u64); 4] = [
+    (FOUR_TURNS, 4, 0),
+    (b"0 refused NoHandle\n", 1, 1),
+    (b"0 handle 1\n", 1, 1),
+    (THREE_TURNS, 3, 1),
+];
+
+/// Lays down that the application publishes in the first turn and puts a value in the second, and
+/// that the take and the give of these numbers fail, counted from 1, 0 for none.
+fn lay_down(
+    wire: &mut MemoryWire,
+    failing_take: usize,
+    failing_give: usize,
+) -> Result<(), AllocError> {
+    let publish = b"publish 100 0 100000 0 0 0 10.0.0.2:17224";
+    wire.arrive(Port::Control(0), 1, APPLICATION, publish)?;
+    wire.arrive(Port::Control(0), 2, APPLICATION, b"put 1 0a0b\n")?;
+    wire.fail_take(failing_take)?;
+    wire.fail_give(failing_give)
+}
+
+/// A daemon over which this is laid down; None for want of memory.
+fn daemon(alloc: Global, failing_take: usize, failing_give: usize) -> Option<MemoryDaemon> {
+    let mut wire = MemoryWire::new(alloc, 100, 100, 4096).ok()?;
+    lay_down(&mut wire, failing_take, failing_give).ok()?;
+    memory_daemon(alloc, CONFIG, wire, &[0, 1, 100_000, 200_000])
+}
+
+/// Asserts what a run offers and counts.
+fn row_gives(rt: &(impl Abort + AllocGlobal), case: usize, row: Row) -> Result<(), Fail> {
+    let (take, give, turns, offers, [taken, offered, lost, unread]) = row;
+    let counts = totals(taken, offered, lost, unread);
+    let mut daemon = daemon(rt.alloc(), take, give).ok_or("no memory")?;
+    turns_give(rt, case, &mut daemon, turns, (offers, counts));
+    Ok(())
+}
+
+#[test]
+fn takes_and_gives_fail_in_turn(rt: HostRuntime) -> Result<(), Fail> {
+    for case in 0..ROWS.len() {
+        row_gives(&rt, case, ROWS[case])?;
+    }
+    Ok(())
+}
+
+/// Whether a run came to one of the losses.
+fn is_among(offers: &[u8], counts: Totals) -> bool {
+    for (text, offered, memory) in LOSSES {
+        let wanted = Totals {
+            memory,
+            ..totals(2, offered, 0, 0)
+        };
+        if offers == text && counts == wanted {
+            return true;
+        }
+    }
+    false
+}
+
+/// Passes whichever request for memory is refused: bench/refused_memory.py refuses each in turn.
+#[test]
+fn refused_memory_is_counted(rt: HostRuntime) {
+    let Some(mut daemon) = daemon(rt.alloc(), 0, 0) else {
+        return;
+    };
+    let counts = daemon.run(4);
+    assert!(rt; is_among(daemon.wire().bytes(), counts), "{counts:?}");
+}
+
+/// Asserts from where to where the offers of three turns went.
+fn leave_from_their_ports(rt: &impl Abort, wire: &MemoryWire) {
+    let device = Place {
+        ip: Ip(0x0a00_0002),
+        port: 17224,
+    };
+    assert_eq!(rt; wire.give_at(0), Some((Port::Control(0), APPLICATION, 11)));
+    assert_eq!(rt; wire.give_at(1), Some((Port::Control(0), APPLICATION, 7)));
+    assert_eq!(rt; wire.give_at(2), Some((Port::Pd, device, 44)));
+    assert_eq!(rt; wire.len(), 3);
+}
+
+#[test]
+fn offers_leave_from_their_ports(rt: HostRuntime) -> Result<(), Fail> {
+    let mut daemon = daemon(rt.alloc(), 0, 0).ok_or("no memory")?;
+    for _turn in 0..3u8 {
+        daemon.turn();
+    }
+    leave_from_their_ports(&rt, daemon.wire());
+    assert_eq!(&rt; daemon.run(0), totals(2, 3, 0, 0));
+    Ok(())
+}
