@@ -1,0 +1,49 @@
+"""Builds proved code as a static library and runs a program of bench/ that is linked with it."""
+import os
+import shutil
+import subprocess
+import tempfile
+
+TOP = os.path.dirname(os.path.dirname(os.path.abspath(__file__)))
+
+
+def lines_of(names):
+    """The lines of crates.txt of these crates and of all that they stand on."""
+    needed, lines = set(names), []
+    with open(f"{TOP}/crates.txt") as crates:
+        for line in reversed(crates.read().splitlines()):
+            name, _, under = line.partition(":")
+            if name in needed:
+                needed.update(under.split())
+                lines.insert(0, line)
+    return lines
+
+
+def write(path, text):
+    os.makedirs(os.path.dirname(path), exist_ok=True)
+    with open(path, "w") as out:
+        out.write(text)
+
+
+def run(program, names, sources, links=()):
+    """Runs bench/PROGRAM.rs with a library for C of these sources, by file name, which uses the named crates.
+
+    The library is proved and built in a folder of its own; what is built of the crates is taken along. Both compilers build for
+    x86-64-v2.
+    """
+    with tempfile.TemporaryDirectory() as top:
+        subprocess.run(["git", "init", "-q", top], check=True)
+        lines = lines_of(names)
+        for line in lines:
+            crate = f"crates/{line.partition(':')[0]}"
+            shutil.copytree(f"{TOP}/{crate}", f"{top}/{crate}", ignore=shutil.ignore_patterns("incremental"))
+        library = f"{top}/crates/for_c"
+        write(f"{top}/HANDLES", "Handles allowed: none.\n")
+        write(f"{top}/crates.txt", "\n".join([*lines, f"for_c staticlib: {' '.join(names)}\n"]))
+        for name, text in sources.items():
+            write(f"{library}/src/{name}", text)
+        subprocess.run(["rt", "lib", "--jobs", "2"], cwd=library, check=True, stdout=subprocess.DEVNULL)
+        rustc = ["rustc", "--edition", "2024", "-C", "opt-level=3", "-C", "target-cpu=x86-64-v2"]
+        links = [word for name in ["static=for_c", *links] for word in ("-l", name)]
+        subprocess.run([*rustc, f"{TOP}/bench/{program}.rs", "-o", f"{top}/{program}", "-L", f"native={library}/out", *links], check=True)
+        subprocess.run([f"{top}/{program}"], check=True)
