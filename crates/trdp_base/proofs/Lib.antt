@@ -1,3 +1,6 @@
 pub mod AddressLemmas
 pub mod HexLemmas
 pub mod NumberLemmas
+pub mod SessionLemmas
+pub mod StatusLemmas
+pub mod UriLemmas

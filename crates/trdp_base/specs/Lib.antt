@@ -4,3 +4,6 @@ pub mod Moments
 pub mod NumberText
 pub mod Numbers
 pub mod QuotaLimits
+pub mod SessionText
+pub mod StatusText
+pub mod Uris

@@ -28,14 +28,14 @@ pub fn read_hex(alloc: Global, text: &[u8]) -> Result<Vec<u8>, TextFault>
 }
 
 /// Whether a text is the written form of no bytes.
-fn is_dash(text: &[u8]) -> bool
+pub(crate) fn is_dash(text: &[u8]) -> bool
     ensures { IsTrue result ↔ (text.now ≡ text_of_hex []) }
 {
     matches!(text, [b'-'])
 }
 
 /// Whether a text is lower-case hexadecimal digits in pairs, one pair or more.
-fn is_in_pairs(text: &[u8]) -> bool
+pub(crate) fn is_in_pairs(text: &[u8]) -> bool
     ensures { IsTrue result ↔ IsInPairs text.now }
 {
     !text.is_empty() && text.len() % 2 == 0 && text.iter().all(|digit| is_digit(*digit))
@@ -54,12 +54,22 @@ fn bytes_of_pairs(alloc: Global, text: &[u8]) -> Result<Vec<u8>, AllocError>
     ensures pairs { IfOk result (λ bytes. hex_pairs bytes.items ≡ text.now) }
     ensures bytes { IfOk result (λ bytes. All (λ byte. byte < 256) bytes.items) }
 {
-    let mut bytes = Vec::with_capacity(alloc, text.len() / 2)?;
-    for index in 0..text.len() / 2 {
-        let (high, low) = (text[2 * index], text[2 * index + 1]);
-        bytes.push_reserved(16 * value_of_digit(high) + value_of_digit(low));
-    }
+    let mut bytes = vec![in alloc; 0; text.len() / 2]?;
+    fill_from_pairs(text, &mut bytes);
     Ok(bytes)
+}
+
+/// Writes the bytes with these pairs of digits.
+pub(crate) fn fill_from_pairs(text: &[u8], bytes: &mut [u8])
+    requires pairs { IsInPairs text.now }
+    requires room { length bytes.old ≡ length text.now / 2 }
+    ensures pairs { hex_pairs bytes.new ≡ text.now }
+    ensures bytes { All (λ byte. byte < 256) bytes.new }
+{
+    for index in 0..bytes.len() {
+        let (high, low) = (text[2 * index], text[2 * index + 1]);
+        bytes[index] = 16 * value_of_digit(high) + value_of_digit(low);
+    }
 }
 
 /// The value of a lower-case hexadecimal digit.

@@ -115,3 +115,101 @@ fn quotas_have_a_limit(rt: HostRuntime) -> Result<(), Fail> {
     assert_eq!(rt; Quotas::new([0, 0, 0, 0, 0, 257]), None);
     Ok(())
 }
+
+#[test]
+fn uris_have_a_limit(rt: HostRuntime) {
+    assert_eq!(rt; Uri::new(&[0x61; 32]), Some(Uri::from_field(&[0x61; 32])));
+    assert_eq!(rt; Uri::new(&[0x61; 33]), None);
+    assert_eq!(rt; Uri::new(b"a\0b"), None);
+}
+
+#[test]
+fn uris_end_at_a_zero(rt: HostRuntime) {
+    let uri = Uri::from_field(b"ab\0c");
+    assert_eq!(rt; uri.bytes(), b"ab".as_slice());
+    assert!(rt; uri.field().starts_with(b"ab\0\0"));
+    assert!(rt; !uri.is_empty());
+    assert!(rt; Uri::empty().is_empty());
+}
+
+static NO_URIS: [&str; 5] = ["", "6", "6A", "00", "610062"];
+
+#[test]
+fn reads_uris(rt: HostRuntime) {
+    assert_eq!(rt; read_uri(b"6162"), Ok(Uri::from_field(b"ab")));
+    assert_eq!(rt; read_uri(b"-"), Ok(Uri::empty()));
+    for text in &NO_URIS {
+        assert_eq!(rt;
+            read_uri(text.as_bytes()),
+            Err(TextFault::BadText),
+            "at {text}"
+        );
+    }
+}
+
+static STATUSES: [(&str, i32); 4] = [
+    ("-5", -5),
+    ("0", 0),
+    ("2147483647", i32::MAX),
+    ("-2147483648", i32::MIN),
+];
+
+static NO_STATUSES: [&str; 7] = ["", "-", "-0", "01", "+1", "2147483648", "-2147483649"];
+
+#[test]
+fn reads_statuses(rt: HostRuntime) {
+    for (text, status) in &STATUSES {
+        assert_eq!(rt; read_status(text.as_bytes()), Ok(*status), "at {text}");
+    }
+    for text in &NO_STATUSES {
+        assert_eq!(rt;
+            read_status(text.as_bytes()),
+            Err(TextFault::BadText),
+            "at {text}"
+        );
+    }
+}
+
+/// One identifier in its four forms (RFC 9562).
+static SESSIONS: [&str; 4] = [
+    "f81d4fae7dec11d0a76500a0c91e6bf6",
+    "f81d4fae-7dec-11d0-a765-00a0c91e6bf6",
+    "{F81D4FAE-7DEC-11D0-A765-00A0C91E6BF6}",
+    "urn:uuid:f81d4fae-7dec-11d0-a765-00a0c91e6bf6",
+];
+
+static NO_SESSIONS: [&str; 3] = [
+    "",
+    "f81d4fae-7dec-11d0-a765-00a0c91e6bf",
+    "(f81d4fae-7dec-11d0-a765-00a0c91e6bf6)",
+];
+
+#[test]
+fn reads_sessions(rt: HostRuntime) {
+    for text in &SESSIONS {
+        assert_eq!(rt;
+            read_session(text.as_bytes()),
+            Ok(SessionId(0xf81d4fae_7dec_11d0_a765_00a0c91e6bf6)),
+            "at {text}"
+        );
+    }
+    for text in &NO_SESSIONS {
+        assert_eq!(rt;
+            read_session(text.as_bytes()),
+            Err(TextFault::BadText),
+            "at {text}"
+        );
+    }
+}
+
+#[test]
+fn prints_statuses_and_sessions(rt: HostRuntime) -> Result<(), Fail> {
+    let mut out = Vec::new(rt.alloc());
+    push_status(&mut out, i32::MIN)?;
+    push_session(&mut out, SessionId(1))?;
+    assert_eq!(rt;
+        out.as_slice(),
+        b"-214748364800000000-0000-0000-0000-000000000001".as_slice()
+    );
+    Ok(())
+}

@@ -9,10 +9,10 @@ use Rattle.trdp_table.specs.declared.any_object.AnyObject.{AnyObject}
 use Rattle.trdp_table.specs.Tables.{TableState, without, changed_at, exchanged}
 use Rattle.trdp_engine.specs.declared.fault.Refusal.{Refusal}
 use Rattle.trdp_engine.specs.declared.fault.Refusal.TheVariants.{NoHandle}
-use Rattle.trdp_engine.specs.Records.{RefusedIs, Answers, labelled}
+use Rattle.trdp_engine.specs.Records.{Content, RefusedIs, Answers, labelled}
 use Rattle.trdp_engine.specs.Slots.{Entry, SlotState, entry_of}
 use Rattle.trdp_engine.specs.Acts.{Act, left_at, acted}
-use Rattle.trdp_engine.specs.Calls.{at_object, at_entry, refused}
+use Rattle.trdp_engine.specs.Calls.{at_object, at_entry, refused, told_unless}
 use Rattle.trdp_engine.specs.Configs.{NodeSetup}
 use Rattle.trdp_engine.proofs.Handles.{AllAbove, IsRising}
 use Rattle.trdp_engine.specs.Values.{item_refusal, takes_item, valued}
@@ -77,3 +77,15 @@ pub asked_refused : (setup : NodeSetup) (item : ItemModel) (table : TableState) 
 asked_refused setup item table s h refusal out out_then lt rising is records =
     rw (valued_refused setup item (slot_at s table) h refusal rising is)
     (record { slots = sym (slots_kept table s lt); records = records })
+
+-- A call that concerns no object.
+
+told_slot : (refusal : Option Refusal) (slot : SlotState) (records : List Content) → (told_unless refusal slot records).slot ≡ slot
+told_slot (Some refusal) slot records = refl
+told_slot None slot records = refl
+
+pub told_becomes : (table : TableState) (s : ℕ) (refusal : Option Refusal) (records : List Content) (out out_then : OutboxState) → s < length table → out_then.records ≡ out.records ++ labelled s (told_unless refusal (slot_at s table) records).records → Becomes s (told_unless refusal (slot_at s table) records) table table out out_then
+told_becomes table s refusal records out out_then lt told = record {
+  slots = rw (told_slot refusal (slot_at s table) records) (sym (slots_kept table s lt));
+  records = told;
+}

@@ -8,7 +8,7 @@ use Rattle.std.proofs.lemmas.List.Sums.{sum_by-cons}
 use Rattle.std.proofs.lemmas.Option.{same_Some}
 use Rattle.trdp_filter.specs.declared.globals.Globals.{Globals}
 use Rattle.trdp_table.specs.declared.any_object.AnyObject.{AnyObject}
-use Rattle.trdp_table.specs.declared.any_object.AnyObject.TheVariants.{Publisher, Subscription, Requester}
+use Rattle.trdp_table.specs.declared.any_object.AnyObject.TheVariants.{Publisher, Subscription, Requester, Listener}
 use Rattle.trdp_pd.specs.declared.object.Fired.{Fired}
 use Rattle.trdp_pd.specs.declared.object.Fired.TheVariants.{Nothing, Data, Silent}
 use Rattle.trdp_pd.specs.Due.{is_due_by}
@@ -29,6 +29,7 @@ all_sound : (object : AnyObject) → is_sound object ≡ true
 all_sound (Publisher p) = refl
 all_sound (Subscription s) = refl
 all_sound (Requester r) = refl
+all_sound (Listener l) = refl
 
 quiet_left : (t : ℕ) (did : Fired) (entry : Entry) (object : AnyObject) → is_due_by t (due_of object) ≡ false → filter (is_due t) (entry_left entry (left_firing did object)) ≡ []
 quiet_left t Nothing entry object not = rw not refl

@@ -12,16 +12,16 @@ use Rattle.trdp_marshal.proofs.Zeros.{zero_spelled}
 use Rattle.trdp_base.specs.declared.place.Place.{Place}
 use Rattle.trdp_head.specs.PdTelegrams.{PdTelegram}
 use Rattle.trdp_filter.specs.declared.globals.Globals.{Globals}
-use Rattle.trdp_filter.specs.Telegrams.{TelegramModel, PdIs}
+use Rattle.trdp_filter.specs.Telegrams.{TelegramModel, PdIs, MdIs}
 use Rattle.trdp_table.specs.declared.any_object.AnyObject.{AnyObject}
-use Rattle.trdp_table.specs.declared.any_object.AnyObject.TheVariants.{Publisher, Subscription, Requester}
+use Rattle.trdp_table.specs.declared.any_object.AnyObject.TheVariants.{Publisher, Subscription, Requester, Listener}
 use Rattle.trdp_table.specs.declared.kind.Kind.{Kind}
-use Rattle.trdp_table.specs.declared.kind.Kind.TheVariants.{Publisher as Publishing, Subscription as Subscribing, Requester as Requesting}
+use Rattle.trdp_table.specs.declared.kind.Kind.TheVariants.{Publisher as Publishing, Subscription as Subscribing, Requester as Requesting, Listener as Listening}
 use Rattle.trdp_table.specs.Kinds.{kind_of, is_same_kind}
 use Rattle.trdp_pd.specs.declared.object.Fired.{Fired}
 use Rattle.trdp_pd.specs.declared.object.Fired.TheVariants.{Nothing, Data, Silent}
 use Rattle.trdp_pd.specs.declared.object.Taken.{Taken}
-use Rattle.trdp_pd.specs.declared.object.Taken.TheVariants.{Nothing as TakenNothing, Stored, Alive, Pulled}
+use Rattle.trdp_pd.specs.declared.object.Taken.TheVariants.{Nothing as TakenNothing, Stored, Alive, Pulled, Heard}
 use Rattle.trdp_pd.specs.declared.terms.Behaviour.{Behaviour}
 use Rattle.trdp_pd.specs.declared.terms.Behaviour.TheVariants.{Zero, Keep}
 use Rattle.trdp_pd.specs.declared.terms.SubscriptionTerms.{SubscriptionTerms}
@@ -35,8 +35,10 @@ use Rattle.trdp_engine.specs.declared.fault.Refusal.TheVariants.{Timeout, Range,
 use Rattle.trdp_engine.specs.Configs.{NodeSetup, is_dataset, zero_size_of, is_fitting}
 use Rattle.trdp_engine.specs.Slots.{Entry, SlotState, unchanged, entry_of}
 use Rattle.trdp_engine.specs.Acts.{Act, entry_left, left_at, acted}
-use Rattle.trdp_engine.specs.Events.{CallModel, PublishCall, PutCall, UnpublishCall, SubscribeCall, GetCall, UnsubscribeCall, OpenPullCall, PullCall, ClosePullCall, CallIs}
-use Rattle.trdp_engine.specs.Calls.{opening_refusal, opened_unless, dataset_refusal, subscribe_refusal, value_refusal, puts_unless, puts, ends, shows, at_entry, at_object, called, is_span}
+use Rattle.trdp_engine.specs.Events.{CallModel, PublishCall, PutCall, UnpublishCall, SubscribeCall, GetCall, UnsubscribeCall, OpenPullCall, PullCall, ClosePullCall, ListenCall, UnlistenCall, NotifyCall, CallIs}
+use Rattle.trdp_engine.specs.Calls.{opening_refusal, opened_unless, dataset_refusal, subscribe_refusal, value_refusal, puts_unless, puts, ends, shows, at_entry, at_object, told_unless, called, is_span}
+use Rattle.trdp_engine.specs.Records.{Content}
+use Rattle.trdp_engine.specs.Notices.{notify_refusal, notice}
 use Rattle.trdp_engine.specs.Pulls.{pulls_if, pulls}
 use Rattle.trdp_engine.specs.Datagrams.{fits_object, is_acting, left_taking, after_telegram, is_valid_at, received_if}
 use Rattle.trdp_engine.specs.Moments.{is_due, left_firing, after_moment, moved_to}
@@ -105,6 +107,7 @@ time_out_fits setup terms size value sound is same fits = by_behaviour terms.beh
 firing_fits : (setup : NodeSetup) (globals : Globals) (object : AnyObject) → IsRegistry setup.registry → IsFit setup object → IsFit setup (after_firing object globals)
 firing_fits setup globals (Publisher p) sound fit = tt
 firing_fits setup globals (Requester r) sound fit = tt
+firing_fits setup globals (Listener l) sound fit = tt
 firing_fits setup globals (Subscription s) sound fit = record {
   dataset = fit.dataset;
   zero_size = fit.zero_size;
@@ -135,6 +138,11 @@ taking_fits : (setup : NodeSetup) (telegram : TelegramModel) (globals : Globals)
 taking_fits setup (PdIs src dst telegram) globals (Publisher p) fit = tt
 taking_fits setup (PdIs src dst telegram) globals (Subscription s) fit = storing_fits setup s src dst telegram globals fit
 taking_fits setup (PdIs src dst telegram) globals (Requester r) fit = tt
+taking_fits setup (PdIs src dst telegram) globals (Listener l) fit = tt
+taking_fits setup (MdIs src dst telegram) globals (Publisher p) fit = tt
+taking_fits setup (MdIs src dst telegram) globals (Subscription s) fit = fit
+taking_fits setup (MdIs src dst telegram) globals (Requester r) fit = tt
+taking_fits setup (MdIs src dst telegram) globals (Listener l) fit = tt
 
 -- what is left of an object shows what the object should
 abbrev pub IsLeftFit : NodeSetup → Option AnyObject → Type 0
@@ -146,6 +154,7 @@ left_taking_fits setup TakenNothing object fit = fit
 left_taking_fits setup Stored object fit = fit
 left_taking_fits setup Alive object fit = fit
 left_taking_fits setup (Pulled head) object fit = fit
+left_taking_fits setup Heard object fit = fit
 
 left_firing_fits : (setup : NodeSetup) (fired : Fired) (object : AnyObject) → IsFit setup object → IsLeftFit setup (left_firing fired object)
 left_firing_fits setup Nothing object fit = fit
@@ -223,6 +232,7 @@ puts_fits : (setup : NodeSetup) (bytes : List ℕ) (object : AnyObject) → IsFi
 puts_fits setup bytes (Publisher p) fit = puts_unless_fits setup (value_refusal setup p.terms.dataset bytes) bytes p
 puts_fits setup bytes (Subscription s) fit = fit
 puts_fits setup bytes (Requester r) fit = tt
+puts_fits setup bytes (Listener l) fit = tt
 
 ends_fits : (setup : NodeSetup) (kind : Kind) (object : AnyObject) → IsFit setup object → IsLeftFit setup (ends kind object).left
 ends_fits setup kind object fit = either (is_same_kind (kind_of object) kind) refl
@@ -239,6 +249,7 @@ pulls_fits : (setup : NodeSetup) (globals : Globals) (object : AnyObject) → Is
 pulls_fits setup globals (Publisher p) fit = tt
 pulls_fits setup globals (Subscription s) fit = fit
 pulls_fits setup globals (Requester r) fit = pulls_if_fits setup (topo_valid r.terms.topo globals.topo) r
+pulls_fits setup globals (Listener l) fit = tt
 
 takes_item_fits : (setup : NodeSetup) (item : ItemModel) (object : AnyObject) → IsFit setup object → IsLeftFit setup (takes_item setup item object).left
 takes_item_fits setup item object fit = either (item_refusal_of setup item object)
@@ -280,6 +291,11 @@ received_fits setup slot globals (Some telegram) all = either (is_valid_at globa
     either true is = rw is (AllFit-each setup (after_telegram setup telegram globals slot.objects) (entry_taking_fits setup telegram globals slot.objects) slot.objects all)
     either false is = rw is all
 
+-- a call that concerns no object
+told_fits : (setup : NodeSetup) (refusal : Option Refusal) (slot : SlotState) (records : List Content) → AllFit setup slot.objects → AllFit setup (told_unless refusal slot records).slot.objects
+told_fits setup (Some refusal) slot records all = all
+told_fits setup None slot records all = all
+
 -- a call
 pub called_fits : (setup : NodeSetup) (slot : SlotState) (globals : Globals) (call : CallModel) → IsRegistry setup.registry → AllFit setup slot.objects → AllFit setup (called setup slot globals call).slot.objects
 called_fits setup slot globals (PublishCall terms) sound all = opened_fits setup _ slot _ all (λ is. tt)
@@ -292,6 +308,9 @@ called_fits setup slot globals (UnsubscribeCall handle) sound all = at_object_fi
 called_fits setup slot globals (OpenPullCall terms) sound all = opened_fits setup _ slot _ all (λ is. tt)
 called_fits setup slot globals (PullCall handle) sound all = at_object_fits setup slot handle (pulls globals) (pulls_fits setup globals) all
 called_fits setup slot globals (ClosePullCall handle) sound all = at_object_fits setup slot handle (ends Requesting) (ends_fits setup Requesting) all
+called_fits setup slot globals (ListenCall filter) sound all = opened_fits setup _ slot _ all (λ is. tt)
+called_fits setup slot globals (UnlistenCall handle) sound all = at_object_fits setup slot handle (ends Listening) (ends_fits setup Listening) all
+called_fits setup slot globals (NotifyCall terms payload) sound all = told_fits setup (notify_refusal globals terms payload) slot (notice terms payload ∷ []) all
 
 -- a value handed over as an item
 pub valued_fits : (setup : NodeSetup) (slot : SlotState) (handle : ℕ) (item : ItemModel) → AllFit setup slot.objects → AllFit setup (valued setup slot handle item).slot.objects
@@ -301,6 +320,7 @@ as_subscription_fits : (setup : NodeSetup) (object : AnyObject) (s : Subscriptio
 as_subscription_fits setup (Publisher p) s fit is = absurd (cc)
 as_subscription_fits setup (Subscription t) s fit is = let same : t ≡ s = cc in rw (← same) fit
 as_subscription_fits setup (Requester r) s fit is = absurd (cc)
+as_subscription_fits setup (Listener l) s fit is = absurd (cc)
 
 -- the subscription of a handle shows a value of its dataset
 pub subscription_fits : (setup : NodeSetup) (handle : ℕ) (objects : List Entry) (s : SubscriptionState) → AllFit setup objects → subscription_at handle objects ≡ Ok s → ShowsFitting setup s

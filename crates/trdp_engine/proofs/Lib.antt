@@ -10,6 +10,7 @@ pub mod Moving
 pub mod Each
 pub mod Receiving
 pub mod Noting
+pub mod Hearing
 pub mod Noted
 pub mod Rows
 pub mod Views

@@ -1,6 +1,6 @@
 -- The objects that were noted take the telegram, one after the other.
 use Rattle.std.proofs.Common.{zero, suc, ◌≡◌, ℕ, ◌+◌, ◌<◌, ◌≤◌, List, [], ◌∷◌, ◌++◌, length, get_or, drop, map, filter, drop-cons, Option, Some, None, Bool, true, false, refl, ◌∙◌, sym, ap, subst, arith, append_assoc}
-use Rattle.std.specs.Prelude.{slice_get, slice_set, ◌==◌, IfSome}
+use Rattle.std.specs.Prelude.{slice_get, slice_set, ◌==◌, ◌&&◌, IfSome}
 use Rattle.std.specs.List.{flat_map}
 use Rattle.std.proofs.lemmas.List.{map-append, append-nil, length-append, length-map, drop_all}
 use Rattle.std.proofs.lemmas.List.Concat.{flat_map-cons}
@@ -14,7 +14,7 @@ use Rattle.trdp_table.specs.Kinds.{kind_of}
 use Rattle.trdp_table.specs.Tables.{TableState}
 use Rattle.trdp_table.specs.TableLaws.{IsTable}
 use Rattle.trdp_engine.specs.Configs.{NodeSetup}
-use Rattle.trdp_engine.specs.declared.datagram.Addressee.{Addressee}
+use Rattle.trdp_engine.specs.declared.addressees.Addressee.{Addressee}
 use Rattle.trdp_engine.specs.declared.room.Room.{Room}
 use Rattle.trdp_engine.specs.Records.{Content, RecordModel, labelled}
 use Rattle.trdp_engine.specs.Slots.{Entry, SlotState, Outcome, entry_of, slots_of}
@@ -23,7 +23,7 @@ use Rattle.trdp_engine.proofs.Handles.{AllAbove, IsRising}
 use Rattle.trdp_engine.specs.Outboxes.{OutboxState}
 use Rattle.trdp_engine.specs.Rooms.{HasRoom, kind_room, entries_room}
 use Rattle.trdp_engine.specs.Acting.{slot_at, MayAct, ActsAt, act_of}
-use Rattle.trdp_engine.specs.Datagrams.{is_for_entry, taking_act, acting, after_telegram, received}
+use Rattle.trdp_engine.specs.Datagrams.{is_for_entry, is_acting, taking_act, acting, after_telegram, received}
 use Rattle.trdp_engine.specs.NodeStates.{HasOutcome, Appends}
 use Rattle.trdp_engine.specs.Noted.{noted_as, noted_from}
 use Rattle.trdp_engine.proofs.Tables.{slots_length, slot_within, slot_is, rising as table_rising}
@@ -112,9 +112,17 @@ pub record Aim : Type 0 where
 abbrev pub act_in : Aim → Entry → Act
 act_in aim entry = taking_act aim.setup aim.telegram aim.globals entry
 
--- those of these objects that it is for
-abbrev those_for : Aim → List Entry → List Entry
-those_for aim entries = filter (is_for_entry aim.telegram aim.globals) entries
+-- those of these objects that act, of all objects of their slot
+abbrev those_for : Aim → List Entry → List Entry → List Entry
+those_for aim all entries = filter (is_acting aim.telegram aim.globals all) entries
+
+and_left : (a b : Bool) → (a && b) ≡ true → a ≡ true
+and_left true b is = refl
+and_left false b is = absurd (cc)
+
+-- what acts is one that the telegram is for
+acting_is_for : (aim : Aim) (all : List Entry) (e : Entry) → is_acting aim.telegram aim.globals all e ≡ true → is_for_entry aim.telegram aim.globals e ≡ true
+acting_is_for aim all e is = and_left (is_for_entry aim.telegram aim.globals e) _ is
 
 -- the records of objects that take it
 abbrev records_for : Aim → List Entry → List Content
@@ -164,18 +172,18 @@ slots_with place objects = place.front ++ slot_with place.slot objects ∷ place
 abbrev Led : Aim → Place → List Entry → Type 0
 Led aim place es =
     (done : List Entry) (records : List RecordModel) (room : Room) → IsRising (done ++ es)
-    → room.rows ≡ (entries_room (those_for aim es)).rows + place.room.rows
-    → room.bytes ≡ (entries_room (those_for aim es)).bytes + place.room.bytes
-    → Leads aim (slots_with place (done ++ after_in aim place.slot.objects es)) (records ++ labelled place.s (records_for aim (those_for aim es))) place.room place.rest
-    → Leads aim (slots_with place (done ++ es)) records room (noted_as place.s (those_for aim es) ++ place.rest)
+    → room.rows ≡ (entries_room (those_for aim place.slot.objects es)).rows + place.room.rows
+    → room.bytes ≡ (entries_room (those_for aim place.slot.objects es)).bytes + place.room.bytes
+    → Leads aim (slots_with place (done ++ after_in aim place.slot.objects es)) (records ++ labelled place.s (records_for aim (those_for aim place.slot.objects es))) place.room place.rest
+    → Leads aim (slots_with place (done ++ es)) records room (noted_as place.s (those_for aim place.slot.objects es) ++ place.rest)
 
 led_none : (aim : Aim) (place : Place) → Led aim place []
 led_none aim place done records room rising rows bytes leads =
     let is : room ≡ place.room = same_room room place.room (omega (arith, rows)) (omega (arith, bytes)) in
     rw is (rw (append-nil records) at leads)
 
--- the telegram isn't for the next one
-led_other : (aim : Aim) (place : Place) (e : Entry) (es : List Entry) → is_for_entry aim.telegram aim.globals e ≡ false → Led aim place es → Led aim place (e ∷ es)
+-- the next one doesn't act
+led_other : (aim : Aim) (place : Place) (e : Entry) (es : List Entry) → is_acting aim.telegram aim.globals place.slot.objects e ≡ false → Led aim place es → Led aim place (e ∷ es)
 led_other aim place e es is others done records room rising rows bytes leads =
     let rows_is = rw is at rows in
     let bytes_is = rw is at bytes in
@@ -186,18 +194,18 @@ led_other aim place e es is others done records room rising rows bytes leads =
     rw is (rw whole at led)
 
 -- the next one takes it
-led_one : (aim : Aim) (place : Place) (e : Entry) (es : List Entry) → is_for_entry aim.telegram aim.globals e ≡ true → Led aim place es → Led aim place (e ∷ es)
+led_one : (aim : Aim) (place : Place) (e : Entry) (es : List Entry) → is_acting aim.telegram aim.globals place.slot.objects e ≡ true → Led aim place es → Led aim place (e ∷ es)
 led_one aim place e es is others done records room rising rows bytes leads =
     let left : List Entry = entry_left e (act_in aim e).left in
-    let more : Room = record { rows = (entries_room (those_for aim es)).rows + place.room.rows; bytes = (entries_room (those_for aim es)).bytes + place.room.bytes } in
+    let more : Room = record { rows = (entries_room (those_for aim place.slot.objects es)).rows + place.room.rows; bytes = (entries_room (those_for aim place.slot.objects es)).bytes + place.room.bytes } in
     let rows_is = rw is at rows in
     let bytes_is = rw is at bytes in
-    let rows_of = sum_by-cons (λ entry. (kind_room (kind_of entry.object)).rows) e (those_for aim es) in
-    let bytes_of = sum_by-cons (λ entry. (kind_room (kind_of entry.object)).bytes) e (those_for aim es) in
+    let rows_of = sum_by-cons (λ entry. (kind_room (kind_of entry.object)).rows) e (those_for aim place.slot.objects es) in
+    let bytes_of = sum_by-cons (λ entry. (kind_room (kind_of entry.object)).bytes) e (those_for aim place.slot.objects es) in
     let leads_then = rw is at leads in
     let still : (done ++ left) ++ after_in aim place.slot.objects es ≡ done ++ (left ++ after_in aim place.slot.objects es) = append_assoc done left (after_in aim place.slot.objects es) in
-    let told : (records ++ labelled place.s (act_in aim e).records) ++ labelled place.s (records_for aim (those_for aim es)) ≡ records ++ labelled place.s ((act_in aim e).records ++ records_for aim (those_for aim es)) =
-    append_assoc records (labelled place.s (act_in aim e).records) (labelled place.s (records_for aim (those_for aim es))) ∙ ap (λ (rs : List RecordModel). records ++ rs) (sym (map-append _ (act_in aim e).records (records_for aim (those_for aim es)))) in
+    let told : (records ++ labelled place.s (act_in aim e).records) ++ labelled place.s (records_for aim (those_for aim place.slot.objects es)) ≡ records ++ labelled place.s ((act_in aim e).records ++ records_for aim (those_for aim place.slot.objects es)) =
+    append_assoc records (labelled place.s (act_in aim e).records) (labelled place.s (records_for aim (those_for aim place.slot.objects es))) ∙ ap (λ (rs : List RecordModel). records ++ rs) (sym (map-append _ (act_in aim e).records (records_for aim (those_for aim place.slot.objects es)))) in
     let rising_then : IsRising ((done ++ left) ++ es) = rw append_assoc (IsRising-left (act_in aim e).left done es e rising) in
     let led = others (done ++ left) (records ++ labelled place.s (act_in aim e).records) more rising_then refl refl (rw (still, told) leads_then) in
     let become : slice_set (slots_with place (done ++ e ∷ es)) place.s (act_of e (act_in aim) (slot_with place.slot (done ++ e ∷ es))).slot ≡ slots_with place ((done ++ left) ++ es) =
@@ -210,7 +218,7 @@ led_one aim place e es is others done records room rising rows bytes leads =
       record {
         at = slot_of_front place.front place.back (slot_with place.slot (done ++ e ∷ es)) place.s place.at;
         found = found_there done es e rising;
-        is_for = is;
+        is_for = acting_is_for aim place.slot.objects e is;
         rows = omega (arith, rows_is, rows_of);
         bytes = omega (arith, bytes_is, bytes_of);
       },
@@ -219,9 +227,9 @@ led_one aim place e es is others done records room rising rows bytes leads =
 
 led_slot : (aim : Aim) (place : Place) (es : List Entry) → Led aim place es
 led_slot aim place [] = led_none aim place
-led_slot aim place (e ∷ es) = either (is_for_entry aim.telegram aim.globals e) refl (led_slot aim place es)
+led_slot aim place (e ∷ es) = either (is_acting aim.telegram aim.globals place.slot.objects e) refl (led_slot aim place es)
   where
-    either : (b : Bool) → is_for_entry aim.telegram aim.globals e ≡ b → Led aim place es → Led aim place (e ∷ es)
+    either : (b : Bool) → is_acting aim.telegram aim.globals place.slot.objects e ≡ b → Led aim place es → Led aim place (e ∷ es)
     either true is others = led_one aim place e es is others
     either false is others = led_other aim place e es is others
 
@@ -244,10 +252,10 @@ led_from aim (x ∷ slots) s front records room at rising within slots_are recor
     let then : SlotState = (outcome_in aim x).slot in
     let later : Room = entries_room (all_acting aim slots) in
     let place : Place = record { s = s; front = front; slot = x; back = slots; at = at; rest = noted_from (s + 1) aim.telegram aim.globals slots; room = later } in
-    let rows : room.rows ≡ (entries_room (those_for aim x.objects)).rows + later.rows =
-    ap (λ (r : Room). r.rows) within ∙ sum_by-append (λ entry. (kind_room (kind_of entry.object)).rows) (those_for aim x.objects) (all_acting aim slots) in
-    let bytes : room.bytes ≡ (entries_room (those_for aim x.objects)).bytes + later.bytes =
-    ap (λ (r : Room). r.bytes) within ∙ sum_by-append (λ entry. (kind_room (kind_of entry.object)).bytes) (those_for aim x.objects) (all_acting aim slots) in
+    let rows : room.rows ≡ (entries_room (those_for aim x.objects x.objects)).rows + later.rows =
+    ap (λ (r : Room). r.rows) within ∙ sum_by-append (λ entry. (kind_room (kind_of entry.object)).rows) (those_for aim x.objects x.objects) (all_acting aim slots) in
+    let bytes : room.bytes ≡ (entries_room (those_for aim x.objects x.objects)).bytes + later.bytes =
+    ap (λ (r : Room). r.bytes) within ∙ sum_by-append (λ entry. (kind_room (kind_of entry.object)).bytes) (those_for aim x.objects x.objects) (all_acting aim slots) in
     let over : (front ++ then ∷ []) ++ slots ≡ front ++ then ∷ slots = append_assoc front (then ∷ []) slots in
     let slots_then = append_assoc front (then ∷ []) (map (λ slot. (outcome_in aim slot).slot) slots) ∙ slots_are in
     let records_then = append_assoc records (labelled s (outcome_in aim x).records) (all_records (s + 1) (outcome_in aim) slots) ∙ records_are in

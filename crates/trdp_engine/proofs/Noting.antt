@@ -1,5 +1,5 @@
 -- The objects that act at a telegram are noted, slot by slot, with the room for what they may give.
-use Rattle.std.proofs.Common.{zero, suc, ◌≡◌, ℕ, ◌+◌, ◌<◌, ◌≤◌, List, [], ◌∷◌, ◌++◌, length, drop, filter, add-one, Some, refl, ◌∙◌, sym, ap, arith, append_assoc}
+use Rattle.std.proofs.Common.{Bool, zero, suc, ◌≡◌, ℕ, ◌+◌, ◌<◌, ◌≤◌, List, [], ◌∷◌, ◌++◌, length, drop, filter, add-one, Some, refl, ◌∙◌, sym, ap, arith, append_assoc}
 use Rattle.std.specs.Prelude.{slice_get, IfSome}
 use Rattle.std.specs.List.{flat_map}
 use Rattle.std.proofs.lemmas.List.{map-append, append-nil, drop_all}
@@ -9,20 +9,20 @@ use Rattle.std.proofs.lemmas.Option.{same_Some}
 use Rattle.trdp_filter.specs.declared.globals.Globals.{Globals}
 use Rattle.trdp_filter.specs.Telegrams.{TelegramModel}
 use Rattle.trdp_table.specs.Kinds.{kind_of}
-use Rattle.trdp_engine.specs.declared.datagram.Addressee.{Addressee}
+use Rattle.trdp_engine.specs.declared.addressees.Addressee.{Addressee}
 use Rattle.trdp_engine.specs.declared.room.Room.{Room}
 use Rattle.trdp_engine.specs.Slots.{Entry, SlotState}
 use Rattle.trdp_engine.specs.Rooms.{kind_room, entries_room}
-use Rattle.trdp_engine.specs.Datagrams.{is_for_entry, acting}
+use Rattle.trdp_engine.specs.Datagrams.{acting}
 use Rattle.trdp_engine.specs.Noted.{noted_as, noted_from}
 
 -- the item at an index, and what follows it
-record Split {A : Type 0} (xs : List A) (i : ℕ) : Type 0 where
-  item : A
-  at : slice_get xs i ≡ Some item
-  rest : drop i xs ≡ item ∷ drop (i + 1) xs
+pub record Split {A : Type 0} (xs : List A) (i : ℕ) : Type 0 where
+  pub item : A
+  pub at : slice_get xs i ≡ Some item
+  pub rest : drop i xs ≡ item ∷ drop (i + 1) xs
 
-split : {A : Type 0} (xs : List A) (i : ℕ) → i < length xs → Split xs i
+pub split : {A : Type 0} (xs : List A) (i : ℕ) → i < length xs → Split xs i
 split [] i lt = absurd (omega (arith, lt))
 split (x ∷ xs) zero lt = record { item = x; at = refl; rest = refl }
 split (x ∷ xs) (suc i) lt =
@@ -51,22 +51,22 @@ pub record Notes (before noted : List Addressee) (room : Room) (next : List Addr
   pub rows : room.rows + later.rows ≡ all.rows
   pub bytes : room.bytes + later.bytes ≡ all.bytes
 
--- those of a slot from an index on are still to come
-abbrev pub NotesIn : TelegramModel → Globals → ℕ → List Entry → List Addressee → List Addressee → Room → ℕ → Type 0
-NotesIn telegram globals s objects before noted room i =
-    Notes before noted room (noted_as s (acting telegram globals (drop i objects))) (entries_room (acting telegram globals (drop i objects))) (noted_as s (acting telegram globals objects)) (entries_room (acting telegram globals objects))
+-- those of a slot's objects from an index on that pass the test are still to come
+abbrev pub NotesIn : (Entry → Bool) → ℕ → List Entry → List Addressee → List Addressee → Room → ℕ → Type 0
+NotesIn test s objects before noted room i =
+    Notes before noted room (noted_as s (filter test (drop i objects))) (entries_room (filter test (drop i objects))) (noted_as s (filter test objects)) (entries_room (filter test objects))
 
-pub notes_first : (telegram : TelegramModel) (globals : Globals) (s : ℕ) (objects : List Entry) (before : List Addressee) → NotesIn telegram globals s objects before before (record { rows = 0; bytes = 0 }) 0
-notes_first telegram globals s objects before = record { items = refl; rows = omega arith; bytes = omega arith }
+pub notes_first : (test : Entry → Bool) (s : ℕ) (objects : List Entry) (before : List Addressee) → NotesIn test s objects before before (record { rows = 0; bytes = 0 }) 0
+notes_first test s objects before = record { items = refl; rows = omega arith; bytes = omega arith }
 
 -- one turn within a slot
-pub notes_next : (telegram : TelegramModel) (globals : Globals) (s : ℕ) (objects : List Entry) (before noted noted_then : List Addressee) (room more : Room) (i : ℕ) → i < length objects → NotesIn telegram globals s objects before noted room i → IfSome (slice_get objects i) (λ entry. noted_then ≡ noted ++ noted_as s (filter (is_for_entry telegram globals) (entry ∷ []))) → IfSome (slice_get objects i) (λ entry. more ≡ entries_room (filter (is_for_entry telegram globals) (entry ∷ []))) → NotesIn telegram globals s objects before noted_then (both_rooms room more) (i + 1)
-notes_next telegram globals s objects before noted noted_then room more i lt notes told within =
+pub notes_next : (test : Entry → Bool) (s : ℕ) (objects : List Entry) (before noted noted_then : List Addressee) (room more : Room) (i : ℕ) → i < length objects → NotesIn test s objects before noted room i → IfSome (slice_get objects i) (λ entry. noted_then ≡ noted ++ noted_as s (filter test (entry ∷ []))) → IfSome (slice_get objects i) (λ entry. more ≡ entries_room (filter test (entry ∷ []))) → NotesIn test s objects before noted_then (both_rooms room more) (i + 1)
+notes_next test s objects before noted noted_then room more i lt notes told within =
     let one = split objects i lt in
-    let own : List Entry = filter (is_for_entry telegram globals) (one.item ∷ []) in
-    let others : List Entry = acting telegram globals (drop (i + 1) objects) in
-    let left : acting telegram globals (drop i objects) ≡ own ++ others =
-    ap (filter (is_for_entry telegram globals)) one.rest ∙ filter-append (is_for_entry telegram globals) (one.item ∷ []) (drop (i + 1) objects) in
+    let own : List Entry = filter test (one.item ∷ []) in
+    let others : List Entry = filter test (drop (i + 1) objects) in
+    let left : filter test (drop i objects) ≡ own ++ others =
+    ap (filter test) one.rest ∙ filter-append test (one.item ∷ []) (drop (i + 1) objects) in
     let told_one : noted_then ≡ noted ++ noted_as s own = rw one.at at told in
     let within_one : more ≡ entries_room own = rw one.at at within in
     let items = rw left at notes.items in
@@ -78,16 +78,16 @@ notes_next telegram globals s objects before noted noted_then room more i lt not
       bytes = omega (arith, bytes, bytes_of-append own others, ap (λ (r : Room). r.bytes) within_one);
     }
 
-pub notes_end_items : (telegram : TelegramModel) (globals : Globals) (s : ℕ) (objects : List Entry) (before noted : List Addressee) (room : Room) (i : ℕ) → length objects ≤ i → NotesIn telegram globals s objects before noted room i → noted ≡ before ++ noted_as s (acting telegram globals objects)
-notes_end_items telegram globals s objects before noted room i past notes =
+pub notes_end_items : (test : Entry → Bool) (s : ℕ) (objects : List Entry) (before noted : List Addressee) (room : Room) (i : ℕ) → length objects ≤ i → NotesIn test s objects before noted room i → noted ≡ before ++ noted_as s (filter test objects)
+notes_end_items test s objects before noted room i past notes =
     let items = rw (drop_all i objects past) at notes.items in
     sym (append-nil noted) ∙ items
 
-pub notes_end_room : (telegram : TelegramModel) (globals : Globals) (s : ℕ) (objects : List Entry) (before noted : List Addressee) (room : Room) (i : ℕ) → length objects ≤ i → NotesIn telegram globals s objects before noted room i → room ≡ entries_room (acting telegram globals objects)
-notes_end_room telegram globals s objects before noted room i past notes =
+pub notes_end_room : (test : Entry → Bool) (s : ℕ) (objects : List Entry) (before noted : List Addressee) (room : Room) (i : ℕ) → length objects ≤ i → NotesIn test s objects before noted room i → room ≡ entries_room (filter test objects)
+notes_end_room test s objects before noted room i past notes =
     let rows = rw (drop_all i objects past) at notes.rows in
     let bytes = rw (drop_all i objects past) at notes.bytes in
-    same_room room (entries_room (acting telegram globals objects)) (omega (arith, rows)) (omega (arith, bytes))
+    same_room room (entries_room (filter test objects)) (omega (arith, rows)) (omega (arith, bytes))
 
 -- those that act in these slots
 abbrev pub acting_in : TelegramModel → Globals → List SlotState → List Entry

@@ -4,7 +4,7 @@ use Rattle.std.specs.Prelude.{slice_get, option_map}
 use Rattle.std.proofs.lemmas.Grind.{common_steps}
 use Rattle.std.proofs.lemmas.List.{take-append-le, length-append, map-append}
 use Rattle.std.proofs.Common.{length-drop}
-use Rattle.trdp_engine.specs.declared.outbox.Row.{Row}
+use Rattle.trdp_engine.specs.declared.row.Row.{Row}
 use Rattle.trdp_engine.specs.Records.{RecordModel}
 use Rattle.trdp_engine.specs.Outboxes.{row_content, row_model, AllWithin}
 

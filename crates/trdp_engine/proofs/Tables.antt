@@ -1,6 +1,6 @@
 -- The slots of a table: how they are read, and how they change with it.
 use Rattle.std.proofs.Common.{◌≡◌, ℕ, zero, suc, ◌<◌, List, [], ◌∷◌, ◌++◌, length, map, Option, Some, None, Bool, true, false, not, refl, ◌∙◌, sym, ap, subst, arith}
-use Rattle.std.specs.Prelude.{slice_get, slice_set, option_map, is_some, Result, Ok, Err, OnOk, OnErr, filter, ◌==◌}
+use Rattle.std.specs.Prelude.{slice_get, slice_set, option_map, Result, Ok, Err, OnOk, OnErr, filter, ◌==◌}
 use Rattle.std.specs.List.{flat_map}
 use Rattle.std.proofs.lemmas.List.{length-map, map-set, set-set, get_or-set_same}
 use Rattle.std.proofs.lemmas.List.Concat.{flat_map-cons}
@@ -71,9 +71,6 @@ entry_found h (k ∷ ks) = either (k.handle == h) refl (entry_found h ks)
     either true is rest = rw is refl
     either false is rest = rw is rest
 
-pub entry_listed : (objects : List Keyed) (i : ℕ) → slice_get (map entry_of_keyed objects) i ≡ option_map entry_of_keyed (slice_get objects i)
-entry_listed objects i = slice_get-map entry_of_keyed objects i
-
 AllAbove-keyed : (h : ℕ) (objects : List Keyed) → AllKeyedAbove h objects → AllAbove h (map entry_of_keyed objects)
 AllAbove-keyed h [] above = tt
 AllAbove-keyed h (k ∷ ks) above = (above.0, AllAbove-keyed h ks above.1)
@@ -140,12 +137,6 @@ KeysGive table =
     (s handle : ℕ) (keyed : Keyed) → by_handle handle (slot_in s table).objects ≡ Some keyed
     → by_key keyed.key (all_objects table) ≡ Some keyed
 
--- the object of an index is the one that its handle gives
-abbrev pub HandlesGive : TableState → Type 0
-HandlesGive table =
-    (s index : ℕ) (keyed : Keyed) → slice_get (slot_in s table).objects index ≡ Some keyed
-    → by_handle keyed.handle (slot_in s table).objects ≡ Some keyed
-
 -- an object that is found has the handle
 pub handle_found : (h : ℕ) (objects : List Keyed) (keyed : Keyed) → by_handle h objects ≡ Some keyed → keyed.handle ≡ h
 handle_found h [] keyed at = absurd (cc)
@@ -167,16 +158,6 @@ keyed_found table s h key found is = either (by_handle h (slot_in s table).objec
     either (Some keyed) at of =
         ap (λ (k : ℕ). by_key k (all_objects table)) (same_Some key keyed.key of) ∙ (found s h keyed at ∙ sym at)
 
--- the object of a key that an index gives
-pub keyed_listed : (table : TableState) (s i key : ℕ) → KeysGive table → HandlesGive table → Some key ≡ option_map (λ keyed. keyed.key) (slice_get (slot_in s table).objects i) → by_key key (all_objects table) ≡ slice_get (slot_in s table).objects i
-keyed_listed table s i key found listed is = either (slice_get (slot_in s table).objects i) refl is
-  where
-    either : (o : Option Keyed) → slice_get (slot_in s table).objects i ≡ o → Some key ≡ option_map (λ keyed. keyed.key) o → by_key key (all_objects table) ≡ slice_get (slot_in s table).objects i
-    either None at of = absurd (cc)
-    either (Some keyed) at of =
-        ap (λ (k : ℕ). by_key k (all_objects table)) (same_Some key keyed.key of)
-        ∙ (found s keyed.handle keyed (listed s i keyed at) ∙ sym at)
-
 option_map-map : {A B C : Type 0} (f : A → B) (g : B → C) (o : Option A) → option_map g (option_map f o) ≡ option_map (λ x. g (f x)) o
 option_map-map f g None = refl
 option_map-map f g (Some x) = refl
@@ -190,45 +171,12 @@ pub none_found : (table : TableState) (s h : ℕ) → None ≡ option_map (λ ke
 none_found table s h is =
     entry_found h (slot_in s table).objects ∙ ap (option_map entry_of_keyed) (no_key (λ keyed. keyed.key) (by_handle h (slot_in s table).objects) is)
 
--- a slot without an object of that index
-pub none_listed : (table : TableState) (s i : ℕ) → None ≡ option_map (λ keyed. keyed.key) (slice_get (slot_in s table).objects i) → slice_get (slot_at s table).objects i ≡ None
-none_listed table s i is =
-    entry_listed (slot_in s table).objects i ∙ ap (option_map entry_of_keyed) (no_key (λ keyed. keyed.key) (slice_get (slot_in s table).objects i) is)
-
 -- the object that the key of a handle gives is that of the slot
 pub object_found : (table : TableState) (s h key : ℕ) → KeysGive table → Some key ≡ option_map (λ keyed. keyed.key) (by_handle h (slot_in s table).objects) → option_map (λ keyed. keyed.object) (by_key key (all_objects table)) ≡ option_map (λ entry. entry.object) (entry_of h (slot_at s table).objects)
 object_found table s h key found is =
     ap (option_map (λ keyed. keyed.object)) (keyed_found table s h key found is)
     ∙ (sym (option_map-map entry_of_keyed (λ entry. entry.object) (by_handle h (slot_in s table).objects))
     ∙ ap (option_map (λ entry. entry.object)) (sym (entry_found h (slot_in s table).objects)))
-
--- the object that the key of an index gives is that of the slot
-pub object_listed : (table : TableState) (s i key : ℕ) → KeysGive table → HandlesGive table → Some key ≡ option_map (λ keyed. keyed.key) (slice_get (slot_in s table).objects i) → option_map (λ keyed. keyed.object) (by_key key (all_objects table)) ≡ option_map (λ entry. entry.object) (slice_get (slot_at s table).objects i)
-object_listed table s i key found listed is =
-    ap (option_map (λ keyed. keyed.object)) (keyed_listed table s i key found listed is)
-    ∙ (sym (option_map-map entry_of_keyed (λ entry. entry.object) (slice_get (slot_in s table).objects i))
-    ∙ ap (option_map (λ entry. entry.object)) (sym (entry_listed (slot_in s table).objects i)))
-
-no_value : {A : Type 0} (o : Option A) → false ≡ is_some o → o ≡ None
-no_value None is = refl
-no_value (Some x) is = absurd (cc)
-
--- an index whose key has no owner is past the last object
-pub none_owned : (table : TableState) (s i key : ℕ) → KeysGive table → HandlesGive table → Some key ≡ option_map (λ keyed. keyed.key) (slice_get (slot_in s table).objects i) → false ≡ is_some (by_key key (all_objects table)) → slice_get (slot_at s table).objects i ≡ None
-none_owned table s i key found listed is none =
-    entry_listed (slot_in s table).objects i
-    ∙ ap (option_map entry_of_keyed) (sym (keyed_listed table s i key found listed is) ∙ no_value (by_key key (all_objects table)) none)
-
--- the handle of the object that the key of an index gives
-pub handle_owned : (table : TableState) (s i key t h : ℕ) → KeysGive table → HandlesGive table → Some key ≡ option_map (λ keyed. keyed.key) (slice_get (slot_in s table).objects i) → by_handle h (slot_in t table).objects ≡ by_key key (all_objects table) → true ≡ is_some (by_key key (all_objects table)) → Some h ≡ option_map (λ entry. entry.handle) (slice_get (slot_at s table).objects i)
-handle_owned table s i key t h found listed is owner some = either (by_key key (all_objects table)) refl some
-  where
-    either : (o : Option Keyed) → by_key key (all_objects table) ≡ o → true ≡ is_some o → Some h ≡ option_map (λ entry. entry.handle) (slice_get (slot_at s table).objects i)
-    either None at some = absurd (cc)
-    either (Some keyed) at some =
-        ap Some (sym (handle_found h (slot_in t table).objects keyed (owner ∙ at)))
-        ∙ ap (λ (o : Option Keyed). option_map (λ entry. entry.handle) (option_map entry_of_keyed o)) (sym at ∙ keyed_listed table s i key found listed is)
-        ∙ ap (option_map (λ entry. entry.handle)) (sym (entry_listed (slot_in s table).objects i))
 
 -- the slots once an object was added, or refused
 pub slots_of_added : {X Y : Type 0} (table table_then : TableState) (s : ℕ) (object : AnyObject) (result : Result X Y) → s < length table → OnOk result (Adds s object table table_then) → OnErr result (table_then ≡ table) → slots_of table_then ≡ slice_set (slots_of table) s (slot_at s table_then)

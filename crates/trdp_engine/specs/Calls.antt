@@ -6,7 +6,9 @@ use Rattle.trdp_pd.specs.declared.terms.PublisherTerms.{PublisherTerms}
 use Rattle.trdp_pd.specs.declared.terms.SubscriptionTerms.{SubscriptionTerms}
 use Rattle.trdp_table.specs.declared.any_object.AnyObject.{AnyObject}
 use Rattle.trdp_table.specs.declared.any_object.AnyObject.TheVariants.{Publisher, Subscription}
-use Rattle.trdp_table.specs.declared.any_object.AnyObject.TheVariants.{Requester}
+use Rattle.trdp_table.specs.declared.any_object.AnyObject.TheVariants.{Requester, Listener}
+use Rattle.trdp_filter.specs.declared.md_filter.MdFilter.{MdFilter}
+use Rattle.trdp_md.specs.Listeners.{listening}
 use Rattle.trdp_pd.specs.Publishers.{PublisherState, published}
 use Rattle.trdp_pd.specs.Subscriptions.{SubscriptionState, subscribed}
 use Rattle.trdp_pd.specs.Requesters.{opened}
@@ -15,6 +17,7 @@ use Rattle.trdp_table.specs.declared.kind.Kind.{Kind}
 use Rattle.trdp_table.specs.declared.kind.Kind.TheVariants.{Publisher as Publishing}
 use Rattle.trdp_table.specs.declared.kind.Kind.TheVariants.{Subscription as Subscribing}
 use Rattle.trdp_table.specs.declared.kind.Kind.TheVariants.{Requester as Requesting}
+use Rattle.trdp_table.specs.declared.kind.Kind.TheVariants.{Listener as Listening}
 use Rattle.trdp_table.specs.Kinds.{kind_index, kind_of, is_same_kind}
 use Rattle.trdp_engine.specs.declared.fault.Refusal.{Refusal}
 use Rattle.trdp_engine.specs.declared.fault.Refusal.TheVariants.{NoHandle, WrongKind, Cycle}
@@ -28,13 +31,15 @@ use Rattle.trdp_engine.specs.declared.look.LookFault.TheVariants.{NoHandle as No
 use Rattle.trdp_engine.specs.declared.look.LookFault.TheVariants.{WrongKind as NoSubscription}
 use Rattle.trdp_engine.specs.Looks.{as_subscription}
 use Rattle.trdp_engine.specs.Configs.{NodeSetup, is_dataset, zero_size_of, is_fitting}
-use Rattle.trdp_engine.specs.Records.{AnswerModel, HandleIs, DoneIs, ValueIs, RefusedIs, Answers}
+use Rattle.trdp_engine.specs.Records.{Content, AnswerModel, HandleIs, DoneIs, ValueIs, RefusedIs}
+use Rattle.trdp_engine.specs.Records.{Answers}
 use Rattle.trdp_engine.specs.Slots.{Entry, SlotState, Outcome, count_of, entry_of, with_object}
 use Rattle.trdp_engine.specs.Acts.{Act, answers, refuses, acted}
 use Rattle.trdp_engine.specs.Events.{CallModel, PublishCall, PutCall, UnpublishCall, SubscribeCall}
 use Rattle.trdp_engine.specs.Events.{GetCall, UnsubscribeCall, OpenPullCall, PullCall}
-use Rattle.trdp_engine.specs.Events.{ClosePullCall}
+use Rattle.trdp_engine.specs.Events.{ClosePullCall, ListenCall, UnlistenCall, NotifyCall}
 use Rattle.trdp_engine.specs.Pulls.{pulls}
+use Rattle.trdp_engine.specs.Notices.{notify_refusal, notice}
 
 -- a slot with that one answer
 abbrev pub answered : SlotState → AnswerModel → Outcome
@@ -86,6 +91,11 @@ subscribe_refusal setup slot terms =
     if nat_lt terms.filter.high.0 terms.filter.low.0 then Some Range else
     dataset_refusal setup terms.dataset (opening_refusal slot Subscribing)
 
+-- first refusal of a listener: the source range, the quota, the handles
+abbrev pub listen_refusal : SlotState → MdFilter → Option Refusal
+listen_refusal slot filter =
+    if nat_lt filter.high.0 filter.low.0 then Some Range else opening_refusal slot Listening
+
 -- why a publisher takes no such value: more than 1432 bytes, or no value of its dataset
 abbrev pub value_refusal : NodeSetup → ℕ → List ℕ → Option Refusal
 value_refusal setup dataset bytes =
@@ -102,6 +112,7 @@ abbrev pub puts : NodeSetup → List ℕ → AnyObject → Act
 puts setup bytes (Publisher p) = puts_unless (value_refusal setup p.terms.dataset bytes) bytes p
 puts setup bytes (Subscription s) = refuses (Subscription s) WrongKind
 puts setup bytes (Requester r) = refuses (Requester r) WrongKind
+puts setup bytes (Listener l) = refuses (Listener l) WrongKind
 
 -- the act of an object of which one of that kind is to end
 abbrev pub ends : Kind → AnyObject → Act
@@ -136,6 +147,11 @@ at_entry (Some entry) slot handle act = record {
 abbrev pub at_object : SlotState → ℕ → (AnyObject → Act) → Outcome
 at_object slot handle act = at_entry (entry_of handle slot.objects) slot handle act
 
+-- a call that concerns no object: it is done, and gives these records
+abbrev pub told_unless : Option Refusal → SlotState → List Content → Outcome
+told_unless (Some refusal) slot records = refused slot refusal
+told_unless None slot records = record { slot = slot; records = Answers DoneIs ∷ records }
+
 -- effect of a call on the slot that makes it
 abbrev pub called : NodeSetup → SlotState → Globals → CallModel → Outcome
 called setup slot globals (PublishCall terms) =
@@ -152,3 +168,8 @@ called setup slot globals (OpenPullCall terms) =
     opened_unless (opening_refusal slot Requesting) slot (Requester (opened terms))
 called setup slot globals (PullCall handle) = at_object slot handle (pulls globals)
 called setup slot globals (ClosePullCall handle) = at_object slot handle (ends Requesting)
+called setup slot globals (ListenCall filter) =
+    opened_unless (listen_refusal slot filter) slot (Listener (listening filter))
+called setup slot globals (UnlistenCall handle) = at_object slot handle (ends Listening)
+called setup slot globals (NotifyCall terms payload) =
+    told_unless (notify_refusal globals terms payload) slot (notice terms payload ∷ [])

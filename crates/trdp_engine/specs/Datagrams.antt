@@ -1,34 +1,40 @@
 -- What a datagram does to a slot.
-use Rattle.std.specs.Prelude.{ℕ, List, [], ◌∷◌, Option, Some, None, Bool, false}
-use Rattle.std.specs.Prelude.{option_map, true, filter, ◌&&◌, if◌then◌else◌}
+use Rattle.std.specs.Prelude.{ℕ, List, [], ◌∷◌, Option, Some, None, Bool, false, not, find, ◌==◌}
+use Rattle.std.specs.Prelude.{option_map, true, filter, ◌&&◌, ◌||◌, if◌then◌else◌}
 use Rattle.std.specs.List.{flat_map, list_any}
 use Rattle.trdp_base.specs.declared.place.Place.{Place}
 use Rattle.trdp_base.specs.declared.topo.Topo.{Topo}
 use Rattle.trdp_head.specs.PdTelegrams.{pd_telegram_of}
+use Rattle.trdp_head.specs.MdTelegrams.{md_telegram_of}
 use Rattle.trdp_filter.specs.declared.globals.Globals.{Globals}
 use Rattle.trdp_filter.specs.Counts.{topo_valid}
-use Rattle.trdp_filter.specs.Telegrams.{TelegramModel, PdIs, payload_of}
+use Rattle.trdp_filter.specs.Telegrams.{TelegramModel, PdIs, MdIs, payload_of}
 use Rattle.trdp_table.specs.declared.any_object.AnyObject.{AnyObject}
 use Rattle.trdp_pd.specs.declared.object.Taken.{Taken}
-use Rattle.trdp_pd.specs.declared.object.Taken.TheVariants.{Nothing, Stored, Alive, Pulled}
+use Rattle.trdp_pd.specs.declared.object.Taken.TheVariants.{Nothing, Stored, Alive, Pulled, Heard}
+use Rattle.trdp_table.specs.declared.kind.Kind.TheVariants.{Listener as Listening}
+use Rattle.trdp_table.specs.Kinds.{kind_of, is_same_kind}
 use Rattle.trdp_table.specs.Objects.{dataset_of, is_addressed, after_taking, taken}
 use Rattle.trdp_engine.specs.declared.record.Protocol.{Protocol}
 use Rattle.trdp_engine.specs.declared.record.Protocol.TheVariants.{Pd, Md}
 use Rattle.trdp_engine.specs.Configs.{NodeSetup, is_fitting}
 use Rattle.trdp_engine.specs.Records.{Content, Indicates, AliveIs}
 use Rattle.trdp_engine.specs.Pulls.{answer_place, pull_answer}
+use Rattle.trdp_engine.specs.Notices.{heard}
 use Rattle.trdp_engine.specs.Slots.{Entry, SlotState, Outcome, unchanged}
 use Rattle.trdp_engine.specs.Acts.{Act, entry_left}
 
--- the telegram of a datagram, if it is one that the node serves; message data comes later
+-- the telegram of a datagram, if it is one of its protocol
 abbrev pub telegram_of : Protocol → Place → Place → List ℕ → Option TelegramModel
 telegram_of Pd src dst bytes =
     option_map (λ telegram. PdIs src dst telegram) (pd_telegram_of bytes)
-telegram_of Md src dst bytes = None
+telegram_of Md src dst bytes =
+    option_map (λ telegram. MdIs src dst telegram) (md_telegram_of bytes)
 
 -- the topology counts of a telegram
 abbrev pub counts_of : TelegramModel → Topo
 counts_of (PdIs src dst telegram) = telegram.head.topo
+counts_of (MdIs src dst telegram) = telegram.head.topo
 
 -- bytes are a value of a dataset; without a dataset any bytes will do
 abbrev pub is_value_of : NodeSetup → Option ℕ → List ℕ → Bool
@@ -44,20 +50,23 @@ fits_object setup telegram object =
 abbrev pub is_for_entry : TelegramModel → Globals → Entry → Bool
 is_for_entry telegram globals entry = is_addressed entry.object telegram globals
 
--- the records of an object that did this with a telegram; what answers a pull request goes to
--- that place
-abbrev pub taken_records : Place → ℕ → AnyObject → Taken → List Content
-taken_records answer_to handle object Nothing = []
-taken_records answer_to handle object Stored = []
-taken_records answer_to handle object Alive = Indicates (AliveIs handle) ∷ []
-taken_records answer_to handle object (Pulled head) = pull_answer object answer_to head
+-- the records of an object that did this with a telegram
+abbrev pub taken_records :
+    NodeSetup → TelegramModel → ℕ → AnyObject → Taken → List Content
+taken_records setup telegram handle object Nothing = []
+taken_records setup telegram handle object Stored = []
+taken_records setup telegram handle object Alive = Indicates (AliveIs handle) ∷ []
+taken_records setup telegram handle object (Pulled head) =
+    pull_answer object (answer_place setup telegram) head
+taken_records setup telegram handle object Heard = heard handle telegram
 
--- what is left of an object that did this with a telegram: no object of process data ends with it
+-- what is left of an object that did this with a telegram: none ends with it
 abbrev pub left_taking : Taken → AnyObject → Option AnyObject
 left_taking Nothing object = Some object
 left_taking Stored object = Some object
 left_taking Alive object = Some object
 left_taking (Pulled head) object = Some object
+left_taking Heard object = Some object
 
 -- the act of an object that takes a telegram
 abbrev pub taking_act : NodeSetup → TelegramModel → Globals → Entry → Act
@@ -68,13 +77,37 @@ taking_act setup telegram globals entry =
           left_taking (taken entry.object telegram globals fits)
           (after_taking entry.object telegram globals fits);
       records =
-          taken_records (answer_place setup telegram) entry.handle entry.object
+          taken_records setup telegram entry.handle entry.object
           (taken entry.object telegram globals fits);
     }
 
--- which objects of a slot's list act at a telegram: each that it is for
+-- the object is a listener
+abbrev pub is_listening : Entry → Bool
+is_listening entry = is_same_kind (kind_of entry.object) Listening
+
+-- the handle of the listener that hears a telegram: the first of a slot's list that it is for
+abbrev pub hearing : TelegramModel → Globals → List Entry → Option ℕ
+hearing telegram globals objects =
+    option_map
+    (λ entry. entry.handle)
+    (find (λ entry. is_listening entry && is_for_entry telegram globals entry) objects)
+
+-- the handle is that one
+abbrev pub is_handle : Option ℕ → ℕ → Bool
+is_handle None handle = false
+is_handle (Some wanted) handle = wanted == handle
+
+-- the telegram is for the object, and of listeners it is the one that hears it
+abbrev pub acts_where : Option ℕ → TelegramModel → Globals → Entry → Bool
+acts_where listener telegram globals entry =
+    is_for_entry telegram globals entry
+    && (not (is_listening entry) || is_handle listener entry.handle)
+
+-- which objects of a slot's list act at a telegram: each that it is for, but of the listeners the
+-- first alone
 abbrev pub is_acting : TelegramModel → Globals → List Entry → Entry → Bool
-is_acting telegram globals objects entry = is_for_entry telegram globals entry
+is_acting telegram globals objects entry =
+    acts_where (hearing telegram globals objects) telegram globals entry
 
 -- the objects of a slot's list that act at a telegram, by rising handle
 abbrev pub acting : TelegramModel → Globals → List Entry → List Entry

@@ -5,11 +5,14 @@ use Rattle.trdp_base.specs.declared.topo.Topo.{Topo}
 use Rattle.trdp_pd.specs.declared.terms.PublisherTerms.{PublisherTerms}
 use Rattle.trdp_pd.specs.declared.terms.SubscriptionTerms.{SubscriptionTerms}
 use Rattle.trdp_pd.specs.declared.terms.RequesterTerms.{RequesterTerms}
+use Rattle.trdp_filter.specs.declared.md_filter.MdFilter.{MdFilter}
+use Rattle.trdp_md.specs.declared.terms.NotifyTerms.{NotifyTerms}
 use Rattle.trdp_engine.specs.declared.record.Protocol.{Protocol}
 use Rattle.trdp_engine.specs.declared.event.Call.{Call as AnyCall}
 use Rattle.trdp_engine.specs.declared.event.Call.TheVariants.{Publish, Put, Unpublish, Subscribe}
 use Rattle.trdp_engine.specs.declared.event.Call.TheVariants.{Get, Unsubscribe, OpenPull, Pull}
-use Rattle.trdp_engine.specs.declared.event.Call.TheVariants.{ClosePull}
+use Rattle.trdp_engine.specs.declared.event.Call.TheVariants.{ClosePull, Listen, Unlisten}
+use Rattle.trdp_engine.specs.declared.event.Call.TheVariants.{Notify}
 use Rattle.trdp_engine.specs.declared.event.Event.{Event}
 use Rattle.trdp_engine.specs.declared.event.Event.TheVariants.{Moment, Topology, Role, Datagram}
 use Rattle.trdp_engine.specs.declared.event.Event.TheVariants.{Call}
@@ -25,6 +28,9 @@ pub data CallModel : Type 0 where
   OpenPullCall : (terms : RequesterTerms) → CallModel
   PullCall : (handle : ℕ) → CallModel
   ClosePullCall : (handle : ℕ) → CallModel
+  ListenCall : (filter : MdFilter) → CallModel
+  UnlistenCall : (handle : ℕ) → CallModel
+  NotifyCall : (terms : NotifyTerms) (payload : List ℕ) → CallModel
 
 -- one event of a node
 pub data EventModel : Type 0 where
@@ -45,6 +51,9 @@ call_model (Unsubscribe handle) = UnsubscribeCall handle
 call_model (OpenPull terms) = OpenPullCall terms
 call_model (Pull handle) = PullCall handle
 call_model (ClosePull handle) = ClosePullCall handle
+call_model (Listen filter) = ListenCall filter
+call_model (Unlisten handle) = UnlistenCall handle
+call_model (Notify terms payload) = NotifyCall terms payload.now
 
 -- an event, apart from where its bytes lie
 abbrev pub event_model : Event → EventModel

@@ -2,7 +2,7 @@
 use Rattle.std.specs.Prelude.{◌≡◌, ℕ, List, [], ◌∷◌, Some, true, slice_get}
 use Rattle.trdp_table.specs.declared.any_object.AnyObject.{AnyObject}
 use Rattle.trdp_table.specs.declared.any_object.AnyObject.TheVariants.{Publisher, Subscription}
-use Rattle.trdp_table.specs.declared.any_object.AnyObject.TheVariants.{Requester}
+use Rattle.trdp_table.specs.declared.any_object.AnyObject.TheVariants.{Requester, Listener}
 use Rattle.trdp_pd.specs.Subscriptions.{SubscriptionState}
 use Rattle.trdp_engine.specs.Configs.{NodeSetup, is_dataset, zero_size_of, is_fitting}
 use Rattle.trdp_engine.specs.Slots.{Entry, SlotState}
@@ -19,6 +19,7 @@ abbrev pub IsFit : NodeSetup → AnyObject → Type 0
 IsFit setup (Publisher p) = Unit {0}
 IsFit setup (Subscription s) = ShowsFitting setup s
 IsFit setup (Requester r) = Unit {0}
+IsFit setup (Listener l) = Unit {0}
 
 -- the same of each object
 abbrev pub AllFit : NodeSetup → List Entry → Type 0

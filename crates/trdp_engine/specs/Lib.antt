@@ -5,6 +5,7 @@ pub mod Acts
 pub mod Looks
 pub mod Events
 pub mod Pulls
+pub mod Notices
 pub mod Calls
 pub mod Datagrams
 pub mod Moments

@@ -6,7 +6,7 @@ use Rattle.trdp_head.specs.declared.pd.PdHead.{PdHead}
 use Rattle.trdp_filter.specs.declared.globals.Globals.{Globals}
 use Rattle.trdp_table.specs.declared.any_object.AnyObject.{AnyObject}
 use Rattle.trdp_table.specs.declared.any_object.AnyObject.TheVariants.{Publisher, Subscription}
-use Rattle.trdp_table.specs.declared.any_object.AnyObject.TheVariants.{Requester}
+use Rattle.trdp_table.specs.declared.any_object.AnyObject.TheVariants.{Requester, Listener}
 use Rattle.trdp_pd.specs.declared.object.Fired.{Fired}
 use Rattle.trdp_pd.specs.declared.object.Fired.TheVariants.{Nothing, Data, Silent}
 use Rattle.trdp_pd.specs.Due.{is_due_by}
@@ -41,6 +41,7 @@ abbrev pub sends_data : AnyObject → PdHead → List Content
 sends_data (Publisher p) head = value_sent p.terms.to head p.value
 sends_data (Subscription s) head = []
 sends_data (Requester r) head = []
+sends_data (Listener l) head = []
 
 -- the records of an object that did this
 abbrev pub firing_records : ℕ → AnyObject → Fired → List Content

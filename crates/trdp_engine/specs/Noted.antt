@@ -2,7 +2,7 @@
 use Rattle.std.specs.Prelude.{ℕ, ◌+◌, List, [], ◌∷◌, ◌++◌, map}
 use Rattle.trdp_filter.specs.declared.globals.Globals.{Globals}
 use Rattle.trdp_filter.specs.Telegrams.{TelegramModel}
-use Rattle.trdp_engine.specs.declared.datagram.Addressee.{Addressee}
+use Rattle.trdp_engine.specs.declared.addressees.Addressee.{Addressee}
 use Rattle.trdp_engine.specs.Slots.{Entry, SlotState}
 use Rattle.trdp_engine.specs.Datagrams.{acting}
 

@@ -1,13 +1,15 @@
 -- An outbox: its records, whose bytes lie one after the other in one list.
 use Rattle.std.specs.Prelude.{ℕ, ◌+◌, ◌≤◌, List, [], ◌∷◌, take, drop}
-use Rattle.trdp_engine.specs.declared.outbox.Row.{Row}
-use Rattle.trdp_engine.specs.declared.outbox.PlainAnswer.{PlainAnswer as AnyPlainAnswer}
-use Rattle.trdp_engine.specs.declared.outbox.PlainAnswer.TheVariants.{Handle, Done, Refused}
-use Rattle.trdp_engine.specs.declared.outbox.Form.{Form}
-use Rattle.trdp_engine.specs.declared.outbox.Form.TheVariants.{PlainAnswer, Value, Indication}
-use Rattle.trdp_engine.specs.declared.outbox.Form.TheVariants.{Send}
+use Rattle.trdp_engine.specs.declared.row.Row.{Row}
+use Rattle.trdp_engine.specs.declared.row.PlainAnswer.{PlainAnswer as AnyPlainAnswer}
+use Rattle.trdp_engine.specs.declared.row.PlainAnswer.TheVariants.{Handle, Done, Refused}
+use Rattle.trdp_engine.specs.declared.row.Heading.{Heading}
+use Rattle.trdp_engine.specs.declared.row.Form.{Form}
+use Rattle.trdp_engine.specs.declared.row.Form.TheVariants.{PlainAnswer, Value, Silent, Alive}
+use Rattle.trdp_engine.specs.declared.row.Form.TheVariants.{Notified, Send}
 use Rattle.trdp_engine.specs.Records.{AnswerModel, HandleIs, DoneIs, ValueIs, RefusedIs, Content}
-use Rattle.trdp_engine.specs.Records.{Answers, Indicates, Sends, RecordModel, indication_model}
+use Rattle.trdp_engine.specs.Records.{Answers, Indicates, Sends, RecordModel, MessageModel}
+use Rattle.trdp_engine.specs.Records.{SilentIs, AliveIs, NotifiedIs}
 
 -- the records, how many bytes they hold, and how many more records and bytes of theirs find room
 pub record OutboxState : Type 0 where
@@ -22,12 +24,25 @@ plain_answer_model (Handle handle) = HandleIs handle
 plain_answer_model Done = DoneIs
 plain_answer_model (Refused refusal) = RefusedIs refusal
 
+-- a message of that heading with these bytes as payload
+abbrev pub headed : Heading → List ℕ → MessageModel
+headed heading bytes = record {
+  src = heading.src;
+  com_id = heading.com_id;
+  source_uri = heading.source_uri;
+  dest_uri = heading.dest_uri;
+  payload = bytes;
+}
+
 -- what a row says with these bytes
 abbrev pub row_content : Form → List ℕ → Content
 row_content (PlainAnswer answer) bytes = Answers (plain_answer_model answer)
 row_content (Value state counter) bytes =
     Answers (ValueIs (record { state = state; counter = counter; bytes = bytes }))
-row_content (Indication indication) bytes = Indicates (indication_model indication)
+row_content (Silent handle) bytes = Indicates (SilentIs handle)
+row_content (Alive handle) bytes = Indicates (AliveIs handle)
+row_content (Notified handle heading) bytes =
+    Indicates (NotifiedIs handle (headed heading bytes))
 row_content (Send protocol to) bytes = Sends protocol to bytes
 
 -- the record of a row

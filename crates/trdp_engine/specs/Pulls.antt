@@ -5,10 +5,10 @@ use Rattle.trdp_head.specs.declared.pd.PdHead.{PdHead}
 use Rattle.trdp_head.specs.PdBytes.{pd_bytes}
 use Rattle.trdp_filter.specs.declared.globals.Globals.{Globals}
 use Rattle.trdp_filter.specs.Counts.{topo_valid}
-use Rattle.trdp_filter.specs.Telegrams.{TelegramModel, PdIs}
+use Rattle.trdp_filter.specs.Telegrams.{TelegramModel, PdIs, MdIs}
 use Rattle.trdp_table.specs.declared.any_object.AnyObject.{AnyObject}
 use Rattle.trdp_table.specs.declared.any_object.AnyObject.TheVariants.{Publisher, Subscription}
-use Rattle.trdp_table.specs.declared.any_object.AnyObject.TheVariants.{Requester}
+use Rattle.trdp_table.specs.declared.any_object.AnyObject.TheVariants.{Requester, Listener}
 use Rattle.trdp_pd.specs.Requesters.{RequesterState, pulling}
 use Rattle.trdp_engine.specs.Configs.{NodeSetup}
 use Rattle.trdp_engine.specs.declared.fault.Refusal.TheVariants.{WrongKind, State}
@@ -30,17 +30,20 @@ abbrev pub pulls : Globals → AnyObject → Act
 pulls globals (Publisher p) = refuses (Publisher p) WrongKind
 pulls globals (Subscription s) = refuses (Subscription s) WrongKind
 pulls globals (Requester r) = pulls_if (topo_valid r.terms.topo globals.topo) r
+pulls globals (Listener l) = refuses (Listener l) WrongKind
 
 -- where a pull request is answered: at its reply address, at the node's own process data port, or
--- where it has no such address at the place that it came from
+-- where it has no such address at the place that it came from; a message is no pull request
 unfoldable pub answer_place : NodeSetup → TelegramModel → Place
 answer_place setup (PdIs src dst telegram) =
     if telegram.head.reply_ip.0 == 0
     then src
     else record { ip = telegram.head.reply_ip; port = setup.pd_port }
+answer_place setup (MdIs src dst telegram) = src
 
 -- the answer of a publisher to a pull request carries its value
 abbrev pub pull_answer : AnyObject → Place → PdHead → List Content
 pull_answer (Publisher p) to head = value_sent to head p.value
 pull_answer (Subscription s) to head = []
 pull_answer (Requester r) to head = []
+pull_answer (Listener l) to head = []

@@ -8,7 +8,8 @@ use Rattle.trdp_engine.specs.declared.fault.Refusal.{Refusal}
 use Rattle.trdp_engine.specs.declared.record.Answer.{Answer as AnyAnswer}
 use Rattle.trdp_engine.specs.declared.record.Answer.TheVariants.{Handle, Done, Value, Refused}
 use Rattle.trdp_engine.specs.declared.record.Indication.{Indication as AnyIndication}
-use Rattle.trdp_engine.specs.declared.record.Indication.TheVariants.{Silent, Alive}
+use Rattle.trdp_engine.specs.declared.record.Indication.TheVariants.{Silent, Alive, Notified}
+use Rattle.trdp_engine.specs.declared.record.Message.{Message}
 use Rattle.trdp_engine.specs.declared.record.Protocol.{Protocol}
 use Rattle.trdp_engine.specs.declared.record.Protocol.TheVariants.{Pd}
 use Rattle.trdp_engine.specs.declared.record.What.{What}
@@ -22,11 +23,21 @@ pub data AnswerModel : Type 0 where
   ValueIs : (peek : PeekModel) → AnswerModel
   RefusedIs : (refusal : Refusal) → AnswerModel
 
+-- what a listener's slot is told of a message: where it came from, its comId, its URIs and its
+-- payload
+pub record MessageModel : Type 0 where
+  pub src : Place
+  pub com_id : ℕ
+  pub source_uri : List ℕ
+  pub dest_uri : List ℕ
+  pub payload : List ℕ
+
 -- what a node tells a slot of its own accord: the subscription of that handle fell silent, or is
--- alive again
+-- alive again; the listener of that handle was notified
 pub data IndicationModel : Type 0 where
   SilentIs : (handle : ℕ) → IndicationModel
   AliveIs : (handle : ℕ) → IndicationModel
+  NotifiedIs : (handle : ℕ) (message : MessageModel) → IndicationModel
 
 -- what a record says: an answer, an indication, or a telegram with its protocol, its destination
 -- and every byte
@@ -47,10 +58,21 @@ answer_model Done = DoneIs
 answer_model (Value peek) = ValueIs (peek_model peek)
 answer_model (Refused refusal) = RefusedIs refusal
 
+-- a message, apart from where its bytes lie
+abbrev pub message_model : Message → MessageModel
+message_model m = record {
+  src = m.src;
+  com_id = m.com_id;
+  source_uri = m.source_uri;
+  dest_uri = m.dest_uri;
+  payload = m.payload.now;
+}
+
 -- an indication, apart from where its bytes lie
 abbrev pub indication_model : AnyIndication → IndicationModel
 indication_model (Silent handle) = SilentIs handle
 indication_model (Alive handle) = AliveIs handle
+indication_model (Notified handle message) = NotifiedIs handle (message_model message)
 
 -- what a record says, apart from where its bytes lie
 abbrev pub content_model : What → Content

@@ -1,6 +1,8 @@
 -- How much room of an outbox the records of an event take, and where memory may be wanting.
-use Rattle.std.specs.Prelude.{ℕ, ◌<◌, ◌≤◌, ◌⊎◌, List, filter, Option, Some, None, if◌then◌else◌}
+use Rattle.std.specs.Prelude.{ℕ, ◌<◌, ◌≤◌, ◌⊎◌, List, length, filter, nat_lt, Option, Some, None}
+use Rattle.std.specs.Prelude.{if◌then◌else◌}
 use Rattle.std.specs.List.{flat_map, sum_by}
+use Rattle.trdp_head.specs.MdBytes.{md_length_of}
 use Rattle.trdp_filter.specs.declared.globals.Globals.{Globals}
 use Rattle.trdp_filter.specs.Telegrams.{TelegramModel}
 use Rattle.trdp_table.specs.declared.kind.Kind.{Kind}
@@ -8,9 +10,7 @@ use Rattle.trdp_table.specs.declared.kind.Kind.TheVariants.{Publisher, Subscript
 use Rattle.trdp_table.specs.declared.kind.Kind.TheVariants.{Listener, Caller, Replier}
 use Rattle.trdp_table.specs.Kinds.{kind_of}
 use Rattle.trdp_engine.specs.declared.room.Room.{Room}
-use Rattle.trdp_engine.specs.Events.{CallModel, PublishCall, PutCall, UnpublishCall, SubscribeCall}
-use Rattle.trdp_engine.specs.Events.{GetCall, UnsubscribeCall, OpenPullCall, PullCall}
-use Rattle.trdp_engine.specs.Events.{ClosePullCall}
+use Rattle.trdp_engine.specs.Events.{CallModel, PublishCall, SubscribeCall, NotifyCall}
 use Rattle.trdp_engine.specs.Events.{EventModel, MomentIs, TopologyIs, RoleIs, DatagramIs, CallIs}
 use Rattle.trdp_engine.specs.Slots.{Entry, SlotState}
 use Rattle.trdp_engine.specs.Datagrams.{telegram_of, is_valid_at, acting}
@@ -32,12 +32,12 @@ abbrev pub no_room : Room
 no_room = record { rows = 0; bytes = 0 }
 
 -- the most that an object of a kind gives at a moment or a telegram: a publisher one telegram of
--- at most 1472 bytes, a subscription one indication; message data comes later
+-- at most 1472 bytes, a subscription one indication, a listener one with at most 65388 bytes
 abbrev pub kind_room : Kind → Room
 kind_room Publisher = record { rows = 1; bytes = 1472 }
 kind_room Subscription = record { rows = 1; bytes = 0 }
 kind_room Requester = no_room
-kind_room Listener = no_room
+kind_room Listener = record { rows = 1; bytes = 65388 }
 kind_room Caller = no_room
 kind_room Replier = no_room
 
@@ -60,22 +60,26 @@ datagram_room globals slots (Some telegram) =
     then entries_room (flat_map (λ slot. acting telegram globals slot.objects) slots)
     else no_room
 
--- room for the records of a call: a pull has two, and a value is at most 1432 bytes long
-abbrev pub call_room : Room
-call_room = record { rows = 2; bytes = 1432 }
+-- room for the records of a call at an object: a pull has two, and a value is at most 1432 bytes
+-- long
+abbrev pub answer_room : Room
+answer_room = record { rows = 2; bytes = 1432 }
+
+-- room for the records of a notification of so many bytes: the answer and its telegram
+abbrev pub notify_room : ℕ → Room
+notify_room n = record { rows = 2; bytes = if nat_lt 65388 n then 0 else md_length_of n }
+
+-- room for the records of a call
+abbrev pub call_room : CallModel → Room
+call_room (NotifyCall terms payload) = notify_room (length payload)
+call_room _ = answer_room
 
 -- where memory may be wanting for a call: it makes a publisher or a subscription, or the outbox
 -- lacks room for its records
 abbrev pub CallMayLack : OutboxState → CallModel → Type 0
 CallMayLack out (PublishCall terms) = Unit {0}
-CallMayLack out (PutCall handle bytes) = LacksRoom out call_room
-CallMayLack out (UnpublishCall handle) = LacksRoom out call_room
 CallMayLack out (SubscribeCall terms) = Unit {0}
-CallMayLack out (GetCall handle) = LacksRoom out call_room
-CallMayLack out (UnsubscribeCall handle) = LacksRoom out call_room
-CallMayLack out (OpenPullCall terms) = LacksRoom out call_room
-CallMayLack out (PullCall handle) = LacksRoom out call_room
-CallMayLack out (ClosePullCall handle) = LacksRoom out call_room
+CallMayLack out call = LacksRoom out (call_room call)
 
 -- where memory may be wanting for an event: at such a call, and else where the outbox lacks room
 -- for the event's records

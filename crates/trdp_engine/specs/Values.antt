@@ -11,7 +11,7 @@ use Rattle.trdp_marshal.specs.Spelling.{spelling}
 use Rattle.trdp_marshal.specs.Faults.{encode_fault}
 use Rattle.trdp_table.specs.declared.any_object.AnyObject.{AnyObject}
 use Rattle.trdp_table.specs.declared.any_object.AnyObject.TheVariants.{Publisher, Subscription}
-use Rattle.trdp_table.specs.declared.any_object.AnyObject.TheVariants.{Requester}
+use Rattle.trdp_table.specs.declared.any_object.AnyObject.TheVariants.{Requester, Listener}
 use Rattle.trdp_engine.specs.declared.fault.Refusal.{Refusal}
 use Rattle.trdp_engine.specs.declared.fault.Refusal.TheVariants.{NoHandle, WrongKind, NoDataset}
 use Rattle.trdp_engine.specs.declared.fault.Refusal.TheVariants.{TooLong, Shape}
@@ -36,6 +36,7 @@ item_refusal_of setup item (Publisher p) =
     marshal_refusal (encode_fault setup.registry p.terms.dataset item)
 item_refusal_of setup item (Subscription s) = Some WrongKind
 item_refusal_of setup item (Requester r) = Some WrongKind
+item_refusal_of setup item (Listener l) = Some WrongKind
 
 -- first refusal of an item for the object of a handle
 abbrev pub item_refusal : NodeSetup → ItemModel → Option Entry → Option Refusal
@@ -47,6 +48,7 @@ abbrev pub bytes_for : NodeSetup → ItemModel → AnyObject → List ℕ
 bytes_for setup item (Publisher p) = unwrap_or (spelling setup.registry p.terms.dataset item) []
 bytes_for setup item (Subscription s) = []
 bytes_for setup item (Requester r) = []
+bytes_for setup item (Listener l) = []
 
 -- the bytes of an item as a value of the object of a handle
 abbrev pub item_bytes : NodeSetup → ItemModel → Option Entry → List ℕ

@@ -4,14 +4,15 @@ ghost use Rattle.std.specs.Prelude.{◌≡◌, ◌<◌, ◌≤◌, ◌++◌, len
 ghost use Rattle.trdp_engine.specs.Configs.{setup_of};
 ghost use Rattle.trdp_engine.specs.Records.{labelled};
 ghost use Rattle.trdp_engine.specs.Calls.{ends, at_object};
-ghost use Rattle.trdp_engine.specs.Rooms.{HasRoom, call_room};
+ghost use Rattle.trdp_engine.specs.Rooms.{HasRoom, answer_room};
 ghost use Rattle.trdp_engine.specs.Acting.{slot_at, Becomes};
 ghost use Rattle.trdp_engine.specs.Asked.{asked_act, left_of};
 
 use crate::fault::Refusal;
-use crate::outbox::{Outbox, PlainAnswer};
+use crate::outbox::Outbox;
 use crate::publishers::put;
 use crate::requesters::pull;
+use crate::row::PlainAnswer;
 use crate::subscriptions::show;
 use trdp_dataset::NodeConfig;
 use trdp_filter::Globals;
@@ -41,7 +42,7 @@ pub enum Left {
 
 /// Records whether an object ends: one of another kind refuses.
 fn end(object: &AnyObject, kind: Kind, s: u16, out: &mut Outbox) -> Left
-    requires { HasRoom out.old call_room }
+    requires { HasRoom out.old answer_room }
     ensures left { left_of result object.now ≡ (ends kind object.now).left }
     ensures records { out.new.records
         ≡ out.old.records ++ labelled s (ends kind object.now).records }
@@ -64,7 +65,7 @@ fn ask(
     s: u16,
     out: &mut Outbox,
 ) -> Left
-    requires { HasRoom out.old call_room }
+    requires { HasRoom out.old answer_room }
     ensures left { left_of result object.new
         ≡ (asked_act (setup_of config.now) globals.entry.now asked.now object.old).left }
     ensures records { out.new.records
@@ -96,7 +97,7 @@ pub fn at_object(
     out: &mut Outbox,
 )
     requires slot { s < length table.old }
-    requires room { HasRoom out.old call_room }
+    requires room { HasRoom out.old answer_room }
     ensures { Becomes s
         (at_object (slot_at s table.old) handle
         (asked_act (setup_of config.now) globals.entry.now asked.now)) table.old table.new

@@ -15,10 +15,14 @@ ghost use Rattle.trdp_engine.specs.Acting.{slot_at, Becomes};
 use crate::asked::{Asked, at_object};
 use crate::event::Call;
 use crate::fault::Refusal;
+use crate::listeners::listen;
+use crate::notices::notify;
 use crate::objects::object_of;
-use crate::outbox::{Outbox, PlainAnswer};
+use crate::outbox::Outbox;
 use crate::publishers::publish;
 use crate::requesters::open_pull;
+use crate::room::Room;
+use crate::row::PlainAnswer;
 use crate::subscriptions::subscribe;
 use crate::value::{SpellFault, spell};
 use std::alloc::{AllocError, Global};
@@ -51,8 +55,8 @@ pub fn serve(
     ensures full { OnErr result (CallMayLack out.old (call_model call.now)) }
     ensures still { OnErr result (CallMayLack out.new (call_model call.now)) }
 {
-    // A pull has two records, and the longest value is longer than a pull request.
-    out.reserve(2, PD_PAYLOAD_MAX)?;
+    let room = Room::of_call(call);
+    out.reserve(room.rows, room.bytes)?;
     let asked = match *call {
         Call::Publish(terms) => {
             let answer = publish(table, s, alloc, config, &terms, globals)?;
@@ -69,12 +73,22 @@ pub fn serve(
             out.push_plain_answer(s, answer);
             return Ok(());
         }
+        Call::Listen(filter) => {
+            let answer = listen(table, s, &filter);
+            out.push_plain_answer(s, answer);
+            return Ok(());
+        }
+        Call::Notify { terms, payload } => {
+            notify(&terms, payload, globals, s, out);
+            return Ok(());
+        }
         Call::Put { handle, bytes } => (handle, Asked::Put(bytes)),
         Call::Get { handle } => (handle, Asked::Get),
         Call::Pull { handle } => (handle, Asked::Pull),
         Call::Unpublish { handle } => (handle, Asked::End(Kind::Publisher)),
         Call::Unsubscribe { handle } => (handle, Asked::End(Kind::Subscription)),
         Call::ClosePull { handle } => (handle, Asked::End(Kind::Requester)),
+        Call::Unlisten { handle } => (handle, Asked::End(Kind::Listener)),
     };
     at_object(table, s, asked.0, &asked.1, config, globals, out);
     Ok(())

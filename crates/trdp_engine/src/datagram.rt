@@ -11,7 +11,6 @@ ghost use Rattle.trdp_table.specs.TableLaws.{object_limit};
 ghost use Rattle.trdp_engine.specs.Configs.{setup_of};
 ghost use Rattle.trdp_engine.specs.Slots.{SlotState, slots_of, entry_of};
 ghost use Rattle.trdp_engine.specs.Records.{labelled};
-ghost use Rattle.trdp_engine.specs.Pulls.{answer_place};
 ghost use Rattle.trdp_engine.specs.Datagrams.{is_valid_at, fits_object};
 ghost use Rattle.trdp_engine.specs.Datagrams.{is_for_entry, taken_records, taking_act, acting};
 ghost use Rattle.trdp_engine.specs.Datagrams.{received};
@@ -21,26 +20,17 @@ ghost use Rattle.trdp_engine.specs.Acting.{slot_at, MayAct, TookWithin, ActsAt};
 ghost use Rattle.trdp_engine.specs.Noted.{noted_as, noted_from};
 ghost use Rattle.trdp_engine.specs.Quiet.{IsQuiet};
 
-use crate::objects::{handle_at, object_at};
+use crate::addressees::Addressee;
+use crate::notices::push_heard;
 use crate::outbox::Outbox;
 use crate::pull::{answer_place, push_answer};
 use crate::quiet_slots::wake;
-use crate::record::Indication;
-use crate::room::Room;
+use crate::row::Form;
 use trdp_dataset::NodeConfig;
 use trdp_filter::{Globals, Telegram, topo_valid};
 use trdp_marshal::fits;
 use trdp_pd::{Object, Taken};
 use trdp_table::{AnyObject, Table};
-
-/// An object that is to act.
-#[derive(Clone, Copy)]
-pub struct Addressee {
-    /// The number of its slot.
-    pub slot: u16,
-    /// Its handle there.
-    pub handle: u32,
-}
 
 /// Whether the telegram's topology counts match the node's.
 pub fn is_valid_at(telegram: &Telegram<'_>, globals: &Globals) -> bool
@@ -48,6 +38,7 @@ pub fn is_valid_at(telegram: &Telegram<'_>, globals: &Globals) -> bool
 {
     match telegram {
         Telegram::Pd { view, .. } => topo_valid(view.head.topo, globals.topo),
+        Telegram::Md { view, .. } => topo_valid(view.head.topo, globals.topo),
     }
 }
 
@@ -59,6 +50,7 @@ fn fits_object(config: &NodeConfig, telegram: &Telegram<'_>, object: &AnyObject)
         None => true,
         Some(dataset) => match telegram {
             Telegram::Pd { view, .. } => fits(config.registry(), dataset, view.payload),
+            Telegram::Md { view, .. } => fits(config.registry(), dataset, view.payload),
         },
     }
 }
@@ -84,8 +76,7 @@ fn take_object(
     ensures records { out.new.records
         ≡ out.old.records
         ++ labelled s
-        (taken_records (answer_place (setup_of config.now) (telegram_model telegram.now)) handle
-        object.old
+        (taken_records (setup_of config.now) (telegram_model telegram.now) handle object.old
         (taken object.old (telegram_model telegram.now) globals.entry.now
         (fits_object (setup_of config.now) (telegram_model telegram.now) object.old))) }
     ensures within { TookWithin out.old out.new (kind_room (kind_of object.old)) }
@@ -94,10 +85,11 @@ fn take_object(
     match object.take(telegram, globals, fits) {
         Taken::Nothing => {}
         Taken::Stored => {}
-        Taken::Alive => out.push_indication(s, Indication::Alive(handle)),
+        Taken::Alive => out.push(s, Form::Alive(handle)),
         Taken::Pulled(head) => {
             push_answer(object, answer_place(config, telegram), &head, s, out);
         }
+        Taken::Heard => push_heard(telegram, handle, s, out),
     }
 }
 
@@ -167,90 +159,4 @@ pub fn take_all(
         );
         wake(quiet, addressee.slot);
     }
-}
-
-/// Notes the object of that index in slot `s` if it acts at the telegram, and answers the room for
-/// what it may give.
-fn note_at(
-    table: &Table,
-    s: u16,
-    index: usize,
-    telegram: &Telegram<'_>,
-    globals: &Globals,
-    noted: &mut Vec<Addressee>,
-) -> Room
-    requires slot { s < length table.now }
-    requires capacity { vec_len noted.old < vec_capacity noted.old }
-    ensures noted { IfSome (slice_get (slot_at s table.now).objects index)
-        (λ entry. noted.new.items ≡ noted.old.items ++ noted_as s
-        (filter (is_for_entry (telegram_model telegram.now) globals.entry.now) (entry ∷ []))) }
-    ensures room { IfSome (slice_get (slot_at s table.now).objects index)
-        (λ entry. result ≡ entries_room
-        (filter (is_for_entry (telegram_model telegram.now) globals.entry.now) (entry ∷ []))) }
-    ensures rows { result.rows ≤ 1 }
-    ensures bytes { result.bytes ≤ 1472 }
-    ensures capacity { vec_capacity noted.new ≡ vec_capacity noted.old }
-    ensures length { vec_len noted.new ≤ vec_len noted.old + 1 }
-{
-    match (object_at(table, s, index), handle_at(table, s, index)) {
-        (Some(object), Some(handle)) => {
-            if !object.addressed(telegram, globals) {
-                return Room::none();
-            }
-            noted.push_reserved(Addressee { slot: s, handle });
-            Room::of(object)
-        }
-        _ => Room::none(),
-    }
-}
-
-/// Notes the objects of slot `s` that act at the telegram, behind what is noted, and answers the
-/// room for what they may give.
-fn note_in(
-    table: &Table,
-    s: u16,
-    telegram: &Telegram<'_>,
-    globals: &Globals,
-    noted: &mut Vec<Addressee>,
-) -> Room
-    requires slot { s < length table.now }
-    requires capacity { vec_len noted.old + object_limit ≤ vec_capacity noted.old }
-    ensures noted { noted.new.items ≡ noted.old.items ++ noted_as s
-        (acting (telegram_model telegram.now) globals.entry.now (slot_at s table.now).objects) }
-    ensures room { result ≡ entries_room
-        (acting (telegram_model telegram.now) globals.entry.now (slot_at s table.now).objects) }
-    ensures rows { result.rows ≤ object_limit }
-    ensures bytes { result.bytes ≤ 1472 * object_limit }
-    ensures capacity { vec_capacity noted.new ≡ vec_capacity noted.old }
-    ensures length { vec_len noted.new ≤ vec_len noted.old + object_limit }
-{
-    let mut room = Room::none();
-    for index in 0..table.count(s) {
-        room = room.plus(note_at(table, s, index, telegram, globals, noted));
-    }
-    room
-}
-
-/// Notes the objects that act at the telegram, slot by slot, and answers the room for what they
-/// may give.
-pub fn note_all(
-    table: &Table,
-    telegram: &Telegram<'_>,
-    globals: &Globals,
-    noted: &mut Vec<Addressee>,
-) -> Room
-    requires capacity { 16 * object_limit ≤ vec_capacity noted.old }
-    ensures noted { noted.new.items
-        ≡ noted_from 0 (telegram_model telegram.now) globals.entry.now (slots_of table.now) }
-    ensures room { result ≡ entries_room
-        (flat_map (λ slot. acting (telegram_model telegram.now) globals.entry.now slot.objects)
-        (slots_of table.now)) }
-    ensures capacity { vec_capacity noted.new ≡ vec_capacity noted.old }
-{
-    noted.clear();
-    let mut room = Room::none();
-    for s in 0..table.slots() {
-        room = room.plus(note_in(table, s as u16, telegram, globals, noted));
-    }
-    room
 }

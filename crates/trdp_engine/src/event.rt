@@ -2,6 +2,8 @@
 
 use crate::record::Protocol;
 use trdp_base::{Place, Topo};
+use trdp_filter::MdFilter;
+use trdp_md::NotifyTerms;
 use trdp_pd::{PublisherTerms, RequesterTerms, SubscriptionTerms};
 
 /// A call of the application in a slot.
@@ -18,12 +20,17 @@ pub enum Call<'a> {
     /// # Errors
     /// Refused: the first that applies of `NoHandle`, `WrongKind`, `TooLong` (above 1,432 bytes)
     /// and `Shape`.
-    Put { handle: u32, bytes: &'a [u8] },
+    Put {
+        handle: u32,
+        bytes: &'a [u8],
+    },
     /// Ends the publisher of that handle.
     ///
     /// # Errors
     /// Refused: the first that applies of `NoHandle` and `WrongKind`.
-    Unpublish { handle: u32 },
+    Unpublish {
+        handle: u32,
+    },
     /// Makes a subscription, and answers its handle.
     ///
     /// # Errors
@@ -35,12 +42,16 @@ pub enum Call<'a> {
     ///
     /// # Errors
     /// Refused: the first that applies of `NoHandle` and `WrongKind`.
-    Get { handle: u32 },
+    Get {
+        handle: u32,
+    },
     /// Ends the subscription of that handle.
     ///
     /// # Errors
     /// Refused: the first that applies of `NoHandle` and `WrongKind`.
-    Unsubscribe { handle: u32 },
+    Unsubscribe {
+        handle: u32,
+    },
     /// Makes a requester, and answers its handle.
     ///
     /// # Errors
@@ -51,12 +62,39 @@ pub enum Call<'a> {
     /// # Errors
     /// Refused: the first that applies of `NoHandle`, `WrongKind`, and `State` where its topology
     /// counts don't match the node's.
-    Pull { handle: u32 },
+    Pull {
+        handle: u32,
+    },
     /// Ends the requester of that handle.
     ///
     /// # Errors
     /// Refused: the first that applies of `NoHandle` and `WrongKind`.
-    ClosePull { handle: u32 },
+    ClosePull {
+        handle: u32,
+    },
+    /// Makes a listener of the messages that the filter lets in, and answers its handle.
+    ///
+    /// # Errors
+    /// Refused: the first that applies of `Range`, `Quota` and `Exhausted`.
+    Listen(MdFilter),
+    /// Ends the listener of that handle.
+    ///
+    /// # Errors
+    /// Refused: the first that applies of `NoHandle` and `WrongKind`.
+    Unlisten {
+        handle: u32,
+    },
+    /// Sends one notification, after the answer; nothing is opened.
+    ///
+    /// # Errors
+    /// Refused: the first that applies of `State` where its topology counts don't match the
+    /// node's, and `TooLong` (above 65,388 bytes).
+    Notify {
+        /// Under which header it is sent, and where to.
+        terms: NotifyTerms,
+        /// What it says, at most 65,388 bytes.
+        payload: &'a [u8],
+    },
 }
 
 /// One event, the atomic step of a node (profile).

@@ -7,15 +7,18 @@
 //! (`trdp_worked`) show that with ample memory every event is taken and every item shown.
 #![tactic(auto)]
 
+mod addressees;
 mod asked;
 mod calls;
 mod datagram;
 mod event;
 mod fault;
 mod laws;
+mod listeners;
 mod look;
 mod moment;
 mod node;
+mod notices;
 mod objects;
 mod opening;
 mod outbox;
@@ -27,6 +30,7 @@ mod reception;
 mod record;
 mod requesters;
 mod room;
+mod row;
 mod run;
 mod shown;
 mod slots;
@@ -40,16 +44,17 @@ pub use laws::{run_both, same_view, view_drops_nothing};
 pub use node::Node;
 pub use outbox::Outbox;
 pub use peek::PeekFault;
-pub use record::{Answer, Indication, Protocol, Record, What};
+pub use record::{Answer, Indication, Message, Protocol, Record, What};
 pub use shown::ValueFault;
 
 // What callers pass in and get back, so that a program names this crate alone.
 pub use trdp_base::{
     IP_LENGTH, Ip, MOMENT_MAX, Moment, NUMBER_LENGTH, PLACE_LENGTH, Place, QUOTA_LIMIT, Quotas,
-    TextFault, Topo, push_hex, push_ip, push_number, push_place, read_hex, read_ip, read_number,
-    read_place,
+    TextFault, Topo, Uri, push_hex, push_ip, push_number, push_place, read_hex, read_ip,
+    read_number, read_place, read_uri,
 };
 pub use trdp_dataset::{ConfigFault, Key, NodeConfig, Registry};
-pub use trdp_filter::PdFilter;
+pub use trdp_filter::{MdFilter, PdFilter};
 pub use trdp_marshal::Item;
+pub use trdp_md::NotifyTerms;
 pub use trdp_pd::{Behaviour, Peek, PublisherTerms, RequesterTerms, SubscriptionTerms, ValueState};

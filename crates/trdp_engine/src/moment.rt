@@ -18,8 +18,8 @@ ghost use Rattle.trdp_engine.specs.Firing.{due_time, sooner, IsFirst, IsNext};
 
 use crate::objects::{handle_at, object_at};
 use crate::outbox::Outbox;
-use crate::record::Indication;
 use crate::room::Room;
+use crate::row::Form;
 use trdp_filter::Globals;
 use trdp_head::{PD_TELEGRAM_MAX, PdHead};
 use trdp_pd::{Fired, Object};
@@ -121,7 +121,7 @@ fn fire_object(object: &mut AnyObject, handle: u32, globals: &Globals, s: u16, o
     match object.fire(globals) {
         Fired::Nothing => {}
         Fired::Data(head) => push_data(object, &head, s, out),
-        Fired::Silent => out.push_indication(s, Indication::Silent(handle)),
+        Fired::Silent => out.push(s, Form::Silent(handle)),
     }
 }
 
@@ -166,7 +166,7 @@ fn due_room_at(table: &Table, s: u16, index: usize, t: u64) -> Room
     ensures room { IfSome (slice_get (slot_at s table.now).objects index)
         (λ entry. result ≡ entries_room (filter (is_due t) (entry ∷ []))) }
     ensures rows { result.rows ≤ 1 }
-    ensures bytes { result.bytes ≤ 1472 }
+    ensures bytes { result.bytes ≤ 65388 }
 {
     match object_at(table, s, index) {
         None => Room::none(),
@@ -182,7 +182,7 @@ pub fn due_room_in(table: &Table, s: u16, t: u64) -> Room
     requires { s < length table.now }
     ensures room { result ≡ entries_room (filter (is_due t) (slot_at s table.now).objects) }
     ensures rows { result.rows ≤ object_limit }
-    ensures bytes { result.bytes ≤ 1472 * object_limit }
+    ensures bytes { result.bytes ≤ 65388 * object_limit }
 {
     table.sound();
     let mut room = Room::none();

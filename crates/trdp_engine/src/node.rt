@@ -11,8 +11,8 @@ ghost use Rattle.trdp_marshal.specs.Items.{model_of};
 ghost use Rattle.trdp_engine.specs.Values.{valued_at};
 ghost use Rattle.trdp_engine.specs.Configs.{setup_of};
 
+use crate::addressees::Addressee;
 use crate::calls::{put_value, serve};
-use crate::datagram::Addressee;
 use crate::event::{Call, Event};
 use crate::fault::NodeFault;
 use crate::look::subscription_at;
@@ -188,7 +188,7 @@ impl Node {
         Ok(())
     }
 
-    /// Takes a datagram. One that is no telegram, or of message data, changes nothing.
+    /// Takes a datagram. One that is no telegram changes nothing.
     ///
     /// # Errors
     /// `OutOfMemory`, where it concerns a slot.
@@ -304,20 +304,20 @@ impl Node {
             (event_model event.now) s slot) }
         ensures appends { Appends self.old.slots out.old.records out.new.records }
     {
-        match *event {
-            Event::Moment(t) => self.step_moment(t, out),
+        match event {
+            Event::Moment(t) => self.step_moment(*t, out),
             Event::Topology(topo) => {
-                self.step_topology(topo);
+                self.step_topology(*topo);
                 Ok(())
             }
-            Event::Role { group, leader } => self.step_role(group, leader),
+            Event::Role { group, leader } => self.step_role(*group, *leader),
             Event::Datagram {
                 protocol,
                 src,
                 dst,
                 bytes,
-            } => self.step_datagram(protocol, src, dst, bytes, out),
-            Event::Call { slot, call } => self.step_call(slot, &call, out),
+            } => self.step_datagram(*protocol, *src, *dst, bytes, out),
+            Event::Call { slot, call } => self.step_call(*slot, call, out),
         }
     }
 

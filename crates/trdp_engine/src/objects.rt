@@ -25,9 +25,7 @@ pub fn object_at(table: &Table, s: u16, index: usize) -> Option<&AnyObject>
         ≡ option_map (λ entry. entry.object)
         (slice_get (slot_at s table.now).objects index) }
 {
-    table.sound();
-    let key = table.at(s, index)?;
-    table.get(key)
+    table.object_at(s, index)
 }
 
 /// The handle of the object of that index in slot `s`; None past the last one.
@@ -37,8 +35,5 @@ pub fn handle_at(table: &Table, s: u16, index: usize) -> Option<u32>
         ≡ option_map (λ entry. entry.handle)
         (slice_get (slot_at s table.now).objects index) }
 {
-    table.sound();
-    let key = table.at(s, index)?;
-    let owner = table.owner(key)?;
-    Some(owner.1)
+    table.handle_at(s, index)
 }

@@ -11,7 +11,7 @@ ghost use Rattle.trdp_engine.specs.Outboxes.{plain_answer_model};
 ghost use Rattle.trdp_engine.specs.Acting.{slot_at};
 
 use crate::fault::Refusal;
-use crate::outbox::PlainAnswer;
+use crate::row::PlainAnswer;
 use trdp_dataset::NodeConfig;
 use trdp_head::PD_PAYLOAD_MAX;
 use trdp_table::{AnyObject, Kind, Table};

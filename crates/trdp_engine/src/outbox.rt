@@ -1,60 +1,23 @@
 //! What a node gives its slots, in order.
 
 ghost use Rattle.std.specs.Prelude.{◌≡◌, ℕ, ◌+◌, ◌<◌, ◌≤◌, ◌↔◌, ◌++◌, ◌∷◌, length, List, []};
-ghost use Rattle.std.specs.Prelude.{Option, OnOk, OnErr, IsTrue, ◌⊎◌, slice_get, option_map, take};
+ghost use Rattle.std.specs.Prelude.{OnOk, OnErr, IsTrue, ◌⊎◌, slice_get, option_map, option_copied, take};
 ghost use Rattle.std.specs.Prelude.{drop, vec_len, vec_capacity};
 ghost use Rattle.trdp_head.specs.PdBytes.{pd_bytes, pd_length_of};
-ghost use Rattle.trdp_engine.specs.declared.record.Protocol.TheVariants.{Pd};
+ghost use Rattle.trdp_head.specs.MdBytes.{md_bytes, md_length_of};
+ghost use Rattle.trdp_engine.specs.declared.record.Protocol.TheVariants.{Pd, Md};
 ghost use Rattle.trdp_pd.specs.Peeks.{peek_model};
-ghost use Rattle.trdp_engine.specs.Records.{Answers, ValueIs, Indicates, Sends, RecordModel};
-ghost use Rattle.trdp_engine.specs.Records.{answer_model, content_model, indication_model};
-ghost use Rattle.trdp_engine.specs.Records.{record_model};
+ghost use Rattle.trdp_engine.specs.Records.{Answers, ValueIs, Indicates, NotifiedIs, Sends};
+ghost use Rattle.trdp_engine.specs.Records.{RecordModel, message_model, record_model};
 ghost use Rattle.trdp_engine.specs.Outboxes.{plain_answer_model, row_content};
 
-use crate::fault::Refusal;
-use crate::record::{Answer, Indication, Protocol, Record, What};
+use crate::record::{Message, Protocol, Record};
+use crate::row::{Form, Heading, PlainAnswer, Row, push_row, record};
 use std::alloc::{AllocError, Global};
 use std::marker::Model;
 use trdp_base::Place;
-use trdp_head::{PdHead, push_pd};
-use trdp_pd::{Peek, ValueState};
-
-/// An answer without bytes.
-#[derive(Clone, Copy)]
-pub enum PlainAnswer {
-    /// A new object has this handle.
-    Handle(u32),
-    /// The call took effect.
-    Done,
-    /// The call was refused so.
-    Refused(Refusal),
-}
-
-/// What a row says, but for its bytes.
-#[derive(Clone, Copy)]
-pub enum Form {
-    /// An answer without bytes.
-    PlainAnswer(PlainAnswer),
-    /// What a subscription shows: how good its value is and the counter that came with it.
-    Value(ValueState, u32),
-    /// What happened to an object.
-    Indication(Indication),
-    /// A telegram of the protocol, to be sent to that place.
-    Send(Protocol, Place),
-}
-
-/// A record whose bytes lie in the outbox's list.
-#[derive(Clone, Copy)]
-pub struct Row {
-    /// The number of the slot that it is for, from 0.
-    slot: u16,
-    /// What it says, but for its bytes.
-    form: Form,
-    /// The index of its first byte in the outbox's list.
-    at: usize,
-    /// How many bytes it has; 0 where it has none.
-    len: usize,
-}
+use trdp_head::{MdHead, PdHead, push_md, push_pd};
+use trdp_pd::Peek;
 
 /// The records of a node's events, in order, with the bytes of their telegrams and values. It
 /// keeps its memory when it is cleared.
@@ -146,7 +109,7 @@ impl Outbox {
     }
 
     /// Adds a record without bytes.
-    fn push(&mut self, slot: u16, form: Form)
+    pub(crate) fn push(&mut self, slot: u16, form: Form)
         requires { 0 < self.old.row_room }
         ensures records { self.new.records
             ≡ self.old.records ++ record { slot = slot; content = row_content form [] } ∷ [] }
@@ -154,15 +117,7 @@ impl Outbox {
         ensures byte_room { self.old.byte_room ≤ self.new.byte_room }
     {
         let at = self.bytes.len();
-        append_row(
-            &mut self.rows,
-            Row {
-                slot,
-                form,
-                at,
-                len: 0,
-            },
-        );
+        push_row(&mut self.rows, slot, form, at, 0);
     }
 
     /// Adds an answer without bytes.
@@ -177,16 +132,19 @@ impl Outbox {
         self.push(slot, Form::PlainAnswer(answer));
     }
 
-    /// Adds an indication.
-    pub(crate) fn push_indication(&mut self, slot: u16, indication: Indication)
-        requires { 0 < self.old.row_room }
+    /// Adds a record with those bytes.
+    fn push_with(&mut self, slot: u16, form: Form, bytes: &[u8])
+        requires row { 0 < self.old.row_room }
+        requires bytes { length bytes.now ≤ self.old.byte_room }
         ensures records { self.new.records
-            ≡ self.old.records
-            ++ record { slot = slot; content = Indicates (indication_model indication) } ∷ [] }
+            ≡ self.old.records ++ record { slot = slot; content = row_content form bytes.now }
+            ∷ [] }
         ensures row_room { self.old.row_room ≤ self.new.row_room + 1 }
-        ensures byte_room { self.old.byte_room ≤ self.new.byte_room }
+        ensures byte_room { self.old.byte_room ≤ self.new.byte_room + length bytes.now }
     {
-        self.push(slot, Form::Indication(indication));
+        let at = self.bytes.len();
+        let len = append(&mut self.bytes, bytes);
+        push_row(&mut self.rows, slot, form, at, len);
     }
 
     /// Adds the answer to a look at a subscription.
@@ -200,17 +158,30 @@ impl Outbox {
         ensures row_room { self.old.row_room ≤ self.new.row_room + 1 }
         ensures byte_room { self.old.byte_room ≤ self.new.byte_room + length peek.entry.bytes.now }
     {
-        let at = self.bytes.len();
-        let len = append(&mut self.bytes, peek.bytes);
-        append_row(
-            &mut self.rows,
-            Row {
-                slot,
-                form: Form::Value(peek.state, peek.counter),
-                at,
-                len,
-            },
-        );
+        self.push_with(slot, Form::Value(peek.state, peek.counter), peek.bytes);
+    }
+
+    /// Adds that a listener heard a notification.
+    pub(crate) fn push_notified(&mut self, slot: u16, handle: u32, message: &Message<'_>)
+        requires row { 0 < self.old.row_room }
+        requires bytes { length message.now.payload.now ≤ self.old.byte_room }
+        ensures records { self.new.records
+            ≡ self.old.records
+            ++ record {
+              slot = slot;
+              content = Indicates (NotifiedIs handle (message_model message.now));
+            } ∷ [] }
+        ensures row_room { self.old.row_room ≤ self.new.row_room + 1 }
+        ensures byte_room { self.old.byte_room
+            ≤ self.new.byte_room + length message.now.payload.now }
+    {
+        let heading = Heading {
+            src: message.src,
+            com_id: message.com_id,
+            source_uri: message.source_uri,
+            dest_uri: message.dest_uri,
+        };
+        self.push_with(slot, Form::Notified(handle, heading), message.payload);
     }
 
     /// Adds a process data telegram, which it writes into its own bytes.
@@ -228,69 +199,37 @@ impl Outbox {
     {
         let at = self.bytes.len();
         let len = push_pd(head, payload, &mut self.bytes);
-        append_row(
-            &mut self.rows,
-            Row {
-                slot,
-                form: Form::Send(Protocol::Pd, to),
-                at,
-                len,
-            },
-        );
+        push_row(&mut self.rows, slot, Form::Send(Protocol::Pd, to), at, len);
+    }
+
+    /// Adds a message data telegram, which it writes into its own bytes.
+    pub(crate) fn push_md(&mut self, slot: u16, to: Place, head: &MdHead, payload: &[u8])
+        requires row { 0 < self.old.row_room }
+        requires payload { length payload.now ≤ 65388 }
+        requires bytes { md_length_of (length payload.now) ≤ self.old.byte_room }
+        ensures records { self.new.records
+            ≡ self.old.records
+            ++ record { slot = slot; content = Sends Md to (md_bytes head.now payload.now) }
+            ∷ [] }
+        ensures row_room { self.old.row_room ≤ self.new.row_room + 1 }
+        ensures byte_room { self.old.byte_room
+            ≤ self.new.byte_room + md_length_of (length payload.now) }
+    {
+        let at = self.bytes.len();
+        let len = push_md(head, payload, &mut self.bytes);
+        push_row(&mut self.rows, slot, Form::Send(Protocol::Md, to), at, len);
     }
 }
 
-/// A plain answer as an answer.
-fn answer<'a>(plain: PlainAnswer) -> Answer<'a>
-    ensures { answer_model result ≡ plain_answer_model plain }
+fn row_at(rows: &[Row], i: usize) -> Option<&Row>
+    ensures { option_copied result ≡ slice_get rows.now i }
 {
-    match plain {
-        PlainAnswer::Handle(handle) => Answer::Handle(handle),
-        PlainAnswer::Done => Answer::Done,
-        PlainAnswer::Refused(refusal) => Answer::Refused(refusal),
-    }
+    rows.get(i)
 }
 
-/// What a row says with these bytes.
-fn content(form: Form, bytes: &[u8]) -> What<'_>
-    ensures { content_model result ≡ row_content form bytes.now }
-{
-    match form {
-        Form::PlainAnswer(plain) => What::Answer(answer(plain)),
-        Form::Value(state, counter) => What::Answer(Answer::Value(Peek {
-            state,
-            counter,
-            bytes,
-        })),
-        Form::Indication(indication) => What::Indication(indication),
-        Form::Send(protocol, to) => What::Send {
-            protocol,
-            to,
-            telegram: bytes,
-        },
-    }
-}
-
-/// The record of a row with its bytes.
-fn record(row: Row, bytes: &[u8]) -> Record<'_>
-    ensures { record_model result
-        ≡ record { slot = row.slot; content = row_content row.form bytes.now } }
-{
-    Record {
-        slot: row.slot,
-        what: content(row.form, bytes),
-    }
-}
-
-fn row_at(rows: &[Row], i: usize) -> Option<Row>
-    ensures { result ≡ slice_get rows.now i }
-{
-    rows.get(i).copied()
-}
-
-fn part(bytes: &[u8], row: Row) -> &[u8]
-    requires { row.at + row.len ≤ length bytes.now }
-    ensures { result.now ≡ take row.len (drop row.at bytes.now) }
+fn part<'a>(bytes: &'a [u8], row: &Row) -> &'a [u8]
+    requires { row.now.at + row.now.len ≤ length bytes.now }
+    ensures { result.now ≡ take row.now.len (drop row.now.at bytes.now) }
 {
     &bytes[row.at..row.at + row.len]
 }
@@ -305,13 +244,4 @@ fn append(bytes: &mut Vec<u8>, more: &[u8]) -> usize
 {
     bytes.extend_from_slice(more).unwrap();
     more.len()
-}
-
-fn append_row(rows: &mut Vec<Row>, row: Row)
-    requires { vec_len rows.old < vec_capacity rows.old }
-    ensures items { rows.new.items ≡ rows.old.items ++ row ∷ [] }
-    ensures len { vec_len rows.new ≡ vec_len rows.old + 1 }
-    ensures capacity { vec_capacity rows.old ≤ vec_capacity rows.new }
-{
-    rows.push_reserved(row);
 }

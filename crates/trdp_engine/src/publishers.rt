@@ -12,7 +12,7 @@ ghost use Rattle.trdp_engine.specs.Acting.{slot_at};
 
 use crate::fault::Refusal;
 use crate::opening::{is_span, open, opening_refusal, value_size};
-use crate::outbox::PlainAnswer;
+use crate::row::PlainAnswer;
 use std::alloc::{AllocError, Global};
 use trdp_dataset::NodeConfig;
 use trdp_filter::Globals;
@@ -76,7 +76,7 @@ pub fn put(object: &mut AnyObject, config: &NodeConfig, bytes: &[u8]) -> PlainAn
         ≡ answers object.new (plain_answer_model result) }
 {
     match object {
-        AnyObject::Subscription(_) | AnyObject::Requester(_) => {
+        AnyObject::Subscription(_) | AnyObject::Requester(_) | AnyObject::Listener(_) => {
             PlainAnswer::Refused(Refusal::WrongKind)
         }
         AnyObject::Publisher(publisher) => {

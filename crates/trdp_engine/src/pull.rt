@@ -15,7 +15,8 @@ use trdp_head::{PD_TELEGRAM_MAX, PdHead};
 use trdp_table::AnyObject;
 
 /// Where a pull request is answered: at its reply address, at the node's own process data port, or
-/// where it has no such address at the place that it came from (profile).
+/// where it has no such address at the place that it came from (profile). A message is no pull
+/// request.
 #[tactic(auto, unfolding(crate::specs::Pulls::answer_place))]
 pub fn answer_place(config: &NodeConfig, telegram: &Telegram<'_>) -> Place
     ensures { result ≡ answer_place (setup_of config.now) (telegram_model telegram.now) }
@@ -31,6 +32,7 @@ pub fn answer_place(config: &NodeConfig, telegram: &Telegram<'_>) -> Place
                 }
             }
         }
+        Telegram::Md { src, .. } => src,
     }
 }
 

@@ -12,14 +12,15 @@ ghost use Rattle.trdp_engine.specs.NodeStates.{HasOutcome, Appends};
 ghost use Rattle.trdp_engine.specs.Rooms.{LacksRoom, datagram_room};
 ghost use Rattle.trdp_engine.specs.Quiet.{IsQuiet};
 
-use crate::datagram::{Addressee, is_valid_at, note_all, take_all};
+use crate::addressees::{Addressee, note_all};
+use crate::datagram::{is_valid_at, take_all};
 use crate::outbox::Outbox;
 use crate::record::Protocol;
 use std::alloc::AllocError;
 use trdp_base::Place;
 use trdp_dataset::NodeConfig;
 use trdp_filter::{Globals, Telegram};
-use trdp_head::read_pd;
+use trdp_head::{read_md, read_pd};
 use trdp_table::Table;
 
 /// Takes a telegram. One whose topology counts don't match the node's changes nothing. Room for
@@ -70,8 +71,7 @@ fn receive(
     Ok(())
 }
 
-/// Takes a datagram. One that is no telegram, or of a protocol that isn't served yet, changes
-/// nothing.
+/// Takes a datagram. One that is no telegram changes nothing.
 ///
 /// # Errors
 /// Want of memory, where the datagram concerns a slot; nothing has changed.
@@ -112,18 +112,19 @@ pub fn hear(
         (telegram_of protocol src dst bytes.now))) }
 {
     match protocol {
-        Protocol::Md => Ok(()),
         Protocol::Pd => match read_pd(bytes) {
             Err(_) => Ok(()),
-            Ok(view) => receive(
-                table,
-                quiet,
-                noted,
-                config,
-                &Telegram::Pd { src, dst, view },
-                globals,
-                out,
-            ),
+            Ok(view) => {
+                let telegram = Telegram::Pd { src, dst, view };
+                receive(table, quiet, noted, config, &telegram, globals, out)
+            }
+        },
+        Protocol::Md => match read_md(bytes) {
+            Err(_) => Ok(()),
+            Ok(view) => {
+                let telegram = Telegram::Md { src, dst, view };
+                receive(table, quiet, noted, config, &telegram, globals, out)
+            }
         },
     }
 }

@@ -1,7 +1,7 @@
 //! What a node gives a slot: answers, indications and telegrams.
 
 use crate::fault::Refusal;
-use trdp_base::Place;
+use trdp_base::{Place, Uri};
 use trdp_pd::Peek;
 
 /// The two protocols of TRDP, each with a UDP port of its own (IEC 61375-2-3).
@@ -26,13 +26,30 @@ pub enum Answer<'a> {
     Refused(Refusal),
 }
 
+/// A message that came in, as a listener's slot is told of it.
+#[derive(Clone, Copy, Debug)]
+pub struct Message<'a> {
+    /// The address and port that it came from.
+    pub src: Place,
+    /// comId: what message this is (IEC 61375-2-3).
+    pub com_id: u32,
+    /// sourceURI: who says it; empty for nobody in particular (IEC 61375-2-3).
+    pub source_uri: Uri,
+    /// destinationURI: to whom it is said; empty for nobody in particular (IEC 61375-2-3).
+    pub dest_uri: Uri,
+    /// What it says, at most 65,388 bytes.
+    pub payload: &'a [u8],
+}
+
 /// What a node tells a slot of its own accord.
-#[derive(Clone, Copy, Debug, PartialEq, Eq)]
-pub enum Indication {
+#[derive(Clone, Copy, Debug)]
+pub enum Indication<'a> {
     /// The subscription of this handle had no telegram within its supervision time.
     Silent(u32),
     /// The subscription of this handle was silent, and has a telegram again.
     Alive(u32),
+    /// The listener of this handle heard a notification.
+    Notified(u32, Message<'a>),
 }
 
 /// What a record says.
@@ -41,7 +58,7 @@ pub enum What<'a> {
     /// The answer of a call.
     Answer(Answer<'a>),
     /// What happened to an object.
-    Indication(Indication),
+    Indication(Indication<'a>),
     /// A telegram to send to that place.
     Send {
         /// Over which protocol's port.

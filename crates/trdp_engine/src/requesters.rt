@@ -8,14 +8,15 @@ ghost use Rattle.trdp_engine.specs.Records.{labelled};
 ghost use Rattle.trdp_engine.specs.Pulls.{pulls};
 ghost use Rattle.trdp_engine.specs.Calls.{opening_refusal, opened_unless, answered};
 ghost use Rattle.trdp_engine.specs.Outboxes.{plain_answer_model};
-ghost use Rattle.trdp_engine.specs.Rooms.{HasRoom, call_room};
+ghost use Rattle.trdp_engine.specs.Rooms.{HasRoom, answer_room};
 ghost use Rattle.trdp_engine.specs.Acting.{slot_at};
 ghost use Rattle.trdp_pd.specs.Requesters.{opened};
 ghost use Rattle.trdp_table.specs.declared.kind.Kind.TheVariants.{Requester as Requesting};
 
 use crate::fault::Refusal;
 use crate::opening::open;
-use crate::outbox::{Outbox, PlainAnswer};
+use crate::outbox::Outbox;
+use crate::row::PlainAnswer;
 use trdp_filter::{Globals, topo_valid};
 use trdp_pd::{Requester, RequesterTerms};
 use trdp_table::{AnyObject, Table};
@@ -33,13 +34,13 @@ pub fn open_pull(table: &mut Table, s: u16, terms: &RequesterTerms) -> PlainAnsw
 
 /// Lets the object pull, and records the answer and its pull request.
 pub fn pull(object: &mut AnyObject, globals: &Globals, s: u16, out: &mut Outbox)
-    requires { HasRoom out.old call_room }
+    requires { HasRoom out.old answer_room }
     ensures object { Some object.new ≡ (pulls globals.entry.now object.old).left }
     ensures records { out.new.records
         ≡ out.old.records ++ labelled s (pulls globals.entry.now object.old).records }
 {
     match object {
-        AnyObject::Publisher(_) | AnyObject::Subscription(_) => {
+        AnyObject::Publisher(_) | AnyObject::Subscription(_) | AnyObject::Listener(_) => {
             out.push_plain_answer(s, PlainAnswer::Refused(Refusal::WrongKind));
         }
         AnyObject::Requester(requester) => {

@@ -2,9 +2,11 @@
 
 ghost use Rattle.std.specs.Prelude.{◌≡◌, ◌+◌, ◌<◌, ◌^◌};
 ghost use Rattle.trdp_table.specs.Kinds.{kind_of};
-ghost use Rattle.trdp_engine.specs.Rooms.{kind_room, no_room};
+ghost use Rattle.trdp_engine.specs.Events.{call_model};
+ghost use Rattle.trdp_engine.specs.Rooms.{kind_room, no_room, call_room, notify_room};
 
-use trdp_head::PD_TELEGRAM_MAX;
+use crate::event::Call;
+use trdp_head::{MD_PAYLOAD_MAX, PD_PAYLOAD_MAX, PD_TELEGRAM_MAX, md_length};
 use trdp_table::{AnyObject, Kind};
 
 /// Room in an outbox: for so many records, and so many bytes of theirs.
@@ -47,7 +49,37 @@ impl Room {
                 bytes: PD_TELEGRAM_MAX,
             },
             Kind::Subscription => Room { rows: 1, bytes: 0 },
-            Kind::Requester | Kind::Listener | Kind::Caller | Kind::Replier => Room::none(),
+            Kind::Listener => Room {
+                rows: 1,
+                bytes: MD_PAYLOAD_MAX,
+            },
+            Kind::Requester | Kind::Caller | Kind::Replier => Room::none(),
         }
+    }
+
+    /// The most that a call gives.
+    pub fn of_call(call: &Call<'_>) -> Room
+        ensures { result ≡ call_room (call_model call.now) }
+    {
+        match *call {
+            Call::Notify { payload, .. } => Room::of_notification(payload.len()),
+            // A pull has two records, and the longest value is longer than a pull request.
+            _ => Room {
+                rows: 2,
+                bytes: PD_PAYLOAD_MAX,
+            },
+        }
+    }
+
+    /// The most that a notification of so many bytes gives.
+    fn of_notification(len: usize) -> Room
+        ensures { result ≡ notify_room len }
+    {
+        let bytes = if len > MD_PAYLOAD_MAX {
+            0
+        } else {
+            md_length(len)
+        };
+        Room { rows: 2, bytes }
     }
 }

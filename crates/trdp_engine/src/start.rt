@@ -5,7 +5,7 @@ ghost use Rattle.trdp_table.specs.TableLaws.{object_limit};
 ghost use Rattle.trdp_engine.specs.Slots.{opened_slot, slots_of};
 ghost use Rattle.trdp_engine.specs.Quiet.{IsQuiet};
 
-use crate::datagram::Addressee;
+use crate::addressees::Addressee;
 use std::alloc::{AllocError, Global};
 use trdp_base::Quotas;
 use trdp_dataset::NodeConfig;

@@ -10,13 +10,14 @@ ghost use Rattle.trdp_engine.specs.Slots.{slots_of};
 ghost use Rattle.trdp_engine.specs.Records.{labelled};
 ghost use Rattle.trdp_engine.specs.Calls.{shows, subscribe_refusal, answered, called};
 ghost use Rattle.trdp_engine.specs.Outboxes.{plain_answer_model};
-ghost use Rattle.trdp_engine.specs.Rooms.{HasRoom, call_room};
+ghost use Rattle.trdp_engine.specs.Rooms.{HasRoom, answer_room};
 ghost use Rattle.trdp_engine.specs.Acting.{slot_at};
 
 use crate::fault::Refusal;
 use crate::look::as_subscription;
 use crate::opening::{is_span, open, opening_refusal, value_size};
-use crate::outbox::{Outbox, PlainAnswer};
+use crate::outbox::Outbox;
+use crate::row::PlainAnswer;
 use std::alloc::{AllocError, Global};
 use trdp_dataset::NodeConfig;
 use trdp_filter::Globals;
@@ -94,7 +95,7 @@ pub fn subscribe(
 
 /// Records the answer to a look at the object.
 pub fn show(object: &AnyObject, s: u16, out: &mut Outbox)
-    requires { HasRoom out.old call_room }
+    requires { HasRoom out.old answer_room }
     ensures { out.new.records ≡ out.old.records ++ labelled s (shows object.now).records }
 {
     match as_subscription(object) {

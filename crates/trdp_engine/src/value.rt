@@ -39,7 +39,7 @@ pub fn spell(
         (IsRefusedAs (item_refusal_of (setup_of config.now) (model_of item.now) object.now)) }
 {
     match object {
-        AnyObject::Subscription(_) | AnyObject::Requester(_) => {
+        AnyObject::Subscription(_) | AnyObject::Requester(_) | AnyObject::Listener(_) => {
             Err(SpellFault::Refused(Refusal::WrongKind))
         }
         AnyObject::Publisher(publisher) => {

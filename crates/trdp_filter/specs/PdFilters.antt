@@ -1,21 +1,11 @@
 -- Receive filters of process data.
-use Rattle.std.specs.Prelude.{Bool, ◌==◌, ◌&&◌, ◌||◌, nat_le}
-use Rattle.trdp_base.specs.declared.place.Ip.{Ip}
+use Rattle.std.specs.Prelude.{Bool, ◌==◌, ◌&&◌}
 use Rattle.trdp_base.specs.declared.place.Place.{Place}
 use Rattle.trdp_base.specs.declared.topo.Topo.{Topo}
 use Rattle.trdp_head.specs.declared.pd.PdHead.{PdHead}
 use Rattle.trdp_filter.specs.declared.pd_filter.PdFilter.{PdFilter}
+use Rattle.trdp_filter.specs.Addresses.{in_source_range, is_destination}
 use Rattle.trdp_filter.specs.Counts.{topo_valid}
-
--- the source range: both ends 0 stand for any source, else the source lies from the low end to
--- the high end
-unfoldable pub in_source_range : Ip → Ip → Ip → Bool
-in_source_range low high source =
-    low.0 == 0 && high.0 == 0 || nat_le low.0 source.0 && nat_le source.0 high.0
-
--- the destination address: 0 stands for any, else it is the datagram's
-unfoldable pub is_destination : Ip → Ip → Bool
-is_destination wanted destination = wanted.0 == 0 || wanted.0 == destination.0
 
 -- receive filter: equal comId, source in range, destination address, and counts that match the
 -- filter's and the node's

@@ -1,8 +1,9 @@
 //! Which process data a subscription lets in.
 
 ghost use Rattle.std.specs.Prelude.{◌≡◌};
-ghost use Rattle.trdp_filter.specs.PdFilters.{in_source_range, is_destination, pd_passes};
+ghost use Rattle.trdp_filter.specs.PdFilters.{pd_passes};
 
+use crate::addresses::{in_source_range, is_destination};
 use crate::counts::topo_valid;
 use trdp_base::{Ip, Place, Topo};
 use trdp_head::PdHead;
@@ -23,22 +24,6 @@ pub struct PdFilter {
 }
 
 impl PdFilter {
-    /// Whether the source address lies in the filter's range.
-    #[tactic(auto, unfolding(crate::specs::PdFilters::in_source_range))]
-    fn has_source(&self, source: Ip) -> bool
-        ensures { result ≡ in_source_range self.now.low self.now.high source }
-    {
-        (self.low == Ip(0) && self.high == Ip(0)) || (self.low <= source && source <= self.high)
-    }
-
-    /// Whether the filter is open to the destination address.
-    #[tactic(auto, unfolding(crate::specs::PdFilters::is_destination))]
-    fn has_destination(&self, destination: Ip) -> bool
-        ensures { result ≡ is_destination self.now.dest destination }
-    {
-        self.dest == Ip(0) || self.dest == destination
-    }
-
     /// Whether a telegram from `src` to `dst` under this header passes, at a node with the
     /// topology counts `node` (profile).
     ///
@@ -50,8 +35,8 @@ impl PdFilter {
         ensures { result ≡ pd_passes self.now src dst head.now node }
     {
         self.com_id == head.com_id
-            && self.has_source(src.ip)
-            && self.has_destination(dst.ip)
+            && in_source_range(self.low, self.high, src.ip)
+            && is_destination(self.dest, dst.ip)
             && topo_valid(head.topo, self.topo)
             && topo_valid(head.topo, node)
     }

@@ -1,7 +1,7 @@
 //! Telegrams as they reach the objects of a slot.
 
 use trdp_base::Place;
-use trdp_head::PdView;
+use trdp_head::{MdView, PdView};
 
 /// A telegram with the places that its datagram came from and was sent to.
 #[derive(Clone, Copy, Debug)]
@@ -14,5 +14,14 @@ pub enum Telegram<'a> {
         dst: Place,
         /// Its header and payload, which lie in the datagram.
         view: PdView<'a>,
+    },
+    /// Message data.
+    Md {
+        /// Where its datagram came from.
+        src: Place,
+        /// Where its datagram was sent to.
+        dst: Place,
+        /// Its header and payload, which lie in the datagram.
+        view: MdView<'a>,
     },
 }

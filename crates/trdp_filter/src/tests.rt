@@ -1,8 +1,8 @@
 //! Worked examples.
 
-use crate::{Globals, Groups, PdFilter, Telegram, topo_valid, valid};
-use trdp_base::{Ip, Place, Topo};
-use trdp_head::{PdHead, PdKind, PdView};
+use crate::{Globals, Groups, MdFilter, PdFilter, Telegram, topo_valid, valid};
+use trdp_base::{Ip, Place, SessionId, Topo, Uri};
+use trdp_head::{MdHead, MdKind, MdView, PdHead, PdKind, PdView};
 
 fn topo(etb: u32, op_trn: u32) -> Topo {
     Topo { etb, op_trn }
@@ -197,6 +197,122 @@ fn telegrams_pass_by_their_parts(rt: HostRuntime) {
     }
 }
 
+/// A message of comId 300 with its last topology count 0, and whether it passes a filter for the
+/// wanted comId and URI, for the addresses from `low` to 4, and for the counts 7 and 0.
+struct Message {
+    wanted: Option<u32>,
+    low: u32,
+    dest: u32,
+    uri: &'static [u8],
+    source_uri: &'static [u8],
+    dest_uri: &'static [u8],
+    etb: u32,
+    node_etb: u32,
+    passes: bool,
+}
+
+/// Passes.
+const HEARD: Message = Message {
+    wanted: None,
+    low: 2,
+    dest: HERE,
+    uri: b"",
+    source_uri: b"car1",
+    dest_uri: b"car2",
+    etb: 7,
+    node_etb: 7,
+    passes: true,
+};
+
+/// Does not pass.
+const UNHEARD: Message = Message {
+    passes: false,
+    ..HEARD
+};
+
+static MESSAGES: [Message; 12] = [
+    HEARD,
+    Message {
+        wanted: Some(300),
+        ..HEARD
+    },
+    Message {
+        wanted: Some(301),
+        ..UNHEARD
+    },
+    // The destination URI.
+    Message {
+        uri: b"car2",
+        ..HEARD
+    },
+    Message {
+        uri: b"car3",
+        ..UNHEARD
+    },
+    Message {
+        uri: b"car1",
+        ..UNHEARD
+    },
+    Message {
+        uri: b"car2",
+        dest_uri: b"",
+        ..UNHEARD
+    },
+    // The addresses and the counts.
+    Message { low: 4, ..UNHEARD },
+    Message { dest: 0, ..HEARD },
+    Message { dest: 9, ..UNHEARD },
+    Message {
+        etb: 8,
+        node_etb: 8,
+        ..UNHEARD
+    },
+    Message {
+        node_etb: 8,
+        ..UNHEARD
+    },
+];
+
+/// The URI of these bytes.
+fn uri(bytes: &[u8]) -> Uri {
+    Uri::new(bytes).unwrap_or(Uri::empty())
+}
+
+/// The head of that message.
+fn head_of(row: &Message) -> MdHead {
+    MdHead {
+        counter: 0,
+        kind: MdKind::Notify,
+        com_id: 300,
+        topo: topo(row.etb, 0),
+        status: 0,
+        session: SessionId(0),
+        timeout: 0,
+        source_uri: uri(row.source_uri),
+        dest_uri: uri(row.dest_uri),
+    }
+}
+
+/// Whether the message passes.
+fn is_let_in(row: &Message) -> bool {
+    let filter = MdFilter {
+        com_id: row.wanted,
+        low: Ip(row.low),
+        high: Ip(4),
+        dest: Ip(row.dest),
+        uri: uri(row.uri),
+        topo: topo(7, 0),
+    };
+    filter.passes(place(3), place(HERE), &head_of(row), topo(row.node_etb, 0))
+}
+
+#[test]
+fn messages_pass_by_their_parts(rt: HostRuntime) {
+    for (index, row) in MESSAGES.iter().enumerate() {
+        assert_eq!(rt; is_let_in(row), row.passes, "at row {index}");
+    }
+}
+
 #[test]
 fn a_node_leads_groups_1_to_255(rt: HostRuntime) {
     let mut globals = Globals {
@@ -212,9 +328,17 @@ fn a_node_leads_groups_1_to_255(rt: HostRuntime) {
     assert!(rt; !globals.led.leads(1) && globals.led.leads(255));
 }
 
+/// The payload of a telegram.
+fn payload<'a>(telegram: &Telegram<'a>) -> &'a [u8] {
+    match telegram {
+        Telegram::Pd { view, .. } => view.payload,
+        Telegram::Md { view, .. } => view.payload,
+    }
+}
+
 #[test]
-fn telegram_lends_its_payload(rt: HostRuntime) {
-    let telegram = Telegram::Pd {
+fn telegrams_lend_their_payload(rt: HostRuntime) {
+    let data = Telegram::Pd {
         src: place(1),
         dst: place(2),
         view: PdView {
@@ -222,11 +346,14 @@ fn telegram_lends_its_payload(rt: HostRuntime) {
             payload: b"\x0a",
         },
     };
-    match telegram {
-        Telegram::Pd { src, dst, view } => {
-            assert_eq!(rt; src.ip, Ip(1));
-            assert_eq!(rt; dst.ip, Ip(2));
-            assert_eq!(rt; view.payload, b"\x0a".as_slice());
-        }
-    }
+    assert_eq!(rt; payload(&data), b"\x0a".as_slice());
+    let message = Telegram::Md {
+        src: place(1),
+        dst: place(2),
+        view: MdView {
+            head: head_of(&HEARD),
+            payload: b"\x0b",
+        },
+    };
+    assert_eq!(rt; payload(&message), b"\x0b".as_slice());
 }

@@ -1,5 +1,9 @@
 pub mod FieldBytes
 pub mod FieldNumbers
 pub mod PartWrites
+pub mod TelegramBytesFacts
+pub mod TelegramFacts
 pub mod PdBytesFacts
 pub mod PdTelegramFacts
+pub mod MdBytesFacts
+pub mod MdTelegramFacts

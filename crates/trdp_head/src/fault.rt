@@ -6,10 +6,11 @@ use thiserror::Error;
 /// (profile).
 #[derive(Clone, Copy, Debug, PartialEq, Eq, Error)]
 pub enum HeadFault {
-    /// There are fewer bytes than a header has: 40 for process data.
+    /// There are fewer bytes than a header has: 40 for process data, 116 for message data.
     #[error("the bytes are fewer than a header has")]
     Short,
-    /// There are more bytes than the longest telegram has: 1472 for process data.
+    /// There are more bytes than the longest telegram has: 1472 for process data, 65504 for
+    /// message data.
     #[error("the bytes are more than the longest telegram has")]
     TooLong,
     /// The stored frame check is not that of the header.

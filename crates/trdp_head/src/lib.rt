@@ -8,9 +8,15 @@
 mod check;
 mod fault;
 mod fields;
+mod md;
+mod payload;
 mod pd;
+mod prefix;
 
 pub use fault::HeadFault;
+pub use md::reading::read_md;
+pub use md::writing::{md_length, push_md, write_md};
+pub use md::{MD_HEAD, MD_PAYLOAD_MAX, MD_TELEGRAM_MAX, MdHead, MdKind, MdView};
 pub use pd::reading::read_pd;
 pub use pd::writing::{pd_length, push_pd, write_pd};
 pub use pd::{PD_HEAD, PD_PAYLOAD_MAX, PD_TELEGRAM_MAX, PdHead, PdKind, PdView};

@@ -2,13 +2,7 @@
 //!
 //! | Offset | Field | Type |
 //! |---|---|---|
-//! | 0 | sequenceCounter | u32 |
-//! | 4 | protocolVersion | u16, 0x0100 |
-//! | 6 | msgType | u16 |
-//! | 8 | comId | u32 |
-//! | 12 | etbTopoCnt | u32 |
-//! | 16 | opTrnTopoCnt | u32 |
-//! | 20 | datasetLength | u32 |
+//! | 0 | as all headers begin, 24 bytes | |
 //! | 24 | reserved | u32, 0 |
 //! | 28 | replyComId | u32 |
 //! | 32 | replyIpAddress | u32 |

@@ -8,7 +8,7 @@ use Rattle.trdp_head.specs.declared.pd.PdKind.{PdKind}
 use Rattle.trdp_head.specs.declared.pd.PdKind.TheVariants.{Data, PullReply, PullRequest, Error}
 use Rattle.trdp_filter.specs.declared.globals.Globals.{Globals}
 use Rattle.trdp_filter.specs.PdFilters.{pd_passes}
-use Rattle.trdp_filter.specs.Telegrams.{TelegramModel, PdIs}
+use Rattle.trdp_filter.specs.Telegrams.{TelegramModel, PdIs, MdIs}
 use Rattle.trdp_pd.specs.Subscriptions.{SubscriptionState, HasTaken, carries_value, is_stale}
 use Rattle.trdp_pd.specs.Subscriptions.{is_for, is_accepted, subscription_taking}
 
@@ -70,6 +70,7 @@ terms-taking s (PdIs src dst telegram) globals fits =
         → (subscription_taking s (PdIs src dst telegram) globals fits).object.terms ≡ s.terms
     either true is = rw is refl
     either false is = rw is refl
+terms-taking s (MdIs src dst telegram) globals fits = refl
 
 -- the subscription is as it was, or took the telegram
 abbrev pub IsSameOrHasTaken :
@@ -100,3 +101,4 @@ HasTaken-taking s (PdIs src dst telegram) globals fits =
           value = rw is refl;
         })
     either false is = inl (rw is refl)
+HasTaken-taking s (MdIs src dst telegram) globals fits = inl refl

@@ -5,9 +5,9 @@ use Rattle.trdp_head.specs.declared.pd.PdHead.{PdHead}
 use Rattle.trdp_filter.specs.declared.globals.Globals.{Globals}
 use Rattle.trdp_filter.specs.Counts.{topo_valid}
 use Rattle.trdp_filter.specs.Globals.{leads}
-use Rattle.trdp_filter.specs.Telegrams.{TelegramModel, PdIs}
+use Rattle.trdp_filter.specs.Telegrams.{TelegramModel, PdIs, MdIs}
 use Rattle.trdp_pd.specs.declared.object.Fired.TheVariants.{Data}
-use Rattle.trdp_pd.specs.declared.object.Taken.TheVariants.{Pulled}
+use Rattle.trdp_pd.specs.declared.object.Taken.TheVariants.{Nothing as NotTaken, Pulled}
 use Rattle.trdp_pd.specs.Publishers.{PublisherState, is_answered, is_asked, may_send}
 use Rattle.trdp_pd.specs.Publishers.{publisher_firing, publisher_taking}
 
@@ -80,6 +80,8 @@ keeps-taking p (PdIs src dst telegram) globals fits =
         → Keeps p (publisher_taking p (PdIs src dst telegram) globals fits).object
     either true is = rw is (record { terms = refl; value = refl; due = refl })
     either false is = rw is (record { terms = refl; value = refl; due = refl })
+keeps-taking p (MdIs src dst telegram) globals fits =
+    record { terms = refl; value = refl; due = refl }
 
 pub terms-taking :
     (p : PublisherState) (telegram : TelegramModel) (globals : Globals) (fits : Bool)
@@ -121,6 +123,8 @@ pulled-may_send p (PdIs src dst telegram) globals fits head is =
     either true answered is =
         let h = rw answered at is in (may_send-is_answered p telegram.head globals answered, cc)
     either false answered is = let h = rw answered at is in absurd (cc)
+pulled-may_send p (MdIs src dst telegram) globals fits head is =
+    let none : NotTaken ≡ Pulled head = is in absurd (cc)
 
 pub pulled-com_id :
     (p : PublisherState) (telegram : TelegramModel) (globals : Globals) (fits : Bool)

@@ -7,7 +7,7 @@ use Rattle.std.proofs.Math.Nat.{mod-lt}
 use Rattle.std.proofs.lemmas.Nat.{div-add-mod'}
 use Rattle.trdp_head.specs.declared.pd.PdHead.{PdHead}
 use Rattle.trdp_filter.specs.declared.globals.Globals.{Globals}
-use Rattle.trdp_filter.specs.Telegrams.{TelegramModel, PdIs}
+use Rattle.trdp_filter.specs.Telegrams.{TelegramModel, PdIs, MdIs}
 use Rattle.trdp_pd.specs.declared.object.Taken.TheVariants.{Nothing as NotTaken}
 use Rattle.trdp_pd.specs.Due.{is_due_by}
 use Rattle.trdp_pd.specs.Publishers.{PublisherState, is_answered, is_asked, may_send, next_due}
@@ -75,6 +75,7 @@ pub publisher_taking-unaddressed :
     → publisher_taking p telegram globals fits ≡ record { object = p; taken = NotTaken }
 publisher_taking-unaddressed p (PdIs src dst telegram) globals fits is =
     rw (is_answered-unaddressed p telegram.head globals is) refl
+publisher_taking-unaddressed p (MdIs src dst telegram) globals fits is = refl
 
 -- a telegram makes no publisher due
 pub publisher_due-taking :
@@ -93,3 +94,4 @@ publisher_due-taking p (PdIs src dst telegram) globals fits not =
         ≡ false
     either true is = rw is not
     either false is = rw is not
+publisher_due-taking p (MdIs src dst telegram) globals fits not = not

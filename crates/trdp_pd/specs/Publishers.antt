@@ -8,7 +8,7 @@ use Rattle.trdp_head.specs.declared.pd.PdKind.TheVariants.{PullRequest}
 use Rattle.trdp_filter.specs.declared.globals.Globals.{Globals}
 use Rattle.trdp_filter.specs.Counts.{topo_valid}
 use Rattle.trdp_filter.specs.Globals.{leads}
-use Rattle.trdp_filter.specs.Telegrams.{TelegramModel, PdIs}
+use Rattle.trdp_filter.specs.Telegrams.{TelegramModel, PdIs, MdIs}
 use Rattle.trdp_pd.specs.declared.terms.PublisherTerms.{PublisherTerms}
 use Rattle.trdp_pd.specs.declared.object.Taken.TheVariants.{Nothing as NotTaken, Pulled}
 use Rattle.trdp_pd.specs.declared.object.Fired.TheVariants.{Nothing, Data}
@@ -95,9 +95,10 @@ is_asked p head =
     && asked_com_id head == p.terms.com_id
     && topo_valid head.topo p.terms.topo
 
--- what the telegrams for a publisher are
+-- what the telegrams for a publisher are; no message is for one
 abbrev pub publisher_addressed : PublisherState → TelegramModel → Globals → Bool
 publisher_addressed p (PdIs src dst telegram) globals = is_asked p telegram.head
+publisher_addressed p (MdIs src dst telegram) globals = false
 
 -- the publisher answers the pull request: it is asked, and it may send
 unfoldable pub is_answered : PublisherState → PdHead → Globals → Bool
@@ -114,3 +115,4 @@ publisher_taking p (PdIs src dst telegram) globals fits =
       taken = Pulled (reply_head p);
     }
     else record { object = p; taken = NotTaken }
+publisher_taking p (MdIs src dst telegram) globals fits = record { object = p; taken = NotTaken }

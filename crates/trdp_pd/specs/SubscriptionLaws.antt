@@ -6,7 +6,7 @@ use Rattle.std.proofs.lemmas.Bool.Decides.{nat_tests}
 use Rattle.trdp_base.specs.declared.place.Place.{Place}
 use Rattle.trdp_head.specs.declared.pd.PdHead.{PdHead}
 use Rattle.trdp_filter.specs.declared.globals.Globals.{Globals}
-use Rattle.trdp_filter.specs.Telegrams.{TelegramModel, PdIs}
+use Rattle.trdp_filter.specs.Telegrams.{TelegramModel, PdIs, MdIs}
 use Rattle.trdp_pd.specs.declared.object.Taken.TheVariants.{Nothing as NotTaken}
 use Rattle.trdp_pd.specs.Due.{is_due_by}
 use Rattle.trdp_pd.specs.PublisherLaws.{nat_le-past}
@@ -28,6 +28,7 @@ pub subscription_taking-unaddressed :
     → subscription_taking s telegram globals fits ≡ record { object = s; taken = NotTaken }
 subscription_taking-unaddressed s (PdIs src dst telegram) globals fits is =
     rw (is_accepted-unaddressed s src dst telegram.head globals fits is) refl
+subscription_taking-unaddressed s (MdIs src dst telegram) globals fits is = refl
 
 -- a subscription that fired has no deadline
 pub subscription_due-firing :
@@ -63,3 +64,4 @@ subscription_due-taking s (PdIs src dst telegram) globals fits not =
         ≡ false
     either true is = rw is (deadline_from-later s.terms.supervision globals.now)
     either false is = rw is not
+subscription_due-taking s (MdIs src dst telegram) globals fits not = not

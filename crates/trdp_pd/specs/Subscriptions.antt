@@ -11,7 +11,7 @@ use Rattle.trdp_head.specs.PdKinds.{code_of}
 use Rattle.trdp_head.specs.PdTelegrams.{PdTelegram}
 use Rattle.trdp_filter.specs.declared.globals.Globals.{Globals}
 use Rattle.trdp_filter.specs.PdFilters.{pd_passes}
-use Rattle.trdp_filter.specs.Telegrams.{TelegramModel, PdIs, com_id_of, payload_of}
+use Rattle.trdp_filter.specs.Telegrams.{TelegramModel, PdIs, MdIs, com_id_of, payload_of}
 use Rattle.trdp_pd.specs.declared.terms.Behaviour.{Behaviour}
 use Rattle.trdp_pd.specs.declared.terms.Behaviour.TheVariants.{Zero, Keep}
 use Rattle.trdp_pd.specs.declared.terms.SubscriptionTerms.{SubscriptionTerms}
@@ -82,9 +82,10 @@ unfoldable pub is_accepted : SubscriptionState → Place → Place → PdHead �
 is_accepted s src dst head globals fits =
     is_for s src dst head globals && fits && not (is_stale s.latest src.ip head)
 
--- what the telegrams for a subscription are
+-- what the telegrams for a subscription are; no message is for one
 abbrev pub subscription_addressed : SubscriptionState → TelegramModel → Globals → Bool
 subscription_addressed s (PdIs src dst telegram) globals = is_for s src dst telegram.head globals
+subscription_addressed s (MdIs src dst telegram) globals = false
 
 -- an accepted telegram sets value, counter, memory and state, and the supervision time begins anew
 abbrev pub storing : SubscriptionState → Place → PdTelegram → ℕ → SubscriptionState
@@ -112,6 +113,7 @@ subscription_taking s (PdIs src dst telegram) globals fits =
     if is_accepted s src dst telegram.head globals fits
     then record { object = storing s src telegram globals.now; taken = taken_in s.state }
     else record { object = s; taken = Nothing }
+subscription_taking s (MdIs src dst telegram) globals fits = record { object = s; taken = Nothing }
 
 -- the value after a time-out: kept, or the dataset's zero value, or for dataset 0 as many zeros as
 -- it had bytes
@@ -138,6 +140,7 @@ subscription_firing s globals = record {
 -- the telegram carries a value: it is data, or the reply to a pull request
 abbrev pub IsOfValue : TelegramModel → Type 0
 IsOfValue (PdIs src dst telegram) = (telegram.head.kind ≡ Data) ⊎ (telegram.head.kind ≡ PullReply)
+IsOfValue (MdIs src dst telegram) = ⊥
 
 -- the subscription took the telegram, data or a pull reply of its own comId whose payload fits its
 -- dataset: its value is good and is the telegram's payload

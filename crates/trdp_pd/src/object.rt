@@ -21,6 +21,8 @@ pub enum Taken {
     Alive,
     /// It answers a pull request with its value under this header.
     Pulled(PdHead),
+    /// It heard a message.
+    Heard,
 }
 
 /// What an object does as it fires.

@@ -227,6 +227,7 @@ impl Object for Publisher {
     fn addressed(&self, telegram: &Telegram<'_>, _globals: &Globals) -> bool {
         match *telegram {
             Telegram::Pd { view, .. } => self.is_asked(&view.head),
+            Telegram::Md { .. } => false,
         }
     }
 
@@ -240,6 +241,7 @@ impl Object for Publisher {
                     Taken::Nothing
                 }
             }
+            Telegram::Md { .. } => Taken::Nothing,
         }
     }
 

@@ -281,6 +281,7 @@ impl Object for Subscription {
     fn addressed(&self, telegram: &Telegram<'_>, globals: &Globals) -> bool {
         match *telegram {
             Telegram::Pd { src, dst, view } => self.is_for(src, dst, &view.head, globals),
+            Telegram::Md { .. } => false,
         }
     }
 
@@ -295,6 +296,7 @@ impl Object for Subscription {
                 self.store(src, &view, globals.now);
                 taken
             }
+            Telegram::Md { .. } => Taken::Nothing,
         }
     }
 

@@ -163,6 +163,7 @@ fn hand<O: Object>(object: &mut O, globals: &Globals, ip: Ip, head: PdHead) -> D
         Taken::Stored => Does::Stored,
         Taken::Alive => Does::Alive,
         Taken::Pulled(head) => sends(&head),
+        Taken::Heard => Does::Wrong,
     }
 }
 

@@ -1,15 +1,15 @@
 -- Facts on the values that words are the written forms of.
-use Rattle.std.proofs.Common.{◌≡◌, ℕ, ◌+◌, ◌*◌, ◌/◌, ◌%◌, ◌^◌, ◌<◌, ◌≤◌, ◌==◌, nat_lt, nat_le}
-use Rattle.std.proofs.Common.{Bool, true, false, List, [], ◌∷◌, ◌++◌, ◌&&◌, map, Option, Some}
+use Rattle.std.proofs.Common.{◌≡◌, ◌≢◌, ℕ, ◌+◌, ◌*◌, ◌/◌, ◌%◌, ◌^◌, ◌<◌, ◌≤◌, ◌==◌, nat_lt, nat_le}
+use Rattle.std.proofs.Common.{Bool, true, false, List, [], ◌∷◌, ◌++◌, length, ◌&&◌, map, Option, Some}
 use Rattle.std.proofs.Common.{None, Result, Ok, Err, refl, sym, ap, ◌∙◌, subst, inl, inr, arith}
 use Rattle.std.proofs.Common.{append_assoc}
 use Rattle.std.specs.Prelude.{All, is_some, unwrap_or, ◌⊎◌}
-use Rattle.std.specs.List.{slice_split, list_all}
+use Rattle.std.specs.List.{slice_split}
 use Rattle.std.specs.Char.{digit_value}
 use Rattle.std.specs.Int.Digits.{number_from_digits}
 use Rattle.std.specs.Str.{bytes_eq}
 use Rattle.std.specs.Str.Parse.{digits_value}
-use Rattle.std.proofs.lemmas.Bool.{and_from, and_parts, cases_Bool, le-leb, leb-true, lt-ltb}
+use Rattle.std.proofs.lemmas.Bool.{and_from, and_parts, cases_Bool, cases_lt, le-leb, leb-true, lt-ltb}
 use Rattle.std.proofs.lemmas.Bool.{ltb-true, ne_eqb, true≢false}
 use Rattle.std.proofs.lemmas.Bool.Decides.{nat_tests}
 use Rattle.std.proofs.lemmas.Fmt.{decimal_is_IsNumeral}
@@ -23,11 +23,12 @@ use Rattle.std.proofs.lemmas.Str.Parse.{digit_at}
 use Rattle.trdp_base.specs.AddressText.{text_of_ip, text_of_place}
 use Rattle.trdp_base.specs.HexText.{hex_digit, hex_pairs, text_of_hex, IsHexText}
 use Rattle.trdp_base.specs.NumberText.{text_of_number}
+use Rattle.trdp_base.specs.Uris.{IsUri, IsUriText}
 use Rattle.trdp_base.specs.declared.place.Ip.{Ip}
 use Rattle.trdp_base.specs.declared.place.Place.{Place}
 use Rattle.trdp_script.specs.Words.{if_written, first_word, other_words, number_of_word, ip_shown}
 use Rattle.trdp_script.specs.Words.{ip_of_word, place_shown, place_of_word, bytes_shown}
-use Rattle.trdp_script.specs.Words.{bytes_of_word, IsBytesFault}
+use Rattle.trdp_script.specs.Words.{bytes_of_word, IsBytesFault, are_bytes, is_uri, uri_of_word}
 use Rattle.trdp_script.specs.declared.fault.LineFault.{LineFault}
 use Rattle.trdp_script.specs.declared.fault.LineFault.TheVariants.{BadWord, OutOfMemory}
 
@@ -66,6 +67,10 @@ number_lacks word max never =
 -- a value is no fault
 pub err_not_ok : {A E : Type 0} (value : A) (fault : E) → Path (Result A E) (Err fault) (Ok value) → ⊥
 err_not_ok {A} {E} value fault e = MatchResult-at_ok {T = A} {E = E} {r = Err fault} (λ _. ⊥) (λ _. Unit {0}) value e tt
+
+-- equal results hold equal values
+pub ok_same : {A E : Type 0} (a b : A) → Path (Result A E) (Ok a) (Ok b) → a ≡ b
+ok_same a b e = cc
 
 -- no byte of the list is that one
 unfoldable pub Lacks : ℕ → List ℕ → Type 0
@@ -186,12 +191,22 @@ unfolding bytes_shown
 bytes_are_shown [] small = refl
 bytes_are_shown (byte ∷ bytes) small = pairs_shown (byte ∷ bytes) small
 
+-- bytes pass the test for bytes
+bytes_pass : (bytes : List ℕ) → All (λ byte. byte < 256) bytes → are_bytes bytes ≡ true
+bytes_pass bytes small =
+    list_all-from_AllPass (λ byte. nat_lt byte 256) bytes (λ k d inside. lt-ltb _ 256 (small k d inside))
+
+-- what passes the test for bytes is bytes
+passed_bytes : (bytes : List ℕ) → are_bytes bytes ≡ true → All (λ byte. byte < 256) bytes
+passed_bytes bytes pass =
+    let passes = AllPass-from_list_all (λ byte. nat_lt byte 256) bytes pass in
+    λ k d inside. ltb-true _ 256 (passes k d inside)
+
 pub bytes_found : (word bytes : List ℕ) → All (λ byte. byte < 256) bytes → word ≡ text_of_hex bytes → bytes_of_word word ≡ Some bytes
 unfolding bytes_of_word
 bytes_found word bytes small is =
     let shown : bytes_shown word ≡ bytes = ap bytes_shown is ∙ bytes_are_shown bytes small in
-    let stands : list_all (λ byte. nat_lt byte 256) bytes ≡ true = list_all-from_AllPass (λ byte. nat_lt byte 256) bytes (λ k d inside. lt-ltb _ 256 (small k d inside)) in
-    rw shown (written text_of_hex word _ bytes stands is)
+    rw shown (written text_of_hex word _ bytes (bytes_pass bytes small) is)
 
 -- a value is none
 some_not_none : {A : Type 0} (value : A) → Path (Option A) (Some value) None → ⊥
@@ -218,9 +233,7 @@ pub bytes_written : (word bytes : List ℕ) → bytes_of_word word ≡ Some byte
 unfolding bytes_of_word
 bytes_written word bytes found =
     let back = written_back text_of_hex word _ (bytes_shown word) bytes found in
-    let passes = AllPass-from_list_all (λ byte. nat_lt byte 256) (bytes_shown word) back.0 in
-    let small : All (λ byte. byte < 256) (bytes_shown word) = λ k d inside. ltb-true _ 256 (passes k d inside) in
-    (subst (λ bs. All (λ byte. byte < 256) bs) back.2 small, back.1 ∙ ap text_of_hex back.2)
+    (subst (λ bs. All (λ byte. byte < 256) bs) back.2 (passed_bytes (bytes_shown word) back.0), back.1 ∙ ap text_of_hex back.2)
 
 -- what was read is the value of the word, where the reader takes just the written forms of bytes
 pub bytes_read : (word read : List ℕ) → ((bytes : List ℕ) → All (λ byte. byte < 256) bytes → word ≡ text_of_hex bytes → read ≡ bytes) → ((IsHexText word → ⊥) → ⊥) → bytes_of_word word ≡ Some read
@@ -247,3 +260,47 @@ memory_ran_out word fault good is = memory_ran_out_by (bytes_of_word word) refl
     memory_ran_out_by : (o : Option (List ℕ)) → bytes_of_word word ≡ o → IsBytesFault o fault
     memory_ran_out_by None none = absurd (good (bytes_lack word none))
     memory_ran_out_by (Some bytes) some = is
+
+-- a number that is not zero is above it, and one above it is not zero
+above_zero : (n : ℕ) → n ≢ 0 → 0 < n
+above_zero n other = elim (cases_lt 0 n) [ inl above ↦ above | inr below ↦ absurd (other (omega (arith, below))) ]
+
+not_zero : (n : ℕ) → 0 < n → n ≢ 0
+not_zero n above = λ none. omega (arith, above, none)
+
+-- a URI passes the test for one
+uri_passes : (uri : List ℕ) → IsUri uri → is_uri uri ≡ true
+uri_passes uri is =
+    and_from _ _ (le-leb (length uri) 32 is.within)
+    (list_all-from_AllPass (λ byte. nat_lt 0 byte) uri (λ k d inside. lt-ltb 0 _ (above_zero _ (is.sound k d inside))))
+
+-- what passes the test for a URI is one
+passed_uri : (uri : List ℕ) → is_uri uri ≡ true → IsUri uri
+passed_uri uri pass =
+    let both = and_parts _ _ pass in
+    let passes = AllPass-from_list_all (λ byte. nat_lt 0 byte) uri both.1 in record {
+      within = leb-true (length uri) 32 both.0;
+      sound = λ k d inside. not_zero _ (ltb-true 0 _ (passes k d inside));
+    }
+
+pub uri_found : (word uri : List ℕ) → IsUri uri → All (λ byte. byte < 256) uri → word ≡ text_of_hex uri → Some uri ≡ uri_of_word word
+unfolding uri_of_word
+uri_found word uri good small is =
+    let shown : bytes_shown word ≡ uri = ap bytes_shown is ∙ bytes_are_shown uri small in
+    rw shown (sym (written text_of_hex word _ uri (and_from _ _ (bytes_pass uri small) (uri_passes uri good)) is))
+
+-- what is read from a word is the URI that the word is the written form of
+uri_written : (word uri : List ℕ) → uri_of_word word ≡ Some uri → IsUri uri × All (λ byte. byte < 256) uri × (word ≡ text_of_hex uri)
+unfolding uri_of_word
+uri_written word uri found =
+    let back = written_back text_of_hex word _ (bytes_shown word) uri found in
+    let both = and_parts _ _ back.0 in
+    (subst IsUri back.2 (passed_uri (bytes_shown word) both.1), subst (λ bs. All (λ byte. byte < 256) bs) back.2 (passed_bytes (bytes_shown word) both.0), back.1 ∙ ap text_of_hex back.2)
+
+-- from a word that is not the written form of a URI none is read
+pub uri_lacks : (word : List ℕ) → (IsUriText word → ⊥) → None ≡ uri_of_word word
+uri_lacks word bad = uri_lacks_by (uri_of_word word) refl
+  where
+    uri_lacks_by : (o : Option (List ℕ)) → uri_of_word word ≡ o → None ≡ uri_of_word word
+    uri_lacks_by None is = sym is
+    uri_lacks_by (Some uri) is = let facts = uri_written word uri is in absurd (bad (uri, facts.0, facts.1, facts.2))

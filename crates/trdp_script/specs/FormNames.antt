@@ -4,13 +4,15 @@ use Rattle.std.specs.Str.{bytes_eq}
 use Rattle.trdp_script.specs.Forms.{LineForm, moment_form, topology_form, role_form, pd_form}
 use Rattle.trdp_script.specs.Forms.{md_form, publish_form, put_form, unpublish_form}
 use Rattle.trdp_script.specs.Forms.{subscribe_form, get_form, unsubscribe_form, open_pull_form}
-use Rattle.trdp_script.specs.Forms.{pull_form, close_pull_form, call_word}
+use Rattle.trdp_script.specs.Forms.{pull_form, close_pull_form, listen_form, unlisten_form}
+use Rattle.trdp_script.specs.Forms.{notify_form, call_word}
 use Rattle.trdp_script.specs.Words.{first_word, other_words}
 use Rattle.trdp_script.specs.declared.form.Form.{Form}
 use Rattle.trdp_script.specs.declared.form.Form.TheVariants.{Moment, Topology, Role, Pd, Md}
 use Rattle.trdp_script.specs.declared.form.Form.TheVariants.{Publish, Put, Unpublish, Subscribe}
 use Rattle.trdp_script.specs.declared.form.Form.TheVariants.{Get, Unsubscribe, OpenPull, Pull}
-use Rattle.trdp_script.specs.declared.form.Form.TheVariants.{ClosePull}
+use Rattle.trdp_script.specs.declared.form.Form.TheVariants.{ClosePull, Listen, Unlisten}
+use Rattle.trdp_script.specs.declared.form.Form.TheVariants.{Notify}
 
 -- the form with that name
 abbrev pub line_form : Form → LineForm
@@ -28,6 +30,9 @@ line_form Unsubscribe = unsubscribe_form
 line_form OpenPull = open_pull_form
 line_form Pull = pull_form
 line_form ClosePull = close_pull_form
+line_form Listen = listen_form
+line_form Unlisten = unlisten_form
+line_form Notify = notify_form
 
 -- whether the words begin with `call`, a slot and that word, or else with the word itself
 abbrev pub is_told : Bool → List ℕ → List (List ℕ) → Bool

@@ -7,31 +7,37 @@ use Rattle.trdp_base.specs.declared.place.Ip.{Ip}
 use Rattle.trdp_base.specs.declared.place.Place.{Place}
 use Rattle.trdp_pd.specs.declared.terms.Behaviour.{Behaviour}
 use Rattle.trdp_pd.specs.declared.terms.Behaviour.TheVariants.{Zero, Keep}
+use Rattle.trdp_md.specs.declared.terms.NotifyTerms.{NotifyTerms}
 use Rattle.trdp_engine.specs.Events.{CallModel, PublishCall, PutCall, UnpublishCall, SubscribeCall}
 use Rattle.trdp_engine.specs.Events.{GetCall, UnsubscribeCall, OpenPullCall, PullCall}
-use Rattle.trdp_engine.specs.Events.{ClosePullCall, EventModel, MomentIs, TopologyIs, RoleIs}
-use Rattle.trdp_engine.specs.Events.{DatagramIs, CallIs}
+use Rattle.trdp_engine.specs.Events.{ClosePullCall, ListenCall, UnlistenCall, NotifyCall}
+use Rattle.trdp_engine.specs.Events.{EventModel, MomentIs, TopologyIs, RoleIs, DatagramIs, CallIs}
 use Rattle.trdp_engine.specs.declared.record.Protocol.{Protocol}
 use Rattle.trdp_engine.specs.declared.record.Protocol.TheVariants.{Pd, Md}
 use Rattle.trdp_script.specs.Words.{first_word, other_words, number_of_word, ip_of_word}
 use Rattle.trdp_script.specs.Words.{place_of_word, bytes_of_word, choice_of_word}
+use Rattle.trdp_script.specs.Words.{any_or_number, uri_of_word}
 
 -- what one word of a line is to be
 pub data Part : Type 0 where
   Keyword : (word : List ℕ) → Part
   NumberField : (max : ℕ) → Part
+  AnyOrNumberField : (max : ℕ) → Part
   AddressField : Part
   PlaceField : Part
   BytesField : Part
+  UriField : Part
   ChoiceField : (first second : List ℕ) → Part
 
 -- what is made from the value of a field: nothing is taken from a keyword
 abbrev pub From : Part → Type 0 → Type 0
 From (Keyword word) Made = Made
 From (NumberField max) Made = ℕ → Made
+From (AnyOrNumberField max) Made = Option ℕ → Made
 From AddressField Made = Ip → Made
 From PlaceField Made = Place → Made
 From BytesField Made = List ℕ → Made
+From UriField Made = List ℕ → Made
 From (ChoiceField first second) Made = Bool → Made
 
 -- an event, made from the value of each field in their order
@@ -56,6 +62,10 @@ number_32 = NumberField (2 ^ 32 - 1)
 
 abbrev pub number_64 : Part
 number_64 = NumberField (2 ^ 64 - 1)
+
+-- `any`, or a number of 32 bits
+abbrev pub any_or_32 : Part
+any_or_32 = AnyOrNumberField (2 ^ 32 - 1)
 
 -- moment T
 abbrev pub moment_form : LineForm
@@ -183,12 +193,43 @@ pull_form = handle_form (codes "pull") (λ handle. PullCall handle)
 abbrev pub close_pull_form : LineForm
 close_pull_form = handle_form (codes "closepull") (λ handle. ClosePullCall handle)
 
+-- call SLOT listen COMID|any LOW HIGH DEST URI ETB OPTRN
+abbrev pub listen_form : LineForm
+listen_form =
+    call_form (codes "listen")
+    (any_or_32 ∷ AddressField ∷ AddressField ∷ AddressField ∷ UriField ∷ number_32 ∷ number_32 ∷ [])
+    (λ slot com_id low high dest uri etb op_trn. CallIs slot (ListenCall (record {
+      com_id = com_id;
+      low = low;
+      high = high;
+      dest = dest;
+      uri = uri;
+      topo = record { etb = etb; op_trn = op_trn };
+    })))
+
+-- call SLOT unlisten HANDLE
+abbrev pub unlisten_form : LineForm
+unlisten_form = handle_form (codes "unlisten") (λ handle. UnlistenCall handle)
+
+-- call SLOT notify COMID SOURCEURI DESTURI ETB OPTRN TO HEX
+abbrev pub notify_form : LineForm
+notify_form =
+    call_form (codes "notify")
+    (number_32 ∷ UriField ∷ UriField ∷ number_32 ∷ number_32 ∷ PlaceField ∷ BytesField ∷ [])
+    (λ slot com_id source_uri dest_uri etb op_trn to payload. let terms : NotifyTerms = record {
+      com_id = com_id;
+      topo = record { etb = etb; op_trn = op_trn };
+      to = to;
+      source_uri = source_uri;
+      dest_uri = dest_uri;
+    } in CallIs slot (NotifyCall terms payload))
+
 -- all forms
 unfoldable pub forms : List LineForm
 forms =
     moment_form ∷ topology_form ∷ role_form ∷ pd_form ∷ md_form ∷ publish_form ∷ put_form
     ∷ unpublish_form ∷ subscribe_form ∷ get_form ∷ unsubscribe_form ∷ open_pull_form ∷ pull_form
-    ∷ close_pull_form ∷ []
+    ∷ close_pull_form ∷ listen_form ∷ unlisten_form ∷ notify_form ∷ []
 
 -- whether the keywords stand among the words where they are to stand
 unfoldable pub has_keywords : List Part → List (List ℕ) → Bool
@@ -206,6 +247,9 @@ event_of_words (Keyword word ∷ parts) event words =
 event_of_words (NumberField max ∷ parts) event words =
     option_and_then (λ number. event_of_words parts (event number) (other_words words))
     (number_of_word max (first_word words))
+event_of_words (AnyOrNumberField max ∷ parts) event words =
+    option_and_then (λ number. event_of_words parts (event number) (other_words words))
+    (any_or_number max (first_word words))
 event_of_words (AddressField ∷ parts) event words =
     option_and_then (λ ip. event_of_words parts (event ip) (other_words words))
     (ip_of_word (first_word words))
@@ -215,6 +259,9 @@ event_of_words (PlaceField ∷ parts) event words =
 event_of_words (BytesField ∷ parts) event words =
     option_and_then (λ bytes. event_of_words parts (event bytes) (other_words words))
     (bytes_of_word (first_word words))
+event_of_words (UriField ∷ parts) event words =
+    option_and_then (λ uri. event_of_words parts (event uri) (other_words words))
+    (uri_of_word (first_word words))
 event_of_words (ChoiceField first second ∷ parts) event words =
     option_and_then (λ choice. event_of_words parts (event choice) (other_words words))
     (choice_of_word first second (first_word words))

@@ -2,7 +2,7 @@
 use Rattle.std.specs.Prelude.{◌≡◌, ℕ, ◌==◌, List, [], ◌∷◌, length, nat_lt, nat_eq, Bool, true}
 use Rattle.std.specs.Prelude.{Option, Some, None, Result, Ok, Err, if◌then◌else◌, find}
 use Rattle.trdp_engine.specs.Events.{EventModel, MomentIs, TopologyIs, RoleIs, DatagramIs, CallIs}
-use Rattle.trdp_engine.specs.Events.{PutCall, call_model}
+use Rattle.trdp_engine.specs.Events.{PutCall, NotifyCall, call_model}
 use Rattle.trdp_script.specs.Forms.{LineForm, forms, has_keywords, event_in}
 use Rattle.trdp_script.specs.Words.{words_of}
 use Rattle.trdp_script.specs.declared.fault.LineFault.{LineFault}
@@ -10,7 +10,7 @@ use Rattle.trdp_script.specs.declared.fault.LineFault.TheVariants.{TooLong, Unkn
 use Rattle.trdp_script.specs.declared.fault.LineFault.TheVariants.{BadWord, OutOfMemory}
 use Rattle.trdp_script.specs.declared.line.Line.{Line}
 use Rattle.trdp_script.specs.declared.line.Line.TheVariants.{Skipped, Moment, Topology, Role}
-use Rattle.trdp_script.specs.declared.line.Line.TheVariants.{Datagram, Put, Call}
+use Rattle.trdp_script.specs.declared.line.Line.TheVariants.{Datagram, Put, Notify, Call}
 
 -- the line is empty or begins with `#`
 abbrev pub is_skipped : List ℕ → Bool
@@ -54,6 +54,7 @@ event_of (Topology topo) = Some (TopologyIs topo)
 event_of (Role group leader) = Some (RoleIs group leader)
 event_of (Datagram protocol src dst bytes) = Some (DatagramIs protocol src dst bytes.items)
 event_of (Put slot handle bytes) = Some (CallIs slot (PutCall handle bytes.items))
+event_of (Notify slot terms payload) = Some (CallIs slot (NotifyCall terms payload.items))
 event_of (Call slot call) = Some (CallIs slot (call_model call))
 
 -- what was read is what the line says, or memory ran out where nothing else is wrong

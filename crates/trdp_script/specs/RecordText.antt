@@ -8,7 +8,7 @@ use Rattle.trdp_pd.specs.Peeks.{PeekModel}
 use Rattle.trdp_pd.specs.declared.terms.ValueState.{ValueState}
 use Rattle.trdp_pd.specs.declared.terms.ValueState.TheVariants.{Never, Valid, Silent}
 use Rattle.trdp_engine.specs.Records.{AnswerModel, HandleIs, DoneIs, ValueIs, RefusedIs}
-use Rattle.trdp_engine.specs.Records.{IndicationModel, SilentIs, AliveIs}
+use Rattle.trdp_engine.specs.Records.{MessageModel, IndicationModel, SilentIs, AliveIs, NotifiedIs}
 use Rattle.trdp_engine.specs.Records.{Content, Answers, Indicates, Sends, RecordModel}
 use Rattle.trdp_engine.specs.declared.fault.NodeFault.{NodeFault}
 use Rattle.trdp_engine.specs.declared.fault.NodeFault.TheVariants.{NoSlot, Past, TooLate}
@@ -76,10 +76,19 @@ text_of_answer DoneIs = codes " done"
 text_of_answer (ValueIs peek) = text_of_peek peek
 text_of_answer (RefusedIs refusal) = codes " refused " ++ name_of_refusal refusal
 
--- the words of what happened to a subscription, with a space before each
+-- the words of a message: where it came from, its comId, its URIs and its payload, with a space
+-- before each
+unfoldable pub text_of_message : MessageModel → List ℕ
+text_of_message message = codes " " ++ text_of_place message.src
+    ++ codes " " ++ text_of_number message.com_id ++ codes " " ++ text_of_hex message.source_uri
+    ++ codes " " ++ text_of_hex message.dest_uri ++ codes " " ++ text_of_hex message.payload
+
+-- the words of what a node tells of its own accord, with a space before each
 unfoldable pub text_of_indication : IndicationModel → List ℕ
 text_of_indication (SilentIs handle) = codes " silent " ++ text_of_number handle
 text_of_indication (AliveIs handle) = codes " alive " ++ text_of_number handle
+text_of_indication (NotifiedIs handle message) =
+    codes " notified " ++ text_of_number handle ++ text_of_message message
 
 -- the words before a telegram's destination
 abbrev pub words_of_send : Protocol → List ℕ
@@ -113,8 +122,14 @@ answer_bytes DoneIs = []
 answer_bytes (ValueIs peek) = peek.bytes
 answer_bytes (RefusedIs refusal) = []
 
+-- the bytes that an indication shows
+abbrev pub indication_bytes : IndicationModel → List ℕ
+indication_bytes (SilentIs handle) = []
+indication_bytes (AliveIs handle) = []
+indication_bytes (NotifiedIs handle message) = message.payload
+
 -- the bytes that a record shows
 abbrev pub bytes_of : Content → List ℕ
 bytes_of (Answers answer) = answer_bytes answer
-bytes_of (Indicates indication) = []
+bytes_of (Indicates indication) = indication_bytes indication
 bytes_of (Sends protocol to telegram) = telegram

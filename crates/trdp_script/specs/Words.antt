@@ -1,6 +1,7 @@
 -- The words of a line, and the values that words are the written forms of.
 use Rattle.std.specs.Prelude.{◌≡◌, ℕ, ◌+◌, ◌*◌, ◌^◌, ◌==◌, ◌&&◌, nat_lt, nat_le, List, [], ◌∷◌}
-use Rattle.std.specs.Prelude.{map, Bool, true, false, Option, Some, None, if◌then◌else◌}
+use Rattle.std.specs.Prelude.{length, map, Bool, true, false, Option, Some, None, if◌then◌else◌}
+use Rattle.std.specs.Prelude.{option_map, codes}
 use Rattle.std.specs.Char.{digit_value}
 use Rattle.std.specs.Int.Digits.{number_from_digits}
 use Rattle.std.specs.List.{slice_split, list_all}
@@ -73,16 +74,36 @@ bytes_shown (high ∷ []) = []
 bytes_shown (high ∷ low ∷ digits) =
     (16 * digit_value high + digit_value low) ∷ bytes_shown digits
 
+-- each number is a byte's
+abbrev pub are_bytes : List ℕ → Bool
+are_bytes bytes = list_all (λ byte. nat_lt byte 256) bytes
+
 -- the bytes whose written form the word is
 unfoldable pub bytes_of_word : List ℕ → Option (List ℕ)
 bytes_of_word word =
+    let bytes = bytes_shown word in if_written text_of_hex word (are_bytes bytes) bytes
+
+-- the bytes are a URI's: at most 32, none of them zero
+abbrev pub is_uri : List ℕ → Bool
+is_uri bytes = nat_le (length bytes) 32 && list_all (λ byte. nat_lt 0 byte) bytes
+
+-- the URI whose bytes have the word as their written form
+unfoldable pub uri_of_word : List ℕ → Option (List ℕ)
+uri_of_word word =
     let bytes = bytes_shown word in
-    if_written text_of_hex word (list_all (λ byte. nat_lt byte 256) bytes) bytes
+    if_written text_of_hex word (are_bytes bytes && is_uri bytes) bytes
 
 -- whether the word is the first of two, if it is one of them
 unfoldable pub choice_of_word : List ℕ → List ℕ → List ℕ → Option Bool
 choice_of_word first second word =
     if bytes_eq word first then Some true else (if bytes_eq word second then Some false else None)
+
+-- none where the word is `any`, or else the number of at most `max` whose written form it is
+unfoldable pub any_or_number : ℕ → List ℕ → Option (Option ℕ)
+any_or_number max word =
+    if bytes_eq word (codes "any")
+    then Some None
+    else option_map (λ number. Some number) (number_of_word max word)
 
 -- why the bytes of a word weren't read: it isn't the written form of any, or else memory ran out
 abbrev pub IsBytesFault : Option (List ℕ) → LineFault → Type 0

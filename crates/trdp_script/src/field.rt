@@ -4,17 +4,21 @@ ghost use Rattle.std.specs.Prelude.{◌≡◌, ℕ, List, ◌<◌, ◌≤◌, �
 ghost use Rattle.trdp_base.specs.AddressText.{text_of_ip, text_of_place};
 ghost use Rattle.trdp_base.specs.HexText.{text_of_hex};
 ghost use Rattle.trdp_base.specs.NumberText.{text_of_number};
+ghost use Rattle.trdp_base.specs.Uris.{IsUri};
 ghost use Rattle.trdp_base.specs.declared.place.Ip.{Ip};
 ghost use Rattle.trdp_base.specs.declared.place.Place.{Place};
 ghost use Rattle.trdp_script.specs.Words.{first_word, other_words, number_of_word, ip_of_word};
 ghost use Rattle.trdp_script.specs.Words.{place_of_word, bytes_of_word, choice_of_word};
-ghost use Rattle.trdp_script.specs.Words.{IsBytesFault};
+ghost use Rattle.trdp_script.specs.Words.{any_or_number, uri_of_word, IsBytesFault};
 ghost use Rattle.trdp_script.specs.WordsLeft.{words_left};
 
 use crate::fault::LineFault;
 use crate::words::Words;
 use std::alloc::Global;
-use trdp_base::{Ip, Place, TextFault, read_hex, read_ip, read_number, read_place};
+use trdp_base::{Ip, Place, TextFault, Uri, read_hex, read_ip, read_number, read_place, read_uri};
+
+/// The word for a number of any value.
+const ANY: &[u8] = b"any";
 
 impl Words<'_> {
     /// The number of 8 bits that the next word is.
@@ -52,6 +56,15 @@ impl Words<'_> {
         number_of(self.next_word(), u64::MAX)
     }
 
+    /// `any`, which is None, or the number of 32 bits that the next word is.
+    pub(crate) fn next_any_or_u32(&mut self) -> Option<Option<u32>>
+        ensures value { result ≡ any_or_number (2 ^ 32 - 1) (first_word (words_left self.old)) }
+        ensures rest { words_left self.new ≡ other_words (words_left self.old) }
+    {
+        let number = any_or_number_of(self.next_word(), u64::from(u32::MAX))?;
+        Some(number.map(|number| number as u32))
+    }
+
     /// The address that the next word is.
     pub(crate) fn next_ip(&mut self) -> Option<Ip>
         ensures value { result ≡ ip_of_word (first_word (words_left self.old)) }
@@ -66,6 +79,14 @@ impl Words<'_> {
         ensures rest { words_left self.new ≡ other_words (words_left self.old) }
     {
         place_of(self.next_word())
+    }
+
+    /// The URI that the next word is.
+    pub(crate) fn next_uri(&mut self) -> Option<Uri>
+        ensures value { result ≡ uri_of_word (first_word (words_left self.old)) }
+        ensures rest { words_left self.new ≡ other_words (words_left self.old) }
+    {
+        uri_of(self.next_word())
     }
 
     /// Whether the next word is the first of two, if it is one of them.
@@ -106,6 +127,19 @@ fn number_of(word: &[u8], max: u64) -> Option<u64>
     }
 }
 
+/// `any`, which is None, or the number of at most `max` that a word is.
+#[tactic(auto, unfolding(crate::specs::Words::any_or_number))]
+fn any_or_number_of(word: &[u8], max: u64) -> Option<Option<u64>>
+    ensures value { result ≡ any_or_number max word.now }
+    ensures within { IfSome result (λ wanted. IfSome wanted (λ number. number ≤ max)) }
+{
+    if word == ANY {
+        return Some(None);
+    }
+    let number = number_of(word, max)?;
+    Some(Some(number))
+}
+
 /// The address that a word is.
 fn ip_of(word: &[u8]) -> Option<Ip>
     ensures value { result ≡ ip_of_word word.now }
@@ -127,6 +161,19 @@ fn place_of(word: &[u8]) -> Option<Place>
 {
     match read_place(word) {
         Ok(place) => Some(place),
+        Err(_) => None,
+    }
+}
+
+/// The URI that a word is.
+fn uri_of(word: &[u8]) -> Option<Uri>
+    ensures value { result ≡ uri_of_word word.now }
+    ensures written { IfSome result (λ uri. word.now ≡ text_of_hex uri) }
+    ensures found { (uri : List ℕ) → All (λ byte. byte < 256) uri → IsUri uri
+        → word.now ≡ text_of_hex uri → result ≡ Some uri }
+{
+    match read_uri(word) {
+        Ok(uri) => Some(uri),
         Err(_) => None,
     }
 }

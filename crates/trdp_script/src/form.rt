@@ -27,10 +27,13 @@ pub(crate) enum Form {
     OpenPull,
     Pull,
     ClosePull,
+    Listen,
+    Unlisten,
+    Notify,
 }
 
 /// All forms, in the order of their definition.
-pub(crate) static FORMS: [Form; 14] = [
+pub(crate) static FORMS: [Form; 17] = [
     Form::Moment,
     Form::Topology,
     Form::Role,
@@ -45,6 +48,9 @@ pub(crate) static FORMS: [Form; 14] = [
     Form::OpenPull,
     Form::Pull,
     Form::ClosePull,
+    Form::Listen,
+    Form::Unlisten,
+    Form::Notify,
 ];
 
 /// The forms of the operator's lines, in the order of their definition.
@@ -109,6 +115,9 @@ impl Form {
             Form::OpenPull => Row::call(b"openpull", 9),
             Form::Pull => Row::call(b"pull", 4),
             Form::ClosePull => Row::call(b"closepull", 4),
+            Form::Listen => Row::call(b"listen", 10),
+            Form::Unlisten => Row::call(b"unlisten", 4),
+            Form::Notify => Row::call(b"notify", 10),
         }
     }
 }

@@ -19,6 +19,7 @@ mod play;
 mod port;
 mod print;
 mod read;
+mod read_message;
 mod script;
 mod words;
 
@@ -30,6 +31,8 @@ pub use port::{read_control, read_operator};
 pub use print::print_record;
 pub use script::{ScriptFault, run_script};
 
+#[cfg(test)]
+mod form_tests;
 #[cfg(test)]
 mod port_tests;
 #[cfg(test)]

@@ -1,7 +1,7 @@
 //! What one line of a script says.
 
 ghost use Rattle.std.specs.Prelude.{◌≡◌, map, option_map};
-ghost use Rattle.trdp_engine.specs.Events.{event_model};
+ghost use Rattle.trdp_engine.specs.Events.{call_model, event_model};
 ghost use Rattle.trdp_script.specs.FormNames.{line_form};
 ghost use Rattle.trdp_script.specs.Lines.{line_of, line_among, words_say, form_among};
 ghost use Rattle.trdp_script.specs.Lines.{is_skipped as skipped};
@@ -14,6 +14,7 @@ use crate::words::Words;
 use std::alloc::Global;
 use trdp_base::{Place, Topo};
 use trdp_engine::{Call, Event, Protocol};
+use trdp_md::NotifyTerms;
 
 /// The longest line, in bytes without its end (profile).
 pub const LINE_MAX: usize = 140_000;
@@ -44,6 +45,12 @@ pub enum Line {
         slot: u16,
         handle: u32,
         bytes: Vec<u8>,
+    },
+    /// The application in the slot sends a notification with this payload.
+    Notify {
+        slot: u16,
+        terms: NotifyTerms,
+        payload: Vec<u8>,
     },
     /// The application in the slot makes another call, which carries no bytes.
     Call {
@@ -87,11 +94,42 @@ impl Line {
                     bytes,
                 },
             }),
+            Line::Notify {
+                slot,
+                terms,
+                payload,
+            } => Some(Event::Call {
+                slot: *slot,
+                call: Call::Notify {
+                    terms: *terms,
+                    payload,
+                },
+            }),
             Line::Call { slot, call } => Some(Event::Call {
                 slot: *slot,
-                call: *call,
+                call: same(call),
             }),
         }
+    }
+}
+
+/// The same call.
+fn same(call: &Call<'static>) -> Call<'static>
+    ensures { call_model result ≡ call_model call.now }
+{
+    match *call {
+        Call::Publish(terms) => Call::Publish(terms),
+        Call::Put { handle, bytes } => Call::Put { handle, bytes },
+        Call::Unpublish { handle } => Call::Unpublish { handle },
+        Call::Subscribe(terms) => Call::Subscribe(terms),
+        Call::Get { handle } => Call::Get { handle },
+        Call::Unsubscribe { handle } => Call::Unsubscribe { handle },
+        Call::OpenPull(terms) => Call::OpenPull(terms),
+        Call::Pull { handle } => Call::Pull { handle },
+        Call::ClosePull { handle } => Call::ClosePull { handle },
+        Call::Listen(filter) => Call::Listen(filter),
+        Call::Unlisten { handle } => Call::Unlisten { handle },
+        Call::Notify { terms, payload } => Call::Notify { terms, payload },
     }
 }
 

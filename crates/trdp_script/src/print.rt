@@ -9,22 +9,32 @@ ghost use Rattle.trdp_base.specs.declared.number.TheConstants.{NUMBER_LENGTH};
 ghost use Rattle.trdp_base.specs.declared.address.TheConstants.{PLACE_LENGTH};
 ghost use Rattle.trdp_pd.specs.Peeks.{peek_model};
 ghost use Rattle.trdp_engine.specs.Records.{record_model, content_model, answer_model};
-ghost use Rattle.trdp_engine.specs.Records.{indication_model};
-ghost use Rattle.trdp_script.specs.declared.print.TheConstants.{CONTENT_ROOM};
+ghost use Rattle.trdp_engine.specs.Records.{indication_model, message_model};
+ghost use Rattle.trdp_script.specs.declared.print.TheConstants.{CONTENT_ROOM, MESSAGE_ROOM};
+ghost use Rattle.trdp_script.specs.declared.print.TheConstants.{URI_ROOM};
 ghost use Rattle.trdp_script.specs.RecordText.{text_of_peek, text_of_answer, text_of_indication};
 ghost use Rattle.trdp_script.specs.RecordText.{words_of_send, text_of_send, text_of_content};
 ghost use Rattle.trdp_script.specs.RecordText.{text_of_record, text_of_fault};
-ghost use Rattle.trdp_script.specs.RecordText.{bytes_of, answer_bytes};
+ghost use Rattle.trdp_script.specs.RecordText.{text_of_message};
+ghost use Rattle.trdp_script.specs.RecordText.{bytes_of, answer_bytes, indication_bytes};
 
 use crate::names::{fault_name, refusal_name, state_name};
 use std::alloc::AllocError;
-use trdp_base::{NUMBER_LENGTH, PLACE_LENGTH, Place, push_hex, push_number, push_place};
-use trdp_engine::{Answer, Indication, NodeFault, Protocol, Record, What};
+use trdp_base::{
+    NUMBER_LENGTH, PLACE_LENGTH, Place, URI_LIMIT, Uri, push_hex, push_number, push_place,
+};
+use trdp_engine::{Answer, Indication, Message, NodeFault, Protocol, Record, What};
 use trdp_pd::Peek;
 
-/// Enough bytes for what a record says, beside the digits of its bytes: the longest is a
-/// subscription's value.
-const CONTENT_ROOM: usize = 43;
+/// Enough bytes for the written form of a URI.
+const URI_ROOM: usize = 1 + 2 * URI_LIMIT;
+
+/// Enough bytes for a message, beside the digits of its payload.
+const MESSAGE_ROOM: usize = PLACE_LENGTH + NUMBER_LENGTH + 2 * URI_ROOM + 6;
+
+/// Enough bytes for what a record says, beside the digits of its bytes: the longest is a message
+/// that came in.
+const CONTENT_ROOM: usize = 10 + NUMBER_LENGTH + MESSAGE_ROOM;
 
 /// Enough bytes for a whole line, beside the digits of its bytes.
 const LINE_ROOM: usize = NUMBER_LENGTH + CONTENT_ROOM + 1;
@@ -66,12 +76,13 @@ pub fn print_fault(text: &mut Vec<u8>, fault: NodeFault) -> Result<(), AllocErro
     Ok(())
 }
 
-/// The bytes that a record shows in hexadecimal: a value, or a telegram.
+/// The bytes that a record shows at its end in hexadecimal: a value, a payload or a telegram.
 fn bytes_in<'a>(what: &What<'a>) -> &'a [u8]
     ensures { result.now ≡ bytes_of (content_model what.now) }
 {
-    match *what {
+    match what {
         What::Answer(Answer::Value(peek)) => peek.bytes,
+        What::Indication(Indication::Notified(_, message)) => message.payload,
         What::Answer(_) | What::Indication(_) => &[],
         What::Send { telegram, .. } => telegram,
     }
@@ -88,14 +99,14 @@ fn put_content(text: &mut Vec<u8>, what: &What<'_>)
         ≤ vec_len text.old + (CONTENT_ROOM + 2 * length (bytes_of (content_model what.now))) }
     ensures capacity { vec_capacity text.old ≤ vec_capacity text.new }
 {
-    match *what {
-        What::Answer(answer) => put_answer(text, answer),
+    match what {
+        What::Answer(answer) => put_answer(text, *answer),
         What::Indication(indication) => put_indication(text, indication),
         What::Send {
             protocol,
             to,
             telegram,
-        } => put_send(text, protocol, to, telegram),
+        } => put_send(text, *protocol, *to, telegram),
     }
 }
 
@@ -143,26 +154,58 @@ fn put_peek(text: &mut Vec<u8>, peek: Peek<'_>)
     put_hex(text, peek.bytes);
 }
 
-/// Appends what happened to a subscription, with a space before it, to a list that has room for
-/// it.
+/// Appends what a node tells of its own accord, with a space before it, to a list that has room
+/// for it.
 #[tactic(auto, unfolding(crate::specs::RecordText::text_of_indication))]
-fn put_indication(text: &mut Vec<u8>, indication: Indication)
-    requires room { vec_len text.old + CONTENT_ROOM ≤ vec_capacity text.old }
+fn put_indication(text: &mut Vec<u8>, indication: &Indication<'_>)
+    requires room { vec_len text.old
+        + (CONTENT_ROOM + 2 * length (indication_bytes (indication_model indication.now)))
+        ≤ vec_capacity text.old }
     ensures items { text.new.items ≡ text.old.items
-        ++ text_of_indication (indication_model indication) }
-    ensures len { vec_len text.new ≤ vec_len text.old + CONTENT_ROOM }
+        ++ text_of_indication (indication_model indication.now) }
+    ensures len { vec_len text.new
+        ≤ vec_len text.old
+        + (CONTENT_ROOM + 2 * length (indication_bytes (indication_model indication.now))) }
     ensures capacity { vec_capacity text.old ≤ vec_capacity text.new }
 {
     match indication {
         Indication::Silent(handle) => {
             put_word(text, b" silent ");
-            put_number(text, u64::from(handle));
+            put_number(text, u64::from(*handle));
         }
         Indication::Alive(handle) => {
             put_word(text, b" alive ");
-            put_number(text, u64::from(handle));
+            put_number(text, u64::from(*handle));
+        }
+        Indication::Notified(handle, message) => {
+            put_word(text, b" notified ");
+            put_number(text, u64::from(*handle));
+            put_message(text, message);
         }
     }
+}
+
+/// Appends a message that came in, with a space before it, to a list that has room for it.
+#[tactic(auto, unfolding(crate::specs::RecordText::text_of_message))]
+fn put_message(text: &mut Vec<u8>, message: &Message<'_>)
+    requires room { vec_len text.old + (MESSAGE_ROOM + 2 * length message.now.payload.now)
+        ≤ vec_capacity text.old }
+    ensures items { text.new.items ≡ text.old.items
+        ++ text_of_message (message_model message.now) }
+    ensures len { vec_len text.new
+        ≤ vec_len text.old + (MESSAGE_ROOM + 2 * length message.now.payload.now) }
+    ensures capacity { vec_capacity text.old ≤ vec_capacity text.new }
+{
+    put_word(text, b" ");
+    put_place(text, message.src);
+    put_word(text, b" ");
+    put_number(text, u64::from(message.com_id));
+    put_word(text, b" ");
+    put_uri(text, message.source_uri);
+    put_word(text, b" ");
+    put_uri(text, message.dest_uri);
+    put_word(text, b" ");
+    put_hex(text, message.payload);
 }
 
 /// Appends a telegram to be sent, with a space before it, to a list that has room for it.
@@ -220,6 +263,16 @@ fn put_place(text: &mut Vec<u8>, place: Place)
     ensures capacity { vec_capacity text.old ≤ vec_capacity text.new }
 {
     push_place(text, place).unwrap();
+}
+
+/// Appends the written form of a URI to a list that has room for the longest.
+fn put_uri(text: &mut Vec<u8>, uri: Uri)
+    requires room { vec_len text.old + URI_ROOM ≤ vec_capacity text.old }
+    ensures items { text.new.items ≡ text.old.items ++ text_of_hex uri }
+    ensures len { vec_len text.new ≤ vec_len text.old + URI_ROOM }
+    ensures capacity { vec_capacity text.old ≤ vec_capacity text.new }
+{
+    put_hex(text, uri.bytes());
 }
 
 /// Appends the written form of bytes to a list that has room for it.

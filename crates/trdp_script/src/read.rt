@@ -14,6 +14,7 @@ ghost use Rattle.trdp_script.specs.WordsLeft.{words_left};
 use crate::fault::LineFault;
 use crate::form::Form;
 use crate::line::Line;
+use crate::read_message::{read_listen, read_notify, read_unlisten};
 use crate::words::Words;
 use std::alloc::Global;
 use trdp_base::Topo;
@@ -46,6 +47,9 @@ impl Form {
             Form::OpenPull => plain(read_open_pull(words)),
             Form::Pull => plain(read_pull(words)),
             Form::ClosePull => plain(read_close_pull(words)),
+            Form::Listen => plain(read_listen(words)),
+            Form::Unlisten => plain(read_unlisten(words)),
+            Form::Notify => read_notify(alloc, words),
         }
     }
 }
@@ -253,7 +257,7 @@ fn read_close_pull(words: Words<'_>) -> Option<Line>
 
 /// The slot and the handle in `call SLOT WORD HANDLE`.
 #[tactic(auto, unfolding(crate::specs::Forms::event_of_words))]
-fn slot_and_handle(mut words: Words<'_>) -> Option<(u16, u32)>
+pub(crate) fn slot_and_handle(mut words: Words<'_>) -> Option<(u16, u32)>
     ensures { (word : List ℕ) (call : ℕ → CallModel)
         → event_in (handle_form word call) (words_left words.entry)
         ≡ option_map (λ found. CallIs found.0 (call found.1)) result }

@@ -4,7 +4,7 @@ use Rattle.trdp_filter.specs.declared.globals.Globals.{Globals}
 use Rattle.trdp_filter.specs.Telegrams.{TelegramModel}
 use Rattle.trdp_table.specs.declared.any_object.AnyObject.{AnyObject}
 use Rattle.trdp_table.specs.declared.any_object.AnyObject.TheVariants.{Publisher, Subscription}
-use Rattle.trdp_table.specs.declared.any_object.AnyObject.TheVariants.{Requester}
+use Rattle.trdp_table.specs.declared.any_object.AnyObject.TheVariants.{Requester, Listener}
 use Rattle.trdp_table.specs.Kinds.{kind_of}
 use Rattle.trdp_table.specs.Objects.{after_taking, after_firing}
 
@@ -15,6 +15,7 @@ pub kind-taking :
 kind-taking (Publisher p) telegram globals fits = refl
 kind-taking (Subscription s) telegram globals fits = refl
 kind-taking (Requester r) telegram globals fits = refl
+kind-taking (Listener l) telegram globals fits = refl
 
 -- an object that fired
 pub kind-firing :
@@ -23,3 +24,4 @@ pub kind-firing :
 kind-firing (Publisher p) globals = refl
 kind-firing (Subscription s) globals = refl
 kind-firing (Requester r) globals = refl
+kind-firing (Listener l) globals = refl

@@ -24,3 +24,4 @@ abbrev pub kind_of : AnyObject → Kind
 kind_of (object.Publisher p) = Publisher
 kind_of (object.Subscription s) = Subscription
 kind_of (object.Requester r) = Requester
+kind_of (object.Listener l) = Listener

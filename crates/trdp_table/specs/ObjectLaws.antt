@@ -6,12 +6,13 @@ use Rattle.trdp_filter.specs.Telegrams.{TelegramModel}
 use Rattle.trdp_pd.specs.declared.object.Taken.TheVariants.{Nothing as NotTaken}
 use Rattle.trdp_table.specs.declared.any_object.AnyObject.{AnyObject}
 use Rattle.trdp_table.specs.declared.any_object.AnyObject.TheVariants.{Publisher, Subscription}
-use Rattle.trdp_table.specs.declared.any_object.AnyObject.TheVariants.{Requester}
+use Rattle.trdp_table.specs.declared.any_object.AnyObject.TheVariants.{Requester, Listener}
 use Rattle.trdp_pd.specs.Effects.{Taking, taking_as}
 use Rattle.trdp_pd.specs.Due.{is_due_by}
 use Rattle.trdp_pd.specs.Publishers.{PublisherState}
 use Rattle.trdp_pd.specs.Subscriptions.{SubscriptionState}
 use Rattle.trdp_pd.specs.Requesters.{RequesterState}
+use Rattle.trdp_md.specs.declared.listener.Listener.{Listener as ListenerState}
 use Rattle.trdp_table.specs.Objects.{due_of, is_sound, is_addressed, taking, firing}
 use Rattle.trdp_pd.specs.PublisherLaws.{publisher_taking-unaddressed, publisher_due-firing}
 use Rattle.trdp_pd.specs.PublisherLaws.{publisher_due-taking}
@@ -19,6 +20,8 @@ use Rattle.trdp_pd.specs.SubscriptionLaws.{subscription_taking-unaddressed}
 use Rattle.trdp_pd.specs.SubscriptionLaws.{subscription_due-firing, subscription_due-taking}
 use Rattle.trdp_pd.specs.RequesterLaws.{requester_taking-unaddressed, requester_due-firing}
 use Rattle.trdp_pd.specs.RequesterLaws.{requester_due-taking}
+use Rattle.trdp_md.specs.ListenerLaws.{listener_taking-unaddressed, listener_due-firing}
+use Rattle.trdp_md.specs.ListenerLaws.{listener_due-taking}
 
 -- a telegram that isn't addressed to an object changes nothing
 pub taking-unaddressed :
@@ -37,6 +40,10 @@ taking-unaddressed (Requester r) telegram globals fits not =
     ap
     (λ (t : Taking RequesterState). taking_as Requester t)
     (requester_taking-unaddressed r telegram globals fits not)
+taking-unaddressed (Listener l) telegram globals fits not =
+    ap
+    (λ (t : Taking ListenerState). taking_as Listener t)
+    (listener_taking-unaddressed l telegram globals fits not)
 
 -- an object that fired isn't due by now
 pub due-firing :
@@ -45,6 +52,7 @@ pub due-firing :
 due-firing (Publisher p) globals sound = publisher_due-firing p globals
 due-firing (Subscription s) globals sound = subscription_due-firing s globals
 due-firing (Requester r) globals sound = requester_due-firing r globals
+due-firing (Listener l) globals sound = listener_due-firing l globals
 
 -- a telegram makes no object due
 pub due-taking :
@@ -57,6 +65,8 @@ due-taking (Subscription s) telegram globals fits sound not =
     subscription_due-taking s telegram globals fits not
 due-taking (Requester r) telegram globals fits sound not =
     requester_due-taking r telegram globals fits not
+due-taking (Listener l) telegram globals fits sound not =
+    listener_due-taking l telegram globals fits not
 
 -- an object stays sound
 pub is_sound-taking :
@@ -65,6 +75,7 @@ pub is_sound-taking :
 is_sound-taking (Publisher p) telegram globals fits sound = refl
 is_sound-taking (Subscription s) telegram globals fits sound = refl
 is_sound-taking (Requester r) telegram globals fits sound = refl
+is_sound-taking (Listener l) telegram globals fits sound = refl
 
 pub is_sound-firing :
     (object : AnyObject) (globals : Globals) → is_sound object ≡ true
@@ -72,3 +83,4 @@ pub is_sound-firing :
 is_sound-firing (Publisher p) globals sound = refl
 is_sound-firing (Subscription s) globals sound = refl
 is_sound-firing (Requester r) globals sound = refl
+is_sound-firing (Listener l) globals sound = refl

@@ -6,7 +6,7 @@ use Rattle.trdp_pd.specs.declared.object.Taken.{Taken}
 use Rattle.trdp_pd.specs.declared.object.Fired.{Fired}
 use Rattle.trdp_table.specs.declared.any_object.AnyObject.{AnyObject}
 use Rattle.trdp_table.specs.declared.any_object.AnyObject.TheVariants.{Publisher, Subscription}
-use Rattle.trdp_table.specs.declared.any_object.AnyObject.TheVariants.{Requester}
+use Rattle.trdp_table.specs.declared.any_object.AnyObject.TheVariants.{Requester, Listener}
 use Rattle.trdp_pd.specs.Effects.{Taking, Firing, taking_as, firing_as}
 use Rattle.trdp_pd.specs.Publishers.{publisher_due, publisher_addressed, publisher_taking}
 use Rattle.trdp_pd.specs.Publishers.{publisher_firing}
@@ -14,30 +14,36 @@ use Rattle.trdp_pd.specs.Subscriptions.{subscription_addressed, subscription_tak
 use Rattle.trdp_pd.specs.Subscriptions.{subscription_firing}
 use Rattle.trdp_pd.specs.Requesters.{requester_due, requester_addressed, requester_taking}
 use Rattle.trdp_pd.specs.Requesters.{requester_firing}
+use Rattle.trdp_md.specs.Listeners.{listener_due, listener_addressed, listener_taking}
+use Rattle.trdp_md.specs.Listeners.{listener_firing}
 
 -- when the object is to act next
 abbrev pub due_of : AnyObject → Option ℕ
 due_of (Publisher p) = publisher_due p
 due_of (Subscription s) = s.deadline
 due_of (Requester r) = requester_due r
+due_of (Listener l) = listener_due l
 
--- the dataset that the object's value is one of; a requester has no value
+-- the dataset that the object's value is one of; requesters and listeners have no value
 abbrev pub dataset_of : AnyObject → Option ℕ
 dataset_of (Publisher p) = Some p.terms.dataset
 dataset_of (Subscription s) = Some s.terms.dataset
 dataset_of (Requester r) = None
+dataset_of (Listener l) = None
 
 -- what the laws of objects ask of one: of these kinds nothing
 abbrev pub is_sound : AnyObject → Bool
 is_sound (Publisher p) = true
 is_sound (Subscription s) = true
 is_sound (Requester r) = true
+is_sound (Listener l) = true
 
 -- the telegram is for the object
 abbrev pub is_addressed : AnyObject → TelegramModel → Globals → Bool
 is_addressed (Publisher p) telegram globals = publisher_addressed p telegram globals
 is_addressed (Subscription s) telegram globals = subscription_addressed s telegram globals
 is_addressed (Requester r) telegram globals = requester_addressed r telegram globals
+is_addressed (Listener l) telegram globals = listener_addressed l telegram globals
 
 -- the object once it was handed a telegram, and what it did with it
 abbrev pub taking : AnyObject → TelegramModel → Globals → Bool → Taking AnyObject
@@ -47,6 +53,8 @@ taking (Subscription s) telegram globals fits =
     taking_as Subscription (subscription_taking s telegram globals fits)
 taking (Requester r) telegram globals fits =
     taking_as Requester (requester_taking r telegram globals fits)
+taking (Listener l) telegram globals fits =
+    taking_as Listener (listener_taking l telegram globals fits)
 
 -- the object after it was handed a telegram
 abbrev pub after_taking : AnyObject → TelegramModel → Globals → Bool → AnyObject
@@ -61,6 +69,7 @@ abbrev pub firing : AnyObject → Globals → Firing AnyObject
 firing (Publisher p) globals = firing_as Publisher (publisher_firing p globals)
 firing (Subscription s) globals = firing_as Subscription (subscription_firing s globals)
 firing (Requester r) globals = firing_as Requester (requester_firing r globals)
+firing (Listener l) globals = firing_as Listener (listener_firing l globals)
 
 -- the object after it fired
 abbrev pub after_firing : AnyObject → Globals → AnyObject

@@ -1,6 +1,7 @@
 //! The objects of a slot, of any kind.
 
 use trdp_filter::{Globals, Telegram};
+use trdp_md::Listener;
 use trdp_pd::{Fired, Object, Publisher, Requester, Subscription, Taken};
 
 /// An object of any kind.
@@ -12,6 +13,8 @@ pub enum AnyObject {
     Subscription(Subscription),
     /// It asks for process data.
     Requester(Requester),
+    /// It hears notifications and requests.
+    Listener(Listener),
 }
 
 impl Object for AnyObject {
@@ -47,6 +50,7 @@ impl Object for AnyObject {
             AnyObject::Publisher(publisher) => publisher.due(),
             AnyObject::Subscription(subscription) => subscription.due(),
             AnyObject::Requester(requester) => requester.due(),
+            AnyObject::Listener(listener) => listener.due(),
         }
     }
 
@@ -55,6 +59,7 @@ impl Object for AnyObject {
             AnyObject::Publisher(publisher) => Object::dataset(publisher),
             AnyObject::Subscription(subscription) => Object::dataset(subscription),
             AnyObject::Requester(requester) => requester.dataset(),
+            AnyObject::Listener(listener) => listener.dataset(),
         }
     }
 
@@ -63,6 +68,7 @@ impl Object for AnyObject {
             AnyObject::Publisher(publisher) => publisher.addressed(telegram, globals),
             AnyObject::Subscription(subscription) => subscription.addressed(telegram, globals),
             AnyObject::Requester(requester) => requester.addressed(telegram, globals),
+            AnyObject::Listener(listener) => listener.addressed(telegram, globals),
         }
     }
 
@@ -71,6 +77,7 @@ impl Object for AnyObject {
             AnyObject::Publisher(publisher) => publisher.take(telegram, globals, fits),
             AnyObject::Subscription(subscription) => subscription.take(telegram, globals, fits),
             AnyObject::Requester(requester) => requester.take(telegram, globals, fits),
+            AnyObject::Listener(listener) => listener.take(telegram, globals, fits),
         }
     }
 
@@ -79,6 +86,7 @@ impl Object for AnyObject {
             AnyObject::Publisher(publisher) => publisher.fire(globals),
             AnyObject::Subscription(subscription) => subscription.fire(globals),
             AnyObject::Requester(requester) => requester.fire(globals),
+            AnyObject::Listener(listener) => listener.fire(globals),
         }
     }
 }

@@ -32,6 +32,7 @@ impl Kind {
             AnyObject::Publisher(_) => Kind::Publisher,
             AnyObject::Subscription(_) => Kind::Subscription,
             AnyObject::Requester(_) => Kind::Requester,
+            AnyObject::Listener(_) => Kind::Listener,
         }
     }
 

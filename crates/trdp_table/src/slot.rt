@@ -1,7 +1,7 @@
 //! The objects of one slot.
 
 ghost use Rattle.std.specs.Prelude.{◌≡◌, ◌+◌, ◌<◌, ◌≤◌, length, Some, None, IfOk, IfSome};
-ghost use Rattle.std.specs.Prelude.{slice_get, option_map};
+ghost use Rattle.std.specs.Prelude.{slice_get, option_map, option_copied};
 ghost use Rattle.std.specs.Borrow.{sem};
 ghost use Rattle.trdp_table.specs.Kinds.{kind_of};
 ghost use Rattle.trdp_table.specs.Tables.{opened_slot, refusal, last_handle, by_handle};
@@ -131,6 +131,28 @@ impl Slot {
             ≡ option_map (λ keyed. keyed.handle) (slice_get self.now.objects index) }
     {
         self.entries[index].handle()
+    }
+
+    /// The object of that index; None past the last one.
+    pub fn object_of(&self, index: usize) -> Option<&AnyObject>
+        ensures { option_copied result
+            ≡ option_map (λ keyed. keyed.object) (slice_get self.now.objects index) }
+    {
+        match self.entries.get(index) {
+            Some(entry) => Some(entry.object()),
+            None => None,
+        }
+    }
+
+    /// The handle of the object of that index; None past the last one.
+    pub fn handle_of(&self, index: usize) -> Option<u32>
+        ensures { result
+            ≡ option_map (λ keyed. keyed.handle) (slice_get self.now.objects index) }
+    {
+        match self.entries.get(index) {
+            Some(entry) => Some(entry.handle()),
+            None => None,
+        }
     }
 
     /// Lends its object of that index alone.

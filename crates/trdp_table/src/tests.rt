@@ -3,7 +3,9 @@
 use crate::{AnyObject, Kind, Table, TableFault};
 use std::process::Abort;
 use std::test::Fail;
-use trdp_base::{Ip, Place, Quotas, Topo};
+use trdp_base::{Ip, Place, Quotas, Topo, Uri};
+use trdp_filter::MdFilter;
+use trdp_md::Listener;
 use trdp_pd::{Object, Publisher, PublisherTerms, Requester, RequesterTerms};
 
 /// What is done to a slot.
@@ -55,7 +57,7 @@ fn terms(com_id: u32) -> PublisherTerms {
 fn is_of(object: &AnyObject, com_id: u32) -> bool {
     match object {
         AnyObject::Publisher(publisher) => publisher.com_id() == com_id,
-        AnyObject::Subscription(_) | AnyObject::Requester(_) => false,
+        AnyObject::Subscription(_) | AnyObject::Requester(_) | AnyObject::Listener(_) => false,
     }
 }
 
@@ -119,6 +121,15 @@ fn kinds(rt: HostRuntime) -> Result<(), Fail> {
         to: cyclic.to,
     }));
     assert_eq!(rt; outline(&requester), (2, None, None));
+    let listener = AnyObject::Listener(Listener::new(&MdFilter {
+        com_id: None,
+        low: Ip(0),
+        high: Ip(0),
+        dest: Ip(0),
+        uri: Uri::empty(),
+        topo: cyclic.topo,
+    }));
+    assert_eq!(rt; outline(&listener), (3, None, None));
     Ok(())
 }
 

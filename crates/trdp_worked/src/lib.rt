@@ -3,10 +3,11 @@
 //!
 //! Nearly all of them are scripts with the text that they give. In a script a remark before a
 //! datagram says in short what telegram the digits are: its type, its counter (c), its comId (com),
-//! its topology counts (etb, op), the comId and the address for a reply (rcom, rip), and behind the
-//! bar the payload; what isn't named is 0. Where the telegram isn't as it should be, it also says
-//! how: another version (v) or length (n), a wrong frame check (bad), no zeros behind the payload
-//! (nopad), or so many bytes alone (cut). What a script can't say stands in `items` and `node`.
+//! its topology counts (etb, op), the comId and the address for a reply (rcom, rip), its URIs (src,
+//! dst), and behind the bar the payload; what isn't named is 0 or empty. Where the telegram isn't as
+//! it should be, it also says how: another version (v) or length (n), a wrong frame check (bad), no
+//! zeros behind the payload (nopad), or so many bytes alone (cut). What a script can't say stands in
+//! `items` and `node`.
 #![tactic(auto)]
 
 #[cfg(test)]
@@ -17,6 +18,10 @@ mod calls;
 mod items;
 #[cfg(test)]
 mod lines;
+#[cfg(test)]
+mod long_lines;
+#[cfg(test)]
+mod messages;
 #[cfg(test)]
 mod node;
 #[cfg(test)]

@@ -23,43 +23,47 @@ const TERMS: PublisherTerms = PublisherTerms {
 };
 
 /// The publisher is made, gets its value, and is due.
-static EVENTS: [Event<'static>; 3] = [
-    Event::Call {
-        slot: 0,
-        call: Call::Publish(TERMS),
-    },
-    Event::Call {
-        slot: 0,
-        call: Call::Put {
-            handle: 1,
-            bytes: b"\x0a\x0b",
+fn events() -> [Event<'static>; 3] {
+    [
+        Event::Call {
+            slot: 0,
+            call: Call::Publish(TERMS),
         },
-    },
-    Event::Moment(100_000),
-];
+        Event::Call {
+            slot: 0,
+            call: Call::Put {
+                handle: 1,
+                bytes: b"\x0a\x0b",
+            },
+        },
+        Event::Moment(100_000),
+    ]
+}
 
 /// The same for slot 0, with a call of slot 1, a moment that changes nothing and a last one that is
 /// refused.
-static OTHERS: [Event<'static>; 6] = [
-    Event::Call {
-        slot: 1,
-        call: Call::Publish(TERMS),
-    },
-    Event::Call {
-        slot: 0,
-        call: Call::Publish(TERMS),
-    },
-    Event::Moment(0),
-    Event::Call {
-        slot: 0,
-        call: Call::Put {
-            handle: 1,
-            bytes: b"\x0a\x0b",
+fn other_events() -> [Event<'static>; 6] {
+    [
+        Event::Call {
+            slot: 1,
+            call: Call::Publish(TERMS),
         },
-    },
-    Event::Moment(100_000),
-    Event::Moment(7),
-];
+        Event::Call {
+            slot: 0,
+            call: Call::Publish(TERMS),
+        },
+        Event::Moment(0),
+        Event::Call {
+            slot: 0,
+            call: Call::Put {
+                handle: 1,
+                bytes: b"\x0a\x0b",
+            },
+        },
+        Event::Moment(100_000),
+        Event::Moment(7),
+    ]
+}
 
 /// What they give.
 static FIRST_TELEGRAM: &str = "\
@@ -73,7 +77,7 @@ static FIRST_TELEGRAM: &str = "\
 fn a_run_takes_all_events(rt: HostRuntime) -> Result<(), Fail> {
     let mut bench = Bench::new(rt.alloc(), CONFIG)?;
     assert!(rt; bench.out.is_empty());
-    let taken = bench.node.run(&EVENTS, &mut bench.out);
+    let taken = bench.node.run(&events(), &mut bench.out);
     assert_eq!(rt; taken, 3);
     assert!(rt; bench.out.get(3).is_none());
     bench.tells(&rt, FIRST_TELEGRAM)
@@ -122,8 +126,8 @@ fn two_nodes_run_alike(rt: HostRuntime) -> Result<(), Fail> {
     let taken = run_both(
         &mut first.node,
         &mut second.node,
-        &EVENTS,
-        &OTHERS,
+        &events(),
+        &other_events(),
         &mut first.out,
         &mut second.out,
     );
@@ -175,7 +179,7 @@ struct Opening {
     last: &'static str,
 }
 
-static OPENINGS: [Opening; 3] = [
+static OPENINGS: [Opening; 4] = [
     Opening {
         line: "call 0 publish 100 0 1000 0 0 0 10.0.0.2:17224",
         last: "0 handle 256\n",
@@ -187,6 +191,10 @@ static OPENINGS: [Opening; 3] = [
     Opening {
         line: "call 0 openpull 100 0 0.0.0.0 0 0 10.0.0.2:17224",
         last: "0 handle 768\n",
+    },
+    Opening {
+        line: "call 0 listen any 0.0.0.0 0.0.0.0 0.0.0.0 - 0 0",
+        last: "0 handle 1024\n",
     },
 ];
 

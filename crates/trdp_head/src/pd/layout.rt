@@ -1,25 +1,4 @@
-//! Where the fields of a process data header stand, in bytes from its start.
-
-/// sequenceCounter, 4 bytes.
-pub const COUNTER: usize = 0;
-
-/// protocolVersion, 2 bytes, of which the first is the main version.
-pub const VERSION: usize = 4;
-
-/// msgType, 2 bytes.
-pub const KIND: usize = 6;
-
-/// comId, 4 bytes.
-pub const COM_ID: usize = 8;
-
-/// etbTopoCnt, 4 bytes.
-pub const ETB_TOPO: usize = 12;
-
-/// opTrnTopoCnt, 4 bytes.
-pub const OP_TRN_TOPO: usize = 16;
-
-/// datasetLength, 4 bytes.
-pub const DATASET_LENGTH: usize = 20;
+//! Where the fields of a process data header stand behind the first ones, in bytes from its start.
 
 /// The reserved field, 4 bytes.
 pub const RESERVED: usize = 24;

@@ -1,19 +1,20 @@
 //! Reading a process data telegram.
 
-ghost use Rattle.std.specs.Prelude.{◌≡◌, ◌≤◌, ◌+◌, List, ℕ, length, IfOk, IfErr, IsOkAnd};
-ghost use Rattle.trdp_head.specs.Fields.{field};
+ghost use Rattle.std.specs.Prelude.{◌≡◌, ◌≤◌, List, ℕ, length, Some, None, IfOk, IfErr, IsOkAnd};
 ghost use Rattle.trdp_head.specs.PdKinds.{kind_of};
+ghost use Rattle.trdp_head.specs.Prefixes.{prefix_in};
 ghost use Rattle.trdp_head.specs.PdHeads.{head_in};
 ghost use Rattle.trdp_head.specs.IsPdTelegram.{IsPdTelegram};
 ghost use Rattle.trdp_head.specs.PdFaults.{pd_fault_of};
 ghost use Rattle.trdp_head.specs.PdTelegrams.{pd_telegram_of};
 ghost use Rattle.trdp_head.specs.declared.pd.PdHead.{PdHead};
 
-use crate::check::passes_check;
 use crate::fault::HeadFault;
-use crate::fields::{u16_at, u32_at};
+use crate::fields::u32_at;
+use crate::payload::read_payload;
 use crate::pd::{PD_HEAD, PD_TELEGRAM_MAX, PdHead, PdKind, PdView, layout};
-use trdp_base::{Ip, Topo};
+use crate::prefix::{Prefix, read_prefix};
+use trdp_base::Ip;
 
 /// The type of a code, if it is one of process data.
 fn kind_of_code(code: u16) -> Option<PdKind>
@@ -29,50 +30,19 @@ fn kind_of_code(code: u16) -> Option<PdKind>
 }
 
 /// The fields that stand in a header, with this type.
-fn head_of(bytes: &[u8], kind: PdKind) -> PdHead
-    requires { 40 ≤ length bytes.now }
+fn head_of(bytes: &[u8], prefix: Prefix, kind: PdKind) -> PdHead
+    requires room { 40 ≤ length bytes.now }
+    requires prefix { prefix ≡ prefix_in bytes.now }
     ensures { result ≡ head_in bytes.now kind }
 {
     PdHead {
-        counter: u32_at(bytes, layout::COUNTER),
+        counter: prefix.counter,
         kind,
-        com_id: u32_at(bytes, layout::COM_ID),
-        topo: Topo {
-            etb: u32_at(bytes, layout::ETB_TOPO),
-            op_trn: u32_at(bytes, layout::OP_TRN_TOPO),
-        },
+        com_id: prefix.com_id,
+        topo: prefix.topo,
         reply_com_id: u32_at(bytes, layout::REPLY_COM_ID),
         reply_ip: Ip(u32_at(bytes, layout::REPLY_IP)),
     }
-}
-
-/// The type of the telegram in the bytes, or the first fault.
-#[tactic(auto, unfolding(crate::specs::PdFaults::pd_fault_of))]
-fn faultless_kind(bytes: &[u8]) -> Result<PdKind, HeadFault>
-    ensures fault { IfErr result (λ fault. pd_fault_of bytes.now ≡ Some fault) }
-    ensures none { IfOk result (λ _. pd_fault_of bytes.now ≡ None) }
-    ensures kind { IfOk result (λ kind. kind_of (field 6 2 bytes.now) ≡ Some kind) }
-    ensures room { IfOk result (λ _. 40 + field 20 4 bytes.now ≤ length bytes.now) }
-{
-    if bytes.len() < PD_HEAD {
-        return Err(HeadFault::Short);
-    }
-    if bytes.len() > PD_TELEGRAM_MAX {
-        return Err(HeadFault::TooLong);
-    }
-    if !passes_check(bytes, layout::FCS) {
-        return Err(HeadFault::Fcs);
-    }
-    if bytes[layout::VERSION] != 1 {
-        return Err(HeadFault::Version);
-    }
-    let Some(kind) = kind_of_code(u16_at(bytes, layout::KIND)) else {
-        return Err(HeadFault::Kind);
-    };
-    if u32_at(bytes, layout::DATASET_LENGTH) as usize > bytes.len() - PD_HEAD {
-        return Err(HeadFault::Length);
-    }
-    Ok(kind)
 }
 
 /// The process data telegram in the bytes, whose payload it lends (IEC 61375-2-3).
@@ -98,11 +68,13 @@ pub fn read_pd(bytes: &[u8]) -> Result<PdView<'_>, HeadFault>
         ≡ Some (record { head = view.head; payload = view.payload.now })) }
     ensures none_found { IfErr result (λ _. pd_telegram_of bytes.now ≡ None) }
 {
-    let kind = faultless_kind(bytes)?;
-    let (_, rest) = bytes.split_at(PD_HEAD);
-    let (payload, _) = rest.split_at(u32_at(bytes, layout::DATASET_LENGTH) as usize);
+    let prefix = read_prefix(bytes, PD_HEAD, PD_TELEGRAM_MAX)?;
+    let Some(kind) = kind_of_code(prefix.code) else {
+        return Err(HeadFault::Kind);
+    };
+    let payload = read_payload(bytes, PD_HEAD)?;
     Ok(PdView {
-        head: head_of(bytes, kind),
+        head: head_of(bytes, prefix, kind),
         payload,
     })
 }

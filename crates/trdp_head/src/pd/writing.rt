@@ -9,11 +9,10 @@ ghost use Rattle.trdp_head.specs.IsPdTelegram.{IsPdTelegram};
 ghost use Rattle.trdp_head.specs.PdBytes.{pd_length_of, pd_head_bytes, pd_bytes};
 
 use crate::check::put_check;
-use crate::fields::{put_bytes, put_u16, put_u32, put_zeros};
+use crate::fields::put_u32;
+use crate::payload::{append_telegram, complete, rounded};
 use crate::pd::{PD_HEAD, PdHead, PdKind, layout};
-
-/// The protocol version 1.0.
-const PROTOCOL_VERSION: u16 = 0x0100;
+use crate::prefix::{Prefix, put_prefix};
 
 /// The length in bytes of a telegram with so many bytes of payload, 0 to 1432: 40, and the payload
 /// rounded up to a multiple of four (IEC 61375-2-3).
@@ -21,7 +20,7 @@ pub fn pd_length(payload: usize) -> usize
     requires { payload ≤ 1432 }
     ensures { result ≡ pd_length_of payload }
 {
-    PD_HEAD + payload.div_ceil(4) * 4
+    PD_HEAD + rounded(payload)
 }
 
 /// The code of a type.
@@ -43,13 +42,13 @@ fn put_head(room: &mut [u8], head: PdHead, payload: u32)
     ensures rest { (n : ℕ) → 36 ≤ n → drop n room.new ≡ drop n room.old }
     ensures ranges { IsPdHead head }
 {
-    put_u32(room, layout::COUNTER, head.counter);
-    put_u16(room, layout::VERSION, PROTOCOL_VERSION);
-    put_u16(room, layout::KIND, code_of_kind(head.kind));
-    put_u32(room, layout::COM_ID, head.com_id);
-    put_u32(room, layout::ETB_TOPO, head.topo.etb);
-    put_u32(room, layout::OP_TRN_TOPO, head.topo.op_trn);
-    put_u32(room, layout::DATASET_LENGTH, payload);
+    let prefix = Prefix {
+        counter: head.counter,
+        code: code_of_kind(head.kind),
+        com_id: head.com_id,
+        topo: head.topo,
+    };
+    put_prefix(room, prefix, payload);
     put_u32(room, layout::RESERVED, 0);
     put_u32(room, layout::REPLY_COM_ID, head.reply_com_id);
     put_u32(room, layout::REPLY_IP, head.reply_ip.0);
@@ -68,12 +67,8 @@ pub fn write_pd(head: &PdHead, payload: &[u8], room: &mut [u8]) -> usize
         ++ drop (pd_length_of (length payload.now)) room.old }
     ensures read_back { IsPdTelegram (pd_bytes head.now payload.now) head.now payload.now }
 {
-    let end = pd_length(payload.len());
     put_head(room, *head, payload.len() as u32);
-    put_check(room, layout::FCS);
-    put_bytes(room, PD_HEAD, payload);
-    put_zeros(room, PD_HEAD + payload.len(), end);
-    end
+    complete(room, PD_HEAD, payload)
 }
 
 /// The header with its frame check, for so many bytes of payload.
@@ -84,16 +79,6 @@ fn header(head: PdHead, payload: u32) -> [u8; PD_HEAD]
     put_head(&mut room, head, payload);
     put_check(&mut room, layout::FCS);
     room
-}
-
-/// Adds bytes at the end of the list, within its room.
-fn append(list: &mut Vec<u8>, bytes: &[u8])
-    requires { vec_len list.old + length bytes.now ≤ vec_capacity list.old }
-    ensures items { list.new.items ≡ list.old.items ++ bytes.now }
-    ensures len { vec_len list.new ≡ vec_len list.old + length bytes.now }
-    ensures capacity { vec_capacity list.old ≤ vec_capacity list.new }
-{
-    list.extend_from_slice(bytes).unwrap();
 }
 
 /// Adds the telegram at the end of the list, within its room, and answers its length
@@ -110,10 +95,5 @@ pub fn push_pd(head: &PdHead, payload: &[u8], list: &mut Vec<u8>) -> usize
     ensures len { vec_len list.new ≡ vec_len list.old + pd_length_of (length payload.now) }
     ensures capacity { vec_capacity list.old ≤ vec_capacity list.new }
 {
-    let end = pd_length(payload.len());
-    append(list, &header(*head, payload.len() as u32));
-    append(list, payload);
-    let (padding, _) = b"\0\0\0".split_at(end - PD_HEAD - payload.len());
-    append(list, padding);
-    end
+    append_telegram(list, &header(*head, payload.len() as u32), payload)
 }

@@ -9,5 +9,5 @@ abbrev pub invariant-loop-index : goal.invariant-loop-index
 invariant-loop-index l = record {
   room : l.room ≡ entries_room (filter (is_due l.t) (take l.index (slot_at l.s l.table).objects));
   rows : l.room.rows ≤ l.index;
-  bytes : l.room.bytes ≤ 1472 * l.index;
+  bytes : l.room.bytes ≤ 65388 * l.index;
 }

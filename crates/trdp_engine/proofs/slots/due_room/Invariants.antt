@@ -9,5 +9,5 @@ abbrev pub invariant-loop-s : goal.invariant-loop-s
 invariant-loop-s l = record {
   room : l.room ≡ moment_room l.t (take l.s (slots_of l.table));
   rows : l.room.rows ≤ object_limit * l.s;
-  bytes : l.room.bytes ≤ 1472 * object_limit * l.s;
+  bytes : l.room.bytes ≤ 65388 * object_limit * l.s;
 }

@@ -18,7 +18,6 @@ use Rattle.trdp_engine.specs.Slots.{Entry, Outcome}
 use Rattle.trdp_engine.specs.Acts.{entry_left}
 use Rattle.trdp_engine.specs.Alone.{event_effect}
 use Rattle.trdp_worked.specs.Views.{with_subscription}
-use Rattle.trdp_engine.specs.Pulls.{answer_place}
 use Rattle.trdp_engine.specs.Datagrams.{fits_object, left_taking, taken_records}
 use Rattle.trdp_worked.proofs.views.stale_telegram_stays.Goals as goal
 
@@ -57,7 +56,7 @@ outcome_by setup s telegram t = record {
   slot = record (with_subscription s) {
     objects = entry_left (entry_with s) (left_taking t.taken t.object) ++ [];
   };
-  records = taken_records (answer_place setup telegram) 1 (Subscription s) t.taken ++ [];
+  records = taken_records setup telegram 1 (Subscription s) t.taken ++ [];
 }
 
 pub returns-clause-nothing : goal.returns-clause-nothing

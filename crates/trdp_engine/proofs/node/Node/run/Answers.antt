@@ -1,6 +1,5 @@
 use Rattle.std.proofs.Common.{arith, refl, ◌∙◌}
 use Rattle.std.proofs.lemmas.Option.{slice_get-get_or, slice_get_past}
-use Rattle.trdp_engine.specs.declared.event.Event.TheVariants.{Moment}
 use Rattle.trdp_engine.proofs.Runs.{one_event, so_far, one_more, at_start}
 use Rattle.trdp_engine.proofs.Steps.{appends_none, appends_more}
 use Rattle.trdp_engine.proofs.node.Node.run.Goals as goal
@@ -20,7 +19,7 @@ loop-event-preserved c = record {
   config = c.step-result.ensures.config ∙ c.loop-event.invariant.config;
   count = c.step-result.ensures.count ∙ c.loop-event.invariant.count;
   runs = λ s slot is.
-      rw (one_more c.args.events.now c.loop-event.event-index (Moment 0) c.loop-event-test.true)
+      rw (one_more c.args.events.now c.loop-event.event-index c.event-item.result c.loop-event-test.true, ← c.event-item.is)
       (one_event c.args.self.now c.loop-event.self c.step-result.new.self c.args.out.now.records c.loop-event.out.records c.step-result.new.out.records _ _ s slot _ c.step-result.result c.loop-event.invariant.config refl c.step-result.ensures.fault (c.is_out_of_memory.ensures.no c.if-is_out_of_memory.false) c.step-result.ensures.kept c.step-result.ensures.unrecorded c.step-result.ensures.globals c.step-result.ensures.steps (c.loop-event.invariant.runs s slot is));
   appends = appends_more c.args.self.now.slots c.loop-event.self.slots _ _ _ c.loop-event.invariant.count c.loop-event.invariant.appends c.step-result.ensures.appends;
 }
@@ -39,7 +38,7 @@ pub returns-then-is_out_of_memory-clause-stops : goal.returns-then-is_out_of_mem
 returns-then-is_out_of_memory-clause-stops c =
     let memory = c.is_out_of_memory.ensures.yes c.if-is_out_of_memory.true in
     let kept = rw memory at c.step-result.ensures.kept in
-    rw (c.loop-event.invariant.taken, kept, slice_get-get_or c.args.events.now c.loop-event.event-index (Moment 0) c.loop-event-test.true) (c.step-result.ensures.memory memory)
+    rw (c.loop-event.invariant.taken, kept, slice_get-get_or c.args.events.now c.loop-event.event-index c.event-item.result c.loop-event-test.true, ← c.event-item.is) (c.step-result.ensures.memory memory)
 
 pub returns-clause-stops : goal.returns-clause-stops
 returns-clause-stops c = rw (c.loop-event.invariant.taken, slice_get_past c.args.events.now c.loop-event.event-index (omega arith)) tt
@@ -48,7 +47,7 @@ pub returns-then-is_out_of_memory-clause-lacks : goal.returns-then-is_out_of_mem
 returns-then-is_out_of_memory-clause-lacks c =
     let memory = c.is_out_of_memory.ensures.yes c.if-is_out_of_memory.true in
     let kept = rw memory at c.step-result.ensures.kept in
-    rw (c.loop-event.invariant.taken, kept, slice_get-get_or c.args.events.now c.loop-event.event-index (Moment 0) c.loop-event-test.true) (c.step-result.ensures.still memory)
+    rw (c.loop-event.invariant.taken, kept, slice_get-get_or c.args.events.now c.loop-event.event-index c.event-item.result c.loop-event-test.true, ← c.event-item.is) (c.step-result.ensures.still memory)
 
 pub returns-clause-lacks : goal.returns-clause-lacks
 returns-clause-lacks c = rw (c.loop-event.invariant.taken, slice_get_past c.args.events.now c.loop-event.event-index (omega arith)) tt

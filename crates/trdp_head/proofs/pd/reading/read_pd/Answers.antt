@@ -1,27 +1,63 @@
-use Rattle.std.proofs.Common.{◌≡◌, ℕ, List, take, drop, sym, ap, ◌∙◌}
-use Rattle.std.proofs.lemmas.Result.{err_from_is_err_and}
+use Rattle.std.proofs.Common.{◌≡◌, Some, sym, ap, ◌∙◌}
 use Rattle.std.proofs.lemmas.Option.{none-some}
-use Rattle.trdp_head.specs.Fields.{field}
-use Rattle.trdp_head.proofs.PdTelegramFacts.{pd_telegram_of-no_fault, pd_telegram_of-fault, telegram-from, telegram-no_fault}
+use Rattle.trdp_head.specs.declared.prefix.Prefix.{Prefix}
+use Rattle.trdp_head.specs.declared.fault.HeadFault.TheVariants.{Kind}
+use Rattle.trdp_head.specs.PdKinds.{kind_of}
+use Rattle.trdp_head.specs.PdFaults.{pd_fault_of}
+use Rattle.trdp_head.proofs.TelegramFacts.{err_answers}
+use Rattle.trdp_head.proofs.PdTelegramFacts.{pd-no_fault, pd-telegram, pd_fault-prefix, pd_fault-kind, pd_fault-payload, pd_telegram_of-fault, telegram-is}
 use Rattle.trdp_head.proofs.pd.reading.read_pd.Goals as goal
+use Rattle.trdp_head.proofs.pd.reading.read_pd.Goals.{After-from_residual, After-from_residual-in_err-payload, In_default}
 
-pub returns-in_err-kind-clause-none_found : goal.returns-in_err-kind-clause-none_found
-returns-in_err-kind-clause-none_found c =
-    let p = err_from_is_err_and c.from_residual.result c.from_residual.ensures.1 in
-    rw p.1 (pd_telegram_of-fault c.args.bytes.now _ c.in_err-kind.ensures.fault)
+bad_prefix : (c : After-from_residual) → pd_fault_of c.args.bytes.now ≡ Some c.in_err-prefix.field-0.0
+bad_prefix c = pd_fault-prefix c.args.bytes.now _ c.in_err-prefix.ensures.fault
 
-pub returns-clause-found : goal.returns-clause-found
-returns-clause-found c =
-    let bytes : List ℕ = c.args.bytes.now in
-    let content : c.split_at-2.result.0.now ≡ take (field 20 4 bytes) (drop 40 bytes) =
-    c.split_at-2.ensures.front ∙ ap (λ (n : ℕ). take n c.split_at.result.1.now) c.u32_at.ensures
-    ∙ ap (λ (rest : List ℕ). take (field 20 4 bytes) rest) c.split_at.ensures.back in
-    pd_telegram_of-no_fault bytes c.in_ok-kind.kind c.head_of.result c.split_at-2.result.0.now c.in_ok-kind.ensures.none c.in_ok-kind.ensures.kind c.head_of.ensures content
+pub returns-in_err-prefix-clause-fault : goal.returns-in_err-prefix-clause-fault
+returns-in_err-prefix-clause-fault c =
+    err_answers c.from_residual.result _ _ c.from_residual.ensures.1 (bad_prefix c)
+
+pub returns-in_err-prefix-clause-none_found : goal.returns-in_err-prefix-clause-none_found
+returns-in_err-prefix-clause-none_found c =
+    err_answers c.from_residual.result _ _ c.from_residual.ensures.1 (pd_telegram_of-fault c.args.bytes.now _ (bad_prefix c))
+
+pub returns-in_err-prefix-clause-exact : goal.returns-in_err-prefix-clause-exact
+returns-in_err-prefix-clause-exact c = λ head payload telegram. absurd (none-some _ (sym (pd-no_fault telegram) ∙ bad_prefix c))
+
+unknown : (c : In_default) → pd_fault_of c.args.bytes.now ≡ Some Kind
+unknown c =
+    pd_fault-kind c.args.bytes.now c.in_ok-prefix.ensures.none
+    (ap (λ (p : Prefix). kind_of p.code) (sym c.in_ok-prefix.ensures.value) ∙ sym c.kind_of_code.ensures ∙ c.in_default.is)
+
+pub returns-in_default-clause-fault : goal.returns-in_default-clause-fault
+returns-in_default-clause-fault c = unknown c
+
+pub returns-in_default-clause-none_found : goal.returns-in_default-clause-none_found
+returns-in_default-clause-none_found c = pd_telegram_of-fault c.args.bytes.now _ (unknown c)
+
+bad_payload : (c : After-from_residual-in_err-payload) → pd_fault_of c.args.bytes.now ≡ Some c.in_err-payload.field-0.0
+bad_payload c =
+    pd_fault-payload c.args.bytes.now c.in-Some.kind c.in_ok-prefix.ensures.none
+    (ap (λ (p : Prefix). kind_of p.code) (sym c.in_ok-prefix.ensures.value) ∙ sym c.kind_of_code.ensures ∙ c.in-Some.is) ∙ c.in_err-payload.ensures.fault
+
+pub returns-in_err-payload-clause-fault : goal.returns-in_err-payload-clause-fault
+returns-in_err-payload-clause-fault c =
+    err_answers c.from_residual-in_err-payload.result _ _ c.from_residual-in_err-payload.ensures.1 (bad_payload c)
+
+pub returns-in_err-payload-clause-none_found : goal.returns-in_err-payload-clause-none_found
+returns-in_err-payload-clause-none_found c =
+    err_answers c.from_residual-in_err-payload.result _ _ c.from_residual-in_err-payload.ensures.1 (pd_telegram_of-fault c.args.bytes.now _ (bad_payload c))
+
+pub returns-in_err-payload-clause-exact : goal.returns-in_err-payload-clause-exact
+returns-in_err-payload-clause-exact c = λ head payload telegram. absurd (none-some _ (sym (pd-no_fault telegram) ∙ bad_payload c))
 
 pub returns-clause-telegram : goal.returns-clause-telegram
 returns-clause-telegram c =
-    telegram-from c.args.bytes.now (record { head = c.head_of.result; payload = c.split_at-2.result.0.now }) (returns-clause-found c)
+    pd-telegram c.args.bytes.now c.in-Some.kind _ c.in_ok-payload.payload.now c.in_ok-prefix.ensures.none c.in_ok-payload.ensures.none
+    (ap (λ (p : Prefix). kind_of p.code) (sym c.in_ok-prefix.ensures.value) ∙ sym c.kind_of_code.ensures ∙ c.in-Some.is)
+    c.head_of.ensures c.in_ok-payload.ensures.value
 
-pub returns-in_err-kind-clause-exact : goal.returns-in_err-kind-clause-exact
-returns-in_err-kind-clause-exact c =
-    λ head payload telegram. absurd (none-some _ (sym (telegram-no_fault telegram) ∙ c.in_err-kind.ensures.fault))
+pub returns-clause-no_fault : goal.returns-clause-no_fault
+returns-clause-no_fault c = pd-no_fault (returns-clause-telegram c)
+
+pub returns-clause-found : goal.returns-clause-found
+returns-clause-found c = telegram-is (returns-clause-telegram c)

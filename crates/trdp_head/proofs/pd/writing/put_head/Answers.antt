@@ -1,18 +1,14 @@
-use Rattle.std.proofs.Common.{take, ℕ, List, ◌++◌, ◌≡◌, ap, ◌∙◌}
-use Rattle.trdp_head.specs.Fields.{be_bytes}
-use Rattle.trdp_head.specs.PdKinds.{code_of}
+use Rattle.std.proofs.Common.{ap, ◌∙◌, ℕ}
+use Rattle.trdp_head.specs.declared.prefix.Prefix.{Prefix}
+use Rattle.trdp_head.specs.Prefixes.{prefix_bytes}
 use Rattle.trdp_head.specs.PdBytes.{pd_head_bytes}
+use Rattle.trdp_head.proofs.PartWrites.{more}
 use Rattle.trdp_head.proofs.pd.writing.put_head.Goals as goal
-
--- one more field
-more : {a b d : List ℕ} (x : List ℕ) → a ≡ b ++ x → b ≡ d → a ≡ d ++ x
-more x e f = e ∙ ap (λ (r : List ℕ). r ++ x) f
 
 pub returns-clause-front : goal.returns-clause-front
 unfolding pd_head_bytes
 returns-clause-front c =
-    let kind = be_bytes 2 (code_of c.args.head.kind) in
-    let front = more _ c.put_u16.ensures.front c.put_u32.ensures.front in
-    let typed = more kind (c.put_u16-2.ensures.front ∙ ap (λ (k : ℕ). take 6 c.put_u16.new.room ++ be_bytes 2 k) c.code_of_kind.ensures) front in
-    more _ c.put_u32-8.ensures.front (more _ c.put_u32-7.ensures.front (more _ c.put_u32-6.ensures.front (more _ c.put_u32-5.ensures.front (
-    more _ c.put_u32-4.ensures.front (more _ c.put_u32-3.ensures.front (more _ c.put_u32-2.ensures.front typed))))))
+    let head = c.args.head in
+    let prefix : ℕ → Prefix = λ code. record { counter = head.counter; code = code; com_id = head.com_id; topo = head.topo } in
+    let front = c.put_prefix.ensures.front ∙ ap (λ (code : ℕ). prefix_bytes (prefix code) c.args.payload) c.code_of_kind.ensures in
+    more _ c.put_u32-3.ensures.front (more _ c.put_u32-2.ensures.front (more _ c.put_u32.ensures.front front))

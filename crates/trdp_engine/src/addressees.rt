@@ -1,0 +1,164 @@
+//! The objects that act at a telegram: each that it is for, but of the listeners of a slot the first
+//! alone.
+
+ghost use Rattle.std.specs.Prelude.{◌≡◌, ◌+◌, ◌*◌, ◌<◌, ◌≤◌, ◌++◌, ◌∷◌, [], length, IfSome};
+ghost use Rattle.std.specs.Prelude.{slice_get, filter, ◌&&◌, vec_len, vec_capacity};
+ghost use Rattle.std.specs.List.{flat_map};
+ghost use Rattle.trdp_filter.specs.Telegrams.{telegram_model};
+ghost use Rattle.trdp_table.specs.declared.kind.Kind.TheVariants.{Listener as Listening};
+ghost use Rattle.trdp_table.specs.Kinds.{kind_of, is_same_kind};
+ghost use Rattle.trdp_table.specs.TableLaws.{object_limit};
+ghost use Rattle.trdp_engine.specs.Slots.{slots_of};
+ghost use Rattle.trdp_engine.specs.Datagrams.{is_for_entry, is_listening, hearing, acts_where};
+ghost use Rattle.trdp_engine.specs.Datagrams.{acting};
+ghost use Rattle.trdp_engine.specs.Rooms.{entries_room};
+ghost use Rattle.trdp_engine.specs.Acting.{slot_at};
+ghost use Rattle.trdp_engine.specs.Noted.{noted_as, noted_from};
+
+use crate::objects::{handle_at, object_at};
+use crate::room::Room;
+use trdp_filter::{Globals, Telegram};
+use trdp_pd::Object;
+use trdp_table::{AnyObject, Kind, Table};
+
+/// An object that is to act.
+#[derive(Clone, Copy)]
+pub struct Addressee {
+    /// The number of its slot.
+    pub slot: u16,
+    /// Its handle there.
+    pub handle: u32,
+}
+
+/// Whether the object is a listener.
+fn is_listener(object: &AnyObject) -> bool
+    ensures { result ≡ is_same_kind (kind_of object.now) Listening }
+{
+    Kind::of(object) == Kind::Listener
+}
+
+/// Whether the object of that index in slot `s` is a listener that the telegram is for.
+fn may_hear(table: &Table, s: u16, index: usize, telegram: &Telegram<'_>, globals: &Globals) -> bool
+    requires { s < length table.now }
+    ensures { IfSome (slice_get (slot_at s table.now).objects index)
+        (λ entry. result ≡ (is_listening entry
+        && is_for_entry (telegram_model telegram.now) globals.entry.now entry)) }
+{
+    match object_at(table, s, index) {
+        None => false,
+        Some(object) => is_listener(object) && object.addressed(telegram, globals),
+    }
+}
+
+/// The handle of the listener of slot `s` that hears the telegram, the first that it is for; None
+/// where it is for none.
+fn hearing(table: &Table, s: u16, telegram: &Telegram<'_>, globals: &Globals) -> Option<u32>
+    requires { s < length table.now }
+    ensures { result
+        ≡ hearing (telegram_model telegram.now) globals.entry.now (slot_at s table.now).objects }
+{
+    if let Telegram::Pd { .. } = telegram {
+        // No listener hears process data.
+        return None;
+    }
+    for index in 0..table.count(s) {
+        if may_hear(table, s, index, telegram, globals) {
+            return handle_at(table, s, index);
+        }
+    }
+    None
+}
+
+/// Notes the object of that index in slot `s` if it acts at the telegram, of whose listeners the
+/// one of that handle hears it, and answers the room for what it may give.
+fn note_at(
+    table: &Table,
+    s: u16,
+    index: usize,
+    listener: Option<u32>,
+    telegram: &Telegram<'_>,
+    globals: &Globals,
+    noted: &mut Vec<Addressee>,
+) -> Room
+    requires slot { s < length table.now }
+    requires capacity { vec_len noted.old < vec_capacity noted.old }
+    ensures noted { IfSome (slice_get (slot_at s table.now).objects index)
+        (λ entry. noted.new.items ≡ noted.old.items ++ noted_as s
+        (filter (acts_where listener (telegram_model telegram.now) globals.entry.now)
+        (entry ∷ []))) }
+    ensures room { IfSome (slice_get (slot_at s table.now).objects index)
+        (λ entry. result ≡ entries_room
+        (filter (acts_where listener (telegram_model telegram.now) globals.entry.now)
+        (entry ∷ []))) }
+    ensures rows { result.rows ≤ 1 }
+    ensures bytes { result.bytes ≤ 65388 }
+    ensures capacity { vec_capacity noted.new ≡ vec_capacity noted.old }
+    ensures length { vec_len noted.new ≤ vec_len noted.old + 1 }
+{
+    let Some(object) = object_at(table, s, index) else {
+        return Room::none();
+    };
+    if !object.addressed(telegram, globals) {
+        return Room::none();
+    }
+    let Some(handle) = handle_at(table, s, index) else {
+        return Room::none();
+    };
+    if is_listener(object) && listener != Some(handle) {
+        return Room::none();
+    }
+    noted.push_reserved(Addressee { slot: s, handle });
+    Room::of(object)
+}
+
+/// Notes the objects of slot `s` that act at the telegram, behind what is noted, and answers the
+/// room for what they may give.
+fn note_in(
+    table: &Table,
+    s: u16,
+    telegram: &Telegram<'_>,
+    globals: &Globals,
+    noted: &mut Vec<Addressee>,
+) -> Room
+    requires slot { s < length table.now }
+    requires capacity { vec_len noted.old + object_limit ≤ vec_capacity noted.old }
+    ensures noted { noted.new.items ≡ noted.old.items ++ noted_as s
+        (acting (telegram_model telegram.now) globals.entry.now (slot_at s table.now).objects) }
+    ensures room { result ≡ entries_room
+        (acting (telegram_model telegram.now) globals.entry.now (slot_at s table.now).objects) }
+    ensures rows { result.rows ≤ object_limit }
+    ensures bytes { result.bytes ≤ 65388 * object_limit }
+    ensures capacity { vec_capacity noted.new ≡ vec_capacity noted.old }
+    ensures length { vec_len noted.new ≤ vec_len noted.old + object_limit }
+{
+    let listener = hearing(table, s, telegram, globals);
+    let mut room = Room::none();
+    for index in 0..table.count(s) {
+        room = room.plus(note_at(table, s, index, listener, telegram, globals, noted));
+    }
+    room
+}
+
+/// Notes the objects that act at the telegram, slot by slot, and answers the room for what they
+/// may give.
+pub fn note_all(
+    table: &Table,
+    telegram: &Telegram<'_>,
+    globals: &Globals,
+    noted: &mut Vec<Addressee>,
+) -> Room
+    requires capacity { 16 * object_limit ≤ vec_capacity noted.old }
+    ensures noted { noted.new.items
+        ≡ noted_from 0 (telegram_model telegram.now) globals.entry.now (slots_of table.now) }
+    ensures room { result ≡ entries_room
+        (flat_map (λ slot. acting (telegram_model telegram.now) globals.entry.now slot.objects)
+        (slots_of table.now)) }
+    ensures capacity { vec_capacity noted.new ≡ vec_capacity noted.old }
+{
+    noted.clear();
+    let mut room = Room::none();
+    for s in 0..table.slots() {
+        room = room.plus(note_in(table, s as u16, telegram, globals, noted));
+    }
+    room
+}

@@ -1,0 +1,78 @@
+//! Notifications: how one is sent, and what is told of one that is heard.
+
+ghost use Rattle.std.specs.Prelude.{◌≡◌, ◌≤◌, ◌+◌, ◌++◌, ◌∷◌, [], length};
+ghost use Rattle.trdp_filter.specs.Telegrams.{telegram_model, IsWithinLimit};
+ghost use Rattle.trdp_engine.specs.Records.{labelled, message_model};
+ghost use Rattle.trdp_engine.specs.Slots.{SlotState};
+ghost use Rattle.trdp_engine.specs.Calls.{told_unless};
+ghost use Rattle.trdp_engine.specs.Notices.{notify_refusal, notice, heard, message_of};
+ghost use Rattle.trdp_engine.specs.Rooms.{HasRoom, notify_room};
+
+use crate::fault::Refusal;
+use crate::outbox::Outbox;
+use crate::record::Message;
+use crate::row::PlainAnswer;
+use trdp_base::Place;
+use trdp_filter::{Globals, Telegram, topo_valid};
+use trdp_head::{MD_PAYLOAD_MAX, MdKind, MdView};
+use trdp_md::{NotifyTerms, notification};
+
+/// Why a notification isn't sent.
+fn notify_refusal(terms: &NotifyTerms, payload: &[u8], globals: &Globals) -> Option<Refusal>
+    ensures { result ≡ notify_refusal globals.entry.now terms.now payload.now }
+{
+    if !topo_valid(terms.topo, globals.topo) {
+        return Some(Refusal::State);
+    }
+    if payload.len() > MD_PAYLOAD_MAX {
+        return Some(Refusal::TooLong);
+    }
+    None
+}
+
+/// Records the answer of slot `s` to a call Notify, and the notification.
+pub fn notify(terms: &NotifyTerms, payload: &[u8], globals: &Globals, s: u16, out: &mut Outbox)
+    requires { HasRoom out.old (notify_room (length payload.now)) }
+    ensures { (slot : SlotState) → out.new.records
+        ≡ out.old.records ++ labelled s
+        (told_unless (notify_refusal globals.entry.now terms.now payload.now) slot
+        (notice terms.now payload.now ∷ [])).records }
+{
+    if let Some(refusal) = notify_refusal(terms, payload, globals) {
+        out.push_plain_answer(s, PlainAnswer::Refused(refusal));
+        return;
+    }
+    out.push_plain_answer(s, PlainAnswer::Done);
+    out.push_md(s, terms.to, &notification(terms), payload);
+}
+
+/// A message as a listener's slot is told of it.
+fn message<'a>(src: Place, view: &MdView<'a>) -> Message<'a>
+    ensures { message_model result
+        ≡ message_of src (record { head = view.now.head; payload = view.now.payload.now }) }
+{
+    Message {
+        src,
+        com_id: view.head.com_id,
+        source_uri: view.head.source_uri,
+        dest_uri: view.head.dest_uri,
+        payload: view.payload,
+    }
+}
+
+/// Records what the slot of a listener is told of a telegram that it heard.
+pub fn push_heard(telegram: &Telegram<'_>, handle: u32, s: u16, out: &mut Outbox)
+    requires limit { IsWithinLimit (telegram_model telegram.now) }
+    requires row { 1 ≤ out.old.row_room }
+    requires bytes { 65388 ≤ out.old.byte_room }
+    ensures records { out.new.records
+        ≡ out.old.records ++ labelled s (heard handle (telegram_model telegram.now)) }
+    ensures row_room { out.old.row_room ≤ out.new.row_room + 1 }
+    ensures byte_room { out.old.byte_room ≤ out.new.byte_room + 65388 }
+{
+    if let Telegram::Md { src, view, .. } = telegram {
+        if view.head.kind == MdKind::Notify {
+            out.push_notified(s, handle, &message(*src, view));
+        }
+    }
+}

@@ -1,0 +1,65 @@
+//! Which messages a listener lets in.
+
+ghost use Rattle.std.specs.Prelude.{◌≡◌};
+ghost use Rattle.trdp_filter.specs.MdFilters.{is_com_id, is_uri, md_passes};
+
+use crate::addresses::{in_source_range, is_destination};
+use crate::counts::topo_valid;
+use trdp_base::{Ip, Place, Topo, Uri};
+use trdp_head::MdHead;
+
+/// A receive filter for message data (profile).
+#[derive(Clone, Copy, Debug, PartialEq, Eq)]
+pub struct MdFilter {
+    /// The one comId that passes; None for any.
+    pub com_id: Option<u32>,
+    /// The lowest source address that passes; 0 with a `high` of 0 for any source (profile).
+    pub low: Ip,
+    /// The highest source address that passes; it passes too.
+    pub high: Ip,
+    /// The destination address that passes; 0 for any.
+    pub dest: Ip,
+    /// The destination URI that passes; an empty one for any.
+    pub uri: Uri,
+    /// The topology counts that those of a telegram must match; each is 0 for any.
+    pub topo: Topo,
+}
+
+/// Whether the comId is the wanted one; None stands for any.
+#[tactic(auto, unfolding(crate::specs::MdFilters::is_com_id))]
+fn is_com_id(wanted: Option<u32>, com_id: u32) -> bool
+    ensures { result ≡ is_com_id wanted com_id }
+{
+    match wanted {
+        Some(wanted) => wanted == com_id,
+        None => true,
+    }
+}
+
+/// Whether the URI is the wanted one; an empty one stands for any.
+#[tactic(auto, unfolding(crate::specs::MdFilters::is_uri))]
+fn is_uri(wanted: &Uri, uri: &Uri) -> bool
+    ensures { result ≡ is_uri wanted.now uri.now }
+{
+    wanted.is_empty() || wanted == uri
+}
+
+impl MdFilter {
+    /// Whether a telegram from `src` to `dst` under this header passes, at a node with the
+    /// topology counts `node` (profile).
+    ///
+    /// It passes by the comId, the source address, the destination address, the destination URI,
+    /// and its topology counts, which must match the filter's and the node's. Ports, the source
+    /// URI, the message type and the other fields are not looked at.
+    #[tactic(auto, unfolding(crate::specs::MdFilters::md_passes))]
+    pub fn passes(&self, src: Place, dst: Place, head: &MdHead, node: Topo) -> bool
+        ensures { result ≡ md_passes self.now src dst head.now node }
+    {
+        is_com_id(self.com_id, head.com_id)
+            && in_source_range(self.low, self.high, src.ip)
+            && is_destination(self.dest, dst.ip)
+            && is_uri(&self.uri, &head.dest_uri)
+            && topo_valid(head.topo, self.topo)
+            && topo_valid(head.topo, node)
+    }
+}

@@ -1,0 +1,195 @@
+//! Message data telegrams whose bytes come from the standard's layout, and their frame checks from
+//! zlib.
+
+ghost use Rattle.std.specs.Prelude.{◌≤◌};
+
+use crate::{HeadFault, MD_TELEGRAM_MAX, MdHead, MdKind, md_length, push_md, read_md, write_md};
+use std::test::Fail;
+use trdp_base::{SessionId, Topo, Uri};
+
+/// `Mn` of comId 300 with the dataset `0d`.
+const NOTIFY: [u8; 120] = [
+    0, 0, 0, 0, 1, 0, 0x4d, 0x6e, 0, 0, 1, 0x2c, 0, 0, 0, 0, 0, 0, 0, 0, 0, 0, 0, 1, 0, 0, 0, 0, 0,
+    0, 0, 0, 0, 0, 0, 0, 0, 0, 0, 0, 0, 0, 0, 0, 0, 0, 0, 0, 0, 0, 0, 0, 0, 0, 0, 0, 0, 0, 0, 0, 0,
+    0, 0, 0, 0, 0, 0, 0, 0, 0, 0, 0, 0, 0, 0, 0, 0, 0, 0, 0, 0, 0, 0, 0, 0, 0, 0, 0, 0, 0, 0, 0, 0,
+    0, 0, 0, 0, 0, 0, 0, 0, 0, 0, 0, 0, 0, 0, 0, 0, 0, 0, 0, 0x6d, 0x6f, 0x3c, 0x7c, 0x0d, 0, 0, 0,
+];
+
+/// Its header.
+fn notify_head() -> MdHead {
+    MdHead {
+        counter: 0,
+        kind: MdKind::Notify,
+        com_id: 300,
+        topo: Topo { etb: 0, op_trn: 0 },
+        status: 0,
+        session: SessionId(0),
+        timeout: 0,
+        source_uri: Uri::empty(),
+        dest_uri: Uri::empty(),
+    }
+}
+
+/// `Mq` with a number of its own in each field, and the dataset `0a0b0c`.
+const QUERY: [u8; 120] = [
+    1, 2, 3, 4, 1, 0, 0x4d, 0x71, 0x11, 0x12, 0x13, 0x14, 0x21, 0x22, 0x23, 0x24, 0x31, 0x32, 0x33,
+    0x34, 0, 0, 0, 3, 0xff, 0xff, 0xff, 0xfb, 0x51, 0x52, 0x53, 0x54, 0x55, 0x56, 0x57, 0x58, 0x59,
+    0x5a, 0x5b, 0x5c, 0x5d, 0x5e, 0x5f, 0x60, 0x61, 0x62, 0x63, 0x64, 0x61, 0x2e, 0x62, 0, 0, 0, 0,
+    0, 0, 0, 0, 0, 0, 0, 0, 0, 0, 0, 0, 0, 0, 0, 0, 0, 0, 0, 0, 0, 0, 0, 0, 0, 0x65, 0x76, 0x65,
+    0x72, 0x79, 0x6f, 0x6e, 0x65, 0x40, 0x61, 0x6c, 0x6c, 0, 0, 0, 0, 0, 0, 0, 0, 0, 0, 0, 0, 0, 0,
+    0, 0, 0, 0, 0, 0, 0x1c, 0xeb, 0x35, 0x37, 0x0a, 0x0b, 0x0c, 0,
+];
+
+/// Its header.
+fn query_head() -> MdHead {
+    MdHead {
+        counter: 0x0102_0304,
+        kind: MdKind::Query,
+        com_id: 0x1112_1314,
+        topo: Topo {
+            etb: 0x2122_2324,
+            op_trn: 0x3132_3334,
+        },
+        status: -5,
+        session: SessionId(0x5152_5354_5556_5758_595a_5b5c_5d5e_5f60),
+        timeout: 0x6162_6364,
+        source_uri: Uri::from_field(b"a.b"),
+        dest_uri: Uri::from_field(b"everyone@all"),
+    }
+}
+
+/// A telegram with two other bytes at an offset, and with another frame check.
+fn with_change(telegram: &[u8; 120], offset: usize, bytes: [u8; 2], check: [u8; 4]) -> [u8; 120]
+    requires { offset ≤ 110 }
+{
+    let mut telegram = *telegram;
+    telegram[offset] = bytes[0];
+    telegram[offset + 1] = bytes[1];
+    telegram[112..116].copy_from_slice(&check);
+    telegram
+}
+
+/// Whether the bytes are a telegram with this header and payload.
+fn reads(bytes: &[u8], head: MdHead, payload: &[u8]) -> bool {
+    match read_md(bytes) {
+        Ok(view) => view.head == head && view.payload == payload,
+        Err(_) => false,
+    }
+}
+
+#[test]
+fn telegrams_are_read(rt: HostRuntime) {
+    assert!(rt; reads(&QUERY, query_head(), &[0x0a, 0x0b, 0x0c]));
+    // What stands behind the first zero byte of the source URI is ignored.
+    let tail = with_change(&QUERY, 52, *b"zz", [0x9c, 0x42, 0x71, 0x19]);
+    assert!(rt; reads(&tail, query_head(), &[0x0a, 0x0b, 0x0c]));
+}
+
+#[test]
+fn telegrams_are_written(rt: HostRuntime) {
+    let mut room = [0xff; 120];
+    assert_eq!(rt;
+        write_md(&query_head(), &[0x0a, 0x0b, 0x0c], &mut room),
+        120
+    );
+    assert_eq!(rt; room, QUERY);
+}
+
+#[test]
+fn telegrams_are_added_to_a_list(rt: HostRuntime) -> Result<(), Fail> {
+    let mut list = Vec::with_capacity(rt.alloc(), 120)?;
+    assert_eq!(rt; push_md(&notify_head(), &[0x0d], &mut list), 120);
+    assert_eq!(rt; list.as_slice(), NOTIFY.as_slice());
+    Ok(())
+}
+
+/// The telegram of comId 300 with two other bytes at an offset, its frame check, and what is read
+/// of it: the length of its payload.
+struct Changed {
+    offset: usize,
+    bytes: [u8; 2],
+    check: [u8; 4],
+    read: Result<usize, HeadFault>,
+}
+
+static CHANGED: [Changed; 6] = [
+    // Another type under the old frame check.
+    Changed {
+        offset: 6,
+        bytes: [0x4d, 0x72],
+        check: [0x6d, 0x6f, 0x3c, 0x7c],
+        read: Err(HeadFault::Fcs),
+    },
+    Changed {
+        offset: 4,
+        bytes: [2, 0],
+        check: [0xe4, 0x28, 0x92, 0xed],
+        read: Err(HeadFault::Version),
+    },
+    Changed {
+        offset: 4,
+        bytes: [1, 0xff],
+        check: [0x1e, 0xa8, 0x58, 0x6e],
+        read: Ok(1),
+    },
+    Changed {
+        offset: 6,
+        bytes: [0x50, 0x64],
+        check: [0x17, 0x4f, 0xfb, 0x65],
+        read: Err(HeadFault::Kind),
+    },
+    Changed {
+        offset: 22,
+        bytes: [0, 4],
+        check: [0x84, 0xb2, 0x80, 0x53],
+        read: Ok(4),
+    },
+    Changed {
+        offset: 22,
+        bytes: [0, 5],
+        check: [0x0c, 0xdf, 0xbc, 0x37],
+        read: Err(HeadFault::Length),
+    },
+];
+
+/// The length of the payload that is read of the bytes.
+fn payload_length(bytes: &[u8]) -> Result<usize, HeadFault> {
+    match read_md(bytes) {
+        Ok(view) => Ok(view.payload.len()),
+        Err(fault) => Err(fault),
+    }
+}
+
+#[test]
+fn changed_telegrams_have_their_faults(rt: HostRuntime) {
+    for row in &CHANGED {
+        let offset = row.offset;
+        assert!(rt; offset <= 110);
+        let telegram = with_change(&NOTIFY, offset, row.bytes, row.check);
+        assert_eq!(rt; payload_length(&telegram), row.read, "at {offset}");
+    }
+}
+
+/// What is read of so many zeros.
+fn fault_of_zeros(length: usize) -> Option<HeadFault>
+    requires { length ≤ 65505 }
+{
+    let zeros = [0; MD_TELEGRAM_MAX + 1];
+    let (front, _) = zeros.split_at(length);
+    payload_length(front).err()
+}
+
+#[test]
+fn telegrams_have_116_to_65504_bytes(rt: HostRuntime) {
+    assert_eq!(rt; fault_of_zeros(115), Some(HeadFault::Short));
+    assert_eq!(rt; fault_of_zeros(116), Some(HeadFault::Fcs));
+    assert_eq!(rt; fault_of_zeros(65504), Some(HeadFault::Fcs));
+    assert_eq!(rt; fault_of_zeros(65505), Some(HeadFault::TooLong));
+}
+
+#[test]
+fn lengths_are_multiples_of_four(rt: HostRuntime) {
+    assert_eq!(rt; md_length(0), 116);
+    assert_eq!(rt; md_length(1), 120);
+    assert_eq!(rt; md_length(65388), 65504);
+}

@@ -1,0 +1,88 @@
+//! What stands behind the first fields of a header: its frame check, the payload, and zeros up to a
+//! multiple of four.
+
+ghost use Rattle.std.specs.Prelude.{ℕ, ◌≡◌, ◌≤◌, ◌+◌, ◌-◌, ◌++◌, length, take, drop, Some, None, IfOk, IfErr};
+ghost use Rattle.std.specs.Prelude.{vec_len, vec_capacity};
+ghost use Rattle.trdp_head.specs.Fields.{field};
+ghost use Rattle.trdp_head.specs.Faults.{payload_fault_of};
+ghost use Rattle.trdp_head.specs.TelegramBytes.{rounded_of, padding_of, telegram_bytes};
+
+use crate::check::put_check;
+use crate::fault::HeadFault;
+use crate::fields::{put_bytes, put_zeros, u32_at};
+use crate::prefix::{CHECK_LENGTH, DATASET_LENGTH};
+
+/// The payload behind a header of so many bytes, or its fault.
+#[tactic(auto, unfolding(crate::specs::Faults::payload_fault_of))]
+pub(crate) fn read_payload(bytes: &[u8], size: usize) -> Result<&[u8], HeadFault>
+    requires prefix { 24 ≤ size }
+    requires room { size ≤ length bytes.now }
+    ensures value { IfOk result (λ payload. payload.now
+        ≡ take (field 20 4 bytes.now) (drop size bytes.now)) }
+    ensures none { IfOk result (λ _. payload_fault_of size bytes.now ≡ None) }
+    ensures fault { IfErr result (λ fault. payload_fault_of size bytes.now ≡ Some fault) }
+{
+    let length = u32_at(bytes, DATASET_LENGTH) as usize;
+    if length > bytes.len() - size {
+        return Err(HeadFault::Length);
+    }
+    let (_, rest) = bytes.split_at(size);
+    let (payload, _) = rest.split_at(length);
+    Ok(payload)
+}
+
+/// A number of bytes rounded up to a multiple of four.
+pub(crate) fn rounded(payload: usize) -> usize
+    requires { payload ≤ 65388 }
+    ensures { result ≡ rounded_of payload }
+{
+    payload.div_ceil(4) * 4
+}
+
+/// Completes the telegram at the front of the room, whose header of so many bytes stands there up
+/// to its frame check, and answers its length.
+pub(crate) fn complete(room: &mut [u8], size: usize, payload: &[u8]) -> usize
+    requires payload { length payload.now ≤ 65388 }
+    requires check { 4 ≤ size }
+    requires room { size + rounded_of (length payload.now) ≤ length room.old }
+    ensures length { result ≡ size + rounded_of (length payload.now) }
+    ensures written { room.new ≡ telegram_bytes (take (size - 4) room.old) payload.now
+        ++ drop (size + rounded_of (length payload.now)) room.old }
+{
+    let end = size + rounded(payload.len());
+    put_check(room, size - CHECK_LENGTH);
+    put_bytes(room, size, payload);
+    put_zeros(room, size + payload.len(), end);
+    end
+}
+
+/// Adds bytes at the end of the list, within its room.
+fn append(list: &mut Vec<u8>, bytes: &[u8])
+    requires { vec_len list.old + length bytes.now ≤ vec_capacity list.old }
+    ensures items { list.new.items ≡ list.old.items ++ bytes.now }
+    ensures len { vec_len list.new ≡ vec_len list.old + length bytes.now }
+    ensures capacity { vec_capacity list.old ≤ vec_capacity list.new }
+{
+    list.extend_from_slice(bytes).unwrap();
+}
+
+/// Adds a header, the payload and its zeros at the end of the list, within its room, and answers
+/// their length.
+pub(crate) fn append_telegram(list: &mut Vec<u8>, header: &[u8], payload: &[u8]) -> usize
+    requires payload { length payload.now ≤ 65388 }
+    requires room { vec_len list.old + (length header.now + rounded_of (length payload.now))
+        ≤ vec_capacity list.old }
+    ensures length { result ≡ length header.now + rounded_of (length payload.now) }
+    ensures items { list.new.items ≡ list.old.items
+        ++ (header.now ++ payload.now ++ padding_of (length payload.now)) }
+    ensures len { vec_len list.new
+        ≡ vec_len list.old + (length header.now + rounded_of (length payload.now)) }
+    ensures capacity { vec_capacity list.old ≤ vec_capacity list.new }
+{
+    let filled = rounded(payload.len());
+    append(list, header);
+    append(list, payload);
+    let (padding, _) = b"\0\0\0".split_at(filled - payload.len());
+    append(list, padding);
+    header.len() + filled
+}

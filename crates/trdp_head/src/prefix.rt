@@ -1,0 +1,112 @@
+//! What the headers of all telegrams begin with, 24 bytes.
+//!
+//! | Offset | Field | Type |
+//! |---|---|---|
+//! | 0 | sequenceCounter | u32 |
+//! | 4 | protocolVersion | u16, 0x0100 |
+//! | 6 | msgType | u16 |
+//! | 8 | comId | u32 |
+//! | 12 | etbTopoCnt | u32 |
+//! | 16 | opTrnTopoCnt | u32 |
+//! | 20 | datasetLength | u32 |
+
+ghost use Rattle.std.specs.Prelude.{ℕ, ◌≡◌, ◌≤◌, length, take, drop, Some, None, IfOk, IfErr};
+ghost use Rattle.trdp_head.specs.Prefixes.{prefix_in, prefix_bytes, IsPrefix};
+ghost use Rattle.trdp_head.specs.Faults.{prefix_fault_of};
+
+use crate::check::passes_check;
+use crate::fault::HeadFault;
+use crate::fields::{put_u16, put_u32, u16_at, u32_at};
+use trdp_base::Topo;
+
+/// Where sequenceCounter stands, 4 bytes.
+const COUNTER: usize = 0;
+
+/// Where protocolVersion stands, 2 bytes, of which the first is the main version.
+const VERSION: usize = 4;
+
+/// Where msgType stands, 2 bytes.
+const KIND: usize = 6;
+
+/// Where comId stands, 4 bytes.
+const COM_ID: usize = 8;
+
+/// Where etbTopoCnt stands, 4 bytes.
+const ETB_TOPO: usize = 12;
+
+/// Where opTrnTopoCnt stands, 4 bytes.
+const OP_TRN_TOPO: usize = 16;
+
+/// Where datasetLength stands, 4 bytes.
+pub(crate) const DATASET_LENGTH: usize = 20;
+
+/// The length in bytes of the frame check, with which a header ends.
+pub(crate) const CHECK_LENGTH: usize = 4;
+
+/// The protocol version 1.0.
+const PROTOCOL_VERSION: u16 = 0x0100;
+
+/// The main protocol version.
+const MAIN_VERSION: u8 = 1;
+
+/// The fields that all headers begin with and that a node chooses.
+#[derive(Clone, Copy)]
+pub(crate) struct Prefix {
+    /// sequenceCounter.
+    pub counter: u32,
+    /// msgType.
+    pub code: u16,
+    /// comId.
+    pub com_id: u32,
+    /// etbTopoCnt and opTrnTopoCnt.
+    pub topo: Topo,
+}
+
+/// The first fields of the telegram in the bytes, or the first fault but for its type and its
+/// payload, where headers have so many bytes and telegrams at most so many.
+#[tactic(auto, unfolding(crate::specs::Faults::prefix_fault_of))]
+pub(crate) fn read_prefix(bytes: &[u8], size: usize, longest: usize) -> Result<Prefix, HeadFault>
+    requires { 28 ≤ size }
+    ensures value { IfOk result (λ prefix. prefix ≡ prefix_in bytes.now) }
+    ensures room { IfOk result (λ _. size ≤ length bytes.now) }
+    ensures none { IfOk result (λ _. prefix_fault_of size longest bytes.now ≡ None) }
+    ensures fault { IfErr result (λ fault. prefix_fault_of size longest bytes.now ≡ Some fault) }
+{
+    if bytes.len() < size {
+        return Err(HeadFault::Short);
+    }
+    if bytes.len() > longest {
+        return Err(HeadFault::TooLong);
+    }
+    if !passes_check(bytes, size - CHECK_LENGTH) {
+        return Err(HeadFault::Fcs);
+    }
+    if bytes[VERSION] != MAIN_VERSION {
+        return Err(HeadFault::Version);
+    }
+    Ok(Prefix {
+        counter: u32_at(bytes, COUNTER),
+        code: u16_at(bytes, KIND),
+        com_id: u32_at(bytes, COM_ID),
+        topo: Topo {
+            etb: u32_at(bytes, ETB_TOPO),
+            op_trn: u32_at(bytes, OP_TRN_TOPO),
+        },
+    })
+}
+
+/// Writes the first fields of a header, with the length of the payload and the version 1.0.
+pub(crate) fn put_prefix(room: &mut [u8], prefix: Prefix, payload: u32)
+    requires { 24 ≤ length room.old }
+    ensures front { take 24 room.new ≡ prefix_bytes prefix payload }
+    ensures rest { (n : ℕ) → 24 ≤ n → drop n room.new ≡ drop n room.old }
+    ensures ranges { IsPrefix prefix }
+{
+    put_u32(room, COUNTER, prefix.counter);
+    put_u16(room, VERSION, PROTOCOL_VERSION);
+    put_u16(room, KIND, prefix.code);
+    put_u32(room, COM_ID, prefix.com_id);
+    put_u32(room, ETB_TOPO, prefix.topo.etb);
+    put_u32(room, OP_TRN_TOPO, prefix.topo.op_trn);
+    put_u32(room, DATASET_LENGTH, payload);
+}

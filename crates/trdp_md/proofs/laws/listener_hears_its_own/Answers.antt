@@ -1,0 +1,5 @@
+use Rattle.trdp_md.proofs.Hearing.{hears}
+use Rattle.trdp_md.proofs.laws.listener_hears_its_own.Goals as goal
+
+pub returns : goal.returns
+returns c = hears

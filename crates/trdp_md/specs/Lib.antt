@@ -1,0 +1,3 @@
+pub mod Listeners
+pub mod ListenerLaws
+pub mod Notifications

@@ -1,0 +1,282 @@
+//! Each word of each form as it is, and otherwise.
+
+use super::*;
+use std::alloc::{AllocError, Global};
+use std::test::Fail;
+
+/// A form, by the words of a good line and for each of them one that can't stand in its place.
+struct Form {
+    /// How many words there are up to the last that tells the form.
+    head: usize,
+    good: &'static [&'static [u8]],
+    bad: &'static [&'static [u8]],
+}
+
+static FORMS: [Form; 17] = [
+    Form {
+        head: 1,
+        good: &[b"moment", b"18446744073709551615"],
+        bad: &[b"Moment", b"18446744073709551616"],
+    },
+    Form {
+        head: 1,
+        good: &[b"topology", b"4294967295", b"0"],
+        bad: &[b"topologie", b"4294967296", b"-1"],
+    },
+    Form {
+        head: 1,
+        good: &[b"role", b"255", b"leader"],
+        bad: &[b"rol", b"256", b"Leader"],
+    },
+    Form {
+        head: 1,
+        good: &[b"pd", b"10.0.0.2:17224", b"255.255.255.255:65535", b"0a0b"],
+        bad: &[
+            b"PD",
+            b"10.0.0.256:17224",
+            b"255.255.255.255:65536",
+            b"0A0b",
+        ],
+    },
+    Form {
+        head: 1,
+        good: &[b"md", b"10.0.0.2:17225", b"0.0.0.0:0", b"-"],
+        bad: &[b"mdd", b"10.0.0.2", b"0.0.0.00:0", b"--"],
+    },
+    Form {
+        head: 3,
+        good: &[
+            b"call",
+            b"65535",
+            b"publish",
+            b"100",
+            b"4294967295",
+            b"100000",
+            b"255",
+            b"1",
+            b"2",
+            b"10.0.0.2:17224",
+        ],
+        bad: &[
+            b"cal",
+            b"65536",
+            b"publishes",
+            b"0100",
+            b"4294967296",
+            b"+1",
+            b"256",
+            b"1.0",
+            b"0x2",
+            b"10.0.0.2:017224",
+        ],
+    },
+    Form {
+        head: 3,
+        good: &[b"call", b"0", b"put", b"1", b"00ff"],
+        bad: &[b"Call", b"00", b"Put", b"a", b"0ff"],
+    },
+    Form {
+        head: 3,
+        good: &[b"call", b"0", b"unpublish", b"1"],
+        bad: &[b"calls", b"-0", b"unpub", b"4294967296"],
+    },
+    Form {
+        head: 3,
+        good: &[
+            b"call",
+            b"0",
+            b"subscribe",
+            b"100",
+            b"0",
+            b"10.0.0.2",
+            b"10.0.0.4",
+            b"0.0.0.0",
+            b"1",
+            b"2",
+            b"1000000",
+            b"keep",
+        ],
+        bad: &[
+            b"c",
+            b"x",
+            b"subscriber",
+            b"1a",
+            b"1_",
+            b"10.0.0.2:1",
+            b"10.0.0",
+            b"any",
+            b"x",
+            b"-",
+            b"1e6",
+            b"Zero",
+        ],
+    },
+    Form {
+        head: 3,
+        good: &[b"call", b"0", b"get", b"1"],
+        bad: &[b"c", b"65536", b"gets", b"01"],
+    },
+    Form {
+        head: 3,
+        good: &[b"call", b"0", b"unsubscribe", b"1"],
+        bad: &[b"c", b"65536", b"subscribes", b"-"],
+    },
+    Form {
+        head: 3,
+        good: &[
+            b"call",
+            b"0",
+            b"openpull",
+            b"100",
+            b"101",
+            b"10.0.0.1",
+            b"1",
+            b"2",
+            b"10.0.0.2:17224",
+        ],
+        bad: &[
+            b"c",
+            b"65536",
+            b"open",
+            b"100.",
+            b"4294967296",
+            b"10.0.0.1.",
+            b"x",
+            b"y",
+            b"10.0.0.2:",
+        ],
+    },
+    Form {
+        head: 3,
+        good: &[b"call", b"0", b"pull", b"1"],
+        bad: &[b"c", b"65536", b"push", b"1x"],
+    },
+    Form {
+        head: 3,
+        good: &[b"call", b"0", b"closepull", b"1"],
+        bad: &[b"c", b"65536", b"close", b"x1"],
+    },
+    Form {
+        head: 3,
+        good: &[
+            b"call",
+            b"0",
+            b"listen",
+            b"any",
+            b"10.0.0.2",
+            b"10.0.0.4",
+            b"10.0.0.1",
+            b"6162",
+            b"1",
+            b"2",
+        ],
+        bad: &[
+            b"c", b"65536", b"listens", b"Any", b"any", b"10.0.0", b"-", b"6100", b"x", b"y",
+        ],
+    },
+    Form {
+        head: 3,
+        good: &[b"call", b"0", b"unlisten", b"1"],
+        bad: &[b"c", b"65536", b"unlistens", b"any"],
+    },
+    Form {
+        head: 3,
+        good: &[
+            b"call",
+            b"0",
+            b"notify",
+            b"300",
+            b"-",
+            b"6a",
+            b"1",
+            b"2",
+            b"10.0.0.2:17225",
+            b"0d",
+        ],
+        bad: &[
+            b"c",
+            b"65536",
+            b"notified",
+            b"any",
+            b"00",
+            b"6A",
+            b"any",
+            b"-",
+            b"10.0.0.2",
+            b"d",
+        ],
+    },
+];
+
+/// Appends a word and the space before it, which the first word lacks.
+fn push_word(line: &mut Vec<u8>, word: &[u8]) -> Result<(), AllocError> {
+    if !line.is_empty() {
+        line.push(b' ')?;
+    }
+    line.extend_from_slice(word)
+}
+
+/// The line of these words, where at the index so many copies of `word` stand in place of one.
+fn line_of(
+    alloc: Global,
+    words: &[&[u8]],
+    index: usize,
+    word: &[u8],
+    copies: usize,
+) -> Result<Vec<u8>, AllocError> {
+    let mut line = Vec::new(alloc);
+    for (here, good) in words.iter().enumerate() {
+        if here == index {
+            for _ in 0..copies {
+                push_word(&mut line, word)?;
+            }
+        } else {
+            push_word(&mut line, good)?;
+        }
+    }
+    Ok(line)
+}
+
+/// The fault of the form's line where at the index so many copies of `word` stand.
+fn fault_of(
+    alloc: Global,
+    form: &Form,
+    index: usize,
+    word: &[u8],
+    copies: usize,
+) -> Result<Option<LineFault>, AllocError> {
+    let line = line_of(alloc, form.good, index, word, copies)?;
+    Ok(read_line(alloc, &line).err())
+}
+
+/// `Unknown` where a word is wrong that tells the form.
+fn unknown_or(other: LineFault, tells: bool) -> Option<LineFault> {
+    if tells {
+        Some(LineFault::Unknown)
+    } else {
+        Some(other)
+    }
+}
+
+// Each word as it is, left out, doubled, and exchanged for one that can't stand there.
+#[test]
+fn reads_each_word_of_each_form(rt: HostRuntime) -> Result<(), Fail> {
+    let alloc = rt.alloc();
+    for form in &FORMS {
+        for (index, (good, bad)) in form.good.iter().zip(form.bad).enumerate() {
+            let keyword = index == 0 || index == 2 && form.head == 3;
+            let whole = fault_of(alloc, form, index, good, 1)?;
+            let left_out = fault_of(alloc, form, index, good, 0)?;
+            let doubled = fault_of(alloc, form, index, good, 2)?;
+            let exchanged = fault_of(alloc, form, index, bad, 1)?;
+            assert_eq!(rt; whole, None);
+            assert_eq!(rt; left_out, unknown_or(LineFault::Count, index < form.head));
+            assert_eq!(rt;
+                doubled,
+                unknown_or(LineFault::Count, index + 1 < form.head)
+            );
+            assert_eq!(rt; exchanged, unknown_or(LineFault::BadWord, keyword));
+        }
+    }
+    Ok(())
+}
