@@ -6,9 +6,9 @@ use std::alloc::Global;
 use std::process::Abort;
 use std::test::Fail;
 use trdp_base::{Ip, Place};
-use trdp_engine::{Answer, Event, NodeFault, PeekFault, Protocol, Record, ValueFault, What};
+use trdp_engine::{Answer, NodeFault, PeekFault, Protocol, Record, ValueFault, What};
 use trdp_marshal::Item;
-use trdp_script::print_record;
+use trdp_script::{Line, print_record};
 
 /// The item of n numbers of 1 to 250.
 fn numbers(alloc: Global, n: u16) -> Result<Item, Fail> {
@@ -331,14 +331,17 @@ fn loop_back(bench: &mut Bench, alloc: Global) -> Result<usize, Fail> {
             bytes.extend_from_slice(telegram)?;
         }
     }
-    let event = Event::Datagram {
+    let len = bytes.len();
+    let line = Line::Datagram {
         protocol: Protocol::Pd,
         src: HERE,
         dst: HERE,
-        bytes: &bytes,
+        bytes,
     };
-    bench.node.step(&event, &mut bench.out)?;
-    Ok(bytes.len())
+    if let Some(event) = line.event() {
+        bench.node.step(&event, &mut bench.out)?;
+    }
+    Ok(len)
 }
 
 #[test]
