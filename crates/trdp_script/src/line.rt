@@ -113,7 +113,8 @@ impl Line {
     }
 }
 
-/// The same call.
+/// The same call, from its parts: the borrow checker doesn't cover a copy of the whole, which names
+/// a lifetime and may hold a URI.
 fn same(call: &Call<'static>) -> Call<'static>
     ensures { call_model result ≡ call_model call.now }
 {
