@@ -11,14 +11,22 @@ use Rattle.trdp_engine.specs.declared.fault.Refusal.{Refusal}
 use Rattle.trdp_engine.specs.declared.fault.Refusal.TheVariants.{NoHandle}
 use Rattle.trdp_engine.specs.Records.{Content, RefusedIs, Answers, labelled}
 use Rattle.trdp_engine.specs.Slots.{Entry, SlotState, entry_of}
+use Rattle.trdp_engine.specs.declared.asked.Left.{Left}
+use Rattle.trdp_engine.specs.declared.asked.Left.TheVariants.{Stays, Ended}
 use Rattle.trdp_engine.specs.Acts.{Act, left_at, acted}
-use Rattle.trdp_engine.specs.Calls.{at_object, at_entry, refused, told_unless}
+use Rattle.trdp_engine.specs.Calls.{at_object, at_entry, told_unless}
+use Rattle.trdp_engine.specs.Openings.{refused}
 use Rattle.trdp_engine.specs.Configs.{NodeSetup}
 use Rattle.trdp_engine.proofs.Handles.{AllAbove, IsRising}
 use Rattle.trdp_engine.specs.Values.{item_refusal, takes_item, valued}
 use Rattle.trdp_engine.specs.Outboxes.{OutboxState}
 use Rattle.trdp_engine.specs.Acting.{slot_at, Becomes}
 use Rattle.trdp_engine.proofs.Tables.{ExchangesAlone, IsReached, slots_kept, reached_entry, reached_touched, reached_removed}
+
+-- what didn't end stays
+pub stayed : (left : Left) → (left ≡ Ended → ⊥) → left ≡ Stays
+stayed Stays not = refl
+stayed Ended not = absurd (not refl)
 
 -- no object has the handle
 pub asked_nobody : (table : TableState) (s h : ℕ) (act : AnyObject → Act) (out out_then : OutboxState) → s < length table → entry_of h (slot_at s table).objects ≡ None → out_then.records ≡ out.records ++ labelled s (Answers (RefusedIs NoHandle) ∷ []) → Becomes s (at_object (slot_at s table) h act) table table out out_then

@@ -8,9 +8,9 @@ use Rattle.std.proofs.lemmas.List.Sums.{sum_by-cons}
 use Rattle.std.proofs.lemmas.Option.{same_Some}
 use Rattle.trdp_filter.specs.declared.globals.Globals.{Globals}
 use Rattle.trdp_table.specs.declared.any_object.AnyObject.{AnyObject}
-use Rattle.trdp_table.specs.declared.any_object.AnyObject.TheVariants.{Publisher, Subscription, Requester, Listener}
+use Rattle.trdp_table.specs.declared.any_object.AnyObject.TheVariants.{Publisher, Subscription, Requester, Listener, Caller, Replier}
 use Rattle.trdp_pd.specs.declared.object.Fired.{Fired}
-use Rattle.trdp_pd.specs.declared.object.Fired.TheVariants.{Nothing, Data, Silent}
+use Rattle.trdp_pd.specs.declared.object.Fired.TheVariants.{Nothing, Data, Silent, Closed}
 use Rattle.trdp_pd.specs.Due.{is_due_by}
 use Rattle.trdp_table.specs.Objects.{due_of, is_sound, after_firing, fired}
 use Rattle.trdp_table.specs.ObjectLaws.{due-firing}
@@ -30,26 +30,22 @@ all_sound (Publisher p) = refl
 all_sound (Subscription s) = refl
 all_sound (Requester r) = refl
 all_sound (Listener l) = refl
+all_sound (Caller c) = refl
+all_sound (Replier r) = refl
 
 quiet_left : (t : ℕ) (did : Fired) (entry : Entry) (object : AnyObject) → is_due_by t (due_of object) ≡ false → filter (is_due t) (entry_left entry (left_firing did object)) ≡ []
 quiet_left t Nothing entry object not = rw not refl
 quiet_left t (Data head) entry object not = rw not refl
 quiet_left t Silent entry object not = rw not refl
+quiet_left t (Closed reason) entry object not = refl
 
 -- nothing of an object that fired is due by now, under whichever handle it stands
 pub is_quiet : (globals : Globals) (entry under : Entry) → filter (is_due globals.now) (entry_left under (firing_act globals entry).left) ≡ []
 is_quiet globals entry under = quiet_left globals.now (fired entry.object globals) under (after_firing entry.object globals) (due-firing entry.object globals (all_sound entry.object))
 
-all_stay : (did : Fired) (object : AnyObject) → left_firing did object ≡ Some object
-all_stay Nothing object = refl
-all_stay (Data head) object = refl
-all_stay Silent object = refl
-
--- an object that fired is left as what it became
-pub stays_firing : (globals : Globals) (entry : Entry) (object object_then : AnyObject) → object ≡ entry.object → object_then ≡ after_firing object globals → Some object_then ≡ (firing_act globals entry).left
-stays_firing globals entry object object_then of is =
-    ap Some (is ∙ ap (λ (o : AnyObject). after_firing o globals) of)
-    ∙ sym (all_stay (fired entry.object globals) (after_firing entry.object globals))
+-- what is left of an object that fired is what its act leaves
+pub left_by_firing : (globals : Globals) (entry : Entry) (object : AnyObject) (left : Option AnyObject) → object ≡ entry.object → left ≡ left_firing (fired object globals) (after_firing object globals) → left ≡ (firing_act globals entry).left
+left_by_firing globals entry object left of is = is ∙ ap (λ (o : AnyObject). left_firing (fired o globals) (after_firing o globals)) of
 
 -- and gives its records
 pub gives_firing : (globals : Globals) (entry : Entry) (handle : ℕ) (object : AnyObject) → handle ≡ entry.handle → object ≡ entry.object → firing_records handle object (fired object globals) ≡ (firing_act globals entry).records

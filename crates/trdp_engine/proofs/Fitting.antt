@@ -1,5 +1,5 @@
 -- What keeps the value of each subscription one of its dataset: the first value, a time-out, and what is taken.
-use Rattle.std.proofs.Common.{◌≡◌, ℕ, List, [], ◌∷◌, ◌++◌, length, Some, None, Option, Ok, Bool, true, false, refl}
+use Rattle.std.proofs.Common.{◌≡◌, ℕ, ℤ, List, [], ◌∷◌, ◌++◌, length, Some, None, Option, Ok, Bool, true, false, refl}
 use Rattle.std.specs.Prelude.{replicate, not, nat_lt, ◌==◌, ◌&&◌, if◌then◌else◌}
 use Rattle.std.specs.List.{flat_map}
 use Rattle.trdp_dataset.specs.Datasets.{is_known}
@@ -14,14 +14,20 @@ use Rattle.trdp_head.specs.PdTelegrams.{PdTelegram}
 use Rattle.trdp_filter.specs.declared.globals.Globals.{Globals}
 use Rattle.trdp_filter.specs.Telegrams.{TelegramModel, PdIs, MdIs}
 use Rattle.trdp_table.specs.declared.any_object.AnyObject.{AnyObject}
-use Rattle.trdp_table.specs.declared.any_object.AnyObject.TheVariants.{Publisher, Subscription, Requester, Listener}
+use Rattle.trdp_table.specs.declared.any_object.AnyObject.TheVariants.{Publisher, Subscription, Requester, Listener, Caller, Replier}
 use Rattle.trdp_table.specs.declared.kind.Kind.{Kind}
-use Rattle.trdp_table.specs.declared.kind.Kind.TheVariants.{Publisher as Publishing, Subscription as Subscribing, Requester as Requesting, Listener as Listening}
+use Rattle.trdp_table.specs.declared.kind.Kind.TheVariants.{Publisher as Publishing, Subscription as Subscribing, Requester as Requesting, Listener as Listening, Replier as Replying}
 use Rattle.trdp_table.specs.Kinds.{kind_of, is_same_kind}
 use Rattle.trdp_pd.specs.declared.object.Fired.{Fired}
-use Rattle.trdp_pd.specs.declared.object.Fired.TheVariants.{Nothing, Data, Silent}
+use Rattle.trdp_pd.specs.declared.object.Fired.TheVariants.{Nothing, Data, Silent, Closed}
 use Rattle.trdp_pd.specs.declared.object.Taken.{Taken}
-use Rattle.trdp_pd.specs.declared.object.Taken.TheVariants.{Nothing as TakenNothing, Stored, Alive, Pulled, Heard}
+use Rattle.trdp_pd.specs.declared.object.Taken.TheVariants.{Nothing as TakenNothing, Stored, Alive, Pulled, Heard, Replied, RepliedLast, Confirmed}
+use Rattle.trdp_pd.specs.declared.object.Reason.{Reason}
+use Rattle.trdp_head.specs.declared.md.MdHead.{MdHead}
+use Rattle.trdp_head.specs.MdTelegrams.{MdTelegram}
+use Rattle.trdp_md.specs.declared.caller.Caller.{Caller as AnyCaller}
+use Rattle.trdp_md.specs.declared.replier.Replier.{Replier as AnyReplier}
+use Rattle.trdp_md.specs.Callers.{confirming, closed_of}
 use Rattle.trdp_pd.specs.declared.terms.Behaviour.{Behaviour}
 use Rattle.trdp_pd.specs.declared.terms.Behaviour.TheVariants.{Zero, Keep}
 use Rattle.trdp_pd.specs.declared.terms.SubscriptionTerms.{SubscriptionTerms}
@@ -35,12 +41,15 @@ use Rattle.trdp_engine.specs.declared.fault.Refusal.TheVariants.{Timeout, Range,
 use Rattle.trdp_engine.specs.Configs.{NodeSetup, is_dataset, zero_size_of, is_fitting}
 use Rattle.trdp_engine.specs.Slots.{Entry, SlotState, unchanged, entry_of}
 use Rattle.trdp_engine.specs.Acts.{Act, entry_left, left_at, acted}
-use Rattle.trdp_engine.specs.Events.{CallModel, PublishCall, PutCall, UnpublishCall, SubscribeCall, GetCall, UnsubscribeCall, OpenPullCall, PullCall, ClosePullCall, ListenCall, UnlistenCall, NotifyCall, CallIs}
-use Rattle.trdp_engine.specs.Calls.{opening_refusal, opened_unless, dataset_refusal, subscribe_refusal, value_refusal, puts_unless, puts, ends, shows, at_entry, at_object, told_unless, called, is_span}
+use Rattle.trdp_engine.specs.Events.{CallModel, PublishCall, PutCall, UnpublishCall, SubscribeCall, GetCall, UnsubscribeCall, OpenPullCall, PullCall, ClosePullCall, ListenCall, UnlistenCall, NotifyCall, RequestCall, ReplyCall, QueryCall, ReplyErrorCall, ConfirmCall, AbortCall, CallIs}
+use Rattle.trdp_engine.specs.Calls.{dataset_refusal, subscribe_refusal, value_refusal, puts_unless, puts, ends, shows, at_entry, at_object, told_unless, called, is_span}
+use Rattle.trdp_engine.specs.Openings.{opening_refusal, opened_with}
+use Rattle.trdp_engine.specs.Requests.{has_session, request_refusal, request_sent, asked_unless, asked, asked_by_hearing}
+use Rattle.trdp_engine.specs.Replies.{reply_refusal, query_refusal, error_refusal, answers_unless, replies, queries, reply_errors, concluded, confirm_refusal, confirms_unless, confirms, aborts}
 use Rattle.trdp_engine.specs.Records.{Content}
 use Rattle.trdp_engine.specs.Notices.{notify_refusal, notice}
 use Rattle.trdp_engine.specs.Pulls.{pulls_if, pulls}
-use Rattle.trdp_engine.specs.Datagrams.{fits_object, is_acting, left_taking, after_telegram, is_valid_at, received_if}
+use Rattle.trdp_engine.specs.Datagrams.{fits_object, hearing, is_acting, left_taking, after_telegram, is_request, requested, received, is_valid_at, received_if}
 use Rattle.trdp_engine.specs.Moments.{is_due, left_firing, after_moment, moved_to}
 use Rattle.trdp_marshal.specs.Items.{ItemModel}
 use Rattle.trdp_engine.specs.Values.{item_refusal_of, bytes_for, valued_unless, takes_item, valued, valued_at}
@@ -108,6 +117,8 @@ firing_fits : (setup : NodeSetup) (globals : Globals) (object : AnyObject) → I
 firing_fits setup globals (Publisher p) sound fit = tt
 firing_fits setup globals (Requester r) sound fit = tt
 firing_fits setup globals (Listener l) sound fit = tt
+firing_fits setup globals (Caller c) sound fit = tt
+firing_fits setup globals (Replier r) sound fit = tt
 firing_fits setup globals (Subscription s) sound fit = record {
   dataset = fit.dataset;
   zero_size = fit.zero_size;
@@ -139,10 +150,14 @@ taking_fits setup (PdIs src dst telegram) globals (Publisher p) fit = tt
 taking_fits setup (PdIs src dst telegram) globals (Subscription s) fit = storing_fits setup s src dst telegram globals fit
 taking_fits setup (PdIs src dst telegram) globals (Requester r) fit = tt
 taking_fits setup (PdIs src dst telegram) globals (Listener l) fit = tt
+taking_fits setup (PdIs src dst telegram) globals (Caller c) fit = tt
+taking_fits setup (PdIs src dst telegram) globals (Replier r) fit = tt
 taking_fits setup (MdIs src dst telegram) globals (Publisher p) fit = tt
 taking_fits setup (MdIs src dst telegram) globals (Subscription s) fit = fit
 taking_fits setup (MdIs src dst telegram) globals (Requester r) fit = tt
 taking_fits setup (MdIs src dst telegram) globals (Listener l) fit = tt
+taking_fits setup (MdIs src dst telegram) globals (Caller c) fit = tt
+taking_fits setup (MdIs src dst telegram) globals (Replier r) fit = tt
 
 -- what is left of an object shows what the object should
 abbrev pub IsLeftFit : NodeSetup → Option AnyObject → Type 0
@@ -155,11 +170,15 @@ left_taking_fits setup Stored object fit = fit
 left_taking_fits setup Alive object fit = fit
 left_taking_fits setup (Pulled head) object fit = fit
 left_taking_fits setup Heard object fit = fit
+left_taking_fits setup Replied object fit = fit
+left_taking_fits setup RepliedLast object fit = tt
+left_taking_fits setup (Confirmed status) object fit = tt
 
 left_firing_fits : (setup : NodeSetup) (fired : Fired) (object : AnyObject) → IsFit setup object → IsLeftFit setup (left_firing fired object)
 left_firing_fits setup Nothing object fit = fit
 left_firing_fits setup (Data head) object fit = fit
 left_firing_fits setup Silent object fit = fit
+left_firing_fits setup (Closed reason) object fit = tt
 
 entry_left_fits : (setup : NodeSetup) (entry : Entry) (left : Option AnyObject) → IsLeftFit setup left → AllFit setup (entry_left entry left)
 entry_left_fits setup entry None fit = tt
@@ -219,9 +238,9 @@ subscribed_dataset setup slot terms is =
     let known = if_none (not (is_dataset setup terms.dataset)) NoDataset longest ranged.1 in
     not_false (is_dataset setup terms.dataset) known.0
 
-opened_fits : (setup : NodeSetup) (refusal : Option Refusal) (slot : SlotState) (object : AnyObject) → AllFit setup slot.objects → (refusal ≡ None → IsFit setup object) → AllFit setup (opened_unless refusal slot object).slot.objects
-opened_fits setup (Some refusal) slot object all fit = all
-opened_fits setup None slot object all fit = AllFit-append setup slot.objects _ all (fit refl, tt)
+opened_fits : (setup : NodeSetup) (refusal : Option Refusal) (slot : SlotState) (object : AnyObject) (records : List Content) → AllFit setup slot.objects → (refusal ≡ None → IsFit setup object) → AllFit setup (opened_with refusal slot object records).slot.objects
+opened_fits setup (Some refusal) slot object records all fit = all
+opened_fits setup None slot object records all fit = AllFit-append setup slot.objects _ all (fit refl, tt)
 
 -- what calls leave of an object
 puts_unless_fits : (setup : NodeSetup) (refusal : Option Refusal) (bytes : List ℕ) (p : PublisherState) → IsLeftFit setup (puts_unless refusal bytes p).left
@@ -233,6 +252,8 @@ puts_fits setup bytes (Publisher p) fit = puts_unless_fits setup (value_refusal 
 puts_fits setup bytes (Subscription s) fit = fit
 puts_fits setup bytes (Requester r) fit = tt
 puts_fits setup bytes (Listener l) fit = tt
+puts_fits setup bytes (Caller c) fit = tt
+puts_fits setup bytes (Replier r) fit = tt
 
 ends_fits : (setup : NodeSetup) (kind : Kind) (object : AnyObject) → IsFit setup object → IsLeftFit setup (ends kind object).left
 ends_fits setup kind object fit = either (is_same_kind (kind_of object) kind) refl
@@ -250,6 +271,60 @@ pulls_fits setup globals (Publisher p) fit = tt
 pulls_fits setup globals (Subscription s) fit = fit
 pulls_fits setup globals (Requester r) fit = pulls_if_fits setup (topo_valid r.terms.topo globals.topo) r
 pulls_fits setup globals (Listener l) fit = tt
+pulls_fits setup globals (Caller c) fit = tt
+pulls_fits setup globals (Replier r) fit = tt
+
+answers_unless_fits : (setup : NodeSetup) (refusal : Option Refusal) (r : AnyReplier) (left : Option AnyObject) (head : MdHead) (payload : List ℕ) → IsLeftFit setup left → IsLeftFit setup (answers_unless refusal r left head payload).left
+answers_unless_fits setup (Some refusal) r left head payload fit = tt
+answers_unless_fits setup None r left head payload fit = fit
+
+replies_fits : (setup : NodeSetup) (com_id : ℕ) (status : ℤ) (payload : List ℕ) (object : AnyObject) → IsFit setup object → IsLeftFit setup (replies com_id status payload object).left
+replies_fits setup com_id status payload (Publisher p) fit = tt
+replies_fits setup com_id status payload (Subscription s) fit = fit
+replies_fits setup com_id status payload (Requester r) fit = tt
+replies_fits setup com_id status payload (Listener l) fit = tt
+replies_fits setup com_id status payload (Caller c) fit = tt
+replies_fits setup com_id status payload (Replier r) fit = answers_unless_fits setup (reply_refusal r status payload) r _ _ payload tt
+
+queries_fits : (setup : NodeSetup) (now com_id : ℕ) (status : ℤ) (timeout : ℕ) (payload : List ℕ) (object : AnyObject) → IsFit setup object → IsLeftFit setup (queries now com_id status timeout payload object).left
+queries_fits setup now com_id status timeout payload (Publisher p) fit = tt
+queries_fits setup now com_id status timeout payload (Subscription s) fit = fit
+queries_fits setup now com_id status timeout payload (Requester r) fit = tt
+queries_fits setup now com_id status timeout payload (Listener l) fit = tt
+queries_fits setup now com_id status timeout payload (Caller c) fit = tt
+queries_fits setup now com_id status timeout payload (Replier r) fit = answers_unless_fits setup (query_refusal r status timeout payload) r _ _ payload tt
+
+reply_errors_fits : (setup : NodeSetup) (com_id : ℕ) (status : ℤ) (object : AnyObject) → IsFit setup object → IsLeftFit setup (reply_errors com_id status object).left
+reply_errors_fits setup com_id status (Publisher p) fit = tt
+reply_errors_fits setup com_id status (Subscription s) fit = fit
+reply_errors_fits setup com_id status (Requester r) fit = tt
+reply_errors_fits setup com_id status (Listener l) fit = tt
+reply_errors_fits setup com_id status (Caller c) fit = tt
+reply_errors_fits setup com_id status (Replier r) fit = answers_unless_fits setup (error_refusal r status) r _ _ [] tt
+
+concluded_fits : (setup : NodeSetup) (reason : Option Reason) (handle : ℕ) (c : AnyCaller) (records : List Content) → IsLeftFit setup (concluded reason handle c records).left
+concluded_fits setup None handle c records = tt
+concluded_fits setup (Some reason) handle c records = tt
+
+confirms_unless_fits : (setup : NodeSetup) (refusal : Option Refusal) (handle : ℕ) (place : Place) (status : ℤ) (c : AnyCaller) → IsLeftFit setup (confirms_unless refusal handle place status c).left
+confirms_unless_fits setup (Some refusal) handle place status c = tt
+confirms_unless_fits setup None handle place status c = concluded_fits setup (closed_of (confirming c place)) handle (confirming c place) _
+
+confirms_fits : (setup : NodeSetup) (handle : ℕ) (place : Place) (status : ℤ) (object : AnyObject) → IsFit setup object → IsLeftFit setup (confirms handle place status object).left
+confirms_fits setup handle place status (Publisher p) fit = tt
+confirms_fits setup handle place status (Subscription s) fit = fit
+confirms_fits setup handle place status (Requester r) fit = tt
+confirms_fits setup handle place status (Listener l) fit = tt
+confirms_fits setup handle place status (Caller c) fit = confirms_unless_fits setup (confirm_refusal c place status) handle place status c
+confirms_fits setup handle place status (Replier r) fit = tt
+
+aborts_fits : (setup : NodeSetup) (object : AnyObject) → IsFit setup object → IsLeftFit setup (aborts object).left
+aborts_fits setup (Publisher p) fit = tt
+aborts_fits setup (Subscription s) fit = fit
+aborts_fits setup (Requester r) fit = tt
+aborts_fits setup (Listener l) fit = tt
+aborts_fits setup (Caller c) fit = tt
+aborts_fits setup (Replier r) fit = tt
 
 takes_item_fits : (setup : NodeSetup) (item : ItemModel) (object : AnyObject) → IsFit setup object → IsLeftFit setup (takes_item setup item object).left
 takes_item_fits setup item object fit = either (item_refusal_of setup item object)
@@ -282,13 +357,41 @@ at_object_fits setup slot handle act keeps all = either (entry_of handle slot.ob
 pub moved_fits : (setup : NodeSetup) (slot : SlotState) (globals : Globals) → IsRegistry setup.registry → AllFit setup slot.objects → AllFit setup (moved_to slot globals).slot.objects
 moved_fits setup slot globals sound all = AllFit-each setup (after_moment globals) (entry_firing_fits setup globals sound) slot.objects all
 
+-- a request
+asked_unless_fits : (setup : NodeSetup) (refusal : Option Refusal) (slot : SlotState) (listener : ℕ) (globals : Globals) (src : Place) (telegram : MdTelegram) → AllFit setup slot.objects → AllFit setup (asked_unless refusal slot listener globals src telegram).slot.objects
+asked_unless_fits setup (Some refusal) slot listener globals src telegram all = all
+asked_unless_fits setup None slot listener globals src telegram all = AllFit-append setup slot.objects _ all (tt, tt)
+
+asked_fits : (setup : NodeSetup) (slot : SlotState) (listener : ℕ) (globals : Globals) (src : Place) (telegram : MdTelegram) → AllFit setup slot.objects → AllFit setup (asked slot listener globals src telegram).slot.objects
+asked_fits setup slot listener globals src telegram all = either (has_session Replying telegram.head.session slot.objects) refl
+  where
+    either : (b : Bool) → has_session Replying telegram.head.session slot.objects ≡ b → AllFit setup (asked slot listener globals src telegram).slot.objects
+    either true is = rw is all
+    either false is = rw is (asked_unless_fits setup (opening_refusal slot Replying) slot listener globals src telegram all)
+
+heard_fits : (setup : NodeSetup) (listener : Option ℕ) (slot : SlotState) (globals : Globals) (src : Place) (telegram : MdTelegram) → AllFit setup slot.objects → AllFit setup (asked_by_hearing listener slot globals src telegram).slot.objects
+heard_fits setup None slot globals src telegram all = all
+heard_fits setup (Some listener) slot globals src telegram all = asked_fits setup slot listener globals src telegram all
+
+requested_fits : (setup : NodeSetup) (slot : SlotState) (globals : Globals) (telegram : TelegramModel) → AllFit setup slot.objects → AllFit setup (requested slot globals telegram).slot.objects
+requested_fits setup slot globals (PdIs src dst telegram) all = all
+requested_fits setup slot globals (MdIs src dst telegram) all = heard_fits setup (hearing (MdIs src dst telegram) globals slot.objects) slot globals src telegram all
+
+-- a telegram
+telegram_fits : (setup : NodeSetup) (slot : SlotState) (globals : Globals) (telegram : TelegramModel) → AllFit setup slot.objects → AllFit setup (received setup slot globals telegram).slot.objects
+telegram_fits setup slot globals telegram all = either (is_request telegram) refl
+  where
+    either : (b : Bool) → is_request telegram ≡ b → AllFit setup (received setup slot globals telegram).slot.objects
+    either true is = rw is (requested_fits setup slot globals telegram all)
+    either false is = rw is (AllFit-each setup (after_telegram setup telegram globals slot.objects) (entry_taking_fits setup telegram globals slot.objects) slot.objects all)
+
 -- a datagram
 pub received_fits : (setup : NodeSetup) (slot : SlotState) (globals : Globals) (telegram : Option TelegramModel) → AllFit setup slot.objects → AllFit setup (received_if setup slot globals telegram).slot.objects
 received_fits setup slot globals None all = all
 received_fits setup slot globals (Some telegram) all = either (is_valid_at globals telegram) refl
   where
     either : (b : Bool) → is_valid_at globals telegram ≡ b → AllFit setup (received_if setup slot globals (Some telegram)).slot.objects
-    either true is = rw is (AllFit-each setup (after_telegram setup telegram globals slot.objects) (entry_taking_fits setup telegram globals slot.objects) slot.objects all)
+    either true is = rw is (telegram_fits setup slot globals telegram all)
     either false is = rw is all
 
 -- a call that concerns no object
@@ -298,19 +401,25 @@ told_fits setup None slot records all = all
 
 -- a call
 pub called_fits : (setup : NodeSetup) (slot : SlotState) (globals : Globals) (call : CallModel) → IsRegistry setup.registry → AllFit setup slot.objects → AllFit setup (called setup slot globals call).slot.objects
-called_fits setup slot globals (PublishCall terms) sound all = opened_fits setup _ slot _ all (λ is. tt)
+called_fits setup slot globals (PublishCall terms) sound all = opened_fits setup _ slot _ [] all (λ is. tt)
 called_fits setup slot globals (PutCall handle bytes) sound all = at_object_fits setup slot handle (puts setup bytes) (puts_fits setup bytes) all
 called_fits setup slot globals (UnpublishCall handle) sound all = at_object_fits setup slot handle (ends Publishing) (ends_fits setup Publishing) all
 called_fits setup slot globals (SubscribeCall terms) sound all =
-    opened_fits setup (subscribe_refusal setup slot terms) slot _ all (λ is. subscribed_fits setup terms globals.now sound (subscribed_dataset setup slot terms is))
+    opened_fits setup (subscribe_refusal setup slot terms) slot _ [] all (λ is. subscribed_fits setup terms globals.now sound (subscribed_dataset setup slot terms is))
 called_fits setup slot globals (GetCall handle) sound all = at_object_fits setup slot handle shows (λ object fit. fit) all
 called_fits setup slot globals (UnsubscribeCall handle) sound all = at_object_fits setup slot handle (ends Subscribing) (ends_fits setup Subscribing) all
-called_fits setup slot globals (OpenPullCall terms) sound all = opened_fits setup _ slot _ all (λ is. tt)
+called_fits setup slot globals (OpenPullCall terms) sound all = opened_fits setup _ slot _ [] all (λ is. tt)
 called_fits setup slot globals (PullCall handle) sound all = at_object_fits setup slot handle (pulls globals) (pulls_fits setup globals) all
 called_fits setup slot globals (ClosePullCall handle) sound all = at_object_fits setup slot handle (ends Requesting) (ends_fits setup Requesting) all
-called_fits setup slot globals (ListenCall filter) sound all = opened_fits setup _ slot _ all (λ is. tt)
+called_fits setup slot globals (ListenCall filter) sound all = opened_fits setup _ slot _ [] all (λ is. tt)
 called_fits setup slot globals (UnlistenCall handle) sound all = at_object_fits setup slot handle (ends Listening) (ends_fits setup Listening) all
 called_fits setup slot globals (NotifyCall terms payload) sound all = told_fits setup (notify_refusal globals terms payload) slot (notice terms payload ∷ []) all
+called_fits setup slot globals (RequestCall terms payload) sound all = opened_fits setup (request_refusal slot globals terms payload) slot _ (request_sent terms payload ∷ []) all (λ is. tt)
+called_fits setup slot globals (ReplyCall handle com_id status payload) sound all = at_object_fits setup slot handle (replies com_id status payload) (replies_fits setup com_id status payload) all
+called_fits setup slot globals (QueryCall handle com_id status timeout payload) sound all = at_object_fits setup slot handle (queries globals.now com_id status timeout payload) (queries_fits setup globals.now com_id status timeout payload) all
+called_fits setup slot globals (ReplyErrorCall handle com_id status) sound all = at_object_fits setup slot handle (reply_errors com_id status) (reply_errors_fits setup com_id status) all
+called_fits setup slot globals (ConfirmCall handle place status) sound all = at_object_fits setup slot handle (confirms handle place status) (confirms_fits setup handle place status) all
+called_fits setup slot globals (AbortCall handle) sound all = at_object_fits setup slot handle aborts (aborts_fits setup) all
 
 -- a value handed over as an item
 pub valued_fits : (setup : NodeSetup) (slot : SlotState) (handle : ℕ) (item : ItemModel) → AllFit setup slot.objects → AllFit setup (valued setup slot handle item).slot.objects
@@ -321,6 +430,8 @@ as_subscription_fits setup (Publisher p) s fit is = absurd (cc)
 as_subscription_fits setup (Subscription t) s fit is = let same : t ≡ s = cc in rw (← same) fit
 as_subscription_fits setup (Requester r) s fit is = absurd (cc)
 as_subscription_fits setup (Listener l) s fit is = absurd (cc)
+as_subscription_fits setup (Caller c) s fit is = absurd (cc)
+as_subscription_fits setup (Replier r) s fit is = absurd (cc)
 
 -- the subscription of a handle shows a value of its dataset
 pub subscription_fits : (setup : NodeSetup) (handle : ℕ) (objects : List Entry) (s : SubscriptionState) → AllFit setup objects → subscription_at handle objects ≡ Ok s → ShowsFitting setup s

@@ -11,6 +11,8 @@ pub mod Each
 pub mod Receiving
 pub mod Noting
 pub mod Hearing
+pub mod Requesting
+pub mod Unasked
 pub mod Noted
 pub mod Rows
 pub mod Views

@@ -1,6 +1,7 @@
 -- The objects of a slot of the table fire, one after the other, and so do the slots.
 use Rattle.std.proofs.Common.{◌≡◌, ℕ, ◌+◌, ◌<◌, ◌≤◌, List, [], ◌∷◌, ◌++◌, length, drop, filter, zero, suc, Some, refl, ◌∙◌, ap, sym, subst, arith, append_assoc, true}
 use Rattle.std.specs.Prelude.{slice_set, IfSome}
+use Rattle.std.specs.List.{flat_map}
 use Rattle.std.proofs.lemmas.List.{append-nil, map-append}
 use Rattle.trdp_filter.specs.declared.globals.Globals.{Globals}
 use Rattle.trdp_table.specs.Tables.{TableState}
@@ -116,54 +117,55 @@ moment_ends globals s start table out_start out lt none slots told =
           ∙ (ap (λ (o : Outcome). out.records ++ labelled s o.records) (sym same) ∙ told);
     }
 
--- One slot moves after the other.
+-- One slot comes to its outcome after the other; these of its objects may give something.
 
-abbrev due_of_slot : Globals → SlotState → List Entry
-due_of_slot globals slot = filter (is_due globals.now) slot.objects
-
--- a slot that hasn't moved yet is that of the start
-pub same_slot : (globals : Globals) (s : ℕ) (start table : TableState) (records records_now : List RecordModel) → s < length start → HaveMoved (λ slot. moved_to slot globals) s (slots_of start) (slots_of table) records records_now → slot_at s start ≡ slot_at s table
-same_slot globals s start table records records_now lt moved =
-    slot_is table s (slot_at s start) (not_yet (λ slot. moved_to slot globals) s (slots_of start) (slots_of table) records records_now (slot_at s start) moved (slot_there start s lt)).slot_is
+-- a slot that hasn't yet is that of the start
+pub same_slot : (f : SlotState → Outcome) (s : ℕ) (start table : TableState) (records records_now : List RecordModel) → s < length start → HaveMoved f s (slots_of start) (slots_of table) records records_now → slot_at s start ≡ slot_at s table
+same_slot f s start table records records_now lt moved =
+    slot_is table s (slot_at s start) (not_yet f s (slots_of start) (slots_of table) records records_now (slot_at s start) moved (slot_there start s lt)).slot_is
 
 -- there is room for it
-pub slot_room : (globals : Globals) (s : ℕ) (start table : TableState) (records : List RecordModel) (out : OutboxState) → s < length start → HaveMoved (λ slot. moved_to slot globals) s (slots_of start) (slots_of table) records out.records → HasRoom out (moment_room globals.now (drop s (slots_of start))) → HasRoom out (entries_room (due_at globals s table))
-slot_room globals s start table records out lt moved room =
-    let all = rooms_dropped (due_of_slot globals) (slots_of start) s (slot_at s start) (slot_there start s lt) in
+pub slot_room : (f : SlotState → Outcome) (g : SlotState → List Entry) (s : ℕ) (start table : TableState) (records : List RecordModel) (out : OutboxState) → s < length start → HaveMoved f s (slots_of start) (slots_of table) records out.records → HasRoom out (entries_room (flat_map g (drop s (slots_of start)))) → HasRoom out (entries_room (g (slot_at s table)))
+slot_room f g s start table records out lt moved room =
+    let all = rooms_dropped g (slots_of start) s (slot_at s start) (slot_there start s lt) in
     let rows = ap (λ (r : Room). r.rows) all in
     let bytes = ap (λ (r : Room). r.bytes) all in
-    subst (λ (slot : SlotState). HasRoom out (entries_room (filter (is_due globals.now) slot.objects))) (same_slot globals s start table records out.records lt moved)
+    subst (λ (slot : SlotState). HasRoom out (entries_room (g slot))) (same_slot f s start table records out.records lt moved)
     (record { rows = omega (arith, rows, room.rows); bytes = omega (arith, bytes, room.bytes) })
 
--- it moves
-pub record SlotMoves (globals : Globals) (s : ℕ) (start table_then : TableState) (records : List RecordModel) (out_then : OutboxState) : Type 0 where
-  pub moved : HaveMoved (λ slot. moved_to slot globals) (s + 1) (slots_of start) (slots_of table_then) records out_then.records
-  pub room : HasRoom out_then (moment_room globals.now (drop (s + 1) (slots_of start)))
+-- it comes to its outcome
+pub record SlotMoves (f : SlotState → Outcome) (g : SlotState → List Entry) (s : ℕ) (start table_then : TableState) (records : List RecordModel) (out_then : OutboxState) : Type 0 where
+  pub moved : HaveMoved f (s + 1) (slots_of start) (slots_of table_then) records out_then.records
+  pub room : HasRoom out_then (entries_room (flat_map g (drop (s + 1) (slots_of start))))
 
-pub slot_moves : (globals : Globals) (s : ℕ) (start table table_then : TableState) (records : List RecordModel) (out out_then : OutboxState) → s < length start → HaveMoved (λ slot. moved_to slot globals) s (slots_of start) (slots_of table) records out.records → HasRoom out (moment_room globals.now (drop s (slots_of start))) → Becomes s (moved_to (slot_at s table) globals) table table_then out out_then → TookWithin out out_then (entries_room (due_at globals s table)) → SlotMoves globals s start table_then records out_then
-slot_moves globals s start table table_then records out out_then lt moved room becomes within =
-    let same : slot_at s table ≡ slot_at s start = sym (same_slot globals s start table records out.records lt moved) in
+pub slot_moves : (f : SlotState → Outcome) (g : SlotState → List Entry) (s : ℕ) (start table table_then : TableState) (records : List RecordModel) (out out_then : OutboxState) → s < length start → HaveMoved f s (slots_of start) (slots_of table) records out.records → HasRoom out (entries_room (flat_map g (drop s (slots_of start)))) → Becomes s (f (slot_at s table)) table table_then out out_then → TookWithin out out_then (entries_room (g (slot_at s table))) → SlotMoves f g s start table_then records out_then
+slot_moves f g s start table table_then records out out_then lt moved room becomes within =
+    let same : slot_at s table ≡ slot_at s start = sym (same_slot f s start table records out.records lt moved) in
     let there = slot_there start s lt in
-    let all = rooms_dropped (due_of_slot globals) (slots_of start) s (slot_at s start) there in
+    let all = rooms_dropped g (slots_of start) s (slot_at s start) there in
     let rows = ap (λ (r : Room). r.rows) all in
     let bytes = ap (λ (r : Room). r.bytes) all in
-    let took : TookWithin out out_then (entries_room (due_of_slot globals (slot_at s start))) =
-    subst (λ (slot : SlotState). TookWithin out out_then (entries_room (due_of_slot globals slot))) same within in
+    let took : TookWithin out out_then (entries_room (g (slot_at s start))) =
+    subst (λ (slot : SlotState). TookWithin out out_then (entries_room (g slot))) same within in
     record {
       moved =
-          moved_next (λ slot. moved_to slot globals) s (slots_of start) (slots_of table) (slots_of table_then) records out.records out_then.records (slot_at s start) moved there
-          (becomes.slots ∙ ap (λ (slot : SlotState). slice_set (slots_of table) s (moved_to slot globals).slot) same)
-          (becomes.records ∙ ap (λ (slot : SlotState). out.records ++ labelled s (moved_to slot globals).records) same);
+          moved_next f s (slots_of start) (slots_of table) (slots_of table_then) records out.records out_then.records (slot_at s start) moved there
+          (becomes.slots ∙ ap (λ (slot : SlotState). slice_set (slots_of table) s (f slot).slot) same)
+          (becomes.records ∙ ap (λ (slot : SlotState). out.records ++ labelled s (f slot).records) same);
       room = record {
         rows = omega (arith, rows, room.rows, took.rows);
         bytes = omega (arith, bytes, room.bytes, took.bytes);
       };
     }
 
+-- those that fire
+abbrev pub due_of_slot : Globals → SlotState → List Entry
+due_of_slot globals slot = filter (is_due globals.now) slot.objects
+
 -- a slot of which nothing is due is passed over
-pub slot_passes : (globals : Globals) (s : ℕ) (start table : TableState) (records : List RecordModel) (out : OutboxState) → s < length start → HaveMoved (λ slot. moved_to slot globals) s (slots_of start) (slots_of table) records out.records → HasRoom out (moment_room globals.now (drop s (slots_of start))) → filter (is_due globals.now) (slot_at s table).objects ≡ [] → SlotMoves globals s start table records out
+pub slot_passes : (globals : Globals) (s : ℕ) (start table : TableState) (records : List RecordModel) (out : OutboxState) → s < length start → HaveMoved (λ slot. moved_to slot globals) s (slots_of start) (slots_of table) records out.records → HasRoom out (moment_room globals.now (drop s (slots_of start))) → filter (is_due globals.now) (slot_at s table).objects ≡ [] → SlotMoves (λ slot. moved_to slot globals) (due_of_slot globals) s start table records out
 slot_passes globals s start table records out lt moved room none =
     let there : s < length table = omega (arith, lt, moved.count, slots_length start, slots_length table) in
-    slot_moves globals s start table table records out out lt moved room
+    slot_moves (λ slot. moved_to slot globals) (due_of_slot globals) s start table table records out out lt moved room
     (moment_ends globals s table table out out there none refl refl)
     (record { rows = omega arith; bytes = omega arith })

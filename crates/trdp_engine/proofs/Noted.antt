@@ -23,7 +23,7 @@ use Rattle.trdp_engine.proofs.Handles.{AllAbove, IsRising}
 use Rattle.trdp_engine.specs.Outboxes.{OutboxState}
 use Rattle.trdp_engine.specs.Rooms.{HasRoom, kind_room, entries_room}
 use Rattle.trdp_engine.specs.Acting.{slot_at, MayAct, ActsAt, act_of}
-use Rattle.trdp_engine.specs.Datagrams.{is_for_entry, is_acting, taking_act, acting, after_telegram, received}
+use Rattle.trdp_engine.specs.Datagrams.{is_for_entry, is_acting, taking_act, acting, after_telegram, handed}
 use Rattle.trdp_engine.specs.NodeStates.{HasOutcome, Appends}
 use Rattle.trdp_engine.specs.Noted.{noted_as, noted_from}
 use Rattle.trdp_engine.proofs.Tables.{slots_length, slot_within, slot_is, rising as table_rising}
@@ -239,7 +239,7 @@ AreRising slots = (i : ℕ) (slot : SlotState) → slice_get slots i ≡ Some sl
 
 -- what the telegram makes of a slot
 abbrev outcome_in : Aim → SlotState → Outcome
-outcome_in aim slot = received aim.setup slot aim.globals aim.telegram
+outcome_in aim slot = handed aim.setup slot aim.globals aim.telegram
 
 -- all that act in these slots
 abbrev all_acting : Aim → List SlotState → List Entry
@@ -269,8 +269,8 @@ aim_of setup telegram globals slots records = record {
   setup = setup;
   telegram = telegram;
   globals = globals;
-  slots = map (λ slot. (received setup slot globals telegram).slot) slots;
-  records = records ++ all_records 0 (λ slot. received setup slot globals telegram) slots;
+  slots = map (λ slot. (handed setup slot globals telegram).slot) slots;
+  records = records ++ all_records 0 (λ slot. handed setup slot globals telegram) slots;
 }
 
 -- those that were noted lead to what the telegram makes of the slots
@@ -354,10 +354,10 @@ pub reached_count : (setup : NodeSetup) (telegram : TelegramModel) (globals : Gl
 reached_count setup telegram globals table table_then records are =
     sym (slots_length table_then) ∙ (ap length are ∙ (length-map (slots_of table) _ ∙ slots_length table))
 
-pub reached_parts : (setup : NodeSetup) (telegram : TelegramModel) (globals : Globals) (slots slots_then : List SlotState) (records records_then : List RecordModel) → slots_then ≡ (aim_of setup telegram globals slots records).slots → records_then ≡ (aim_of setup telegram globals slots records).records → (s : ℕ) (slot : SlotState) → slice_get slots s ≡ Some slot → HasOutcome slots_then records records_then s (received setup slot globals telegram)
+pub reached_parts : (setup : NodeSetup) (telegram : TelegramModel) (globals : Globals) (slots slots_then : List SlotState) (records records_then : List RecordModel) → slots_then ≡ (aim_of setup telegram globals slots records).slots → records_then ≡ (aim_of setup telegram globals slots records).records → (s : ℕ) (slot : SlotState) → slice_get slots s ≡ Some slot → HasOutcome slots_then records records_then s (handed setup slot globals telegram)
 reached_parts setup telegram globals slots slots_then records records_then are told s slot at =
-    rw (are, told) (each_part (λ slot. received setup slot globals telegram) slots records s slot at)
+    rw (are, told) (each_part (λ slot. handed setup slot globals telegram) slots records s slot at)
 
 pub reached_appends : (setup : NodeSetup) (telegram : TelegramModel) (globals : Globals) (slots : List SlotState) (records records_then : List RecordModel) → records_then ≡ (aim_of setup telegram globals slots records).records → Appends slots records records_then
 reached_appends setup telegram globals slots records records_then told =
-    rw told (each_appends (λ slot. received setup slot globals telegram) slots records)
+    rw told (each_appends (λ slot. handed setup slot globals telegram) slots records)

@@ -1,30 +1,37 @@
 -- A telegram and the objects that act at it; one that concerns no object changes nothing.
-use Rattle.std.proofs.Common.{◌≡◌, ℕ, List, [], ◌∷◌, filter, Bool, true, false, Option, Some, None, Result, Ok, Err, OnErr, refl, ◌∙◌, ap, arith, inl, inr, sym}
+use Rattle.std.proofs.Common.{◌≡◌, ℕ, List, [], ◌∷◌, filter, Bool, true, false, Option, Some, None, Result, Ok, Err, OnErr, refl, ◌∙◌, ap, arith, inl, inr}
 use Rattle.std.specs.Prelude.{◌&&◌, ◌||◌}
 use Rattle.std.specs.List.{flat_map, list_any}
 use Rattle.std.proofs.lemmas.List.Concat.{flat_map-cons}
 use Rattle.trdp_filter.specs.declared.globals.Globals.{Globals}
 use Rattle.trdp_filter.specs.Telegrams.{TelegramModel, PdIs, MdIs}
-use Rattle.trdp_head.specs.declared.pd.PdHead.{PdHead}
 use Rattle.trdp_head.specs.PdTelegrams.{PdTelegram}
 use Rattle.trdp_base.specs.declared.place.Place.{Place}
-use Rattle.trdp_pd.specs.Publishers.{PublisherState, is_answered, reply_head, publisher_taking}
+use Rattle.trdp_pd.specs.Publishers.{PublisherState, is_answered, publisher_taking}
 use Rattle.trdp_pd.specs.declared.terms.ValueState.{ValueState}
 use Rattle.trdp_pd.specs.declared.terms.ValueState.TheVariants.{Never, Valid, Silent}
 use Rattle.trdp_pd.specs.Subscriptions.{SubscriptionState, is_accepted, taken_in, subscription_taking}
 use Rattle.trdp_pd.specs.declared.object.Taken.{Taken}
-use Rattle.trdp_pd.specs.declared.object.Taken.TheVariants.{Nothing, Stored, Alive, Pulled, Heard}
+use Rattle.trdp_pd.specs.declared.object.Taken.TheVariants.{Nothing, Stored, Alive, Pulled, Heard, Replied, RepliedLast, Confirmed}
 use Rattle.trdp_table.specs.declared.any_object.AnyObject.{AnyObject}
-use Rattle.trdp_table.specs.declared.any_object.AnyObject.TheVariants.{Publisher, Subscription, Requester, Listener}
+use Rattle.trdp_table.specs.declared.any_object.AnyObject.TheVariants.{Publisher, Subscription, Requester, Listener, Caller, Replier}
+use Rattle.trdp_table.specs.declared.kind.Kind.{Kind}
+use Rattle.trdp_table.specs.declared.kind.Kind.TheVariants.{Publisher as Publishing, Subscription as Subscribing, Listener as Listening, Caller as Calling, Replier as Replying}
 use Rattle.trdp_table.specs.Kinds.{kind_of}
 use Rattle.trdp_md.specs.declared.listener.Listener.{Listener as AnyListener}
 use Rattle.trdp_md.specs.Listeners.{listener_addressed, listener_taking}
+use Rattle.trdp_md.specs.declared.caller.Caller.{Caller as AnyCaller}
+use Rattle.trdp_md.specs.declared.replier.Replier.{Replier as AnyReplier}
+use Rattle.trdp_md.specs.Callers.{is_accepted as is_taken, is_complete, answering, replied as replied_as, caller_taking}
+use Rattle.trdp_md.specs.Repliers.{is_for_replier, replier_taking}
+use Rattle.trdp_head.specs.MdTelegrams.{MdTelegram}
+use Rattle.trdp_engine.specs.Requests.{asked_by_hearing}
 use Rattle.trdp_table.specs.Objects.{after_taking, taken}
 use Rattle.trdp_engine.specs.Configs.{NodeSetup}
 use Rattle.trdp_engine.specs.Slots.{Entry, SlotState, Outcome, unchanged}
-use Rattle.trdp_engine.specs.Datagrams.{is_listening, hearing, is_valid_at, received, received_if, concerns, is_for_entry, is_acting, acting, after_telegram, fits_object, taken_records, left_taking, taking_act}
+use Rattle.trdp_engine.specs.Datagrams.{is_listening, hearing, is_valid_at, handed, is_request, requested, received, received_if, concerns, is_for_entry, is_acting, acting, after_telegram, fits_object, taken_records, left_taking, taking_act}
 use Rattle.trdp_engine.specs.Outboxes.{OutboxState}
-use Rattle.trdp_engine.specs.Rooms.{LacksRoom, kind_room, entries_room}
+use Rattle.trdp_engine.specs.Rooms.{LacksRoom, entries_room}
 
 or_left : (a b : Bool) → (a || b) ≡ false → a ≡ false
 or_left true b is = absurd (cc)
@@ -34,18 +41,9 @@ or_right : (a b : Bool) → (a || b) ≡ false → b ≡ false
 or_right true b is = absurd (cc)
 or_right false b is = is
 
--- no object ends with a telegram
-pub left_taking_is : (taken : Taken) (object : AnyObject) → left_taking taken object ≡ Some object
-left_taking_is Nothing object = refl
-left_taking_is Stored object = refl
-left_taking_is Alive object = refl
-left_taking_is (Pulled head) object = refl
-left_taking_is Heard object = refl
-
--- so it goes on as what the telegram made of it
-pub stays_taking : (setup : NodeSetup) (telegram : TelegramModel) (globals : Globals) (entry : Entry) (object object_then : AnyObject) → object ≡ entry.object → object_then ≡ after_taking object telegram globals (fits_object setup telegram object) → Some object_then ≡ (taking_act setup telegram globals entry).left
-stays_taking setup telegram globals entry object object_then same is =
-    rw (is, same) (sym (left_taking_is (taken entry.object telegram globals (fits_object setup telegram entry.object)) (after_taking entry.object telegram globals (fits_object setup telegram entry.object))))
+-- what is left of an object is what its act leaves
+pub left_by_taking : (setup : NodeSetup) (telegram : TelegramModel) (globals : Globals) (entry : Entry) (object : AnyObject) (left : Option AnyObject) → object ≡ entry.object → left ≡ left_taking (taken object telegram globals (fits_object setup telegram object)) (after_taking object telegram globals (fits_object setup telegram object)) → left ≡ (taking_act setup telegram globals entry).left
+left_by_taking setup telegram globals entry object left same is = rw (is, same) refl
 
 -- and the records that it gave are those of its act
 pub gives_taking : (setup : NodeSetup) (telegram : TelegramModel) (globals : Globals) (entry : Entry) (handle : ℕ) (object : AnyObject) → handle ≡ entry.handle → object ≡ entry.object → taken_records setup telegram handle object (taken object telegram globals (fits_object setup telegram object)) ≡ (taking_act setup telegram globals entry).records
@@ -73,13 +71,39 @@ pub of_an_error : {T E : Type 0} (result : Result T E) (P : Type 0) → P → On
 of_an_error (Ok x) P holds = tt
 of_an_error (Err e) P holds = holds
 
--- a telegram that is for none of a slot's objects does nothing to it
-nobody : (setup : NodeSetup) (slot : SlotState) (globals : Globals) (telegram : TelegramModel) → list_any (is_for_entry telegram globals) slot.objects ≡ false → received setup slot globals telegram ≡ unchanged slot
-nobody setup slot globals telegram none =
+-- a telegram that is for none of a slot's objects does nothing to them
+nobody_acts : (setup : NodeSetup) (slot : SlotState) (globals : Globals) (telegram : TelegramModel) → list_any (is_for_entry telegram globals) slot.objects ≡ false → handed setup slot globals telegram ≡ unchanged slot
+nobody_acts setup slot globals telegram none =
     ap (λ (es : List Entry). let o : Outcome = record { slot = record slot { objects = es }; records = flat_map (λ entry. (taking_act setup telegram globals entry).records) (acting telegram globals slot.objects) } in o)
     (unconcerned_objects setup telegram globals slot.objects slot.objects none)
     ∙ ap (λ (es : List Entry). let o : Outcome = record { slot = slot; records = flat_map (λ entry. (taking_act setup telegram globals entry).records) es } in o)
     (none_acts telegram globals slot.objects slot.objects none)
+
+and_false : (a : Bool) → (a && false) ≡ false
+and_false true = refl
+and_false false = refl
+
+-- and no listener hears it
+nobody_hears : (telegram : TelegramModel) (globals : Globals) (objects : List Entry) → list_any (is_for_entry telegram globals) objects ≡ false → hearing telegram globals objects ≡ None
+nobody_hears telegram globals [] none = refl
+nobody_hears telegram globals (e ∷ objects) none =
+    let head : is_for_entry telegram globals e ≡ false = or_left (is_for_entry telegram globals e) (list_any (is_for_entry telegram globals) objects) none in
+    let rest : list_any (is_for_entry telegram globals) objects ≡ false = or_right (is_for_entry telegram globals e) (list_any (is_for_entry telegram globals) objects) none in
+    let not : (is_listening e && is_for_entry telegram globals e) ≡ false = ap (λ (b : Bool). is_listening e && b) head ∙ and_false (is_listening e) in
+    rw not (nobody_hears telegram globals objects rest)
+
+nobody_asked : (slot : SlotState) (globals : Globals) (telegram : TelegramModel) → list_any (is_for_entry telegram globals) slot.objects ≡ false → requested slot globals telegram ≡ unchanged slot
+nobody_asked slot globals (PdIs src dst telegram) none = refl
+nobody_asked slot globals (MdIs src dst telegram) none =
+    ap (λ (listener : Option ℕ). asked_by_hearing listener slot globals src telegram) (nobody_hears (MdIs src dst telegram) globals slot.objects none)
+
+-- so it does nothing to the slot
+nobody : (setup : NodeSetup) (slot : SlotState) (globals : Globals) (telegram : TelegramModel) → list_any (is_for_entry telegram globals) slot.objects ≡ false → received setup slot globals telegram ≡ unchanged slot
+nobody setup slot globals telegram none = either (is_request telegram) refl
+  where
+    either : (b : Bool) → is_request telegram ≡ b → received setup slot globals telegram ≡ unchanged slot
+    either true is = rw is (nobody_asked slot globals telegram none)
+    either false is = rw is (nobody_acts setup slot globals telegram none)
 
 -- a datagram that doesn't concern a slot changes nothing
 pub unconcerned : (setup : NodeSetup) (slot : SlotState) (globals : Globals) (telegram : Option TelegramModel) → concerns globals telegram slot ≡ false → received_if setup slot globals telegram ≡ unchanged slot
@@ -112,66 +136,67 @@ lacking_concerns telegram globals slots out valid lacks = either (list_any (conc
         let nothing = rw (unconcerned_all telegram globals slots valid is) at lacks in
         elim nothing [ inl lt ↦ absurd (omega (arith, lt)) | inr lt ↦ absurd (omega (arith, lt)) ]
 
-not_pulled : (state : ValueState) (head : PdHead) → taken_in state ≡ Pulled head → ⊥
+-- an object of that kind may have done this with a telegram
+abbrev pub IsTakenBy : Kind → Taken → Type 0
+IsTakenBy kind Nothing = Unit {0}
+IsTakenBy kind Stored = kind ≡ Subscribing
+IsTakenBy kind Alive = kind ≡ Subscribing
+IsTakenBy kind (Pulled head) = kind ≡ Publishing
+IsTakenBy kind Heard = kind ≡ Listening
+IsTakenBy kind Replied = kind ≡ Calling
+IsTakenBy kind RepliedLast = kind ≡ Calling
+IsTakenBy kind (Confirmed status) = kind ≡ Replying
+
+taken_in_by : (state : ValueState) → IsTakenBy Subscribing (taken_in state)
 unfolding taken_in
-not_pulled Never head is = cc
-not_pulled Valid head is = cc
-not_pulled Silent head is = cc
+taken_in_by Never = refl
+taken_in_by Valid = refl
+taken_in_by Silent = refl
 
--- a subscription answers no pull request
-subscription_not_pulled : (s : SubscriptionState) (telegram : TelegramModel) (globals : Globals) (fits : Bool) (head : PdHead) → (subscription_taking s telegram globals fits).taken ≡ Pulled head → ⊥
-subscription_not_pulled s (PdIs src dst telegram) globals fits head pulled = either (is_accepted s src dst telegram.head globals fits) refl
+replied_by : (c : AnyCaller) → IsTakenBy Calling (replied_as c)
+unfolding replied_as
+replied_by c = either (is_complete c) refl
   where
-    either : (b : Bool) → is_accepted s src dst telegram.head globals fits ≡ b → ⊥
-    either true is = not_pulled s.state head (rw is at pulled)
-    either false is = let none : Nothing ≡ Pulled head = rw is at pulled in cc
-subscription_not_pulled s (MdIs src dst telegram) globals fits head pulled = let none : Nothing ≡ Pulled head = pulled in cc
+    either : (b : Bool) → is_complete c ≡ b → IsTakenBy Calling (replied_as c)
+    either true is = rw is refl
+    either false is = rw is refl
 
--- nor does a listener
-listener_not_pulled : (l : AnyListener) (telegram : TelegramModel) (globals : Globals) (fits : Bool) (head : PdHead) → (listener_taking l telegram globals fits).taken ≡ Pulled head → ⊥
-listener_not_pulled l telegram globals fits head pulled = either (listener_addressed l telegram globals) refl
-  where
-    either : (b : Bool) → listener_addressed l telegram globals ≡ b → ⊥
-    either true is = let some : Heard ≡ Pulled head = rw is at pulled in cc
-    either false is = let none : Nothing ≡ Pulled head = rw is at pulled in cc
+publisher_takes : (p : PublisherState) (src dst : Place) (telegram : PdTelegram) (globals : Globals) (fits b : Bool) → is_answered p telegram.head globals ≡ b → IsTakenBy Publishing (publisher_taking p (PdIs src dst telegram) globals fits).taken
+publisher_takes p src dst telegram globals fits true is = rw is refl
+publisher_takes p src dst telegram globals fits false is = rw is tt
 
--- what answers a pull request has the room of a publisher
-pub pulled_room : (object : AnyObject) (telegram : TelegramModel) (globals : Globals) (fits : Bool) (head : PdHead) → taken object telegram globals fits ≡ Pulled head → kind_room (kind_of object) ≡ record { rows = 1; bytes = 1472 }
-pulled_room (Publisher p) telegram globals fits head pulled = refl
-pulled_room (Subscription s) telegram globals fits head pulled = absurd (subscription_not_pulled s telegram globals fits head pulled)
-pulled_room (Requester r) telegram globals fits head pulled = let none : Nothing ≡ Pulled head = pulled in absurd (cc)
-pulled_room (Listener l) telegram globals fits head pulled = absurd (listener_not_pulled l telegram globals fits head pulled)
+subscription_takes : (s : SubscriptionState) (src dst : Place) (telegram : PdTelegram) (globals : Globals) (fits b : Bool) → is_accepted s src dst telegram.head globals fits ≡ b → IsTakenBy Subscribing (subscription_taking s (PdIs src dst telegram) globals fits).taken
+subscription_takes s src dst telegram globals fits true is = rw is (taken_in_by s.state)
+subscription_takes s src dst telegram globals fits false is = rw is tt
 
-not_heard : (state : ValueState) → taken_in state ≡ Heard → ⊥
-unfolding taken_in
-not_heard Never is = cc
-not_heard Valid is = cc
-not_heard Silent is = cc
+listener_takes : (l : AnyListener) (telegram : TelegramModel) (globals : Globals) (fits b : Bool) → listener_addressed l telegram globals ≡ b → IsTakenBy Listening (listener_taking l telegram globals fits).taken
+listener_takes l telegram globals fits true is = rw is refl
+listener_takes l telegram globals fits false is = rw is tt
 
--- a subscription hears no message
-subscription_not_heard : (s : SubscriptionState) (telegram : TelegramModel) (globals : Globals) (fits : Bool) → (subscription_taking s telegram globals fits).taken ≡ Heard → ⊥
-subscription_not_heard s (PdIs src dst telegram) globals fits hears = either (is_accepted s src dst telegram.head globals fits) refl
-  where
-    either : (b : Bool) → is_accepted s src dst telegram.head globals fits ≡ b → ⊥
-    either true is = not_heard s.state (rw is at hears)
-    either false is = let none : Nothing ≡ Heard = rw is at hears in cc
-subscription_not_heard s (MdIs src dst telegram) globals fits hears = let none : Nothing ≡ Heard = hears in cc
+caller_takes : (c : AnyCaller) (src dst : Place) (telegram : MdTelegram) (globals : Globals) (fits b : Bool) → is_taken c src telegram.head ≡ b → IsTakenBy Calling (caller_taking c (MdIs src dst telegram) globals fits).taken
+caller_takes c src dst telegram globals fits true is = rw is (replied_by (answering c src telegram.head globals.now))
+caller_takes c src dst telegram globals fits false is = rw is tt
 
--- nor does a publisher
-publisher_not_heard : (p : PublisherState) (telegram : TelegramModel) (globals : Globals) (fits : Bool) → (publisher_taking p telegram globals fits).taken ≡ Heard → ⊥
-publisher_not_heard p (PdIs src dst telegram) globals fits hears = either (is_answered p telegram.head globals) refl
-  where
-    either : (b : Bool) → is_answered p telegram.head globals ≡ b → ⊥
-    either true is = let some : Pulled (reply_head p) ≡ Heard = rw is at hears in cc
-    either false is = let none : Nothing ≡ Heard = rw is at hears in cc
-publisher_not_heard p (MdIs src dst telegram) globals fits hears = let none : Nothing ≡ Heard = hears in cc
+replier_takes : (r : AnyReplier) (src dst : Place) (telegram : MdTelegram) (globals : Globals) (fits b : Bool) → is_for_replier r src telegram.head ≡ b → IsTakenBy Replying (replier_taking r (MdIs src dst telegram) globals fits).taken
+replier_takes r src dst telegram globals fits true is = rw is refl
+replier_takes r src dst telegram globals fits false is = rw is tt
 
--- what hears a message has the room of a listener
-pub heard_room : (object : AnyObject) (telegram : TelegramModel) (globals : Globals) (fits : Bool) → taken object telegram globals fits ≡ Heard → kind_room (kind_of object) ≡ record { rows = 1; bytes = 65388 }
-heard_room (Publisher p) telegram globals fits hears = absurd (publisher_not_heard p telegram globals fits hears)
-heard_room (Subscription s) telegram globals fits hears = absurd (subscription_not_heard s telegram globals fits hears)
-heard_room (Requester r) telegram globals fits hears = let none : Nothing ≡ Heard = hears in absurd (cc)
-heard_room (Listener l) telegram globals fits hears = refl
+-- what an object did with a telegram tells its kind
+pub taken_by : (object : AnyObject) (telegram : TelegramModel) (globals : Globals) (fits : Bool) → IsTakenBy (kind_of object) (taken object telegram globals fits)
+taken_by (Publisher p) (PdIs src dst telegram) globals fits = publisher_takes p src dst telegram globals fits _ refl
+taken_by (Publisher p) (MdIs src dst telegram) globals fits = tt
+taken_by (Subscription s) (PdIs src dst telegram) globals fits = subscription_takes s src dst telegram globals fits _ refl
+taken_by (Subscription s) (MdIs src dst telegram) globals fits = tt
+taken_by (Requester r) telegram globals fits = tt
+taken_by (Listener l) telegram globals fits = listener_takes l telegram globals fits _ refl
+taken_by (Caller c) (PdIs src dst telegram) globals fits = tt
+taken_by (Caller c) (MdIs src dst telegram) globals fits = caller_takes c src dst telegram globals fits _ refl
+taken_by (Replier r) (PdIs src dst telegram) globals fits = tt
+taken_by (Replier r) (MdIs src dst telegram) globals fits = replier_takes r src dst telegram globals fits _ refl
+
+-- the kind of an object that did this, so its room
+pub kind_taken : (object : AnyObject) (telegram : TelegramModel) (globals : Globals) (fits : Bool) (did : Taken) → did ≡ taken object telegram globals fits → IsTakenBy (kind_of object) did
+kind_taken object telegram globals fits did is = rw is (taken_by object telegram globals fits)
 
 -- No listener hears process data.
 
@@ -180,6 +205,8 @@ no_listener src dst telegram globals entry (Publisher p) is = rw is refl
 no_listener src dst telegram globals entry (Subscription s) is = rw is refl
 no_listener src dst telegram globals entry (Requester r) is = rw is refl
 no_listener src dst telegram globals entry (Listener l) is = rw is refl
+no_listener src dst telegram globals entry (Caller c) is = rw is refl
+no_listener src dst telegram globals entry (Replier r) is = rw is refl
 
 pub process_unheard : (src dst : Place) (telegram : PdTelegram) (globals : Globals) (objects : List Entry) → hearing (PdIs src dst telegram) globals objects ≡ None
 process_unheard src dst telegram globals [] = refl

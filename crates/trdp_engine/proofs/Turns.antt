@@ -9,12 +9,12 @@ use Rattle.std.proofs.lemmas.Grind.{flat_map-append}
 use Rattle.trdp_table.specs.declared.any_object.AnyObject.{AnyObject}
 use Rattle.trdp_engine.specs.Acts.{Act, entry_left, acted}
 use Rattle.trdp_table.specs.Kinds.{kind_of}
-use Rattle.trdp_table.specs.Tables.{TableState, slot_in, exchanged}
+use Rattle.trdp_table.specs.Tables.{TableState, slot_in, without, changed_at, exchanged}
 use Rattle.trdp_engine.specs.Records.{labelled}
 use Rattle.trdp_engine.specs.Acting.{slot_at, MayAct, TookWithin, ActsAt, act_of}
 use Rattle.trdp_engine.specs.Outboxes.{OutboxState}
 use Rattle.trdp_engine.specs.Rooms.{kind_room}
-use Rattle.trdp_engine.proofs.Tables.{slots_length, slot_there, slot_within, slot_is, handle_found, ExchangesAlone, IsReached, reached_entry, reached_touched}
+use Rattle.trdp_engine.proofs.Tables.{slots_length, slot_there, slot_within, slot_is, handle_found, ExchangesAlone, IsReached, reached_entry, reached_touched, reached_removed}
 use Rattle.trdp_engine.proofs.Sweeps.{get-set}
 use Rattle.trdp_engine.proofs.Handles.{AllAbove, IsRising}
 use Rattle.trdp_engine.specs.Slots.{Entry, SlotState, Outcome, entry_of, entry_of_keyed, slots_of}
@@ -220,6 +220,24 @@ acts_reached table s h key object object_then act out out_then alone r left reco
       becomes = record {
         slots =
             reached_touched table s h key object object_then alone r
+            ∙ ap (λ (o : Option AnyObject). slice_set (slots_of table) s (record (slot_at s table) { objects = acted h o (slot_at s table).objects })) left
+            ∙ ap (λ (k : ℕ). slice_set (slots_of table) s (record (slot_at s table) { objects = acted k (act entry).left (slot_at s table).objects })) of;
+        records = records;
+      };
+      within = subst (λ (o : AnyObject). TookWithin out out_then (kind_room (kind_of o))) r.object_is within;
+    }
+
+-- an object that ended
+pub acts_removed : (table : TableState) (s h key : ℕ) (object object_then : AnyObject) (act : Entry → Act) (out out_then : OutboxState) → s < length table → ExchangesAlone table → (r : IsReached table s h key object) → None ≡ (act (entry_of_keyed r.keyed)).left → out_then.records ≡ out.records ++ labelled s (act (entry_of_keyed r.keyed)).records → TookWithin out out_then (kind_room (kind_of object)) → ActsAt s h act table (changed_at s (without h) (exchanged key table object_then)) out out_then
+acts_removed table s h key object object_then act out out_then lt alone r left records within =
+    let entry = entry_of_keyed r.keyed in
+    let of : h ≡ r.keyed.handle = reached_handle table s h key object r in
+    record {
+      entry = entry;
+      found = reached_entry table s h key object r;
+      becomes = record {
+        slots =
+            reached_removed table s h key object object_then lt alone r
             ∙ ap (λ (o : Option AnyObject). slice_set (slots_of table) s (record (slot_at s table) { objects = acted h o (slot_at s table).objects })) left
             ∙ ap (λ (k : ℕ). slice_set (slots_of table) s (record (slot_at s table) { objects = acted k (act entry).left (slot_at s table).objects })) of;
         records = records;

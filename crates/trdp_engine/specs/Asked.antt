@@ -1,22 +1,54 @@
 -- What a call asks of one object.
-use Rattle.std.specs.Prelude.{Option, Some, None}
+use Rattle.std.specs.Prelude.{◌≡◌, ℕ, Option, Some, None, Bool, true, false}
 use Rattle.trdp_filter.specs.declared.globals.Globals.{Globals}
 use Rattle.trdp_table.specs.declared.any_object.AnyObject.{AnyObject}
 use Rattle.trdp_engine.specs.declared.asked.Asked.{Asked}
-use Rattle.trdp_engine.specs.declared.asked.Asked.TheVariants.{Put, Get, Pull, End}
+use Rattle.trdp_engine.specs.declared.asked.Asked.TheVariants.{Put, Get, Pull, End, Reply, Query}
+use Rattle.trdp_engine.specs.declared.asked.Asked.TheVariants.{ReplyError, Confirm, Abort}
 use Rattle.trdp_engine.specs.declared.asked.Left.{Left}
 use Rattle.trdp_engine.specs.declared.asked.Left.TheVariants.{Stays, Ended}
 use Rattle.trdp_engine.specs.Configs.{NodeSetup}
 use Rattle.trdp_engine.specs.Acts.{Act}
 use Rattle.trdp_engine.specs.Pulls.{pulls}
-use Rattle.trdp_engine.specs.Calls.{puts, shows, ends}
+use Rattle.trdp_engine.specs.Calls.{puts, shows, ends, at_object, called}
+use Rattle.trdp_engine.specs.Events.{CallModel, PublishCall, SubscribeCall, OpenPullCall}
+use Rattle.trdp_engine.specs.Events.{ListenCall, NotifyCall, RequestCall}
+use Rattle.trdp_engine.specs.Slots.{SlotState}
+use Rattle.trdp_engine.specs.Rooms.{call_room, asked_room}
+use Rattle.trdp_engine.specs.Replies.{replies, queries, reply_errors, confirms, aborts}
 
--- the act of an object of which that is asked
-abbrev pub asked_act : NodeSetup → Globals → Asked → AnyObject → Act
-asked_act setup globals (Put bytes) object = puts setup bytes.now object
-asked_act setup globals Get object = shows object
-asked_act setup globals Pull object = pulls globals object
-asked_act setup globals (End kind) object = ends kind object
+-- the act of the object of a handle of which that is asked
+abbrev pub asked_act : NodeSetup → Globals → ℕ → Asked → AnyObject → Act
+asked_act setup globals handle (Put bytes) object = puts setup bytes.now object
+asked_act setup globals handle Get object = shows object
+asked_act setup globals handle Pull object = pulls globals object
+asked_act setup globals handle (End kind) object = ends kind object
+asked_act setup globals handle (Reply com_id status payload) object =
+    replies com_id status payload.now object
+asked_act setup globals handle (Query com_id status timeout payload) object =
+    queries globals.now com_id status timeout payload.now object
+asked_act setup globals handle (ReplyError com_id status) object =
+    reply_errors com_id status object
+asked_act setup globals handle (Confirm place status) object =
+    confirms handle place status object
+asked_act setup globals handle Abort object = aborts object
+
+-- the call makes an object, or sends a message without one
+abbrev pub concerns_no_object : CallModel → Bool
+concerns_no_object (PublishCall terms) = true
+concerns_no_object (SubscribeCall terms) = true
+concerns_no_object (OpenPullCall terms) = true
+concerns_no_object (ListenCall filter) = true
+concerns_no_object (NotifyCall terms payload) = true
+concerns_no_object (RequestCall terms payload) = true
+concerns_no_object _ = false
+
+-- the call asks this of the object of that handle
+pub record IsAskedBy (call : CallModel) (handle : ℕ) (asked : Asked) : Type 0 where
+  pub effect : (setup : NodeSetup) (slot : SlotState) (globals : Globals)
+      → called setup slot globals call
+      ≡ at_object slot handle (asked_act setup globals handle asked)
+  pub room : call_room call ≡ asked_room asked
 
 -- what is left of an object that stays or ended
 abbrev pub left_of : Left → AnyObject → Option AnyObject

@@ -1,14 +1,16 @@
 -- What a call does to the slot that makes it.
 use Rattle.std.specs.Prelude.{ℕ, List, [], ◌∷◌, length, Option, Some, None, Result, Ok, Err, Bool}
-use Rattle.std.specs.Prelude.{not, slice_index, ◌==◌, ◌||◌, nat_lt, nat_le, if◌then◌else◌}
+use Rattle.std.specs.Prelude.{not, ◌==◌, ◌||◌, nat_lt, nat_le, if◌then◌else◌}
 use Rattle.trdp_filter.specs.declared.globals.Globals.{Globals}
 use Rattle.trdp_pd.specs.declared.terms.PublisherTerms.{PublisherTerms}
 use Rattle.trdp_pd.specs.declared.terms.SubscriptionTerms.{SubscriptionTerms}
 use Rattle.trdp_table.specs.declared.any_object.AnyObject.{AnyObject}
 use Rattle.trdp_table.specs.declared.any_object.AnyObject.TheVariants.{Publisher, Subscription}
 use Rattle.trdp_table.specs.declared.any_object.AnyObject.TheVariants.{Requester, Listener}
+use Rattle.trdp_table.specs.declared.any_object.AnyObject.TheVariants.{Caller}
 use Rattle.trdp_filter.specs.declared.md_filter.MdFilter.{MdFilter}
 use Rattle.trdp_md.specs.Listeners.{listening}
+use Rattle.trdp_md.specs.Callers.{called as new_caller}
 use Rattle.trdp_pd.specs.Publishers.{PublisherState, published}
 use Rattle.trdp_pd.specs.Subscriptions.{SubscriptionState, subscribed}
 use Rattle.trdp_pd.specs.Requesters.{opened}
@@ -18,58 +20,33 @@ use Rattle.trdp_table.specs.declared.kind.Kind.TheVariants.{Publisher as Publish
 use Rattle.trdp_table.specs.declared.kind.Kind.TheVariants.{Subscription as Subscribing}
 use Rattle.trdp_table.specs.declared.kind.Kind.TheVariants.{Requester as Requesting}
 use Rattle.trdp_table.specs.declared.kind.Kind.TheVariants.{Listener as Listening}
-use Rattle.trdp_table.specs.Kinds.{kind_index, kind_of, is_same_kind}
+use Rattle.trdp_table.specs.Kinds.{kind_of, is_same_kind}
 use Rattle.trdp_engine.specs.declared.fault.Refusal.{Refusal}
 use Rattle.trdp_engine.specs.declared.fault.Refusal.TheVariants.{NoHandle, WrongKind, Cycle}
 use Rattle.trdp_engine.specs.declared.fault.Refusal.TheVariants.{Timeout, Range, NoDataset}
-use Rattle.trdp_engine.specs.declared.fault.Refusal.TheVariants.{TooLong, Shape, Quota, Exhausted}
-use Rattle.trdp_table.specs.declared.fault.TableFault.{TableFault}
-use Rattle.trdp_table.specs.declared.fault.TableFault.TheVariants.{Quota as UsedUp}
-use Rattle.trdp_table.specs.declared.fault.TableFault.TheVariants.{Exhausted as NoHandleLeft}
+use Rattle.trdp_engine.specs.declared.fault.Refusal.TheVariants.{TooLong, Shape}
 use Rattle.trdp_engine.specs.declared.look.LookFault.{LookFault}
 use Rattle.trdp_engine.specs.declared.look.LookFault.TheVariants.{NoHandle as NoSuchHandle}
 use Rattle.trdp_engine.specs.declared.look.LookFault.TheVariants.{WrongKind as NoSubscription}
 use Rattle.trdp_engine.specs.Looks.{as_subscription}
 use Rattle.trdp_engine.specs.Configs.{NodeSetup, is_dataset, zero_size_of, is_fitting}
-use Rattle.trdp_engine.specs.Records.{Content, AnswerModel, HandleIs, DoneIs, ValueIs, RefusedIs}
-use Rattle.trdp_engine.specs.Records.{Answers}
-use Rattle.trdp_engine.specs.Slots.{Entry, SlotState, Outcome, count_of, entry_of, with_object}
+use Rattle.trdp_engine.specs.Records.{Content, AnswerModel, DoneIs, ValueIs, RefusedIs, Answers}
+use Rattle.trdp_engine.specs.Slots.{Entry, SlotState, Outcome, entry_of}
+use Rattle.trdp_engine.specs.Openings.{refused, opening_refusal, opened_unless, opened_with}
 use Rattle.trdp_engine.specs.Acts.{Act, answers, refuses, acted}
 use Rattle.trdp_engine.specs.Events.{CallModel, PublishCall, PutCall, UnpublishCall, SubscribeCall}
 use Rattle.trdp_engine.specs.Events.{GetCall, UnsubscribeCall, OpenPullCall, PullCall}
 use Rattle.trdp_engine.specs.Events.{ClosePullCall, ListenCall, UnlistenCall, NotifyCall}
+use Rattle.trdp_engine.specs.Events.{RequestCall, ReplyCall, QueryCall, ReplyErrorCall}
+use Rattle.trdp_engine.specs.Events.{ConfirmCall, AbortCall}
 use Rattle.trdp_engine.specs.Pulls.{pulls}
 use Rattle.trdp_engine.specs.Notices.{notify_refusal, notice}
-
--- a slot with that one answer
-abbrev pub answered : SlotState → AnswerModel → Outcome
-answered slot answer = record { slot = slot; records = Answers answer ∷ [] }
-
--- a refused call changes nothing, and its one record says why
-abbrev pub refused : SlotState → Refusal → Outcome
-refused slot refusal = answered slot (RefusedIs refusal)
+use Rattle.trdp_engine.specs.Requests.{request_refusal, request_sent}
+use Rattle.trdp_engine.specs.Replies.{replies, queries, reply_errors, confirms, aborts}
 
 -- a time is 0 or at least 1,000 microseconds
 abbrev pub is_span : ℕ → Bool
 is_span span = span == 0 || nat_le 1000 span
-
--- a slot takes no new object of a kind whose quota is used up, and none once the handles up to
--- 2^32 - 1 are given out
-abbrev pub opening_refusal : SlotState → Kind → Option Refusal
-opening_refusal slot kind =
-    if nat_le (slice_index slot.quotas (kind_index kind)) (count_of kind slot.objects)
-    then Some Quota
-    else if nat_lt 4294967295 slot.next then Some Exhausted else None
-
--- the refusal of a new object that the table refuses
-abbrev pub table_refusal : TableFault → Refusal
-table_refusal UsedUp = Quota
-table_refusal NoHandleLeft = Exhausted
-
--- a new object is answered by its handle
-abbrev pub opened_unless : Option Refusal → SlotState → AnyObject → Outcome
-opened_unless (Some refusal) slot object = refused slot refusal
-opened_unless None slot object = answered (with_object slot object) (HandleIs slot.next)
 
 -- no such dataset, or one whose zero value, its shortest, is longer than process data carries
 abbrev pub dataset_refusal : NodeSetup → ℕ → Option Refusal → Option Refusal
@@ -110,9 +87,7 @@ puts_unless None bytes p = answers (Publisher (record p { value = Some bytes }))
 -- the act of an object that is handed a value
 abbrev pub puts : NodeSetup → List ℕ → AnyObject → Act
 puts setup bytes (Publisher p) = puts_unless (value_refusal setup p.terms.dataset bytes) bytes p
-puts setup bytes (Subscription s) = refuses (Subscription s) WrongKind
-puts setup bytes (Requester r) = refuses (Requester r) WrongKind
-puts setup bytes (Listener l) = refuses (Listener l) WrongKind
+puts setup bytes object = refuses object WrongKind
 
 -- the act of an object of which one of that kind is to end
 abbrev pub ends : Kind → AnyObject → Act
@@ -173,3 +148,15 @@ called setup slot globals (ListenCall filter) =
 called setup slot globals (UnlistenCall handle) = at_object slot handle (ends Listening)
 called setup slot globals (NotifyCall terms payload) =
     told_unless (notify_refusal globals terms payload) slot (notice terms payload ∷ [])
+called setup slot globals (RequestCall terms payload) =
+    opened_with (request_refusal slot globals terms payload) slot
+    (Caller (new_caller terms globals.now)) (request_sent terms payload ∷ [])
+called setup slot globals (ReplyCall handle com_id status payload) =
+    at_object slot handle (replies com_id status payload)
+called setup slot globals (QueryCall handle com_id status timeout payload) =
+    at_object slot handle (queries globals.now com_id status timeout payload)
+called setup slot globals (ReplyErrorCall handle com_id status) =
+    at_object slot handle (reply_errors com_id status)
+called setup slot globals (ConfirmCall handle place status) =
+    at_object slot handle (confirms handle place status)
+called setup slot globals (AbortCall handle) = at_object slot handle aborts

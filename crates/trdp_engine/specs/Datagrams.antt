@@ -1,9 +1,11 @@
 -- What a datagram does to a slot.
 use Rattle.std.specs.Prelude.{ℕ, List, [], ◌∷◌, Option, Some, None, Bool, false, not, find, ◌==◌}
-use Rattle.std.specs.Prelude.{option_map, true, filter, ◌&&◌, ◌||◌, if◌then◌else◌}
+use Rattle.std.specs.Prelude.{option_map, true, filter, ◌&&◌, ◌||◌, ◌++◌, if◌then◌else◌}
 use Rattle.std.specs.List.{flat_map, list_any}
 use Rattle.trdp_base.specs.declared.place.Place.{Place}
 use Rattle.trdp_base.specs.declared.topo.Topo.{Topo}
+use Rattle.trdp_head.specs.declared.md.MdKind.{MdKind}
+use Rattle.trdp_head.specs.declared.md.MdKind.TheVariants as message
 use Rattle.trdp_head.specs.PdTelegrams.{pd_telegram_of}
 use Rattle.trdp_head.specs.MdTelegrams.{md_telegram_of}
 use Rattle.trdp_filter.specs.declared.globals.Globals.{Globals}
@@ -12,15 +14,19 @@ use Rattle.trdp_filter.specs.Telegrams.{TelegramModel, PdIs, MdIs, payload_of}
 use Rattle.trdp_table.specs.declared.any_object.AnyObject.{AnyObject}
 use Rattle.trdp_pd.specs.declared.object.Taken.{Taken}
 use Rattle.trdp_pd.specs.declared.object.Taken.TheVariants.{Nothing, Stored, Alive, Pulled, Heard}
+use Rattle.trdp_pd.specs.declared.object.Taken.TheVariants.{Replied, RepliedLast, Confirmed}
+use Rattle.trdp_pd.specs.declared.object.Reason.TheVariants.{Done}
 use Rattle.trdp_table.specs.declared.kind.Kind.TheVariants.{Listener as Listening}
 use Rattle.trdp_table.specs.Kinds.{kind_of, is_same_kind}
 use Rattle.trdp_table.specs.Objects.{dataset_of, is_addressed, after_taking, taken}
 use Rattle.trdp_engine.specs.declared.record.Protocol.{Protocol}
 use Rattle.trdp_engine.specs.declared.record.Protocol.TheVariants.{Pd, Md}
 use Rattle.trdp_engine.specs.Configs.{NodeSetup, is_fitting}
-use Rattle.trdp_engine.specs.Records.{Content, Indicates, AliveIs}
+use Rattle.trdp_engine.specs.Records.{Content, Indicates, AliveIs, ConfirmedIs}
 use Rattle.trdp_engine.specs.Pulls.{answer_place, pull_answer}
 use Rattle.trdp_engine.specs.Notices.{heard}
+use Rattle.trdp_engine.specs.Replies.{replied, closing}
+use Rattle.trdp_engine.specs.Requests.{asked_by_hearing}
 use Rattle.trdp_engine.specs.Slots.{Entry, SlotState, Outcome, unchanged}
 use Rattle.trdp_engine.specs.Acts.{Act, entry_left}
 
@@ -59,14 +65,23 @@ taken_records setup telegram handle object Alive = Indicates (AliveIs handle) �
 taken_records setup telegram handle object (Pulled head) =
     pull_answer object (answer_place setup telegram) head
 taken_records setup telegram handle object Heard = heard handle telegram
+taken_records setup telegram handle object Replied = replied handle telegram
+taken_records setup telegram handle object RepliedLast =
+    replied handle telegram ++ closing handle Done ∷ []
+taken_records setup telegram handle object (Confirmed status) =
+    Indicates (ConfirmedIs handle status) ∷ []
 
--- what is left of an object that did this with a telegram: none ends with it
+-- what is left of an object that did this with a telegram: a caller ends with its last answer, a
+-- replier with its confirmation
 abbrev pub left_taking : Taken → AnyObject → Option AnyObject
 left_taking Nothing object = Some object
 left_taking Stored object = Some object
 left_taking Alive object = Some object
 left_taking (Pulled head) object = Some object
 left_taking Heard object = Some object
+left_taking Replied object = Some object
+left_taking RepliedLast object = None
+left_taking (Confirmed status) object = None
 
 -- the act of an object that takes a telegram
 abbrev pub taking_act : NodeSetup → TelegramModel → Globals → Entry → Act
@@ -121,9 +136,9 @@ after_telegram setup telegram globals objects entry =
     then entry_left entry (taking_act setup telegram globals entry).left
     else entry ∷ []
 
--- effect of a telegram on a slot: the objects that act do so in the order of their handles
-abbrev pub received : NodeSetup → SlotState → Globals → TelegramModel → Outcome
-received setup slot globals telegram = record {
+-- the objects of a slot that act at a telegram do so in the order of their handles
+abbrev pub handed : NodeSetup → SlotState → Globals → TelegramModel → Outcome
+handed setup slot globals telegram = record {
   slot = record slot {
     objects = flat_map (after_telegram setup telegram globals slot.objects) slot.objects;
   };
@@ -131,6 +146,32 @@ received setup slot globals telegram = record {
       flat_map (λ entry. (taking_act setup telegram globals entry).records)
       (acting telegram globals slot.objects);
 }
+
+-- the message type that asks for an answer
+abbrev pub is_request_kind : MdKind → Bool
+is_request_kind message.Request = true
+is_request_kind kind = false
+
+-- the telegram is a request
+abbrev pub is_request : TelegramModel → Bool
+is_request (PdIs src dst telegram) = false
+is_request (MdIs src dst telegram) = is_request_kind telegram.head.kind
+
+-- effect of a request on a slot: its objects stay, and of its listeners the first that the request
+-- is for hears it
+abbrev pub requested : SlotState → Globals → TelegramModel → Outcome
+requested slot globals (PdIs src dst telegram) = unchanged slot
+requested slot globals (MdIs src dst telegram) =
+    asked_by_hearing (hearing (MdIs src dst telegram) globals slot.objects) slot globals src
+    telegram
+
+-- effect of a telegram on a slot: a request may open a replier, and any other telegram is for the
+-- objects that there are
+abbrev pub received : NodeSetup → SlotState → Globals → TelegramModel → Outcome
+received setup slot globals telegram =
+    if is_request telegram
+    then requested slot globals telegram
+    else handed setup slot globals telegram
 
 -- the telegram's topology counts match the node's
 abbrev pub is_valid_at : Globals → TelegramModel → Bool

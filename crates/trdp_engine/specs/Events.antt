@@ -1,5 +1,5 @@
 -- Events, apart from where their bytes lie.
-use Rattle.std.specs.Prelude.{ℕ, List, Bool}
+use Rattle.std.specs.Prelude.{ℕ, ℤ, List, Bool}
 use Rattle.trdp_base.specs.declared.place.Place.{Place}
 use Rattle.trdp_base.specs.declared.topo.Topo.{Topo}
 use Rattle.trdp_pd.specs.declared.terms.PublisherTerms.{PublisherTerms}
@@ -7,12 +7,14 @@ use Rattle.trdp_pd.specs.declared.terms.SubscriptionTerms.{SubscriptionTerms}
 use Rattle.trdp_pd.specs.declared.terms.RequesterTerms.{RequesterTerms}
 use Rattle.trdp_filter.specs.declared.md_filter.MdFilter.{MdFilter}
 use Rattle.trdp_md.specs.declared.terms.NotifyTerms.{NotifyTerms}
+use Rattle.trdp_md.specs.declared.terms.CallerTerms.{CallerTerms}
 use Rattle.trdp_engine.specs.declared.record.Protocol.{Protocol}
 use Rattle.trdp_engine.specs.declared.event.Call.{Call as AnyCall}
 use Rattle.trdp_engine.specs.declared.event.Call.TheVariants.{Publish, Put, Unpublish, Subscribe}
 use Rattle.trdp_engine.specs.declared.event.Call.TheVariants.{Get, Unsubscribe, OpenPull, Pull}
 use Rattle.trdp_engine.specs.declared.event.Call.TheVariants.{ClosePull, Listen, Unlisten}
-use Rattle.trdp_engine.specs.declared.event.Call.TheVariants.{Notify}
+use Rattle.trdp_engine.specs.declared.event.Call.TheVariants.{Notify, Request, Reply, Query}
+use Rattle.trdp_engine.specs.declared.event.Call.TheVariants.{ReplyError, Confirm, Abort}
 use Rattle.trdp_engine.specs.declared.event.Event.{Event}
 use Rattle.trdp_engine.specs.declared.event.Event.TheVariants.{Moment, Topology, Role, Datagram}
 use Rattle.trdp_engine.specs.declared.event.Event.TheVariants.{Call}
@@ -31,6 +33,12 @@ pub data CallModel : Type 0 where
   ListenCall : (filter : MdFilter) → CallModel
   UnlistenCall : (handle : ℕ) → CallModel
   NotifyCall : (terms : NotifyTerms) (payload : List ℕ) → CallModel
+  RequestCall : (terms : CallerTerms) (payload : List ℕ) → CallModel
+  ReplyCall : (handle com_id : ℕ) (status : ℤ) (payload : List ℕ) → CallModel
+  QueryCall : (handle com_id : ℕ) (status : ℤ) (timeout : ℕ) (payload : List ℕ) → CallModel
+  ReplyErrorCall : (handle com_id : ℕ) (status : ℤ) → CallModel
+  ConfirmCall : (handle : ℕ) (place : Place) (status : ℤ) → CallModel
+  AbortCall : (handle : ℕ) → CallModel
 
 -- one event of a node
 pub data EventModel : Type 0 where
@@ -54,6 +62,13 @@ call_model (ClosePull handle) = ClosePullCall handle
 call_model (Listen filter) = ListenCall filter
 call_model (Unlisten handle) = UnlistenCall handle
 call_model (Notify terms payload) = NotifyCall terms payload.now
+call_model (Request terms payload) = RequestCall terms payload.now
+call_model (Reply handle com_id status payload) = ReplyCall handle com_id status payload.now
+call_model (Query handle com_id status timeout payload) =
+    QueryCall handle com_id status timeout payload.now
+call_model (ReplyError handle com_id status) = ReplyErrorCall handle com_id status
+call_model (Confirm handle place status) = ConfirmCall handle place status
+call_model (Abort handle) = AbortCall handle
 
 -- an event, apart from where its bytes lie
 abbrev pub event_model : Event → EventModel

@@ -1,8 +1,7 @@
 -- Each subscription of a node shows a value of its dataset.
 use Rattle.std.specs.Prelude.{◌≡◌, ℕ, List, [], ◌∷◌, Some, true, slice_get}
 use Rattle.trdp_table.specs.declared.any_object.AnyObject.{AnyObject}
-use Rattle.trdp_table.specs.declared.any_object.AnyObject.TheVariants.{Publisher, Subscription}
-use Rattle.trdp_table.specs.declared.any_object.AnyObject.TheVariants.{Requester, Listener}
+use Rattle.trdp_table.specs.declared.any_object.AnyObject.TheVariants.{Subscription}
 use Rattle.trdp_pd.specs.Subscriptions.{SubscriptionState}
 use Rattle.trdp_engine.specs.Configs.{NodeSetup, is_dataset, zero_size_of, is_fitting}
 use Rattle.trdp_engine.specs.Slots.{Entry, SlotState}
@@ -16,10 +15,8 @@ pub record ShowsFitting (setup : NodeSetup) (s : SubscriptionState) : Type 0 whe
 
 -- the object is no subscription, or it shows a value of its dataset
 abbrev pub IsFit : NodeSetup → AnyObject → Type 0
-IsFit setup (Publisher p) = Unit {0}
 IsFit setup (Subscription s) = ShowsFitting setup s
-IsFit setup (Requester r) = Unit {0}
-IsFit setup (Listener l) = Unit {0}
+IsFit setup object = Unit {0}
 
 -- the same of each object
 abbrev pub AllFit : NodeSetup → List Entry → Type 0

@@ -2,10 +2,13 @@ pub mod Configs
 pub mod Records
 pub mod Slots
 pub mod Acts
+pub mod Openings
 pub mod Looks
 pub mod Events
 pub mod Pulls
 pub mod Notices
+pub mod Requests
+pub mod Replies
 pub mod Calls
 pub mod Datagrams
 pub mod Moments

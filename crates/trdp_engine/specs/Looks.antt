@@ -1,8 +1,7 @@
 -- A look at a subscription.
 use Rattle.std.specs.Prelude.{ℕ, List, Option, Some, None, Result, Ok, Err}
 use Rattle.trdp_table.specs.declared.any_object.AnyObject.{AnyObject}
-use Rattle.trdp_table.specs.declared.any_object.AnyObject.TheVariants.{Publisher, Subscription}
-use Rattle.trdp_table.specs.declared.any_object.AnyObject.TheVariants.{Requester, Listener}
+use Rattle.trdp_table.specs.declared.any_object.AnyObject.TheVariants.{Subscription}
 use Rattle.trdp_pd.specs.Subscriptions.{SubscriptionState}
 use Rattle.trdp_engine.specs.declared.look.LookFault.{LookFault}
 use Rattle.trdp_engine.specs.declared.look.LookFault.TheVariants.{NoHandle, WrongKind}
@@ -10,10 +9,8 @@ use Rattle.trdp_engine.specs.Slots.{Entry, entry_of}
 
 -- the object as a subscription; an object of another kind is none
 abbrev pub as_subscription : AnyObject → Result SubscriptionState LookFault
-as_subscription (Publisher p) = Err WrongKind
 as_subscription (Subscription s) = Ok s
-as_subscription (Requester r) = Err WrongKind
-as_subscription (Listener l) = Err WrongKind
+as_subscription object = Err WrongKind
 
 -- the object of a handle as a subscription, if there is one
 abbrev pub subscription_of : Option Entry → Result SubscriptionState LookFault

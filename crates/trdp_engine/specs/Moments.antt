@@ -1,19 +1,20 @@
 -- What a moment does to a slot.
-use Rattle.std.specs.Prelude.{ℕ, List, [], ◌∷◌, Bool, ◌==◌, ◌&&◌, ◌||◌, nat_lt, filter, Option, Some}
+use Rattle.std.specs.Prelude.{ℕ, List, [], ◌∷◌, Bool, ◌==◌, ◌&&◌, ◌||◌, nat_lt, filter, Option}
+use Rattle.std.specs.Prelude.{Some, None}
 use Rattle.std.specs.Prelude.{if◌then◌else◌, unwrap_or}
 use Rattle.std.specs.List.{flat_map}
 use Rattle.trdp_head.specs.declared.pd.PdHead.{PdHead}
 use Rattle.trdp_filter.specs.declared.globals.Globals.{Globals}
 use Rattle.trdp_table.specs.declared.any_object.AnyObject.{AnyObject}
-use Rattle.trdp_table.specs.declared.any_object.AnyObject.TheVariants.{Publisher, Subscription}
-use Rattle.trdp_table.specs.declared.any_object.AnyObject.TheVariants.{Requester, Listener}
+use Rattle.trdp_table.specs.declared.any_object.AnyObject.TheVariants.{Publisher}
 use Rattle.trdp_pd.specs.declared.object.Fired.{Fired}
-use Rattle.trdp_pd.specs.declared.object.Fired.TheVariants.{Nothing, Data, Silent}
+use Rattle.trdp_pd.specs.declared.object.Fired.TheVariants.{Nothing, Data, Silent, Closed}
 use Rattle.trdp_pd.specs.Due.{is_due_by}
 use Rattle.trdp_table.specs.Objects.{due_of, after_firing, fired}
 use Rattle.trdp_engine.specs.Records.{Content, Indicates, SilentIs, value_sent}
 use Rattle.trdp_engine.specs.Slots.{Entry, SlotState, Outcome}
 use Rattle.trdp_engine.specs.Acts.{Act, entry_left}
+use Rattle.trdp_engine.specs.Replies.{closing}
 
 -- the object is due by t
 abbrev pub is_due : ℕ → Entry → Bool
@@ -39,21 +40,21 @@ in_order (entry ∷ entries) = inserted entry (in_order entries)
 -- a publisher's data goes to its destination with its value
 abbrev pub sends_data : AnyObject → PdHead → List Content
 sends_data (Publisher p) head = value_sent p.terms.to head p.value
-sends_data (Subscription s) head = []
-sends_data (Requester r) head = []
-sends_data (Listener l) head = []
+sends_data object head = []
 
 -- the records of an object that did this
 abbrev pub firing_records : ℕ → AnyObject → Fired → List Content
 firing_records handle object Nothing = []
 firing_records handle object (Data head) = sends_data object head
 firing_records handle object Silent = Indicates (SilentIs handle) ∷ []
+firing_records handle object (Closed reason) = closing handle reason ∷ []
 
--- what is left of an object that did this as it fired: no object of process data ends with it
+-- what is left of an object that did this as it fired: one that closed ends
 abbrev pub left_firing : Fired → AnyObject → Option AnyObject
 left_firing Nothing object = Some object
 left_firing (Data head) object = Some object
 left_firing Silent object = Some object
+left_firing (Closed reason) object = None
 
 -- the act of an object that fires
 abbrev pub firing_act : Globals → Entry → Act

@@ -29,11 +29,7 @@ message_of src telegram = record {
 -- what the slot of a listener is told of a message of that kind: of a notification all of it
 abbrev pub heard_as : MdKind → ℕ → MessageModel → List Content
 heard_as message.Notify handle said = Indicates (NotifiedIs handle said) ∷ []
-heard_as message.Request handle said = []
-heard_as message.Reply handle said = []
-heard_as message.Query handle said = []
-heard_as message.Confirm handle said = []
-heard_as message.Error handle said = []
+heard_as kind handle said = []
 
 -- what the slot of a listener is told of a telegram that it heard
 abbrev pub heard : ℕ → TelegramModel → List Content

@@ -4,12 +4,15 @@ use Rattle.trdp_engine.specs.declared.row.Row.{Row}
 use Rattle.trdp_engine.specs.declared.row.PlainAnswer.{PlainAnswer as AnyPlainAnswer}
 use Rattle.trdp_engine.specs.declared.row.PlainAnswer.TheVariants.{Handle, Done, Refused}
 use Rattle.trdp_engine.specs.declared.row.Heading.{Heading}
+use Rattle.trdp_engine.specs.declared.row.ReplyHeading.{ReplyHeading}
 use Rattle.trdp_engine.specs.declared.row.Form.{Form}
 use Rattle.trdp_engine.specs.declared.row.Form.TheVariants.{PlainAnswer, Value, Silent, Alive}
-use Rattle.trdp_engine.specs.declared.row.Form.TheVariants.{Notified, Send}
+use Rattle.trdp_engine.specs.declared.row.Form.TheVariants.{Notified, Asked, Overrun, Replied}
+use Rattle.trdp_engine.specs.declared.row.Form.TheVariants.{Confirmed, Closed, Send}
 use Rattle.trdp_engine.specs.Records.{AnswerModel, HandleIs, DoneIs, ValueIs, RefusedIs, Content}
 use Rattle.trdp_engine.specs.Records.{Answers, Indicates, Sends, RecordModel, MessageModel}
-use Rattle.trdp_engine.specs.Records.{SilentIs, AliveIs, NotifiedIs}
+use Rattle.trdp_engine.specs.Records.{ReplyModel, SilentIs, AliveIs, NotifiedIs, AskedIs}
+use Rattle.trdp_engine.specs.Records.{OverrunIs, RepliedIs, ConfirmedIs, ClosedIs}
 
 -- the records, how many bytes they hold, and how many more records and bytes of theirs find room
 pub record OutboxState : Type 0 where
@@ -34,6 +37,16 @@ headed heading bytes = record {
   payload = bytes;
 }
 
+-- an answer of that heading with these bytes as payload
+abbrev pub replied_under : ReplyHeading → List ℕ → ReplyModel
+replied_under heading bytes = record {
+  src = heading.src;
+  kind = heading.kind;
+  status = heading.status;
+  com_id = heading.com_id;
+  payload = bytes;
+}
+
 -- what a row says with these bytes
 abbrev pub row_content : Form → List ℕ → Content
 row_content (PlainAnswer answer) bytes = Answers (plain_answer_model answer)
@@ -43,6 +56,13 @@ row_content (Silent handle) bytes = Indicates (SilentIs handle)
 row_content (Alive handle) bytes = Indicates (AliveIs handle)
 row_content (Notified handle heading) bytes =
     Indicates (NotifiedIs handle (headed heading bytes))
+row_content (Asked listener replier session heading) bytes =
+    Indicates (AskedIs listener replier session (headed heading bytes))
+row_content (Overrun listener) bytes = Indicates (OverrunIs listener)
+row_content (Replied handle heading) bytes =
+    Indicates (RepliedIs handle (replied_under heading bytes))
+row_content (Confirmed handle status) bytes = Indicates (ConfirmedIs handle status)
+row_content (Closed handle reason) bytes = Indicates (ClosedIs handle reason)
 row_content (Send protocol to) bytes = Sends protocol to bytes
 
 -- the record of a row

@@ -7,8 +7,7 @@ use Rattle.trdp_filter.specs.declared.globals.Globals.{Globals}
 use Rattle.trdp_filter.specs.Counts.{topo_valid}
 use Rattle.trdp_filter.specs.Telegrams.{TelegramModel, PdIs, MdIs}
 use Rattle.trdp_table.specs.declared.any_object.AnyObject.{AnyObject}
-use Rattle.trdp_table.specs.declared.any_object.AnyObject.TheVariants.{Publisher, Subscription}
-use Rattle.trdp_table.specs.declared.any_object.AnyObject.TheVariants.{Requester, Listener}
+use Rattle.trdp_table.specs.declared.any_object.AnyObject.TheVariants.{Publisher, Requester}
 use Rattle.trdp_pd.specs.Requesters.{RequesterState, pulling}
 use Rattle.trdp_engine.specs.Configs.{NodeSetup}
 use Rattle.trdp_engine.specs.declared.fault.Refusal.TheVariants.{WrongKind, State}
@@ -27,10 +26,8 @@ pulls_if true r = record {
 
 -- the act of an object that is to pull
 abbrev pub pulls : Globals → AnyObject → Act
-pulls globals (Publisher p) = refuses (Publisher p) WrongKind
-pulls globals (Subscription s) = refuses (Subscription s) WrongKind
 pulls globals (Requester r) = pulls_if (topo_valid r.terms.topo globals.topo) r
-pulls globals (Listener l) = refuses (Listener l) WrongKind
+pulls globals object = refuses object WrongKind
 
 -- where a pull request is answered: at its reply address, at the node's own process data port, or
 -- where it has no such address at the place that it came from; a message is no pull request
@@ -44,6 +41,4 @@ answer_place setup (MdIs src dst telegram) = src
 -- the answer of a publisher to a pull request carries its value
 abbrev pub pull_answer : AnyObject → Place → PdHead → List Content
 pull_answer (Publisher p) to head = value_sent to head p.value
-pull_answer (Subscription s) to head = []
-pull_answer (Requester r) to head = []
-pull_answer (Listener l) to head = []
+pull_answer object to head = []

@@ -1,15 +1,21 @@
 -- What a node gives its slots: answers, indications and telegrams.
-use Rattle.std.specs.Prelude.{ℕ, List, [], ◌∷◌, Option, Some, None, map, filter, ◌==◌}
+use Rattle.std.specs.Prelude.{ℕ, ℤ, List, [], ◌∷◌, Option, Some, None, map, filter, ◌==◌}
 use Rattle.trdp_base.specs.declared.place.Place.{Place}
+use Rattle.trdp_base.specs.declared.session.SessionId.{SessionId}
+use Rattle.trdp_head.specs.declared.md.MdKind.{MdKind}
 use Rattle.trdp_head.specs.declared.pd.PdHead.{PdHead}
 use Rattle.trdp_head.specs.PdBytes.{pd_bytes}
+use Rattle.trdp_pd.specs.declared.object.Reason.{Reason}
 use Rattle.trdp_pd.specs.Peeks.{PeekModel, peek_model}
 use Rattle.trdp_engine.specs.declared.fault.Refusal.{Refusal}
 use Rattle.trdp_engine.specs.declared.record.Answer.{Answer as AnyAnswer}
 use Rattle.trdp_engine.specs.declared.record.Answer.TheVariants.{Handle, Done, Value, Refused}
 use Rattle.trdp_engine.specs.declared.record.Indication.{Indication as AnyIndication}
 use Rattle.trdp_engine.specs.declared.record.Indication.TheVariants.{Silent, Alive, Notified}
+use Rattle.trdp_engine.specs.declared.record.Indication.TheVariants.{Asked, Overrun, Replied}
+use Rattle.trdp_engine.specs.declared.record.Indication.TheVariants.{Confirmed, Closed}
 use Rattle.trdp_engine.specs.declared.record.Message.{Message}
+use Rattle.trdp_engine.specs.declared.record.Reply.{Reply}
 use Rattle.trdp_engine.specs.declared.record.Protocol.{Protocol}
 use Rattle.trdp_engine.specs.declared.record.Protocol.TheVariants.{Pd}
 use Rattle.trdp_engine.specs.declared.record.What.{What}
@@ -32,12 +38,30 @@ pub record MessageModel : Type 0 where
   pub dest_uri : List ℕ
   pub payload : List ℕ
 
+-- what a caller's slot is told of an answer: where it came from, its message type, its status, its
+-- comId and its payload
+pub record ReplyModel : Type 0 where
+  pub src : Place
+  pub kind : MdKind
+  pub status : ℤ
+  pub com_id : ℕ
+  pub payload : List ℕ
+
 -- what a node tells a slot of its own accord: the subscription of that handle fell silent, or is
--- alive again; the listener of that handle was notified
+-- alive again; the listener of that handle was notified, or was asked in a session that the replier
+-- is to answer, or there was no room for a replier; the caller of that handle took an answer; the
+-- replier of that handle was confirmed with that status; the caller or replier of that handle is
+-- over
 pub data IndicationModel : Type 0 where
   SilentIs : (handle : ℕ) → IndicationModel
   AliveIs : (handle : ℕ) → IndicationModel
   NotifiedIs : (handle : ℕ) (message : MessageModel) → IndicationModel
+  AskedIs :
+      (listener replier : ℕ) (session : SessionId) (message : MessageModel) → IndicationModel
+  OverrunIs : (listener : ℕ) → IndicationModel
+  RepliedIs : (handle : ℕ) (reply : ReplyModel) → IndicationModel
+  ConfirmedIs : (handle : ℕ) (status : ℤ) → IndicationModel
+  ClosedIs : (handle : ℕ) (reason : Reason) → IndicationModel
 
 -- what a record says: an answer, an indication, or a telegram with its protocol, its destination
 -- and every byte
@@ -68,11 +92,27 @@ message_model m = record {
   payload = m.payload.now;
 }
 
+-- an answer to a request, apart from where its bytes lie
+abbrev pub reply_model : Reply → ReplyModel
+reply_model r = record {
+  src = r.src;
+  kind = r.kind;
+  status = r.status;
+  com_id = r.com_id;
+  payload = r.payload.now;
+}
+
 -- an indication, apart from where its bytes lie
 abbrev pub indication_model : AnyIndication → IndicationModel
 indication_model (Silent handle) = SilentIs handle
 indication_model (Alive handle) = AliveIs handle
 indication_model (Notified handle message) = NotifiedIs handle (message_model message)
+indication_model (Asked listener replier session message) =
+    AskedIs listener replier session (message_model message)
+indication_model (Overrun listener) = OverrunIs listener
+indication_model (Replied handle reply) = RepliedIs handle (reply_model reply)
+indication_model (Confirmed handle status) = ConfirmedIs handle status
+indication_model (Closed handle reason) = ClosedIs handle reason
 
 -- what a record says, apart from where its bytes lie
 abbrev pub content_model : What → Content

@@ -1,6 +1,6 @@
 -- How much room of an outbox the records of an event take, and where memory may be wanting.
-use Rattle.std.specs.Prelude.{ℕ, ◌<◌, ◌≤◌, ◌⊎◌, List, length, filter, nat_lt, Option, Some, None}
-use Rattle.std.specs.Prelude.{if◌then◌else◌}
+use Rattle.std.specs.Prelude.{◌≡◌, ℕ, ◌<◌, ◌≤◌, ◌⊎◌, List, length, filter, nat_lt, Option, Some}
+use Rattle.std.specs.Prelude.{None, Bool, true, false, if◌then◌else◌}
 use Rattle.std.specs.List.{flat_map, sum_by}
 use Rattle.trdp_head.specs.MdBytes.{md_length_of}
 use Rattle.trdp_filter.specs.declared.globals.Globals.{Globals}
@@ -10,7 +10,11 @@ use Rattle.trdp_table.specs.declared.kind.Kind.TheVariants.{Publisher, Subscript
 use Rattle.trdp_table.specs.declared.kind.Kind.TheVariants.{Listener, Caller, Replier}
 use Rattle.trdp_table.specs.Kinds.{kind_of}
 use Rattle.trdp_engine.specs.declared.room.Room.{Room}
+use Rattle.trdp_engine.specs.declared.asked.Asked.{Asked}
+use Rattle.trdp_engine.specs.declared.asked.Asked.TheVariants.{Reply, Query, ReplyError, Confirm}
 use Rattle.trdp_engine.specs.Events.{CallModel, PublishCall, SubscribeCall, NotifyCall}
+use Rattle.trdp_engine.specs.Events.{RequestCall, ReplyCall, QueryCall, ReplyErrorCall}
+use Rattle.trdp_engine.specs.Events.{ConfirmCall}
 use Rattle.trdp_engine.specs.Events.{EventModel, MomentIs, TopologyIs, RoleIs, DatagramIs, CallIs}
 use Rattle.trdp_engine.specs.Slots.{Entry, SlotState}
 use Rattle.trdp_engine.specs.Datagrams.{telegram_of, is_valid_at, acting}
@@ -32,14 +36,15 @@ abbrev pub no_room : Room
 no_room = record { rows = 0; bytes = 0 }
 
 -- the most that an object of a kind gives at a moment or a telegram: a publisher one telegram of
--- at most 1472 bytes, a subscription one indication, a listener one with at most 65388 bytes
+-- at most 1472 bytes, a subscription or replier one indication, a listener one with at most 65388
+-- bytes, a caller one like that, and that it is over
 abbrev pub kind_room : Kind → Room
 kind_room Publisher = record { rows = 1; bytes = 1472 }
 kind_room Subscription = record { rows = 1; bytes = 0 }
 kind_room Requester = no_room
 kind_room Listener = record { rows = 1; bytes = 65388 }
-kind_room Caller = no_room
-kind_room Replier = no_room
+kind_room Caller = record { rows = 2; bytes = 65388 }
+kind_room Replier = record { rows = 1; bytes = 0 }
 
 -- room for what all these objects may give
 abbrev pub entries_room : List Entry → Room
@@ -65,21 +70,43 @@ datagram_room globals slots (Some telegram) =
 abbrev pub answer_room : Room
 answer_room = record { rows = 2; bytes = 1432 }
 
--- room for the records of a notification of so many bytes: the answer and its telegram
-abbrev pub notify_room : ℕ → Room
-notify_room n = record { rows = 2; bytes = if nat_lt 65388 n then 0 else md_length_of n }
+-- room for the records of a call that sends a message of so many bytes: the answer and its telegram
+abbrev pub message_room : ℕ → Room
+message_room n = record { rows = 2; bytes = if nat_lt 65388 n then 0 else md_length_of n }
+
+-- room for the records of a confirmation: the answer, its telegram without payload, and that the
+-- caller is over
+abbrev pub confirm_room : Room
+confirm_room = record { rows = 3; bytes = md_length_of 0 }
+
+-- room for the records of what is asked of an object
+abbrev pub asked_room : Asked → Room
+asked_room (Reply com_id status payload) = message_room (length payload.now)
+asked_room (Query com_id status timeout payload) = message_room (length payload.now)
+asked_room (ReplyError com_id status) = message_room 0
+asked_room (Confirm place status) = confirm_room
+asked_room _ = answer_room
 
 -- room for the records of a call
 abbrev pub call_room : CallModel → Room
-call_room (NotifyCall terms payload) = notify_room (length payload)
+call_room (NotifyCall terms payload) = message_room (length payload)
+call_room (RequestCall terms payload) = message_room (length payload)
+call_room (ReplyCall handle com_id status payload) = message_room (length payload)
+call_room (QueryCall handle com_id status timeout payload) = message_room (length payload)
+call_room (ReplyErrorCall handle com_id status) = message_room 0
+call_room (ConfirmCall handle place status) = confirm_room
 call_room _ = answer_room
+
+-- the calls that make a publisher or a subscription, which need memory for its value
+abbrev pub makes_buffer : CallModel → Bool
+makes_buffer (PublishCall terms) = true
+makes_buffer (SubscribeCall terms) = true
+makes_buffer _ = false
 
 -- where memory may be wanting for a call: it makes a publisher or a subscription, or the outbox
 -- lacks room for its records
 abbrev pub CallMayLack : OutboxState → CallModel → Type 0
-CallMayLack out (PublishCall terms) = Unit {0}
-CallMayLack out (SubscribeCall terms) = Unit {0}
-CallMayLack out call = LacksRoom out (call_room call)
+CallMayLack out call = (makes_buffer call ≡ true) ⊎ LacksRoom out (call_room call)
 
 -- where memory may be wanting for an event: at such a call, and else where the outbox lacks room
 -- for the event's records

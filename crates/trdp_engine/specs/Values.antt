@@ -10,8 +10,7 @@ use Rattle.trdp_marshal.specs.Items.{ItemModel}
 use Rattle.trdp_marshal.specs.Spelling.{spelling}
 use Rattle.trdp_marshal.specs.Faults.{encode_fault}
 use Rattle.trdp_table.specs.declared.any_object.AnyObject.{AnyObject}
-use Rattle.trdp_table.specs.declared.any_object.AnyObject.TheVariants.{Publisher, Subscription}
-use Rattle.trdp_table.specs.declared.any_object.AnyObject.TheVariants.{Requester, Listener}
+use Rattle.trdp_table.specs.declared.any_object.AnyObject.TheVariants.{Publisher}
 use Rattle.trdp_engine.specs.declared.fault.Refusal.{Refusal}
 use Rattle.trdp_engine.specs.declared.fault.Refusal.TheVariants.{NoHandle, WrongKind, NoDataset}
 use Rattle.trdp_engine.specs.declared.fault.Refusal.TheVariants.{TooLong, Shape}
@@ -34,9 +33,7 @@ marshal_refusal (Some OutOfMemory) = None
 abbrev pub item_refusal_of : NodeSetup → ItemModel → AnyObject → Option Refusal
 item_refusal_of setup item (Publisher p) =
     marshal_refusal (encode_fault setup.registry p.terms.dataset item)
-item_refusal_of setup item (Subscription s) = Some WrongKind
-item_refusal_of setup item (Requester r) = Some WrongKind
-item_refusal_of setup item (Listener l) = Some WrongKind
+item_refusal_of setup item object = Some WrongKind
 
 -- first refusal of an item for the object of a handle
 abbrev pub item_refusal : NodeSetup → ItemModel → Option Entry → Option Refusal
@@ -46,9 +43,7 @@ item_refusal setup item (Some entry) = item_refusal_of setup item entry.object
 -- the bytes of an item as a value of an object
 abbrev pub bytes_for : NodeSetup → ItemModel → AnyObject → List ℕ
 bytes_for setup item (Publisher p) = unwrap_or (spelling setup.registry p.terms.dataset item) []
-bytes_for setup item (Subscription s) = []
-bytes_for setup item (Requester r) = []
-bytes_for setup item (Listener l) = []
+bytes_for setup item object = []
 
 -- the bytes of an item as a value of the object of a handle
 abbrev pub item_bytes : NodeSetup → ItemModel → Option Entry → List ℕ

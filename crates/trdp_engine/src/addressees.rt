@@ -1,5 +1,5 @@
-//! The objects that act at a telegram: each that it is for, but of the listeners of a slot the first
-//! alone.
+//! The objects that act at a telegram: each that it is for, but of the listeners of a slot the
+//! first alone.
 
 ghost use Rattle.std.specs.Prelude.{◌≡◌, ◌+◌, ◌*◌, ◌<◌, ◌≤◌, ◌++◌, ◌∷◌, [], length, IfSome};
 ghost use Rattle.std.specs.Prelude.{slice_get, filter, ◌&&◌, vec_len, vec_capacity};
@@ -52,7 +52,7 @@ fn may_hear(table: &Table, s: u16, index: usize, telegram: &Telegram<'_>, global
 
 /// The handle of the listener of slot `s` that hears the telegram, the first that it is for; None
 /// where it is for none.
-fn hearing(table: &Table, s: u16, telegram: &Telegram<'_>, globals: &Globals) -> Option<u32>
+pub fn hearing(table: &Table, s: u16, telegram: &Telegram<'_>, globals: &Globals) -> Option<u32>
     requires { s < length table.now }
     ensures { result
         ≡ hearing (telegram_model telegram.now) globals.entry.now (slot_at s table.now).objects }
@@ -90,7 +90,7 @@ fn note_at(
         (λ entry. result ≡ entries_room
         (filter (acts_where listener (telegram_model telegram.now) globals.entry.now)
         (entry ∷ []))) }
-    ensures rows { result.rows ≤ 1 }
+    ensures rows { result.rows ≤ 2 }
     ensures bytes { result.bytes ≤ 65388 }
     ensures capacity { vec_capacity noted.new ≡ vec_capacity noted.old }
     ensures length { vec_len noted.new ≤ vec_len noted.old + 1 }
@@ -126,7 +126,7 @@ fn note_in(
         (acting (telegram_model telegram.now) globals.entry.now (slot_at s table.now).objects) }
     ensures room { result ≡ entries_room
         (acting (telegram_model telegram.now) globals.entry.now (slot_at s table.now).objects) }
-    ensures rows { result.rows ≤ object_limit }
+    ensures rows { result.rows ≤ 2 * object_limit }
     ensures bytes { result.bytes ≤ 65388 * object_limit }
     ensures capacity { vec_capacity noted.new ≡ vec_capacity noted.old }
     ensures length { vec_len noted.new ≤ vec_len noted.old + object_limit }

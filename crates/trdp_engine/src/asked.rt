@@ -3,17 +3,22 @@
 ghost use Rattle.std.specs.Prelude.{◌≡◌, ◌<◌, ◌≤◌, ◌++◌, length};
 ghost use Rattle.trdp_engine.specs.Configs.{setup_of};
 ghost use Rattle.trdp_engine.specs.Records.{labelled};
+ghost use Rattle.trdp_base.specs.Moments.{last_moment};
 ghost use Rattle.trdp_engine.specs.Calls.{ends, at_object};
-ghost use Rattle.trdp_engine.specs.Rooms.{HasRoom, answer_room};
+ghost use Rattle.trdp_engine.specs.Replies.{aborts};
+ghost use Rattle.trdp_engine.specs.Rooms.{HasRoom, answer_room, asked_room};
 ghost use Rattle.trdp_engine.specs.Acting.{slot_at, Becomes};
 ghost use Rattle.trdp_engine.specs.Asked.{asked_act, left_of};
 
+use crate::callers::confirm;
 use crate::fault::Refusal;
 use crate::outbox::Outbox;
 use crate::publishers::put;
+use crate::repliers::{query, reply, reply_error};
 use crate::requesters::pull;
 use crate::row::PlainAnswer;
 use crate::subscriptions::show;
+use trdp_base::Place;
 use trdp_dataset::NodeConfig;
 use trdp_filter::Globals;
 use trdp_table::{AnyObject, Kind, Table};
@@ -29,6 +34,31 @@ pub enum Asked<'a> {
     Pull,
     /// To end, if it is of that kind.
     End(Kind),
+    /// To reply under that comId, with that status.
+    Reply {
+        com_id: u32,
+        status: i32,
+        payload: &'a [u8],
+    },
+    /// To reply under that comId, with that status, and be confirmed within so many microseconds.
+    Query {
+        com_id: u32,
+        status: i32,
+        timeout: u32,
+        payload: &'a [u8],
+    },
+    /// To send an error under that comId, with that status.
+    ReplyError {
+        com_id: u32,
+        status: i32,
+    },
+    /// To confirm the query of that place, with that status.
+    Confirm {
+        place: Place,
+        status: i32,
+    },
+    /// To be given up, if it is a caller or a replier.
+    Abort,
 }
 
 /// What becomes of an object of which something was asked.
@@ -56,22 +86,42 @@ fn end(object: &AnyObject, kind: Kind, s: u16, out: &mut Outbox) -> Left
     }
 }
 
-/// Has the object do what is asked, and records what it gives.
+/// Records whether an object is given up: one that is neither caller nor replier refuses.
+fn abort(object: &AnyObject, s: u16, out: &mut Outbox) -> Left
+    requires { HasRoom out.old answer_room }
+    ensures left { left_of result object.now ≡ (aborts object.now).left }
+    ensures records { out.new.records ≡ out.old.records ++ labelled s (aborts object.now).records }
+{
+    match object {
+        AnyObject::Caller(_) | AnyObject::Replier(_) => {
+            out.push_plain_answer(s, PlainAnswer::Done);
+            Left::Ended
+        }
+        _ => {
+            out.push_plain_answer(s, PlainAnswer::Refused(Refusal::WrongKind));
+            Left::Stays
+        }
+    }
+}
+
+/// Has the object of that handle do what is asked, and records what it gives.
 fn ask(
     object: &mut AnyObject,
+    handle: u32,
     asked: &Asked<'_>,
     config: &NodeConfig,
     globals: &Globals,
     s: u16,
     out: &mut Outbox,
 ) -> Left
-    requires { HasRoom out.old answer_room }
+    requires now { globals.now.now ≤ last_moment }
+    requires room { HasRoom out.old (asked_room asked.now) }
     ensures left { left_of result object.new
-        ≡ (asked_act (setup_of config.now) globals.entry.now asked.now object.old).left }
+        ≡ (asked_act (setup_of config.now) globals.entry.now handle asked.now object.old).left }
     ensures records { out.new.records
         ≡ out.old.records
         ++ labelled s
-        (asked_act (setup_of config.now) globals.entry.now asked.now object.old).records }
+        (asked_act (setup_of config.now) globals.entry.now handle asked.now object.old).records }
 {
     match *asked {
         Asked::Put(bytes) => {
@@ -81,6 +131,24 @@ fn ask(
         Asked::Get => show(object, s, out),
         Asked::Pull => pull(object, globals, s, out),
         Asked::End(kind) => return end(object, kind, s, out),
+        Asked::Reply {
+            com_id,
+            status,
+            payload,
+        } => return reply(object, com_id, status, payload, s, out),
+        Asked::Query {
+            com_id,
+            status,
+            timeout,
+            payload,
+        } => query(object, com_id, status, timeout, payload, globals, s, out),
+        Asked::ReplyError { com_id, status } => {
+            return reply_error(object, com_id, status, s, out);
+        }
+        Asked::Confirm { place, status } => {
+            return confirm(object, handle, place, status, s, out);
+        }
+        Asked::Abort => return abort(object, s, out),
     }
     Left::Stays
 }
@@ -97,10 +165,11 @@ pub fn at_object(
     out: &mut Outbox,
 )
     requires slot { s < length table.old }
-    requires room { HasRoom out.old answer_room }
+    requires now { globals.now.now ≤ last_moment }
+    requires room { HasRoom out.old (asked_room asked.now) }
     ensures { Becomes s
         (at_object (slot_at s table.old) handle
-        (asked_act (setup_of config.now) globals.entry.now asked.now)) table.old table.new
+        (asked_act (setup_of config.now) globals.entry.now handle asked.now)) table.old table.new
         out.old out.new }
 {
     table.sound();
@@ -108,7 +177,7 @@ pub fn at_object(
         None => None,
         Some(key) => match table.get_mut(key) {
             None => None,
-            Some(object) => Some(ask(object, asked, config, globals, s, out)),
+            Some(object) => Some(ask(object, handle, asked, config, globals, s, out)),
         },
     };
     match left {

@@ -1,7 +1,7 @@
 //! What a call does to the slot that makes it.
 
 ghost use Rattle.std.specs.Prelude.{◌≡◌, ◌<◌, ◌≤◌, length, OnOk, OnErr, IfOk, IfErr};
-ghost use Rattle.std.specs.Prelude.{None};
+ghost use Rattle.std.specs.Prelude.{None, true, IfSome, IfNone};
 ghost use Rattle.trdp_base.specs.Moments.{last_moment};
 ghost use Rattle.trdp_marshal.specs.Items.{model_of};
 ghost use Rattle.trdp_engine.specs.Configs.{setup_of};
@@ -9,10 +9,12 @@ ghost use Rattle.trdp_engine.specs.Events.{call_model};
 ghost use Rattle.trdp_engine.specs.Calls.{called};
 ghost use Rattle.trdp_engine.specs.Values.{item_bytes, item_refusal, IsRefusedAs, valued};
 ghost use Rattle.trdp_engine.specs.Slots.{entry_of};
-ghost use Rattle.trdp_engine.specs.Rooms.{CallMayLack};
+ghost use Rattle.trdp_engine.specs.Rooms.{HasRoom, call_room, makes_buffer, CallMayLack};
+ghost use Rattle.trdp_engine.specs.Asked.{concerns_no_object, IsAskedBy};
 ghost use Rattle.trdp_engine.specs.Acting.{slot_at, Becomes};
 
 use crate::asked::{Asked, at_object};
+use crate::callers::request;
 use crate::event::Call;
 use crate::fault::Refusal;
 use crate::listeners::listen;
@@ -31,6 +33,106 @@ use trdp_filter::Globals;
 use trdp_head::PD_PAYLOAD_MAX;
 use trdp_marshal::Item;
 use trdp_table::{Kind, Table};
+
+/// Which object a call concerns, by its handle, and what it asks of it; None where it concerns none
+/// that there is.
+fn asked_of<'a>(call: &Call<'a>) -> Option<(u32, Asked<'a>)>
+    ensures asks { IfSome result (λ of. IsAskedBy (call_model call.now) of.0 of.1) }
+    ensures none { IfNone result (concerns_no_object (call_model call.now) ≡ true) }
+{
+    match *call {
+        Call::Put { handle, bytes } => Some((handle, Asked::Put(bytes))),
+        Call::Get { handle } => Some((handle, Asked::Get)),
+        Call::Pull { handle } => Some((handle, Asked::Pull)),
+        Call::Unpublish { handle } => Some((handle, Asked::End(Kind::Publisher))),
+        Call::Unsubscribe { handle } => Some((handle, Asked::End(Kind::Subscription))),
+        Call::ClosePull { handle } => Some((handle, Asked::End(Kind::Requester))),
+        Call::Unlisten { handle } => Some((handle, Asked::End(Kind::Listener))),
+        Call::Reply {
+            handle,
+            com_id,
+            status,
+            payload,
+        } => Some((
+            handle,
+            Asked::Reply {
+                com_id,
+                status,
+                payload,
+            },
+        )),
+        Call::Query {
+            handle,
+            com_id,
+            status,
+            timeout,
+            payload,
+        } => Some((
+            handle,
+            Asked::Query {
+                com_id,
+                status,
+                timeout,
+                payload,
+            },
+        )),
+        Call::ReplyError {
+            handle,
+            com_id,
+            status,
+        } => Some((handle, Asked::ReplyError { com_id, status })),
+        Call::Confirm {
+            handle,
+            place,
+            status,
+        } => Some((handle, Asked::Confirm { place, status })),
+        Call::Abort { handle } => Some((handle, Asked::Abort)),
+        _ => None,
+    }
+}
+
+/// Serves a call of slot `s` that concerns no object that there is, and records its answer.
+///
+/// # Errors
+/// Want of memory for a new object; nothing has changed.
+fn serve_slot(
+    table: &mut Table,
+    s: u16,
+    alloc: Global,
+    config: &NodeConfig,
+    call: &Call<'_>,
+    globals: &Globals,
+    out: &mut Outbox,
+) -> Result<(), AllocError>
+    requires slot { s < length table.old }
+    requires now { globals.now.now ≤ last_moment }
+    requires none { concerns_no_object (call_model call.now) ≡ true }
+    requires room { HasRoom out.old (call_room (call_model call.now)) }
+    ensures becomes { OnOk result (Becomes s
+        (called (setup_of config.now) (slot_at s table.old) globals.entry.now
+        (call_model call.now)) table.old table.new out.old out.new) }
+    ensures kept { OnErr result (table.new ≡ table.old) }
+    ensures same { OnErr result (out.new ≡ out.old) }
+    ensures makes { OnErr result (makes_buffer (call_model call.now) ≡ true) }
+{
+    let answer = match *call {
+        Call::Publish(terms) => publish(table, s, alloc, config, &terms, globals)?,
+        Call::Subscribe(terms) => subscribe(table, s, alloc, config, &terms, globals)?,
+        Call::OpenPull(terms) => open_pull(table, s, &terms),
+        Call::Listen(filter) => listen(table, s, &filter),
+        Call::Notify { terms, payload } => {
+            notify(&terms, payload, globals, s, out);
+            return Ok(());
+        }
+        Call::Request { terms, payload } => {
+            request(table, s, &terms, payload, globals, out);
+            return Ok(());
+        }
+        _ => return Ok(()),
+    };
+    out.push_plain_answer(s, answer);
+    Ok(())
+}
 
 /// Serves a call of slot `s` and records its answer. A refused call changes nothing.
 ///
@@ -57,41 +159,11 @@ pub fn serve(
 {
     let room = Room::of_call(call);
     out.reserve(room.rows, room.bytes)?;
-    let asked = match *call {
-        Call::Publish(terms) => {
-            let answer = publish(table, s, alloc, config, &terms, globals)?;
-            out.push_plain_answer(s, answer);
-            return Ok(());
-        }
-        Call::Subscribe(terms) => {
-            let answer = subscribe(table, s, alloc, config, &terms, globals)?;
-            out.push_plain_answer(s, answer);
-            return Ok(());
-        }
-        Call::OpenPull(terms) => {
-            let answer = open_pull(table, s, &terms);
-            out.push_plain_answer(s, answer);
-            return Ok(());
-        }
-        Call::Listen(filter) => {
-            let answer = listen(table, s, &filter);
-            out.push_plain_answer(s, answer);
-            return Ok(());
-        }
-        Call::Notify { terms, payload } => {
-            notify(&terms, payload, globals, s, out);
-            return Ok(());
-        }
-        Call::Put { handle, bytes } => (handle, Asked::Put(bytes)),
-        Call::Get { handle } => (handle, Asked::Get),
-        Call::Pull { handle } => (handle, Asked::Pull),
-        Call::Unpublish { handle } => (handle, Asked::End(Kind::Publisher)),
-        Call::Unsubscribe { handle } => (handle, Asked::End(Kind::Subscription)),
-        Call::ClosePull { handle } => (handle, Asked::End(Kind::Requester)),
-        Call::Unlisten { handle } => (handle, Asked::End(Kind::Listener)),
-    };
-    at_object(table, s, asked.0, &asked.1, config, globals, out);
-    Ok(())
+    if let Some((handle, asked)) = asked_of(call) {
+        at_object(table, s, handle, &asked, config, globals, out);
+        return Ok(());
+    }
+    serve_slot(table, s, alloc, config, call, globals, out)
 }
 
 /// The bytes of an item as a value of the object of that handle in slot `s`.
@@ -141,7 +213,8 @@ pub fn put_value(
     globals: &Globals,
     out: &mut Outbox,
 ) -> Result<(), AllocError>
-    requires { s < length table.old }
+    requires slot { s < length table.old }
+    requires now { globals.now.now ≤ last_moment }
     ensures becomes { OnOk result (Becomes s
         (valued (setup_of config.now) (slot_at s table.old) handle (model_of item.now)) table.old
         table.new out.old out.new) }

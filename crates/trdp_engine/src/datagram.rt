@@ -12,8 +12,9 @@ ghost use Rattle.trdp_engine.specs.Configs.{setup_of};
 ghost use Rattle.trdp_engine.specs.Slots.{SlotState, slots_of, entry_of};
 ghost use Rattle.trdp_engine.specs.Records.{labelled};
 ghost use Rattle.trdp_engine.specs.Datagrams.{is_valid_at, fits_object};
-ghost use Rattle.trdp_engine.specs.Datagrams.{is_for_entry, taken_records, taking_act, acting};
-ghost use Rattle.trdp_engine.specs.Datagrams.{received};
+ghost use Rattle.trdp_engine.specs.Datagrams.{is_for_entry, taken_records, left_taking};
+ghost use Rattle.trdp_engine.specs.Datagrams.{taking_act, acting, handed};
+ghost use Rattle.trdp_engine.specs.Asked.{left_of};
 ghost use Rattle.trdp_engine.specs.NodeStates.{HasOutcome, Appends};
 ghost use Rattle.trdp_engine.specs.Rooms.{HasRoom, kind_room, entries_room};
 ghost use Rattle.trdp_engine.specs.Acting.{slot_at, MayAct, TookWithin, ActsAt};
@@ -21,6 +22,8 @@ ghost use Rattle.trdp_engine.specs.Noted.{noted_as, noted_from};
 ghost use Rattle.trdp_engine.specs.Quiet.{IsQuiet};
 
 use crate::addressees::Addressee;
+use crate::asked::Left;
+use crate::callers::push_replied;
 use crate::notices::push_heard;
 use crate::outbox::Outbox;
 use crate::pull::{answer_place, push_answer};
@@ -29,7 +32,7 @@ use crate::row::Form;
 use trdp_dataset::NodeConfig;
 use trdp_filter::{Globals, Telegram, topo_valid};
 use trdp_marshal::fits;
-use trdp_pd::{Object, Taken};
+use trdp_pd::{Object, Reason, Taken};
 use trdp_table::{AnyObject, Table};
 
 /// Whether the telegram's topology counts match the node's.
@@ -55,7 +58,7 @@ fn fits_object(config: &NodeConfig, telegram: &Telegram<'_>, object: &AnyObject)
     }
 }
 
-/// Hands the telegram to an object of that handle, which it is for.
+/// Hands the telegram to an object of that handle, which it is for, and records what it gives.
 fn take_object(
     object: &mut AnyObject,
     handle: u32,
@@ -64,15 +67,18 @@ fn take_object(
     globals: &Globals,
     s: u16,
     out: &mut Outbox,
-)
+) -> Left
     requires now { globals.now.now ≤ last_moment }
     requires limit { IsWithinLimit (telegram_model telegram.now) }
     requires addressed { is_addressed object.old (telegram_model telegram.now) globals.now
         ≡ true }
     requires room { HasRoom out.old (kind_room (kind_of object.old)) }
-    ensures object { object.new
-        ≡ after_taking object.old (telegram_model telegram.now) globals.entry.now
-        (fits_object (setup_of config.now) (telegram_model telegram.now) object.old) }
+    ensures left { left_of result object.new
+        ≡ left_taking
+        (taken object.old (telegram_model telegram.now) globals.entry.now
+        (fits_object (setup_of config.now) (telegram_model telegram.now) object.old))
+        (after_taking object.old (telegram_model telegram.now) globals.entry.now
+        (fits_object (setup_of config.now) (telegram_model telegram.now) object.old)) }
     ensures records { out.new.records
         ≡ out.old.records
         ++ labelled s
@@ -83,17 +89,28 @@ fn take_object(
 {
     let fits = fits_object(config, telegram, object);
     match object.take(telegram, globals, fits) {
-        Taken::Nothing => {}
-        Taken::Stored => {}
+        Taken::Nothing | Taken::Stored => {}
         Taken::Alive => out.push(s, Form::Alive(handle)),
         Taken::Pulled(head) => {
             push_answer(object, answer_place(config, telegram), &head, s, out);
         }
         Taken::Heard => push_heard(telegram, handle, s, out),
+        Taken::Replied => push_replied(telegram, handle, s, out),
+        Taken::RepliedLast => {
+            push_replied(telegram, handle, s, out);
+            out.push(s, Form::Closed(handle, Reason::Done));
+            return Left::Ended;
+        }
+        Taken::Confirmed(status) => {
+            out.push(s, Form::Confirmed(handle, status));
+            return Left::Ended;
+        }
     }
+    Left::Stays
 }
 
-/// Hands the telegram to the object of that handle in slot `s`, which it is for.
+/// Hands the telegram to the object of that handle in slot `s`, which it is for. An object that
+/// ends leaves the table.
 fn take(
     table: &mut Table,
     s: u16,
@@ -114,10 +131,15 @@ fn take(
         table.old table.new out.old out.new }
 {
     table.sound();
-    if let Some(key) = table.find(s, handle) {
-        if let Some(object) = table.get_mut(key) {
-            take_object(object, handle, config, telegram, globals, s, out);
-        }
+    let left = match table.find(s, handle) {
+        None => Left::Stays,
+        Some(key) => match table.get_mut(key) {
+            None => Left::Stays,
+            Some(object) => take_object(object, handle, config, telegram, globals, s, out),
+        },
+    };
+    if let Left::Ended = left {
+        table.remove(s, handle);
     }
 }
 
@@ -142,7 +164,7 @@ pub fn take_all(
     ensures count { length table.new ≡ length table.old }
     ensures parts { (s : ℕ) (slot : SlotState) → slice_get (slots_of table.old) s ≡ Some slot
         → HasOutcome (slots_of table.new) out.old.records out.new.records s
-        (received (setup_of config.now) slot globals.entry.now (telegram_model telegram.now)) }
+        (handed (setup_of config.now) slot globals.entry.now (telegram_model telegram.now)) }
     ensures appends { Appends (slots_of table.old) out.old.records out.new.records }
     ensures quiet { IsQuiet quiet.new.items (slots_of table.new) }
 {

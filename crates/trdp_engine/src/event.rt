@@ -3,7 +3,7 @@
 use crate::record::Protocol;
 use trdp_base::{Place, Topo};
 use trdp_filter::MdFilter;
-use trdp_md::NotifyTerms;
+use trdp_md::{CallerTerms, NotifyTerms};
 use trdp_pd::{PublisherTerms, RequesterTerms, SubscriptionTerms};
 
 /// A call of the application in a slot.
@@ -94,6 +94,83 @@ pub enum Call<'a> {
         terms: NotifyTerms,
         /// What it says, at most 65,388 bytes.
         payload: &'a [u8],
+    },
+    /// Makes a caller, answers its handle, and sends its request.
+    ///
+    /// # Errors
+    /// Refused: the first that applies of `State` where its topology counts don't match the
+    /// node's, `Timeout` (below 1,000 microseconds), `Expected` (above 8), `TooLong` (above 65,388
+    /// bytes), `SessionOpen` where a caller of the slot has the session, `Quota` and `Exhausted`.
+    Request {
+        /// Under which header it is sent, where to, and for what it waits.
+        terms: CallerTerms,
+        /// What it says, at most 65,388 bytes.
+        payload: &'a [u8],
+    },
+    /// Lets the replier of that handle send its reply, after the answer; the replier ends.
+    ///
+    /// # Errors
+    /// Refused: the first that applies of `NoHandle`, `WrongKind`, `State` where it awaits a
+    /// confirmation, `Status` (below 0) and `TooLong` (above 65,388 bytes).
+    Reply {
+        handle: u32,
+        /// The comId that the reply carries.
+        com_id: u32,
+        /// Its status, 0 or more.
+        status: i32,
+        /// What it says, at most 65,388 bytes.
+        payload: &'a [u8],
+    },
+    /// Lets the replier of that handle send a reply that is to be confirmed, after the answer; the
+    /// replier waits for that.
+    ///
+    /// # Errors
+    /// Refused: the first that applies of `NoHandle`, `WrongKind`, `State` where it awaits a
+    /// confirmation already, `Timeout` (below 1,000 microseconds), `Status` (below 0) and
+    /// `TooLong` (above 65,388 bytes).
+    Query {
+        handle: u32,
+        /// The comId that the query carries.
+        com_id: u32,
+        /// Its status, 0 or more.
+        status: i32,
+        /// For how long the confirmation is awaited, in microseconds, 1,000 or more.
+        timeout: u32,
+        /// What it says, at most 65,388 bytes.
+        payload: &'a [u8],
+    },
+    /// Lets the replier of that handle send an error in place of a reply, after the answer; the
+    /// replier ends.
+    ///
+    /// # Errors
+    /// Refused: the first that applies of `NoHandle`, `WrongKind`, `State` where it awaits a
+    /// confirmation, and `Status` (0 or above).
+    ReplyError {
+        handle: u32,
+        /// The comId that the error carries.
+        com_id: u32,
+        /// Its status, below 0.
+        status: i32,
+    },
+    /// Lets the caller of that handle confirm the query of a place, after the answer. A caller
+    /// that has all that it waits for is over.
+    ///
+    /// # Errors
+    /// Refused: the first that applies of `NoHandle`, `WrongKind`, `State` where no query of that
+    /// place awaits a confirmation, and `Status` (below 0).
+    Confirm {
+        handle: u32,
+        /// The address and port that the query came from.
+        place: Place,
+        /// The status of the confirmation, 0 or more.
+        status: i32,
+    },
+    /// Ends the caller or replier of that handle. It sends nothing.
+    ///
+    /// # Errors
+    /// Refused: the first that applies of `NoHandle` and `WrongKind`.
+    Abort {
+        handle: u32,
     },
 }
 

@@ -114,7 +114,7 @@ impl From<LookFault> for Refusal {
 
 impl From<TableFault> for Refusal {
     ghost use Rattle.std.specs.Prelude.{◌≡◌};
-    ghost use Rattle.trdp_engine.specs.Calls.{table_refusal};
+    ghost use Rattle.trdp_engine.specs.Openings.{table_refusal};
 
     ghost from_gives = { λ fault refusal. refusal ≡ table_refusal fault };
 

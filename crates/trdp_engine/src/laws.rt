@@ -1,8 +1,14 @@
 //! What a slot gets depends on what it sees alone.
 
-ghost use Rattle.std.specs.Prelude.{◌≡◌, ℕ, List, None, Some, slice_get, map, take};
+ghost use Rattle.std.specs.Prelude.{◌≡◌, ℕ, List, None, Some, true, slice_get, map, take};
 ghost use Rattle.trdp_filter.specs.declared.globals.Globals.{Globals};
+ghost use Rattle.trdp_filter.specs.Telegrams.{TelegramModel};
+ghost use Rattle.trdp_table.specs.declared.any_object.AnyObject.{AnyObject};
+ghost use Rattle.trdp_table.specs.declared.kind.Kind.TheVariants.{Listener as Listening};
+ghost use Rattle.trdp_table.specs.Kinds.{kind_of};
+ghost use Rattle.trdp_table.specs.Objects.{is_addressed};
 ghost use Rattle.trdp_engine.specs.Configs.{NodeSetup, setup_of};
+ghost use Rattle.trdp_engine.specs.Datagrams.{is_request};
 ghost use Rattle.trdp_engine.specs.Events.{EventModel, event_model};
 ghost use Rattle.trdp_engine.specs.Slots.{SlotState};
 ghost use Rattle.trdp_engine.specs.Alone.{refused_as, plain_effect, slot_after, records_after};
@@ -34,6 +40,15 @@ pub fn view_drops_nothing()
           slot = slot_after setup s slot globals event;
           records = records_after setup s slot globals event;
         } }
+{}
+
+/// A request is for listeners alone, so that what it does to a slot is what its first listener and
+/// the slot make of it.
+#[tactic(auto, using(crate::proofs::Unasked::for_listeners))]
+pub fn requests_are_for_listeners()
+    ensures { (object : AnyObject) (telegram : TelegramModel) (globals : Globals)
+        → is_request telegram ≡ true → is_addressed object telegram globals ≡ true
+        → kind_of object ≡ Listening }
 {}
 
 /// Runs two nodes over two lists of events, and answers how many each took. Of each node it says

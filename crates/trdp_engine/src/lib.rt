@@ -9,6 +9,7 @@
 
 mod addressees;
 mod asked;
+mod callers;
 mod calls;
 mod datagram;
 mod event;
@@ -28,10 +29,13 @@ mod pull;
 mod quiet_slots;
 mod reception;
 mod record;
+mod repliers;
 mod requesters;
+mod requests;
 mod room;
 mod row;
 mod run;
+mod sessions;
 mod shown;
 mod slots;
 mod start;
@@ -40,21 +44,24 @@ mod value;
 
 pub use event::{Call, Event};
 pub use fault::{NodeFault, Refusal};
-pub use laws::{run_both, same_view, view_drops_nothing};
+pub use laws::{requests_are_for_listeners, run_both, same_view, view_drops_nothing};
 pub use node::Node;
 pub use outbox::Outbox;
 pub use peek::PeekFault;
-pub use record::{Answer, Indication, Message, Protocol, Record, What};
+pub use record::{Answer, Indication, Message, Protocol, Record, Reply, What};
 pub use shown::ValueFault;
 
 // What callers pass in and get back, so that a program names this crate alone.
 pub use trdp_base::{
     IP_LENGTH, Ip, MOMENT_MAX, Moment, NUMBER_LENGTH, PLACE_LENGTH, Place, QUOTA_LIMIT, Quotas,
-    TextFault, Topo, Uri, push_hex, push_ip, push_number, push_place, read_hex, read_ip,
+    SessionId, TextFault, Topo, Uri, push_hex, push_ip, push_number, push_place, read_hex, read_ip,
     read_number, read_place, read_uri,
 };
 pub use trdp_dataset::{ConfigFault, Key, NodeConfig, Registry};
 pub use trdp_filter::{MdFilter, PdFilter};
+pub use trdp_head::MdKind;
 pub use trdp_marshal::Item;
-pub use trdp_md::NotifyTerms;
-pub use trdp_pd::{Behaviour, Peek, PublisherTerms, RequesterTerms, SubscriptionTerms, ValueState};
+pub use trdp_md::{CallerTerms, NotifyTerms};
+pub use trdp_pd::{
+    Behaviour, Peek, PublisherTerms, Reason, RequesterTerms, SubscriptionTerms, ValueState,
+};

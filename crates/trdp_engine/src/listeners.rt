@@ -3,7 +3,8 @@
 ghost use Rattle.std.specs.Prelude.{◌≡◌, ◌<◌, length, slice_set};
 ghost use Rattle.trdp_md.specs.Listeners.{listening};
 ghost use Rattle.trdp_engine.specs.Slots.{slots_of};
-ghost use Rattle.trdp_engine.specs.Calls.{listen_refusal, opened_unless, answered};
+ghost use Rattle.trdp_engine.specs.Calls.{listen_refusal};
+ghost use Rattle.trdp_engine.specs.Openings.{opened_unless, answered};
 ghost use Rattle.trdp_engine.specs.Outboxes.{plain_answer_model};
 ghost use Rattle.trdp_engine.specs.Acting.{slot_at};
 

@@ -26,10 +26,8 @@ pub fn as_subscription(object: &AnyObject) -> Result<&Subscription, LookFault>
     ensures fault { IfErr result (λ fault. as_subscription object.now ≡ Err fault) }
 {
     match object {
-        AnyObject::Publisher(_) | AnyObject::Requester(_) | AnyObject::Listener(_) => {
-            Err(LookFault::WrongKind)
-        }
         AnyObject::Subscription(subscription) => Ok(subscription),
+        _ => Err(LookFault::WrongKind),
     }
 }
 

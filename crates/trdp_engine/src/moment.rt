@@ -10,12 +10,14 @@ ghost use Rattle.trdp_table.specs.Objects.{due_of, after_firing, fired};
 ghost use Rattle.trdp_table.specs.TableLaws.{object_limit};
 ghost use Rattle.trdp_engine.specs.Slots.{entry_of};
 ghost use Rattle.trdp_engine.specs.Records.{labelled};
-ghost use Rattle.trdp_engine.specs.Moments.{is_due, sends_data, firing_records, firing_act};
-ghost use Rattle.trdp_engine.specs.Moments.{moved_to};
+ghost use Rattle.trdp_engine.specs.Moments.{is_due, sends_data, firing_records, left_firing};
+ghost use Rattle.trdp_engine.specs.Moments.{firing_act, moved_to};
+ghost use Rattle.trdp_engine.specs.Asked.{left_of};
 ghost use Rattle.trdp_engine.specs.Rooms.{HasRoom, kind_room, entries_room};
 ghost use Rattle.trdp_engine.specs.Acting.{slot_at, MayAct, TookWithin, Becomes, ActsAt};
 ghost use Rattle.trdp_engine.specs.Firing.{due_time, sooner, IsFirst, IsNext};
 
+use crate::asked::Left;
 use crate::objects::{handle_at, object_at};
 use crate::outbox::Outbox;
 use crate::room::Room;
@@ -107,12 +109,20 @@ fn push_data(object: &AnyObject, head: &PdHead, s: u16, out: &mut Outbox)
     }
 }
 
-/// Fires one object that is due, of that handle.
-fn fire_object(object: &mut AnyObject, handle: u32, globals: &Globals, s: u16, out: &mut Outbox)
+/// Fires one object that is due, of that handle, and records what it gives.
+fn fire_object(
+    object: &mut AnyObject,
+    handle: u32,
+    globals: &Globals,
+    s: u16,
+    out: &mut Outbox,
+) -> Left
     requires due { is_due_by globals.now.now (due_of object.old) ≡ true }
     requires now { globals.now.now ≤ last_moment }
     requires room { HasRoom out.old (kind_room (kind_of object.old)) }
-    ensures object { object.new ≡ after_firing object.old globals.entry.now }
+    ensures left { left_of result object.new
+        ≡ left_firing (fired object.old globals.entry.now)
+        (after_firing object.old globals.entry.now) }
     ensures records { out.new.records
         ≡ out.old.records
         ++ labelled s (firing_records handle object.old (fired object.old globals.entry.now)) }
@@ -122,10 +132,15 @@ fn fire_object(object: &mut AnyObject, handle: u32, globals: &Globals, s: u16, o
         Fired::Nothing => {}
         Fired::Data(head) => push_data(object, &head, s, out),
         Fired::Silent => out.push(s, Form::Silent(handle)),
+        Fired::Closed(reason) => {
+            out.push(s, Form::Closed(handle, reason));
+            return Left::Ended;
+        }
     }
+    Left::Stays
 }
 
-/// Fires the object of that handle in slot `s`, which is due.
+/// Fires the object of that handle in slot `s`, which is due. One that ends leaves the table.
 fn fire(table: &mut Table, s: u16, handle: u32, globals: &Globals, out: &mut Outbox)
     requires slot { s < length table.old }
     requires may { MayAct (slot_at s table.old) handle out.old }
@@ -135,10 +150,15 @@ fn fire(table: &mut Table, s: u16, handle: u32, globals: &Globals, out: &mut Out
     ensures { ActsAt s handle (firing_act globals.entry.now) table.old table.new out.old out.new }
 {
     table.sound();
-    if let Some(key) = table.find(s, handle) {
-        if let Some(object) = table.get_mut(key) {
-            fire_object(object, handle, globals, s, out);
-        }
+    let left = match table.find(s, handle) {
+        None => Left::Stays,
+        Some(key) => match table.get_mut(key) {
+            None => Left::Stays,
+            Some(object) => fire_object(object, handle, globals, s, out),
+        },
+    };
+    if let Left::Ended = left {
+        table.remove(s, handle);
     }
 }
 
@@ -165,7 +185,7 @@ fn due_room_at(table: &Table, s: u16, index: usize, t: u64) -> Room
     requires { s < length table.now }
     ensures room { IfSome (slice_get (slot_at s table.now).objects index)
         (λ entry. result ≡ entries_room (filter (is_due t) (entry ∷ []))) }
-    ensures rows { result.rows ≤ 1 }
+    ensures rows { result.rows ≤ 2 }
     ensures bytes { result.bytes ≤ 65388 }
 {
     match object_at(table, s, index) {
@@ -181,7 +201,7 @@ fn due_room_at(table: &Table, s: u16, index: usize, t: u64) -> Room
 pub fn due_room_in(table: &Table, s: u16, t: u64) -> Room
     requires { s < length table.now }
     ensures room { result ≡ entries_room (filter (is_due t) (slot_at s table.now).objects) }
-    ensures rows { result.rows ≤ object_limit }
+    ensures rows { result.rows ≤ 2 * object_limit }
     ensures bytes { result.bytes ≤ 65388 * object_limit }
 {
     table.sound();

@@ -121,7 +121,8 @@ impl Node {
         self.globals.now
     }
 
-    /// Takes the moment `t`, in microseconds: room for all records first, then each due object fires.
+    /// Takes the moment `t`, in microseconds: room for all records first, then each due object
+    /// fires.
     ///
     /// # Errors
     /// The first that applies of `Past`, `TooLate` and `OutOfMemory`.

@@ -6,7 +6,7 @@ ghost use Rattle.trdp_engine.specs.Records.{labelled, message_model};
 ghost use Rattle.trdp_engine.specs.Slots.{SlotState};
 ghost use Rattle.trdp_engine.specs.Calls.{told_unless};
 ghost use Rattle.trdp_engine.specs.Notices.{notify_refusal, notice, heard, message_of};
-ghost use Rattle.trdp_engine.specs.Rooms.{HasRoom, notify_room};
+ghost use Rattle.trdp_engine.specs.Rooms.{HasRoom, message_room};
 
 use crate::fault::Refusal;
 use crate::outbox::Outbox;
@@ -32,7 +32,7 @@ fn notify_refusal(terms: &NotifyTerms, payload: &[u8], globals: &Globals) -> Opt
 
 /// Records the answer of slot `s` to a call Notify, and the notification.
 pub fn notify(terms: &NotifyTerms, payload: &[u8], globals: &Globals, s: u16, out: &mut Outbox)
-    requires { HasRoom out.old (notify_room (length payload.now)) }
+    requires { HasRoom out.old (message_room (length payload.now)) }
     ensures { (slot : SlotState) → out.new.records
         ≡ out.old.records ++ labelled s
         (told_unless (notify_refusal globals.entry.now terms.now payload.now) slot
@@ -47,7 +47,7 @@ pub fn notify(terms: &NotifyTerms, payload: &[u8], globals: &Globals, s: u16, ou
 }
 
 /// A message as a listener's slot is told of it.
-fn message<'a>(src: Place, view: &MdView<'a>) -> Message<'a>
+pub fn message<'a>(src: Place, view: &MdView<'a>) -> Message<'a>
     ensures { message_model result
         ≡ message_of src (record { head = view.now.head; payload = view.now.payload.now }) }
 {

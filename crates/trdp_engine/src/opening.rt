@@ -5,8 +5,9 @@ ghost use Rattle.trdp_table.specs.Kinds.{kind_of};
 ghost use Rattle.trdp_engine.specs.declared.fault.Refusal.{Refusal};
 ghost use Rattle.trdp_engine.specs.Configs.{setup_of, zero_size_of};
 ghost use Rattle.trdp_engine.specs.Slots.{slots_of};
-ghost use Rattle.trdp_engine.specs.Calls.{is_span, opening_refusal, dataset_refusal};
-ghost use Rattle.trdp_engine.specs.Calls.{opened_unless, answered};
+ghost use Rattle.trdp_engine.specs.Calls.{is_span, dataset_refusal};
+ghost use Rattle.trdp_engine.specs.Openings.{opening_refusal};
+ghost use Rattle.trdp_engine.specs.Openings.{opened_unless, answered};
 ghost use Rattle.trdp_engine.specs.Outboxes.{plain_answer_model};
 ghost use Rattle.trdp_engine.specs.Acting.{slot_at};
 

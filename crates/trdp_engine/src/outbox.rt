@@ -1,21 +1,22 @@
 //! What a node gives its slots, in order.
 
 ghost use Rattle.std.specs.Prelude.{◌≡◌, ℕ, ◌+◌, ◌<◌, ◌≤◌, ◌↔◌, ◌++◌, ◌∷◌, length, List, []};
-ghost use Rattle.std.specs.Prelude.{OnOk, OnErr, IsTrue, ◌⊎◌, slice_get, option_map, option_copied, take};
-ghost use Rattle.std.specs.Prelude.{drop, vec_len, vec_capacity};
+ghost use Rattle.std.specs.Prelude.{OnOk, OnErr, IsTrue, ◌⊎◌, slice_get, option_map};
+ghost use Rattle.std.specs.Prelude.{option_copied, take, drop, vec_len, vec_capacity};
 ghost use Rattle.trdp_head.specs.PdBytes.{pd_bytes, pd_length_of};
 ghost use Rattle.trdp_head.specs.MdBytes.{md_bytes, md_length_of};
 ghost use Rattle.trdp_engine.specs.declared.record.Protocol.TheVariants.{Pd, Md};
 ghost use Rattle.trdp_pd.specs.Peeks.{peek_model};
-ghost use Rattle.trdp_engine.specs.Records.{Answers, ValueIs, Indicates, NotifiedIs, Sends};
-ghost use Rattle.trdp_engine.specs.Records.{RecordModel, message_model, record_model};
-ghost use Rattle.trdp_engine.specs.Outboxes.{plain_answer_model, row_content};
+ghost use Rattle.trdp_engine.specs.Records.{Answers, ValueIs, Indicates, NotifiedIs, AskedIs};
+ghost use Rattle.trdp_engine.specs.Records.{RepliedIs, Sends, RecordModel, message_model};
+ghost use Rattle.trdp_engine.specs.Records.{reply_model, record_model};
+ghost use Rattle.trdp_engine.specs.Outboxes.{plain_answer_model, row_content, headed};
 
-use crate::record::{Message, Protocol, Record};
-use crate::row::{Form, Heading, PlainAnswer, Row, push_row, record};
+use crate::record::{Message, Protocol, Record, Reply};
+use crate::row::{Form, Heading, PlainAnswer, ReplyHeading, Row, push_row, record};
 use std::alloc::{AllocError, Global};
 use std::marker::Model;
-use trdp_base::Place;
+use trdp_base::{Place, SessionId};
 use trdp_head::{MdHead, PdHead, push_md, push_pd};
 use trdp_pd::Peek;
 
@@ -175,13 +176,59 @@ impl Outbox {
         ensures byte_room { self.old.byte_room
             ≤ self.new.byte_room + length message.now.payload.now }
     {
-        let heading = Heading {
-            src: message.src,
-            com_id: message.com_id,
-            source_uri: message.source_uri,
-            dest_uri: message.dest_uri,
+        self.push_with(
+            slot,
+            Form::Notified(handle, heading_of(message)),
+            message.payload,
+        );
+    }
+
+    /// Adds that a listener heard a request, which the replier is to answer.
+    pub(crate) fn push_asked(
+        &mut self,
+        slot: u16,
+        listener: u32,
+        replier: u32,
+        session: SessionId,
+        message: &Message<'_>,
+    )
+        requires row { 0 < self.old.row_room }
+        requires bytes { length message.now.payload.now ≤ self.old.byte_room }
+        ensures records { self.new.records
+            ≡ self.old.records
+            ++ record {
+              slot = slot;
+              content = Indicates (AskedIs listener replier session (message_model message.now));
+            } ∷ [] }
+        ensures row_room { self.old.row_room ≤ self.new.row_room + 1 }
+        ensures byte_room { self.old.byte_room
+            ≤ self.new.byte_room + length message.now.payload.now }
+    {
+        let form = Form::Asked(listener, replier, session, heading_of(message));
+        self.push_with(slot, form, message.payload);
+    }
+
+    /// Adds that a caller took an answer.
+    pub(crate) fn push_replied(&mut self, slot: u16, handle: u32, reply: &Reply<'_>)
+        requires row { 0 < self.old.row_room }
+        requires bytes { length reply.now.payload.now ≤ self.old.byte_room }
+        ensures records { self.new.records
+            ≡ self.old.records
+            ++ record {
+              slot = slot;
+              content = Indicates (RepliedIs handle (reply_model reply.now));
+            } ∷ [] }
+        ensures row_room { self.old.row_room ≤ self.new.row_room + 1 }
+        ensures byte_room { self.old.byte_room
+            ≤ self.new.byte_room + length reply.now.payload.now }
+    {
+        let heading = ReplyHeading {
+            src: reply.src,
+            kind: reply.kind,
+            status: reply.status,
+            com_id: reply.com_id,
         };
-        self.push_with(slot, Form::Notified(handle, heading), message.payload);
+        self.push_with(slot, Form::Replied(handle, heading), reply.payload);
     }
 
     /// Adds a process data telegram, which it writes into its own bytes.
@@ -218,6 +265,18 @@ impl Outbox {
         let at = self.bytes.len();
         let len = push_md(head, payload, &mut self.bytes);
         push_row(&mut self.rows, slot, Form::Send(Protocol::Md, to), at, len);
+    }
+}
+
+/// A message but for its payload.
+fn heading_of(message: &Message<'_>) -> Heading
+    ensures { headed result message.now.payload.now ≡ message_model message.now }
+{
+    Heading {
+        src: message.src,
+        com_id: message.com_id,
+        source_uri: message.source_uri,
+        dest_uri: message.dest_uri,
     }
 }
 

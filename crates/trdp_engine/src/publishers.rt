@@ -5,7 +5,8 @@ ghost use Rattle.trdp_base.specs.Moments.{last_moment};
 ghost use Rattle.trdp_engine.specs.Configs.{setup_of};
 ghost use Rattle.trdp_engine.specs.Events.{PublishCall};
 ghost use Rattle.trdp_engine.specs.Slots.{slots_of};
-ghost use Rattle.trdp_engine.specs.Calls.{puts, publish_refusal, answered, called};
+ghost use Rattle.trdp_engine.specs.Calls.{puts, publish_refusal, called};
+ghost use Rattle.trdp_engine.specs.Openings.{answered};
 ghost use Rattle.trdp_engine.specs.Acts.{answers};
 ghost use Rattle.trdp_engine.specs.Outboxes.{plain_answer_model};
 ghost use Rattle.trdp_engine.specs.Acting.{slot_at};
@@ -76,9 +77,6 @@ pub fn put(object: &mut AnyObject, config: &NodeConfig, bytes: &[u8]) -> PlainAn
         ≡ answers object.new (plain_answer_model result) }
 {
     match object {
-        AnyObject::Subscription(_) | AnyObject::Requester(_) | AnyObject::Listener(_) => {
-            PlainAnswer::Refused(Refusal::WrongKind)
-        }
         AnyObject::Publisher(publisher) => {
             if bytes.len() > PD_PAYLOAD_MAX {
                 return PlainAnswer::Refused(Refusal::TooLong);
@@ -89,5 +87,6 @@ pub fn put(object: &mut AnyObject, config: &NodeConfig, bytes: &[u8]) -> PlainAn
             publisher.put(bytes);
             PlainAnswer::Done
         }
+        _ => PlainAnswer::Refused(Refusal::WrongKind),
     }
 }

@@ -1,6 +1,7 @@
 //! What a datagram does to a node, from its bytes on.
 
-ghost use Rattle.std.specs.Prelude.{◌≡◌, ℕ, ◌*◌, ◌≤◌, length, OnOk, OnErr, Some, true, slice_get, vec_capacity};
+ghost use Rattle.std.specs.Prelude.{◌≡◌, ℕ, ◌*◌, ◌≤◌, length, OnOk, OnErr, Some, true};
+ghost use Rattle.std.specs.Prelude.{slice_get, vec_capacity};
 ghost use Rattle.std.specs.List.{list_any};
 ghost use Rattle.trdp_base.specs.Moments.{last_moment};
 ghost use Rattle.trdp_filter.specs.Telegrams.{telegram_model, IsWithinLimit};
@@ -16,6 +17,7 @@ use crate::addressees::{Addressee, note_all};
 use crate::datagram::{is_valid_at, take_all};
 use crate::outbox::Outbox;
 use crate::record::Protocol;
+use crate::requests::{ask_all, is_request};
 use std::alloc::AllocError;
 use trdp_base::Place;
 use trdp_dataset::NodeConfig;
@@ -67,7 +69,11 @@ fn receive(
     }
     let room = note_all(table, telegram, globals, noted);
     out.reserve(room.rows, room.bytes)?;
-    take_all(table, quiet, noted, config, telegram, globals, out);
+    if is_request(telegram) {
+        ask_all(table, quiet, telegram, globals, out);
+    } else {
+        take_all(table, quiet, noted, config, telegram, globals, out);
+    }
     Ok(())
 }
 

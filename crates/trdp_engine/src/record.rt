@@ -1,8 +1,9 @@
 //! What a node gives a slot: answers, indications and telegrams.
 
 use crate::fault::Refusal;
-use trdp_base::{Place, Uri};
-use trdp_pd::Peek;
+use trdp_base::{Place, SessionId, Uri};
+use trdp_head::MdKind;
+use trdp_pd::{Peek, Reason};
 
 /// The two protocols of TRDP, each with a UDP port of its own (IEC 61375-2-3).
 #[derive(Clone, Copy, Debug, PartialEq, Eq)]
@@ -41,6 +42,21 @@ pub struct Message<'a> {
     pub payload: &'a [u8],
 }
 
+/// An answer to a request that came in, as its caller's slot is told of it.
+#[derive(Clone, Copy, Debug)]
+pub struct Reply<'a> {
+    /// The address and port that it came from.
+    pub src: Place,
+    /// Its message type: a reply, a query or an error (IEC 61375-2-3).
+    pub kind: MdKind,
+    /// replyStatus: below 0 an error, 0 good, above 0 of the user's own meaning (IEC 61375-2-3).
+    pub status: i32,
+    /// comId: what message this is (IEC 61375-2-3).
+    pub com_id: u32,
+    /// What it says, at most 65,388 bytes.
+    pub payload: &'a [u8],
+}
+
 /// What a node tells a slot of its own accord.
 #[derive(Clone, Copy, Debug)]
 pub enum Indication<'a> {
@@ -50,6 +66,25 @@ pub enum Indication<'a> {
     Alive(u32),
     /// The listener of this handle heard a notification.
     Notified(u32, Message<'a>),
+    /// A listener heard a request, and a replier was made that is to answer it.
+    Asked {
+        /// The handle of the listener.
+        listener: u32,
+        /// The handle of the replier.
+        replier: u32,
+        /// The session of the request.
+        session: SessionId,
+        /// The request.
+        message: Message<'a>,
+    },
+    /// The listener of this handle heard a request, and the slot takes no further replier.
+    Overrun(u32),
+    /// The caller of this handle took an answer to its request.
+    Replied(u32, Reply<'a>),
+    /// The query of the replier of this handle was confirmed with this status; the replier is over.
+    Confirmed(u32, i32),
+    /// The caller or replier of this handle is over, for this reason.
+    Closed(u32, Reason),
 }
 
 /// What a record says.

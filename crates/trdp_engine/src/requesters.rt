@@ -6,7 +6,7 @@ ghost use Rattle.trdp_engine.specs.Configs.{NodeSetup};
 ghost use Rattle.trdp_engine.specs.Slots.{slots_of};
 ghost use Rattle.trdp_engine.specs.Records.{labelled};
 ghost use Rattle.trdp_engine.specs.Pulls.{pulls};
-ghost use Rattle.trdp_engine.specs.Calls.{opening_refusal, opened_unless, answered};
+ghost use Rattle.trdp_engine.specs.Openings.{opening_refusal, opened_unless, answered};
 ghost use Rattle.trdp_engine.specs.Outboxes.{plain_answer_model};
 ghost use Rattle.trdp_engine.specs.Rooms.{HasRoom, answer_room};
 ghost use Rattle.trdp_engine.specs.Acting.{slot_at};
@@ -40,9 +40,6 @@ pub fn pull(object: &mut AnyObject, globals: &Globals, s: u16, out: &mut Outbox)
         ≡ out.old.records ++ labelled s (pulls globals.entry.now object.old).records }
 {
     match object {
-        AnyObject::Publisher(_) | AnyObject::Subscription(_) | AnyObject::Listener(_) => {
-            out.push_plain_answer(s, PlainAnswer::Refused(Refusal::WrongKind));
-        }
         AnyObject::Requester(requester) => {
             if !topo_valid(requester.topo(), globals.topo) {
                 out.push_plain_answer(s, PlainAnswer::Refused(Refusal::State));
@@ -53,5 +50,6 @@ pub fn pull(object: &mut AnyObject, globals: &Globals, s: u16, out: &mut Outbox)
             out.push_plain_answer(s, PlainAnswer::Done);
             out.push_pd(s, to, &head, b"");
         }
+        _ => out.push_plain_answer(s, PlainAnswer::Refused(Refusal::WrongKind)),
     }
 }

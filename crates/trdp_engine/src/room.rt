@@ -3,7 +3,8 @@
 ghost use Rattle.std.specs.Prelude.{◌≡◌, ◌+◌, ◌<◌, ◌^◌};
 ghost use Rattle.trdp_table.specs.Kinds.{kind_of};
 ghost use Rattle.trdp_engine.specs.Events.{call_model};
-ghost use Rattle.trdp_engine.specs.Rooms.{kind_room, no_room, call_room, notify_room};
+ghost use Rattle.trdp_engine.specs.Rooms.{kind_room, no_room, call_room, message_room};
+ghost use Rattle.trdp_engine.specs.Rooms.{confirm_room};
 
 use crate::event::Call;
 use trdp_head::{MD_PAYLOAD_MAX, PD_PAYLOAD_MAX, PD_TELEGRAM_MAX, md_length};
@@ -48,12 +49,16 @@ impl Room {
                 rows: 1,
                 bytes: PD_TELEGRAM_MAX,
             },
-            Kind::Subscription => Room { rows: 1, bytes: 0 },
+            Kind::Subscription | Kind::Replier => Room { rows: 1, bytes: 0 },
             Kind::Listener => Room {
                 rows: 1,
                 bytes: MD_PAYLOAD_MAX,
             },
-            Kind::Requester | Kind::Caller | Kind::Replier => Room::none(),
+            Kind::Caller => Room {
+                rows: 2,
+                bytes: MD_PAYLOAD_MAX,
+            },
+            Kind::Requester => Room::none(),
         }
     }
 
@@ -62,7 +67,12 @@ impl Room {
         ensures { result ≡ call_room (call_model call.now) }
     {
         match *call {
-            Call::Notify { payload, .. } => Room::of_notification(payload.len()),
+            Call::Notify { payload, .. } => Room::of_message(payload.len()),
+            Call::Request { payload, .. } => Room::of_message(payload.len()),
+            Call::Reply { payload, .. } => Room::of_message(payload.len()),
+            Call::Query { payload, .. } => Room::of_message(payload.len()),
+            Call::ReplyError { .. } => Room::of_message(0),
+            Call::Confirm { .. } => Room::of_confirmation(),
             // A pull has two records, and the longest value is longer than a pull request.
             _ => Room {
                 rows: 2,
@@ -71,9 +81,9 @@ impl Room {
         }
     }
 
-    /// The most that a notification of so many bytes gives.
-    fn of_notification(len: usize) -> Room
-        ensures { result ≡ notify_room len }
+    /// The most that a call which sends a message of so many bytes gives.
+    fn of_message(len: usize) -> Room
+        ensures { result ≡ message_room len }
     {
         let bytes = if len > MD_PAYLOAD_MAX {
             0
@@ -81,5 +91,15 @@ impl Room {
             md_length(len)
         };
         Room { rows: 2, bytes }
+    }
+
+    /// The most that a confirmation gives.
+    fn of_confirmation() -> Room
+        ensures { result ≡ confirm_room }
+    {
+        Room {
+            rows: 3,
+            bytes: md_length(0),
+        }
     }
 }

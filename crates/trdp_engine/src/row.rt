@@ -2,13 +2,15 @@
 
 ghost use Rattle.std.specs.Prelude.{◌≡◌, ◌+◌, ◌<◌, ◌≤◌, ◌++◌, ◌∷◌, [], vec_len, vec_capacity};
 ghost use Rattle.trdp_engine.specs.Records.{answer_model, content_model, message_model};
-ghost use Rattle.trdp_engine.specs.Records.{record_model};
+ghost use Rattle.trdp_engine.specs.Records.{reply_model, record_model};
 ghost use Rattle.trdp_engine.specs.Outboxes.{plain_answer_model, row_content, headed};
+ghost use Rattle.trdp_engine.specs.Outboxes.{replied_under};
 
 use crate::fault::Refusal;
-use crate::record::{Answer, Indication, Message, Protocol, Record, What};
-use trdp_base::{Place, Uri};
-use trdp_pd::{Peek, ValueState};
+use crate::record::{Answer, Indication, Message, Protocol, Record, Reply, What};
+use trdp_base::{Place, SessionId, Uri};
+use trdp_head::MdKind;
+use trdp_pd::{Peek, Reason, ValueState};
 
 /// An answer without bytes.
 #[derive(Clone, Copy)]
@@ -34,6 +36,19 @@ pub struct Heading {
     pub dest_uri: Uri,
 }
 
+/// What a caller's slot is told of an answer, but for its payload.
+#[derive(Clone, Copy)]
+pub struct ReplyHeading {
+    /// The address and port that it came from.
+    pub src: Place,
+    /// Its message type.
+    pub kind: MdKind,
+    /// Its status.
+    pub status: i32,
+    /// Its comId.
+    pub com_id: u32,
+}
+
 /// What a row says, but for its bytes.
 #[derive(Clone, Copy)]
 pub enum Form {
@@ -47,6 +62,17 @@ pub enum Form {
     Alive(u32),
     /// The listener of this handle heard a notification under that heading.
     Notified(u32, Heading),
+    /// The listener of this handle heard a request of that session, under that heading, which the
+    /// replier of the second handle is to answer.
+    Asked(u32, u32, SessionId, Heading),
+    /// The listener of this handle heard a request, and there is no room for its replier.
+    Overrun(u32),
+    /// The caller of this handle took an answer under that heading.
+    Replied(u32, ReplyHeading),
+    /// The replier of this handle was confirmed with this status.
+    Confirmed(u32, i32),
+    /// The caller or replier of this handle is over, for this reason.
+    Closed(u32, Reason),
     /// A telegram of the protocol, to be sent to that place.
     Send(Protocol, Place),
 }
@@ -88,6 +114,19 @@ fn message<'a>(heading: &Heading, bytes: &'a [u8]) -> Message<'a>
     }
 }
 
+/// An answer of that heading with these bytes as payload.
+fn reply<'a>(heading: &ReplyHeading, bytes: &'a [u8]) -> Reply<'a>
+    ensures { reply_model result ≡ replied_under heading.now bytes.now }
+{
+    Reply {
+        src: heading.src,
+        kind: heading.kind,
+        status: heading.status,
+        com_id: heading.com_id,
+        payload: bytes,
+    }
+}
+
 /// What a row says with these bytes.
 fn content<'a>(form: &Form, bytes: &'a [u8]) -> What<'a>
     ensures { content_model result ≡ row_content form.now bytes.now }
@@ -104,6 +143,20 @@ fn content<'a>(form: &Form, bytes: &'a [u8]) -> What<'a>
         Form::Notified(handle, heading) => {
             What::Indication(Indication::Notified(*handle, message(heading, bytes)))
         }
+        Form::Asked(listener, replier, session, heading) => What::Indication(Indication::Asked {
+            listener: *listener,
+            replier: *replier,
+            session: *session,
+            message: message(heading, bytes),
+        }),
+        Form::Overrun(handle) => What::Indication(Indication::Overrun(*handle)),
+        Form::Replied(handle, heading) => {
+            What::Indication(Indication::Replied(*handle, reply(heading, bytes)))
+        }
+        Form::Confirmed(handle, status) => {
+            What::Indication(Indication::Confirmed(*handle, *status))
+        }
+        Form::Closed(handle, reason) => What::Indication(Indication::Closed(*handle, *reason)),
         Form::Send(protocol, to) => What::Send {
             protocol: *protocol,
             to: *to,

@@ -39,9 +39,6 @@ pub fn spell(
         (IsRefusedAs (item_refusal_of (setup_of config.now) (model_of item.now) object.now)) }
 {
     match object {
-        AnyObject::Subscription(_) | AnyObject::Requester(_) | AnyObject::Listener(_) => {
-            Err(SpellFault::Refused(Refusal::WrongKind))
-        }
         AnyObject::Publisher(publisher) => {
             match encode(alloc, config.registry(), publisher.dataset(), item) {
                 Ok(bytes) => Ok(bytes),
@@ -51,5 +48,6 @@ pub fn spell(
                 Err(MarshalFault::OutOfMemory) => Err(SpellFault::NoMemory),
             }
         }
+        _ => Err(SpellFault::Refused(Refusal::WrongKind)),
     }
 }

@@ -1,1 +1,4 @@
 pub mod Hearing
+pub mod Calling
+pub mod Confirming
+pub mod Replying

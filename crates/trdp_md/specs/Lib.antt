@@ -1,3 +1,10 @@
+pub mod Answers
+pub mod Waiting
+pub mod Callers
+pub mod CallerLaws
+pub mod Repliers
+pub mod ReplierLaws
+pub mod Sessions
 pub mod Listeners
 pub mod ListenerLaws
 pub mod Notifications

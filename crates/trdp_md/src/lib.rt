@@ -4,15 +4,28 @@
 //! state, the telegram and the node's globals alone. Nothing here takes memory.
 #![tactic(auto)]
 
+mod answers;
+mod caller;
 mod laws;
 mod listener;
 mod notify;
+mod replier;
 mod terms;
+mod waiting;
 
-pub use laws::{listener_hears_its_own, listener_stays};
+pub use answers::Answer;
+pub use caller::{Caller, request_head};
+pub use laws::{
+    caller_awaits_queries_only, caller_confirms_what_awaits, caller_hears_each_place_once,
+    caller_is_done_with_all, caller_keeps, caller_tells_its_answers, listener_hears_its_own,
+    listener_stays, replier_is_confirmed_by_its_peer, replier_keeps, session_ends_later,
+};
 pub use listener::Listener;
 pub use notify::notification;
-pub use terms::NotifyTerms;
+pub use replier::{Replier, Stage};
+pub use terms::{CallerTerms, NotifyTerms};
 
+#[cfg(test)]
+mod session_tests;
 #[cfg(test)]
 mod tests;

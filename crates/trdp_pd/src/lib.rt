@@ -17,7 +17,7 @@ pub use laws::{
     new_is_later, publisher_keeps, publisher_sends_its_own, subscription_keeps,
     subscription_shows_what_it_took,
 };
-pub use object::{Fired, Object, Taken};
+pub use object::{Fired, Object, Reason, Taken};
 pub use publisher::Publisher;
 pub use requester::Requester;
 pub use subscription::Subscription;

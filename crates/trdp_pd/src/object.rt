@@ -23,6 +23,29 @@ pub enum Taken {
     Pulled(PdHead),
     /// It heard a message.
     Heard,
+    /// It took an answer to its request.
+    Replied,
+    /// It took an answer to its request, and has all that it waits for.
+    RepliedLast,
+    /// It took the confirmation of its reply, with this status, and is over.
+    Confirmed(i32),
+}
+
+/// Why an open request or an open reply is over.
+#[derive(Clone, Copy, Debug, PartialEq, Eq)]
+pub enum Reason {
+    /// Each answer that was wanted came, and none awaits a confirmation.
+    Done,
+    /// No answer came in time.
+    NoReply,
+    /// Fewer answers than expected came in time.
+    NotAllReplies,
+    /// An answer wasn't confirmed in time.
+    NotConfirmed,
+    /// The request wasn't answered in time.
+    ReplyMissed,
+    /// The reply wasn't confirmed in time by its peer.
+    NoConfirm,
 }
 
 /// What an object does as it fires.
@@ -34,6 +57,8 @@ pub enum Fired {
     Data(PdHead),
     /// Its supervision time ran out.
     Silent,
+    /// Its deadline came, and it is over.
+    Closed(Reason),
 }
 
 /// An object of a slot. What it does depends on its own state, the telegram and the globals alone.

@@ -163,7 +163,7 @@ fn hand<O: Object>(object: &mut O, globals: &Globals, ip: Ip, head: PdHead) -> D
         Taken::Stored => Does::Stored,
         Taken::Alive => Does::Alive,
         Taken::Pulled(head) => sends(&head),
-        Taken::Heard => Does::Wrong,
+        Taken::Heard | Taken::Replied | Taken::RepliedLast | Taken::Confirmed(_) => Does::Wrong,
     }
 }
 
@@ -176,6 +176,7 @@ fn act<O: Object>(object: &mut O, globals: &Globals) -> Does
             Fired::Nothing => Does::Quiet,
             Fired::Data(head) => sends(&head),
             Fired::Silent => Does::Silent,
+            Fired::Closed(_) => Does::Wrong,
         },
         _ => Does::Nothing,
     }

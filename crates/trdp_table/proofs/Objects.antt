@@ -5,6 +5,7 @@ use Rattle.trdp_filter.specs.Telegrams.{TelegramModel}
 use Rattle.trdp_table.specs.declared.any_object.AnyObject.{AnyObject}
 use Rattle.trdp_table.specs.declared.any_object.AnyObject.TheVariants.{Publisher, Subscription}
 use Rattle.trdp_table.specs.declared.any_object.AnyObject.TheVariants.{Requester, Listener}
+use Rattle.trdp_table.specs.declared.any_object.AnyObject.TheVariants.{Caller, Replier}
 use Rattle.trdp_table.specs.Kinds.{kind_of}
 use Rattle.trdp_table.specs.Objects.{after_taking, after_firing}
 
@@ -16,6 +17,8 @@ kind-taking (Publisher p) telegram globals fits = refl
 kind-taking (Subscription s) telegram globals fits = refl
 kind-taking (Requester r) telegram globals fits = refl
 kind-taking (Listener l) telegram globals fits = refl
+kind-taking (Caller c) telegram globals fits = refl
+kind-taking (Replier r) telegram globals fits = refl
 
 -- an object that fired
 pub kind-firing :
@@ -25,3 +28,5 @@ kind-firing (Publisher p) globals = refl
 kind-firing (Subscription s) globals = refl
 kind-firing (Requester r) globals = refl
 kind-firing (Listener l) globals = refl
+kind-firing (Caller c) globals = refl
+kind-firing (Replier r) globals = refl

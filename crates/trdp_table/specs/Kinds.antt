@@ -25,3 +25,5 @@ kind_of (object.Publisher p) = Publisher
 kind_of (object.Subscription s) = Subscription
 kind_of (object.Requester r) = Requester
 kind_of (object.Listener l) = Listener
+kind_of (object.Caller c) = Caller
+kind_of (object.Replier r) = Replier

@@ -7,12 +7,15 @@ use Rattle.trdp_pd.specs.declared.object.Taken.TheVariants.{Nothing as NotTaken}
 use Rattle.trdp_table.specs.declared.any_object.AnyObject.{AnyObject}
 use Rattle.trdp_table.specs.declared.any_object.AnyObject.TheVariants.{Publisher, Subscription}
 use Rattle.trdp_table.specs.declared.any_object.AnyObject.TheVariants.{Requester, Listener}
+use Rattle.trdp_table.specs.declared.any_object.AnyObject.TheVariants.{Caller, Replier}
 use Rattle.trdp_pd.specs.Effects.{Taking, taking_as}
 use Rattle.trdp_pd.specs.Due.{is_due_by}
 use Rattle.trdp_pd.specs.Publishers.{PublisherState}
 use Rattle.trdp_pd.specs.Subscriptions.{SubscriptionState}
 use Rattle.trdp_pd.specs.Requesters.{RequesterState}
 use Rattle.trdp_md.specs.declared.listener.Listener.{Listener as ListenerState}
+use Rattle.trdp_md.specs.declared.caller.Caller.{Caller as CallerState}
+use Rattle.trdp_md.specs.declared.replier.Replier.{Replier as ReplierState}
 use Rattle.trdp_table.specs.Objects.{due_of, is_sound, is_addressed, taking, firing}
 use Rattle.trdp_pd.specs.PublisherLaws.{publisher_taking-unaddressed, publisher_due-firing}
 use Rattle.trdp_pd.specs.PublisherLaws.{publisher_due-taking}
@@ -22,6 +25,10 @@ use Rattle.trdp_pd.specs.RequesterLaws.{requester_taking-unaddressed, requester_
 use Rattle.trdp_pd.specs.RequesterLaws.{requester_due-taking}
 use Rattle.trdp_md.specs.ListenerLaws.{listener_taking-unaddressed, listener_due-firing}
 use Rattle.trdp_md.specs.ListenerLaws.{listener_due-taking}
+use Rattle.trdp_md.specs.CallerLaws.{caller_taking-unaddressed, caller_due-firing}
+use Rattle.trdp_md.specs.CallerLaws.{caller_due-taking}
+use Rattle.trdp_md.specs.ReplierLaws.{replier_taking-unaddressed, replier_due-firing}
+use Rattle.trdp_md.specs.ReplierLaws.{replier_due-taking}
 
 -- a telegram that isn't addressed to an object changes nothing
 pub taking-unaddressed :
@@ -44,6 +51,14 @@ taking-unaddressed (Listener l) telegram globals fits not =
     ap
     (λ (t : Taking ListenerState). taking_as Listener t)
     (listener_taking-unaddressed l telegram globals fits not)
+taking-unaddressed (Caller c) telegram globals fits not =
+    ap
+    (λ (t : Taking CallerState). taking_as Caller t)
+    (caller_taking-unaddressed c telegram globals fits not)
+taking-unaddressed (Replier r) telegram globals fits not =
+    ap
+    (λ (t : Taking ReplierState). taking_as Replier t)
+    (replier_taking-unaddressed r telegram globals fits not)
 
 -- an object that fired isn't due by now
 pub due-firing :
@@ -53,6 +68,8 @@ due-firing (Publisher p) globals sound = publisher_due-firing p globals
 due-firing (Subscription s) globals sound = subscription_due-firing s globals
 due-firing (Requester r) globals sound = requester_due-firing r globals
 due-firing (Listener l) globals sound = listener_due-firing l globals
+due-firing (Caller c) globals sound = caller_due-firing c globals
+due-firing (Replier r) globals sound = replier_due-firing r globals
 
 -- a telegram makes no object due
 pub due-taking :
@@ -67,6 +84,10 @@ due-taking (Requester r) telegram globals fits sound not =
     requester_due-taking r telegram globals fits not
 due-taking (Listener l) telegram globals fits sound not =
     listener_due-taking l telegram globals fits not
+due-taking (Caller c) telegram globals fits sound not =
+    caller_due-taking c telegram globals fits not
+due-taking (Replier r) telegram globals fits sound not =
+    replier_due-taking r telegram globals fits not
 
 -- an object stays sound
 pub is_sound-taking :
@@ -76,6 +97,8 @@ is_sound-taking (Publisher p) telegram globals fits sound = refl
 is_sound-taking (Subscription s) telegram globals fits sound = refl
 is_sound-taking (Requester r) telegram globals fits sound = refl
 is_sound-taking (Listener l) telegram globals fits sound = refl
+is_sound-taking (Caller c) telegram globals fits sound = refl
+is_sound-taking (Replier r) telegram globals fits sound = refl
 
 pub is_sound-firing :
     (object : AnyObject) (globals : Globals) → is_sound object ≡ true
@@ -84,3 +107,5 @@ is_sound-firing (Publisher p) globals sound = refl
 is_sound-firing (Subscription s) globals sound = refl
 is_sound-firing (Requester r) globals sound = refl
 is_sound-firing (Listener l) globals sound = refl
+is_sound-firing (Caller c) globals sound = refl
+is_sound-firing (Replier r) globals sound = refl

@@ -7,6 +7,7 @@ use Rattle.trdp_pd.specs.declared.object.Fired.{Fired}
 use Rattle.trdp_table.specs.declared.any_object.AnyObject.{AnyObject}
 use Rattle.trdp_table.specs.declared.any_object.AnyObject.TheVariants.{Publisher, Subscription}
 use Rattle.trdp_table.specs.declared.any_object.AnyObject.TheVariants.{Requester, Listener}
+use Rattle.trdp_table.specs.declared.any_object.AnyObject.TheVariants.{Caller, Replier}
 use Rattle.trdp_pd.specs.Effects.{Taking, Firing, taking_as, firing_as}
 use Rattle.trdp_pd.specs.Publishers.{publisher_due, publisher_addressed, publisher_taking}
 use Rattle.trdp_pd.specs.Publishers.{publisher_firing}
@@ -16,6 +17,9 @@ use Rattle.trdp_pd.specs.Requesters.{requester_due, requester_addressed, request
 use Rattle.trdp_pd.specs.Requesters.{requester_firing}
 use Rattle.trdp_md.specs.Listeners.{listener_due, listener_addressed, listener_taking}
 use Rattle.trdp_md.specs.Listeners.{listener_firing}
+use Rattle.trdp_md.specs.Callers.{caller_due, caller_addressed, caller_taking, caller_firing}
+use Rattle.trdp_md.specs.Repliers.{replier_due, replier_addressed, replier_taking}
+use Rattle.trdp_md.specs.Repliers.{replier_firing}
 
 -- when the object is to act next
 abbrev pub due_of : AnyObject → Option ℕ
@@ -23,13 +27,17 @@ due_of (Publisher p) = publisher_due p
 due_of (Subscription s) = s.deadline
 due_of (Requester r) = requester_due r
 due_of (Listener l) = listener_due l
+due_of (Caller c) = caller_due c
+due_of (Replier r) = replier_due r
 
--- the dataset that the object's value is one of; requesters and listeners have no value
+-- the dataset that the object's value is one of; publishers and subscriptions alone have one
 abbrev pub dataset_of : AnyObject → Option ℕ
 dataset_of (Publisher p) = Some p.terms.dataset
 dataset_of (Subscription s) = Some s.terms.dataset
 dataset_of (Requester r) = None
 dataset_of (Listener l) = None
+dataset_of (Caller c) = None
+dataset_of (Replier r) = None
 
 -- what the laws of objects ask of one: of these kinds nothing
 abbrev pub is_sound : AnyObject → Bool
@@ -37,6 +45,8 @@ is_sound (Publisher p) = true
 is_sound (Subscription s) = true
 is_sound (Requester r) = true
 is_sound (Listener l) = true
+is_sound (Caller c) = true
+is_sound (Replier r) = true
 
 -- the telegram is for the object
 abbrev pub is_addressed : AnyObject → TelegramModel → Globals → Bool
@@ -44,6 +54,8 @@ is_addressed (Publisher p) telegram globals = publisher_addressed p telegram glo
 is_addressed (Subscription s) telegram globals = subscription_addressed s telegram globals
 is_addressed (Requester r) telegram globals = requester_addressed r telegram globals
 is_addressed (Listener l) telegram globals = listener_addressed l telegram globals
+is_addressed (Caller c) telegram globals = caller_addressed c telegram globals
+is_addressed (Replier r) telegram globals = replier_addressed r telegram globals
 
 -- the object once it was handed a telegram, and what it did with it
 abbrev pub taking : AnyObject → TelegramModel → Globals → Bool → Taking AnyObject
@@ -55,6 +67,10 @@ taking (Requester r) telegram globals fits =
     taking_as Requester (requester_taking r telegram globals fits)
 taking (Listener l) telegram globals fits =
     taking_as Listener (listener_taking l telegram globals fits)
+taking (Caller c) telegram globals fits =
+    taking_as Caller (caller_taking c telegram globals fits)
+taking (Replier r) telegram globals fits =
+    taking_as Replier (replier_taking r telegram globals fits)
 
 -- the object after it was handed a telegram
 abbrev pub after_taking : AnyObject → TelegramModel → Globals → Bool → AnyObject
@@ -70,6 +86,8 @@ firing (Publisher p) globals = firing_as Publisher (publisher_firing p globals)
 firing (Subscription s) globals = firing_as Subscription (subscription_firing s globals)
 firing (Requester r) globals = firing_as Requester (requester_firing r globals)
 firing (Listener l) globals = firing_as Listener (listener_firing l globals)
+firing (Caller c) globals = firing_as Caller (caller_firing c globals)
+firing (Replier r) globals = firing_as Replier (replier_firing r globals)
 
 -- the object after it fired
 abbrev pub after_firing : AnyObject → Globals → AnyObject

@@ -1,7 +1,7 @@
 //! The objects of a slot, of any kind.
 
 use trdp_filter::{Globals, Telegram};
-use trdp_md::Listener;
+use trdp_md::{Caller, Listener, Replier};
 use trdp_pd::{Fired, Object, Publisher, Requester, Subscription, Taken};
 
 /// An object of any kind.
@@ -15,6 +15,10 @@ pub enum AnyObject {
     Requester(Requester),
     /// It hears notifications and requests.
     Listener(Listener),
+    /// It sent a request and waits for its answers.
+    Caller(Caller),
+    /// It was sent a request and owes an answer.
+    Replier(Replier),
 }
 
 impl Object for AnyObject {
@@ -51,6 +55,8 @@ impl Object for AnyObject {
             AnyObject::Subscription(subscription) => subscription.due(),
             AnyObject::Requester(requester) => requester.due(),
             AnyObject::Listener(listener) => listener.due(),
+            AnyObject::Caller(caller) => caller.due(),
+            AnyObject::Replier(replier) => replier.due(),
         }
     }
 
@@ -60,6 +66,8 @@ impl Object for AnyObject {
             AnyObject::Subscription(subscription) => Object::dataset(subscription),
             AnyObject::Requester(requester) => requester.dataset(),
             AnyObject::Listener(listener) => listener.dataset(),
+            AnyObject::Caller(caller) => caller.dataset(),
+            AnyObject::Replier(replier) => replier.dataset(),
         }
     }
 
@@ -69,6 +77,8 @@ impl Object for AnyObject {
             AnyObject::Subscription(subscription) => subscription.addressed(telegram, globals),
             AnyObject::Requester(requester) => requester.addressed(telegram, globals),
             AnyObject::Listener(listener) => listener.addressed(telegram, globals),
+            AnyObject::Caller(caller) => caller.addressed(telegram, globals),
+            AnyObject::Replier(replier) => replier.addressed(telegram, globals),
         }
     }
 
@@ -78,6 +88,8 @@ impl Object for AnyObject {
             AnyObject::Subscription(subscription) => subscription.take(telegram, globals, fits),
             AnyObject::Requester(requester) => requester.take(telegram, globals, fits),
             AnyObject::Listener(listener) => listener.take(telegram, globals, fits),
+            AnyObject::Caller(caller) => caller.take(telegram, globals, fits),
+            AnyObject::Replier(replier) => replier.take(telegram, globals, fits),
         }
     }
 
@@ -87,6 +99,8 @@ impl Object for AnyObject {
             AnyObject::Subscription(subscription) => subscription.fire(globals),
             AnyObject::Requester(requester) => requester.fire(globals),
             AnyObject::Listener(listener) => listener.fire(globals),
+            AnyObject::Caller(caller) => caller.fire(globals),
+            AnyObject::Replier(replier) => replier.fire(globals),
         }
     }
 }

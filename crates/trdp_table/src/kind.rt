@@ -13,13 +13,13 @@ pub enum Kind {
     Publisher,
     /// It keeps the latest process data of one comId.
     Subscription,
-    /// It asks for process data by pull requests.
+    /// It asks for process data.
     Requester,
-    /// It waits for messages of one comId or of any.
+    /// It hears notifications and requests.
     Listener,
-    /// It sent a message and awaits the replies.
+    /// It sent a request and waits for its answers.
     Caller,
-    /// It was sent a message and owes a reply.
+    /// It was sent a request and owes an answer.
     Replier,
 }
 
@@ -33,6 +33,8 @@ impl Kind {
             AnyObject::Subscription(_) => Kind::Subscription,
             AnyObject::Requester(_) => Kind::Requester,
             AnyObject::Listener(_) => Kind::Listener,
+            AnyObject::Caller(_) => Kind::Caller,
+            AnyObject::Replier(_) => Kind::Replier,
         }
     }
 

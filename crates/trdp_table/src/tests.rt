@@ -57,7 +57,8 @@ fn terms(com_id: u32) -> PublisherTerms {
 fn is_of(object: &AnyObject, com_id: u32) -> bool {
     match object {
         AnyObject::Publisher(publisher) => publisher.com_id() == com_id,
-        AnyObject::Subscription(_) | AnyObject::Requester(_) | AnyObject::Listener(_) => false,
+        AnyObject::Subscription(_) | AnyObject::Requester(_) => false,
+        AnyObject::Listener(_) | AnyObject::Caller(_) | AnyObject::Replier(_) => false,
     }
 }
 

@@ -10,7 +10,7 @@ use Rattle.trdp_engine.proofs.addressees.note_all.Given as goal
 abbrev pub invariant-loop-s : goal.invariant-loop-s
 invariant-loop-s l = record {
   notes : NotesAll (telegram_model l.telegram) l.globals (slots_of l.table) l.noted.items l.room l.s;
-  rows : l.room.rows ≤ object_limit * l.s;
+  rows : l.room.rows ≤ 2 * object_limit * l.s;
   bytes : l.room.bytes ≤ 65388 * object_limit * l.s;
   capacity : vec_capacity l.noted ≡ vec_capacity l.fn.noted;
   length : vec_len l.noted ≤ object_limit * l.s;

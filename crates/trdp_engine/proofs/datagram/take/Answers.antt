@@ -1,14 +1,17 @@
-use Rattle.std.proofs.Common.{◌++◌, ◌∙◌, ap, List}
+use Rattle.std.proofs.Common.{◌≡◌, ◌++◌, ◌∙◌, ap, List, Some, None}
+use Rattle.trdp_engine.specs.declared.asked.Left.TheVariants.{Stays, Ended}
 use Rattle.trdp_filter.specs.Telegrams.{telegram_model}
 use Rattle.trdp_engine.specs.Configs.{setup_of}
 use Rattle.trdp_engine.specs.Records.{Content, labelled}
 use Rattle.trdp_engine.specs.Slots.{entry_of_keyed}
 use Rattle.trdp_engine.specs.Acting.{slot_at}
 use Rattle.trdp_engine.specs.Datagrams.{taking_act}
-use Rattle.trdp_engine.proofs.Tables.{reached, reached_entry, none_found}
-use Rattle.trdp_engine.proofs.Turns.{reached_is, reached_handle, acts_reached, nobody_acts}
-use Rattle.trdp_engine.proofs.Receiving.{stays_taking, gives_taking}
+use Rattle.trdp_engine.proofs.Tables.{reached, reached_entry, none_found, none_reached}
+use Rattle.trdp_engine.proofs.Turns.{reached_is, reached_handle, acts_reached, acts_removed, nobody_acts}
+use Rattle.trdp_engine.proofs.Receiving.{left_by_taking, gives_taking}
+use Rattle.trdp_engine.proofs.Asking.{stayed}
 use Rattle.trdp_engine.proofs.datagram.take.Goals as goal
+use Rattle.trdp_engine.proofs.datagram.take.Goals.{in-None, in-Some+in-None-get_mut, in-Some+in-Some-get_mut}
 
 pub take_object-requires-clause-addressed : goal.take_object-requires-clause-addressed
 take_object-requires-clause-addressed c =
@@ -21,19 +24,42 @@ take_object-requires-clause-room c =
     let r = reached c.args.table.now c.args.s c.args.handle c.in-Some.key c.in-Some-get_mut.object.now c.sound.ensures.found c.in-Some.ensures c.in-Some-get_mut.ensures.value in
     rw (← reached_is c.args.table.now c.args.s c.args.handle c.in-Some.key c.in-Some-get_mut.object.now c.args.out.now r c.requires.may) c.requires.may.room
 
-pub returns-in-Some-get_mut : goal.returns-in-Some-get_mut
-returns-in-Some-get_mut c =
-    let r = reached c.args.table.now c.args.s c.args.handle c.in-Some.key c.in-Some-get_mut.object.now c.sound.ensures.found c.in-Some.ensures c.in-Some-get_mut.ensures.value in
-    acts_reached c.args.table.now c.args.s c.args.handle c.in-Some.key c.in-Some-get_mut.object.now c.take_object.new.object (taking_act (setup_of c.args.config.now) (telegram_model c.args.telegram.now) c.args.globals.now) c.args.out.now c.take_object.new.out c.sound.ensures.exchanged r
-    (stays_taking (setup_of c.args.config.now) (telegram_model c.args.telegram.now) c.args.globals.now (entry_of_keyed r.keyed) c.in-Some-get_mut.object.now c.take_object.new.object r.object_is c.take_object.ensures.object)
-    (c.take_object.ensures.records
-    ∙ ap (λ (cs : List Content). c.args.out.now.records ++ labelled c.args.s cs)
-    (gives_taking (setup_of c.args.config.now) (telegram_model c.args.telegram.now) c.args.globals.now (entry_of_keyed r.keyed) c.args.handle c.in-Some-get_mut.object.now
-    (reached_handle c.args.table.now c.args.s c.args.handle c.in-Some.key c.in-Some-get_mut.object.now r)
-    r.object_is))
-    c.take_object.ensures.within
+pub returns-in-Ended : goal.returns-in-Ended
+returns-in-Ended c = elim c.match-find.branch [
+  | in-None w ↦ absurd (cc)
+  | in-Some+in-None-get_mut w ↦ absurd (cc)
+  | in-Some+in-Some-get_mut w ↦
+      let ended : w.take_object.result ≡ Ended = cc in
+      let r = reached c.args.table.now c.args.s c.args.handle w.in-Some.key w.in-Some-get_mut.object.now c.sound.ensures.found w.in-Some.ensures w.in-Some-get_mut.ensures.value in
+      rw (c.remove.ensures.table, w.table-is, w.out-is)
+      (acts_removed c.args.table.now c.args.s c.args.handle w.in-Some.key w.in-Some-get_mut.object.now w.take_object.new.object (taking_act (setup_of c.args.config.now) (telegram_model c.args.telegram.now) c.args.globals.now) c.args.out.now w.take_object.new.out c.requires.slot c.sound.ensures.exchanged r
+      (left_by_taking (setup_of c.args.config.now) (telegram_model c.args.telegram.now) c.args.globals.now (entry_of_keyed r.keyed) w.in-Some-get_mut.object.now (None) r.object_is (rw ended at w.take_object.ensures.left))
+      (w.take_object.ensures.records
+      ∙ ap (λ (cs : List Content). c.args.out.now.records ++ labelled c.args.s cs)
+      (gives_taking (setup_of c.args.config.now) (telegram_model c.args.telegram.now) c.args.globals.now (entry_of_keyed r.keyed) c.args.handle w.in-Some-get_mut.object.now
+      (reached_handle c.args.table.now c.args.s c.args.handle w.in-Some.key w.in-Some-get_mut.object.now r)
+      r.object_is))
+      w.take_object.ensures.within)
+]
 
 pub returns-in_default : goal.returns-in_default
-returns-in_default c =
-    nobody_acts _ (slot_at c.args.s c.args.table.now) c.args.handle c.args.out.now c.requires.may
-    (none_found c.args.table.now c.args.s c.args.handle c.in_default.ensures)
+returns-in_default c = elim c.match-find.branch [
+  | in-None w ↦
+      nobody_acts _ (slot_at c.args.s c.args.table.now) c.args.handle c.args.out.now c.requires.may
+      (none_found c.args.table.now c.args.s c.args.handle w.in-None.ensures)
+  | in-Some+in-None-get_mut w ↦
+      nobody_acts _ (slot_at c.args.s c.args.table.now) c.args.handle c.args.out.now c.requires.may
+      (none_reached c.args.table.now c.args.s c.args.handle w.in-Some.key c.sound.ensures.found w.in-Some.ensures w.in-None-get_mut.ensures.value)
+  | in-Some+in-Some-get_mut w ↦
+      let stays : w.take_object.result ≡ Stays = stayed w.take_object.result (λ is. c.in_default.not-Ended (cc)) in
+      let r = reached c.args.table.now c.args.s c.args.handle w.in-Some.key w.in-Some-get_mut.object.now c.sound.ensures.found w.in-Some.ensures w.in-Some-get_mut.ensures.value in
+      rw (w.table-is, w.out-is)
+      (acts_reached c.args.table.now c.args.s c.args.handle w.in-Some.key w.in-Some-get_mut.object.now w.take_object.new.object (taking_act (setup_of c.args.config.now) (telegram_model c.args.telegram.now) c.args.globals.now) c.args.out.now w.take_object.new.out c.sound.ensures.exchanged r
+      (left_by_taking (setup_of c.args.config.now) (telegram_model c.args.telegram.now) c.args.globals.now (entry_of_keyed r.keyed) w.in-Some-get_mut.object.now (Some w.take_object.new.object) r.object_is (rw stays at w.take_object.ensures.left))
+      (w.take_object.ensures.records
+      ∙ ap (λ (cs : List Content). c.args.out.now.records ++ labelled c.args.s cs)
+      (gives_taking (setup_of c.args.config.now) (telegram_model c.args.telegram.now) c.args.globals.now (entry_of_keyed r.keyed) c.args.handle w.in-Some-get_mut.object.now
+      (reached_handle c.args.table.now c.args.s c.args.handle w.in-Some.key w.in-Some-get_mut.object.now r)
+      r.object_is))
+      w.take_object.ensures.within)
+]

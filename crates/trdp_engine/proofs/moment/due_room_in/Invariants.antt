@@ -8,6 +8,6 @@ use Rattle.trdp_engine.proofs.moment.due_room_in.Given as goal
 abbrev pub invariant-loop-index : goal.invariant-loop-index
 invariant-loop-index l = record {
   room : l.room ≡ entries_room (filter (is_due l.t) (take l.index (slot_at l.s l.table).objects));
-  rows : l.room.rows ≤ l.index;
+  rows : l.room.rows ≤ 2 * l.index;
   bytes : l.room.bytes ≤ 65388 * l.index;
 }

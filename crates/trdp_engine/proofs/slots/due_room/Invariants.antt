@@ -8,6 +8,6 @@ use Rattle.trdp_engine.proofs.slots.due_room.Given as goal
 abbrev pub invariant-loop-s : goal.invariant-loop-s
 invariant-loop-s l = record {
   room : l.room ≡ moment_room l.t (take l.s (slots_of l.table));
-  rows : l.room.rows ≤ object_limit * l.s;
+  rows : l.room.rows ≤ 2 * object_limit * l.s;
   bytes : l.room.bytes ≤ 65388 * object_limit * l.s;
 }

@@ -4,14 +4,14 @@ use Rattle.trdp_engine.specs.Slots.{slots_of}
 use Rattle.trdp_engine.specs.Moments.{moved_to}
 use Rattle.trdp_engine.proofs.Tables.{slots_length}
 use Rattle.trdp_engine.proofs.Sweeps.{all_moved}
-use Rattle.trdp_engine.proofs.Moving.{slot_room, slot_moves, slot_passes}
+use Rattle.trdp_engine.proofs.Moving.{due_of_slot, slot_room, slot_moves, slot_passes}
 use Rattle.trdp_engine.proofs.Quiet.{noted, none_yet}
 use Rattle.trdp_engine.proofs.slots.move_slots.Goals as goal
 use Rattle.trdp_engine.proofs.slots.move_slots.Goals.{then-index-globals, else-index-globals}
 
 pub fire_all-requires-clause-room : goal.fire_all-requires-clause-room
 fire_all-requires-clause-room c =
-    slot_room c.args.globals.now c.loop-s.s c.args.table.now c.loop-s.table c.args.out.now.records c.loop-s.out (omega (arith, c.slots-s-end.ensures.count)) c.loop-s.invariant.moved c.loop-s.invariant.room
+    slot_room (λ slot. moved_to slot c.args.globals.now) (due_of_slot c.args.globals.now) c.loop-s.s c.args.table.now c.loop-s.table c.args.out.now.records c.loop-s.out (omega (arith, c.slots-s-end.ensures.count)) c.loop-s.invariant.moved c.loop-s.invariant.room
 
 pub loop-s-preserved : goal.loop-s-preserved
 loop-s-preserved c =
@@ -20,7 +20,7 @@ loop-s-preserved c =
     let within : c.loop-s.s < length c.loop-s.quiet.items = omega (arith, now, c.loop-s.invariant.quiet.count, slots_length c.loop-s.table) in
     elim c.if-index-globals.branch [
       | then-index-globals w ↦
-          let m = slot_moves c.args.globals.now c.loop-s.s c.args.table.now c.loop-s.table w.fire_all.new.table c.args.out.now.records c.loop-s.out w.fire_all.new.out lt c.loop-s.invariant.moved c.loop-s.invariant.room w.fire_all.ensures.becomes w.fire_all.ensures.within in
+          let m = slot_moves (λ slot. moved_to slot c.args.globals.now) (due_of_slot c.args.globals.now) c.loop-s.s c.args.table.now c.loop-s.table w.fire_all.new.table c.args.out.now.records c.loop-s.out w.fire_all.new.out lt c.loop-s.invariant.moved c.loop-s.invariant.room w.fire_all.ensures.becomes w.fire_all.ensures.within in
           rw (w.table-is, w.out-is, w.quiet-is) (record {
             moved = m.moved;
             room = m.room;

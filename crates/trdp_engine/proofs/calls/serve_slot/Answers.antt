@@ -2,10 +2,10 @@ use Rattle.trdp_engine.specs.Acting.{slot_at}
 use Rattle.trdp_engine.specs.Notices.{notify_refusal, notice}
 use Rattle.std.proofs.Common.{◌∷◌, []}
 use Rattle.trdp_engine.proofs.Asking.{told_becomes}
-use Rattle.trdp_engine.proofs.calls.serve.Goals as goal
+use Rattle.trdp_engine.proofs.calls.serve_slot.Goals as goal
 
 pub returns-in-Notify-clause-becomes : goal.returns-in-Notify-clause-becomes
 returns-in-Notify-clause-becomes c =
     rw c.in-Notify.is
     (told_becomes c.args.table.now c.args.s (notify_refusal c.args.globals.now c.in-Notify.terms c.in-Notify.payload.now) (notice c.in-Notify.terms c.in-Notify.payload.now ∷ []) c.args.out.now c.notify.new.out c.requires.slot
-    (rw c.in_ok-reserve.ensures.records at c.notify.ensures (slot_at c.args.s c.args.table.now)))
+    (c.notify.ensures (slot_at c.args.s c.args.table.now)))

@@ -1,0 +1,192 @@
+//! Those that ask: how a request is sent, what is told of its answers, and how one is confirmed.
+
+ghost use Rattle.std.specs.Prelude.{◌≡◌, ◌+◌, ◌<◌, ◌≤◌, ◌++◌, ◌∷◌, [], length};
+ghost use Rattle.trdp_base.specs.Moments.{last_moment};
+ghost use Rattle.trdp_filter.specs.Telegrams.{telegram_model, IsWithinLimit};
+ghost use Rattle.trdp_md.specs.Callers.{called as new_caller};
+ghost use Rattle.trdp_table.specs.declared.any_object.AnyObject.TheVariants.{Caller as Asking};
+ghost use Rattle.trdp_engine.specs.Records.{labelled, reply_model};
+ghost use Rattle.trdp_engine.specs.Openings.{opened_with};
+ghost use Rattle.trdp_engine.specs.Requests.{request_refusal, request_sent};
+ghost use Rattle.trdp_engine.specs.Replies.{confirm_refusal, confirms_unless, confirms};
+ghost use Rattle.trdp_engine.specs.Replies.{reply_of, replied};
+ghost use Rattle.trdp_engine.specs.Rooms.{HasRoom, message_room, confirm_room};
+ghost use Rattle.trdp_engine.specs.Acting.{slot_at, Becomes};
+ghost use Rattle.trdp_engine.specs.Asked.{left_of};
+
+use crate::asked::Left;
+use crate::fault::Refusal;
+use crate::opening::{open, opening_refusal};
+use crate::outbox::Outbox;
+use crate::record::Reply;
+use crate::row::{Form, PlainAnswer};
+use crate::sessions::has_session;
+use trdp_base::Place;
+use trdp_filter::{Globals, Telegram, topo_valid};
+use trdp_head::{MD_PAYLOAD_MAX, MdView};
+use trdp_md::{Caller, CallerTerms, request_head};
+use trdp_table::{AnyObject, Kind, Table};
+
+/// The shortest timeout of a request or query, in microseconds (profile).
+pub const TIMEOUT_MIN: u32 = 1_000;
+
+/// The most places that a request may expect answers from (profile).
+const EXPECTED_MAX: u8 = 8;
+
+/// Why slot `s` doesn't send a request.
+fn request_refusal(
+    table: &Table,
+    s: u16,
+    terms: &CallerTerms,
+    payload: &[u8],
+    globals: &Globals,
+) -> Option<Refusal>
+    requires { s < length table.now }
+    ensures { result
+        ≡ request_refusal (slot_at s table.now) globals.entry.now terms.now payload.now }
+{
+    if !topo_valid(terms.topo, globals.topo) {
+        return Some(Refusal::State);
+    }
+    if terms.timeout < TIMEOUT_MIN {
+        return Some(Refusal::Timeout);
+    }
+    if terms.expected > EXPECTED_MAX {
+        return Some(Refusal::Expected);
+    }
+    if payload.len() > MD_PAYLOAD_MAX {
+        return Some(Refusal::TooLong);
+    }
+    if has_session(table, s, Kind::Caller, terms.session) {
+        return Some(Refusal::SessionOpen);
+    }
+    opening_refusal(table, s, Kind::Caller)
+}
+
+/// Makes a caller in slot `s`, and records the answer and its request. It needs no memory.
+pub fn request(
+    table: &mut Table,
+    s: u16,
+    terms: &CallerTerms,
+    payload: &[u8],
+    globals: &Globals,
+    out: &mut Outbox,
+)
+    requires slot { s < length table.old }
+    requires now { globals.now.now ≤ last_moment }
+    requires room { HasRoom out.old (message_room (length payload.now)) }
+    ensures { Becomes s
+        (opened_with
+        (request_refusal (slot_at s table.old) globals.entry.now terms.now payload.now)
+        (slot_at s table.old) (Asking (new_caller terms.now globals.entry.now.now))
+        (request_sent terms.now payload.now ∷ [])) table.old table.new out.old out.new }
+{
+    if let Some(refusal) = request_refusal(table, s, terms, payload, globals) {
+        out.push_plain_answer(s, PlainAnswer::Refused(refusal));
+        return;
+    }
+    let caller = Caller::new(terms, globals.now);
+    let answer = open(table, s, AnyObject::Caller(caller));
+    out.push_plain_answer(s, answer);
+    out.push_md(s, terms.to, &request_head(terms), payload);
+}
+
+/// Why a caller doesn't confirm the query of that place.
+fn confirm_refusal(caller: &Caller, place: Place, status: i32) -> Option<Refusal>
+    ensures { result ≡ confirm_refusal caller.now place status }
+{
+    if !caller.awaits(place) {
+        return Some(Refusal::State);
+    }
+    if status < 0 {
+        return Some(Refusal::Status);
+    }
+    None
+}
+
+/// Lets a caller of that handle confirm the query of that place, and records what it gives.
+fn confirm_by(
+    caller: &mut Caller,
+    handle: u32,
+    place: Place,
+    status: i32,
+    s: u16,
+    out: &mut Outbox,
+) -> Left
+    requires { HasRoom out.old confirm_room }
+    ensures left { left_of result (Asking caller.new)
+        ≡ (confirms_unless (confirm_refusal caller.old place status) handle place status
+        caller.old).left }
+    ensures records { out.new.records
+        ≡ out.old.records
+        ++ labelled s (confirms_unless (confirm_refusal caller.old place status) handle place
+        status caller.old).records }
+{
+    if let Some(refusal) = confirm_refusal(caller, place, status) {
+        out.push_plain_answer(s, PlainAnswer::Refused(refusal));
+        return Left::Stays;
+    }
+    let head = caller.confirm_head(status);
+    caller.confirm(place);
+    out.push_plain_answer(s, PlainAnswer::Done);
+    out.push_md(s, place, &head, b"");
+    match caller.closed() {
+        None => Left::Stays,
+        Some(reason) => {
+            out.push(s, Form::Closed(handle, reason));
+            Left::Ended
+        }
+    }
+}
+
+/// Lets the object of that handle confirm the query of that place, and records what it gives.
+pub fn confirm(
+    object: &mut AnyObject,
+    handle: u32,
+    place: Place,
+    status: i32,
+    s: u16,
+    out: &mut Outbox,
+) -> Left
+    requires { HasRoom out.old confirm_room }
+    ensures left { left_of result object.new ≡ (confirms handle place status object.old).left }
+    ensures records { out.new.records
+        ≡ out.old.records ++ labelled s (confirms handle place status object.old).records }
+{
+    match object {
+        AnyObject::Caller(caller) => confirm_by(caller, handle, place, status, s, out),
+        _ => {
+            out.push_plain_answer(s, PlainAnswer::Refused(Refusal::WrongKind));
+            Left::Stays
+        }
+    }
+}
+
+/// An answer as its caller's slot is told of it.
+fn answer<'a>(src: Place, view: &MdView<'a>) -> Reply<'a>
+    ensures { reply_model result
+        ≡ reply_of src (record { head = view.now.head; payload = view.now.payload.now }) }
+{
+    Reply {
+        src,
+        kind: view.head.kind,
+        status: view.head.status,
+        com_id: view.head.com_id,
+        payload: view.payload,
+    }
+}
+
+/// Records what the slot of a caller is told of an answer that the caller took.
+pub fn push_replied(telegram: &Telegram<'_>, handle: u32, s: u16, out: &mut Outbox)
+    requires limit { IsWithinLimit (telegram_model telegram.now) }
+    requires row { 1 ≤ out.old.row_room }
+    requires bytes { 65388 ≤ out.old.byte_room }
+    ensures records { out.new.records
+        ≡ out.old.records ++ labelled s (replied handle (telegram_model telegram.now)) }
+    ensures row_room { out.old.row_room ≤ out.new.row_room + 1 }
+    ensures byte_room { out.old.byte_room ≤ out.new.byte_room + 65388 }
+{
+    if let Telegram::Md { src, view, .. } = telegram {
+        out.push_replied(s, handle, &answer(*src, view));
+    }
+}

@@ -1,0 +1,172 @@
+//! Calls of those that were asked: replies, queries and errors.
+
+ghost use Rattle.std.specs.Prelude.{◌≡◌, ◌≤◌, ◌++◌, ◌∷◌, [], Some, length};
+ghost use Rattle.trdp_base.specs.Moments.{last_moment};
+ghost use Rattle.trdp_head.specs.MdBytes.{md_bytes};
+ghost use Rattle.trdp_engine.specs.declared.record.Protocol.TheVariants.{Md};
+ghost use Rattle.trdp_engine.specs.Records.{Answers, DoneIs, Sends, labelled};
+ghost use Rattle.trdp_engine.specs.Replies.{reply_refusal, query_refusal, error_refusal};
+ghost use Rattle.trdp_engine.specs.Replies.{replies, queries, reply_errors};
+ghost use Rattle.trdp_engine.specs.Rooms.{HasRoom, message_room};
+ghost use Rattle.trdp_engine.specs.Asked.{left_of};
+
+use crate::asked::Left;
+use crate::callers::TIMEOUT_MIN;
+use crate::fault::Refusal;
+use crate::outbox::Outbox;
+use crate::row::PlainAnswer;
+use trdp_filter::Globals;
+use trdp_head::{MD_PAYLOAD_MAX, MdHead};
+use trdp_md::{Replier, Stage};
+use trdp_table::AnyObject;
+
+/// Why a replier doesn't reply.
+fn reply_refusal(replier: &Replier, status: i32, payload: &[u8]) -> Option<Refusal>
+    ensures { result ≡ reply_refusal replier.now status payload.now }
+{
+    if replier.stage() == Stage::AwaitConfirm {
+        return Some(Refusal::State);
+    }
+    if status < 0 {
+        return Some(Refusal::Status);
+    }
+    if payload.len() > MD_PAYLOAD_MAX {
+        return Some(Refusal::TooLong);
+    }
+    None
+}
+
+/// Why a replier sends no query.
+fn query_refusal(replier: &Replier, status: i32, timeout: u32, payload: &[u8]) -> Option<Refusal>
+    ensures { result ≡ query_refusal replier.now status timeout payload.now }
+{
+    if replier.stage() == Stage::AwaitConfirm {
+        return Some(Refusal::State);
+    }
+    if timeout < TIMEOUT_MIN {
+        return Some(Refusal::Timeout);
+    }
+    reply_refusal(replier, status, payload)
+}
+
+/// Why a replier sends no error.
+fn error_refusal(replier: &Replier, status: i32) -> Option<Refusal>
+    ensures { result ≡ error_refusal replier.now status }
+{
+    if replier.stage() == Stage::AwaitConfirm {
+        return Some(Refusal::State);
+    }
+    if status >= 0 {
+        return Some(Refusal::Status);
+    }
+    None
+}
+
+/// Records an answer of a replier that isn't refused.
+fn push_reply(replier: &Replier, head: &MdHead, payload: &[u8], s: u16, out: &mut Outbox)
+    requires payload { length payload.now ≤ 65388 }
+    requires room { HasRoom out.old (message_room (length payload.now)) }
+    ensures { out.new.records
+        ≡ out.old.records
+        ++ labelled s
+        (Answers DoneIs ∷ Sends Md replier.now.peer (md_bytes head.now payload.now) ∷ []) }
+{
+    out.push_plain_answer(s, PlainAnswer::Done);
+    out.push_md(s, replier.peer(), head, payload);
+}
+
+/// Lets the object reply, and records what it gives.
+pub fn reply(
+    object: &mut AnyObject,
+    com_id: u32,
+    status: i32,
+    payload: &[u8],
+    s: u16,
+    out: &mut Outbox,
+) -> Left
+    requires { HasRoom out.old (message_room (length payload.now)) }
+    ensures left { left_of result object.new
+        ≡ (replies com_id status payload.now object.old).left }
+    ensures records { out.new.records
+        ≡ out.old.records ++ labelled s (replies com_id status payload.now object.old).records }
+{
+    let AnyObject::Replier(replier) = object else {
+        out.push_plain_answer(s, PlainAnswer::Refused(Refusal::WrongKind));
+        return Left::Stays;
+    };
+    if let Some(refusal) = reply_refusal(replier, status, payload) {
+        out.push_plain_answer(s, PlainAnswer::Refused(refusal));
+        return Left::Stays;
+    }
+    push_reply(
+        replier,
+        &replier.reply_head(com_id, status),
+        payload,
+        s,
+        out,
+    );
+    Left::Ended
+}
+
+/// Lets the object reply by a query, and records what it gives.
+pub fn query(
+    object: &mut AnyObject,
+    com_id: u32,
+    status: i32,
+    timeout: u32,
+    payload: &[u8],
+    globals: &Globals,
+    s: u16,
+    out: &mut Outbox,
+)
+    requires now { globals.now.now ≤ last_moment }
+    requires room { HasRoom out.old (message_room (length payload.now)) }
+    ensures left { Some object.new
+        ≡ (queries globals.entry.now.now com_id status timeout payload.now object.old).left }
+    ensures records { out.new.records
+        ≡ out.old.records
+        ++ labelled s
+        (queries globals.entry.now.now com_id status timeout payload.now object.old).records }
+{
+    let AnyObject::Replier(replier) = object else {
+        out.push_plain_answer(s, PlainAnswer::Refused(Refusal::WrongKind));
+        return;
+    };
+    if let Some(refusal) = query_refusal(replier, status, timeout, payload) {
+        out.push_plain_answer(s, PlainAnswer::Refused(refusal));
+        return;
+    }
+    push_reply(
+        replier,
+        &replier.query_head(com_id, status, timeout),
+        payload,
+        s,
+        out,
+    );
+    replier.query(globals.now, timeout);
+}
+
+/// Lets the object send an error, and records what it gives.
+pub fn reply_error(
+    object: &mut AnyObject,
+    com_id: u32,
+    status: i32,
+    s: u16,
+    out: &mut Outbox,
+) -> Left
+    requires { HasRoom out.old (message_room 0) }
+    ensures left { left_of result object.new ≡ (reply_errors com_id status object.old).left }
+    ensures records { out.new.records
+        ≡ out.old.records ++ labelled s (reply_errors com_id status object.old).records }
+{
+    let AnyObject::Replier(replier) = object else {
+        out.push_plain_answer(s, PlainAnswer::Refused(Refusal::WrongKind));
+        return Left::Stays;
+    };
+    if let Some(refusal) = error_refusal(replier, status) {
+        out.push_plain_answer(s, PlainAnswer::Refused(refusal));
+        return Left::Stays;
+    }
+    push_reply(replier, &replier.error_head(com_id, status), b"", s, out);
+    Left::Ended
+}

@@ -1,0 +1,123 @@
+//! Requests that come in: what a slot makes of one that its listener hears.
+
+ghost use Rattle.std.specs.Prelude.{◌≡◌, ℕ, ◌≤◌, ◌<◌, ◌+◌, ◌++◌, length, slice_get, Some};
+ghost use Rattle.std.specs.List.{flat_map};
+ghost use Rattle.trdp_base.specs.Moments.{last_moment};
+ghost use Rattle.trdp_filter.specs.Telegrams.{telegram_model, IsWithinLimit};
+ghost use Rattle.trdp_engine.specs.Slots.{SlotState, slots_of};
+ghost use Rattle.trdp_engine.specs.Datagrams.{is_request, requested, acting};
+ghost use Rattle.trdp_engine.specs.Requests.{asked, asked_by_hearing};
+ghost use Rattle.trdp_engine.specs.NodeStates.{HasOutcome, Appends};
+ghost use Rattle.trdp_engine.specs.Rooms.{HasRoom, entries_room};
+ghost use Rattle.trdp_engine.specs.Acting.{slot_at, Becomes, TookWithin};
+ghost use Rattle.trdp_engine.specs.Quiet.{IsQuiet};
+
+use crate::addressees::hearing;
+use crate::notices::message;
+use crate::opening::open;
+use crate::outbox::Outbox;
+use crate::quiet_slots::wake;
+use crate::row::{Form, PlainAnswer};
+use crate::sessions::has_session;
+use trdp_base::Place;
+use trdp_filter::{Globals, Telegram};
+use trdp_head::{MdKind, MdView};
+use trdp_md::Replier;
+use trdp_table::{AnyObject, Kind, Table};
+
+/// Whether the telegram is a request.
+pub fn is_request(telegram: &Telegram<'_>) -> bool
+    ensures { result ≡ is_request (telegram_model telegram.now) }
+{
+    match telegram {
+        Telegram::Pd { .. } => false,
+        Telegram::Md { view, .. } => view.head.kind == MdKind::Request,
+    }
+}
+
+/// Records what slot `s` makes of a request that its listener of that handle heard: it opens a
+/// replier, unless one of the session is open, or tells that it takes none.
+fn ask(
+    table: &mut Table,
+    s: u16,
+    listener: u32,
+    src: Place,
+    view: &MdView<'_>,
+    globals: &Globals,
+    out: &mut Outbox,
+)
+    requires slot { s < length table.old }
+    requires now { globals.now.now ≤ last_moment }
+    requires limit { length view.now.payload.now ≤ 65388 }
+    requires row { 1 ≤ out.old.row_room }
+    requires bytes { 65388 ≤ out.old.byte_room }
+    ensures becomes { Becomes s
+        (asked (slot_at s table.old) listener globals.entry.now src
+        (record { head = view.now.head; payload = view.now.payload.now })) table.old table.new
+        out.old out.new }
+    ensures row_room { out.old.row_room ≤ out.new.row_room + 1 }
+    ensures byte_room { out.old.byte_room ≤ out.new.byte_room + 65388 }
+{
+    let session = view.head.session;
+    if has_session(table, s, Kind::Replier, session) {
+        return;
+    }
+    let replier = Replier::new(src, &view.head, globals.now);
+    match open(table, s, AnyObject::Replier(replier)) {
+        PlainAnswer::Handle(handle) => {
+            out.push_asked(s, listener, handle, session, &message(src, view));
+        }
+        _ => out.push(s, Form::Overrun(listener)),
+    }
+}
+
+/// Records what slot `s` makes of a telegram that is a request, if one of its listeners hears it,
+/// and answers whether one did.
+fn ask_in(table: &mut Table, s: u16, telegram: &Telegram<'_>, globals: &Globals, out: &mut Outbox)
+    requires slot { s < length table.old }
+    requires now { globals.now.now ≤ last_moment }
+    requires limit { IsWithinLimit (telegram_model telegram.now) }
+    requires room { HasRoom out.old (entries_room
+        (acting (telegram_model telegram.now) globals.now (slot_at s table.old).objects)) }
+    ensures becomes { Becomes s
+        (requested (slot_at s table.old) globals.entry.now (telegram_model telegram.now)) table.old
+        table.new out.old out.new }
+    ensures within { TookWithin out.old out.new (entries_room
+        (acting (telegram_model telegram.now) globals.entry.now (slot_at s table.old).objects)) }
+{
+    match hearing(table, s, telegram, globals) {
+        None => {}
+        Some(listener) => match telegram {
+            Telegram::Pd { .. } => {}
+            Telegram::Md { src, view, .. } => ask(table, s, listener, *src, view, globals, out),
+        },
+    }
+}
+
+/// Records what each slot makes of a telegram that is a request, and wakes it.
+pub fn ask_all(
+    table: &mut Table,
+    quiet: &mut Vec<u64>,
+    telegram: &Telegram<'_>,
+    globals: &Globals,
+    out: &mut Outbox,
+)
+    requires quiet { IsQuiet quiet.old.items (slots_of table.old) }
+    requires now { globals.now.now ≤ last_moment }
+    requires limit { IsWithinLimit (telegram_model telegram.now) }
+    requires room { HasRoom out.old (entries_room
+        (flat_map (λ slot. acting (telegram_model telegram.now) globals.now slot.objects)
+        (slots_of table.old))) }
+    ensures count { length table.new ≡ length table.old }
+    ensures parts { (s : ℕ) (slot : SlotState) → slice_get (slots_of table.old) s ≡ Some slot
+        → HasOutcome (slots_of table.new) out.old.records out.new.records s
+        (requested slot globals.entry.now (telegram_model telegram.now)) }
+    ensures appends { Appends (slots_of table.old) out.old.records out.new.records }
+    ensures quiet { IsQuiet quiet.new.items (slots_of table.new) }
+{
+    table.sound();
+    for s in 0..table.slots() {
+        ask_in(table, s as u16, telegram, globals, out);
+        wake(quiet, s as u16);
+    }
+}

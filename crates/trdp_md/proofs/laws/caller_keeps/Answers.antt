@@ -1,0 +1,9 @@
+use Rattle.trdp_md.proofs.Calling.{terms-taking}
+use Rattle.trdp_md.proofs.Confirming.{terms-confirming}
+use Rattle.trdp_md.proofs.laws.caller_keeps.Goals as goal
+
+pub returns-clause-taken : goal.returns-clause-taken
+returns-clause-taken c = terms-taking
+
+pub returns-clause-confirmed : goal.returns-clause-confirmed
+returns-clause-confirmed c = terms-confirming

@@ -1,0 +1,167 @@
+-- A caller: a request that waits for its answers.
+use Rattle.std.specs.Prelude.{ℕ, ◌+◌, ℤ, pos, [], ◌∷◌, ◌++◌, length, Option, Some, None}
+use Rattle.std.specs.Prelude.{Bool, true, false, not, nat_lt, nat_le, max, ◌==◌, ◌&&◌, ◌||◌}
+use Rattle.std.specs.Prelude.{if◌then◌else◌}
+use Rattle.std.specs.Option.{option_map}
+use Rattle.trdp_base.specs.declared.place.Place.{Place}
+use Rattle.trdp_head.specs.declared.md.MdHead.{MdHead}
+use Rattle.trdp_head.specs.declared.md.MdKind.{MdKind}
+use Rattle.trdp_head.specs.declared.md.MdKind.TheVariants.{Notify, Request, Reply, Query, Confirm}
+use Rattle.trdp_head.specs.declared.md.MdKind.TheVariants.{Error}
+use Rattle.trdp_filter.specs.declared.globals.Globals.{Globals}
+use Rattle.trdp_filter.specs.Counts.{topo_valid}
+use Rattle.trdp_filter.specs.Telegrams.{TelegramModel, PdIs, MdIs}
+use Rattle.trdp_pd.specs.declared.object.Reason.{Reason}
+use Rattle.trdp_pd.specs.declared.object.Reason.TheVariants.{Done, NoReply, NotAllReplies}
+use Rattle.trdp_pd.specs.declared.object.Reason.TheVariants.{NotConfirmed}
+use Rattle.trdp_pd.specs.declared.object.Taken.{Taken}
+use Rattle.trdp_pd.specs.declared.object.Taken.TheVariants.{Nothing as NotTaken}
+use Rattle.trdp_pd.specs.declared.object.Taken.TheVariants.{Replied, RepliedLast}
+use Rattle.trdp_pd.specs.declared.object.Fired.TheVariants.{Closed}
+use Rattle.trdp_pd.specs.Effects.{Taking, Firing}
+use Rattle.trdp_md.specs.declared.answers.Answer.{Answer}
+use Rattle.trdp_md.specs.declared.caller.Caller.{Caller}
+use Rattle.trdp_md.specs.declared.terms.CallerTerms.{CallerTerms}
+use Rattle.trdp_md.specs.Answers.{has_answered, awaits, awaits_any, confirmed}
+use Rattle.trdp_md.specs.Waiting.{reply_by}
+
+-- a new caller has no answers, and its timeout begins now
+abbrev pub called : CallerTerms → ℕ → Caller
+called terms now =
+    record { terms = terms; answers = []; deadline = Some (now + terms.timeout) }
+
+-- the header of its request
+unfoldable pub request_of : CallerTerms → MdHead
+request_of terms = record {
+  counter = 0;
+  kind = Request;
+  com_id = terms.com_id;
+  topo = terms.topo;
+  status = pos 0;
+  session = terms.session;
+  timeout = terms.timeout;
+  source_uri = terms.source_uri;
+  dest_uri = terms.dest_uri;
+}
+
+-- the header of a confirmation: the request's but for type, status and timeout; the URIs aren't
+-- swapped, since it goes the same way
+unfoldable pub confirm_of : CallerTerms → ℤ → MdHead
+confirm_of terms status = record {
+  counter = 0;
+  kind = Confirm;
+  com_id = terms.com_id;
+  topo = terms.topo;
+  status = status;
+  session = terms.session;
+  timeout = 0;
+  source_uri = terms.source_uri;
+  dest_uri = terms.dest_uri;
+}
+
+-- the message types that answer a request
+unfoldable pub is_answer : MdKind → Bool
+is_answer Notify = false
+is_answer Request = false
+is_answer Reply = true
+is_answer Query = true
+is_answer Confirm = false
+is_answer Error = true
+
+-- the message type that wants a confirmation
+unfoldable pub is_query : MdKind → Bool
+is_query Notify = false
+is_query Request = false
+is_query Reply = false
+is_query Query = true
+is_query Confirm = false
+is_query Error = false
+
+-- the message answers a request of the caller's session, with counts that match the caller's
+unfoldable pub is_for_caller : Caller → MdHead → Bool
+is_for_caller c head =
+    is_answer head.kind && head.session.0 == c.terms.session.0 && topo_valid head.topo c.terms.topo
+
+-- there is a place for one more answer: there are fewer than eight, and fewer than expected
+unfoldable pub has_place : Caller → Bool
+has_place c =
+    nat_lt (length c.answers) 8
+    && (c.terms.expected == 0 || nat_lt (length c.answers) c.terms.expected)
+
+-- acceptance: the message is for the caller, there is a place for it, and its source hasn't
+-- answered yet
+unfoldable pub is_accepted : Caller → Place → MdHead → Bool
+is_accepted c src head =
+    is_for_caller c head && has_place c && not (has_answered c.answers src)
+
+-- the answer that a message is
+abbrev pub answer_of : Place → MdHead → Answer
+answer_of src head =
+    record { place = src; kind = head.kind; confirm_owed = is_query head.kind }
+
+-- the deadline after an answer: a query moves it to the end of its own time, if this is later
+unfoldable pub deadline_after : Option ℕ → MdHead → ℕ → Option ℕ
+deadline_after deadline head now =
+    if is_query head.kind
+    then option_map (λ moment. max moment (reply_by head.timeout now)) deadline
+    else deadline
+
+-- an accepted answer is added to the others
+abbrev pub answering : Caller → Place → MdHead → ℕ → Caller
+answering c src head now = record c {
+  answers = c.answers ++ answer_of src head ∷ [];
+  deadline = deadline_after c.deadline head now;
+}
+
+-- complete: a number of answers was expected, so many came, and none awaits a confirmation
+unfoldable pub is_complete : Caller → Bool
+is_complete c =
+    nat_lt 0 c.terms.expected && nat_le c.terms.expected (length c.answers)
+    && not (awaits_any c.answers)
+
+-- what it is to have taken an answer
+unfoldable pub replied : Caller → Taken
+replied c = if is_complete c then RepliedLast else Replied
+
+-- when it is to close
+abbrev pub caller_due : Caller → Option ℕ
+caller_due c = c.deadline
+
+-- what the telegrams for a caller are; no process data is for one
+abbrev pub caller_addressed : Caller → TelegramModel → Globals → Bool
+caller_addressed c (PdIs src dst telegram) globals = false
+caller_addressed c (MdIs src dst telegram) globals = is_for_caller c telegram.head
+
+-- reception: an accepted answer is added, any other telegram changes nothing
+abbrev pub caller_taking : Caller → TelegramModel → Globals → Bool → Taking Caller
+caller_taking c (PdIs src dst telegram) globals fits = record { object = c; taken = NotTaken }
+caller_taking c (MdIs src dst telegram) globals fits =
+    if is_accepted c src telegram.head
+    then record {
+      object = answering c src telegram.head globals.now;
+      taken = replied (answering c src telegram.head globals.now);
+    }
+    else record { object = c; taken = NotTaken }
+
+-- why it closes at its deadline: the first of these that applies
+unfoldable pub reason_of : Caller → Reason
+reason_of c =
+    if length c.answers == 0 then NoReply else
+    if nat_lt (length c.answers) c.terms.expected then NotAllReplies else
+    if awaits_any c.answers then NotConfirmed else Done
+
+-- the deadline closes the caller
+abbrev pub caller_firing : Caller → Globals → Firing Caller
+caller_firing c globals =
+    record { object = record c { deadline = None }; fired = Closed (reason_of c) }
+
+-- a confirmation to a place that awaits one ends this; to any other it changes nothing
+unfoldable pub confirming : Caller → Place → Caller
+confirming c place =
+    if awaits c.answers place
+    then record c { answers = confirmed c.answers place }
+    else c
+
+-- why it is over before its deadline, if it is
+unfoldable pub closed_of : Caller → Option Reason
+closed_of c = if is_complete c then Some Done else None

@@ -1,0 +1,63 @@
+-- What is told of callers and repliers.
+use Rattle.std.specs.Prelude.{◌≡◌, ◌⊎◌, ℤ, ◌<◌, ◌≤◌, ◌∷◌, [], ◌++◌, List, length, true, false}
+use Rattle.std.specs.List.{All, Any}
+use Rattle.trdp_base.specs.declared.place.Place.{Place}
+use Rattle.trdp_head.specs.declared.md.MdKind.TheVariants.{Query, Confirm}
+use Rattle.trdp_filter.specs.Counts.{topo_valid}
+use Rattle.trdp_filter.specs.Telegrams.{TelegramModel, PdIs, MdIs}
+use Rattle.trdp_pd.specs.declared.object.Taken.{Taken}
+use Rattle.trdp_pd.specs.declared.object.Taken.TheVariants.{Replied, RepliedLast}
+use Rattle.trdp_md.specs.declared.answers.Answer.{Answer}
+use Rattle.trdp_md.specs.declared.caller.Caller.{Caller}
+use Rattle.trdp_md.specs.declared.replier.Replier.{Replier}
+use Rattle.trdp_md.specs.declared.replier.Stage.TheVariants.{AwaitConfirm}
+use Rattle.trdp_md.specs.Answers.{awaits_any}
+use Rattle.trdp_md.specs.Callers.{is_accepted, answer_of}
+
+-- an answer was taken
+abbrev pub IsReplied : Taken → Type 0
+IsReplied taken = (taken ≡ Replied) ⊎ (taken ≡ RepliedLast)
+
+-- the telegram is a message that the caller accepts
+abbrev pub IsAccepted : Caller → TelegramModel → Type 0
+IsAccepted c (PdIs src dst telegram) = ⊥
+IsAccepted c (MdIs src dst telegram) = is_accepted c src telegram.head ≡ true
+
+-- the caller has one more answer, which is the telegram
+abbrev pub HasAdded : Caller → TelegramModel → Caller → Type 0
+HasAdded c (PdIs src dst telegram) after = ⊥
+HasAdded c (MdIs src dst telegram) after =
+    after.answers ≡ c.answers ++ answer_of src telegram.head ∷ []
+
+-- only queries await a confirmation
+abbrev pub AwaitsQueriesOnly : List Answer → Type 0
+AwaitsQueriesOnly answers = All (λ answer. answer.confirm_owed ≡ true → answer.kind ≡ Query) answers
+
+-- one of the answers came from the place and awaits a confirmation
+abbrev pub HasAwaiting : List Answer → Place → Type 0
+HasAwaiting answers place =
+    Any (λ answer. (answer.place ≡ place) × (answer.confirm_owed ≡ true)) answers
+
+-- nothing is wanted any more: there is an answer, there are no fewer than expected, and none
+-- awaits a confirmation
+pub record IsDone (c : Caller) : Type 0 where
+  pub some : 0 < length c.answers
+  pub enough : c.terms.expected ≤ length c.answers
+  pub none_owed : awaits_any c.answers ≡ false
+
+-- the replier belongs to the same request
+pub record IsOfSameRequest (r after : Replier) : Type 0 where
+  pub peer : after.peer ≡ r.peer
+  pub session : after.session ≡ r.session
+  pub topo : after.topo ≡ r.topo
+  pub source_uri : after.source_uri ≡ r.source_uri
+  pub dest_uri : after.dest_uri ≡ r.dest_uri
+
+-- the replier awaits a confirmation, and the telegram is one of its session with this status, from
+-- the peer's address, with counts that match the request's
+abbrev pub IsItsConfirmation : Replier → TelegramModel → ℤ → Type 0
+IsItsConfirmation r (PdIs src dst telegram) status = ⊥
+IsItsConfirmation r (MdIs src dst telegram) status =
+    (r.stage ≡ AwaitConfirm) × (telegram.head.kind ≡ Confirm)
+    × (telegram.head.session.0 ≡ r.session.0) × (src.ip.0 ≡ r.peer.ip.0)
+    × (topo_valid telegram.head.topo r.topo ≡ true) × (telegram.head.status ≡ status)

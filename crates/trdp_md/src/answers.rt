@@ -1,0 +1,138 @@
+//! The answers to one request, each from a place of its own.
+
+ghost use Rattle.std.specs.Prelude.{◌≡◌, ◌<◌, ◌≤◌, List, [], ◌∷◌, ◌++◌, length, take};
+ghost use Rattle.std.specs.List.{list_any};
+ghost use Rattle.trdp_md.specs.Answers.{is_place, has_answered, awaits, awaits_any, confirmed};
+ghost use Rattle.trdp_md.specs.Answers.{confirmed_if};
+
+use std::marker::Model;
+use trdp_base::{Ip, Place};
+use trdp_head::MdKind;
+
+/// At how many places a request may have its answers (profile).
+pub const PLACES_MAX: usize = 8;
+
+/// What stands where no answer is.
+const NO_ANSWER: Answer = Answer {
+    place: Place { ip: Ip(0), port: 0 },
+    kind: MdKind::Reply,
+    confirm_owed: false,
+};
+
+/// An answer to a request.
+#[derive(Clone, Copy, Debug, PartialEq, Eq)]
+pub struct Answer {
+    /// Where it came from.
+    pub place: Place,
+    /// Its message type: a reply, a query or an error.
+    pub kind: MdKind,
+    /// Whether it still awaits a confirmation, as a query does until it is confirmed.
+    pub confirm_owed: bool,
+}
+
+/// At most [`PLACES_MAX`] answers, in the order in which they came.
+#[derive(Drop)]
+pub struct Answers {
+    /// The answers, and behind them what counts for nothing.
+    room: [Answer; PLACES_MAX],
+    /// How many answers there are, 0 to [`PLACES_MAX`].
+    count: usize,
+}
+
+impl Model for Answers {
+    ghost use Rattle.std.specs.Prelude.{◌≤◌, List, take};
+    ghost use Rattle.trdp_md.specs.declared.answers.Answer.{Answer};
+
+    ghost Value = { List Answer };
+
+    ghost view = { λ a. take a.count a.room };
+
+    ghost invariant = { λ a. a.count ≤ 8 };
+}
+
+/// Whether an answer came from the place.
+#[tactic(auto, unfolding(crate::specs::Answers::has_answered))]
+pub fn has_answered(answers: &[Answer], place: Place) -> bool
+    ensures { result ≡ has_answered answers.now place }
+{
+    answers.iter().any(|answer| answer.place == place)
+}
+
+/// Whether an answer from the place awaits a confirmation.
+#[tactic(auto, unfolding(crate::specs::Answers::awaits))]
+pub fn awaits(answers: &[Answer], place: Place) -> bool
+    ensures { result ≡ awaits answers.now place }
+{
+    answers
+        .iter()
+        .any(|answer| answer.place == place && answer.confirm_owed)
+}
+
+/// Whether any answer awaits a confirmation.
+#[tactic(auto, unfolding(crate::specs::Answers::awaits_any))]
+pub fn awaits_any(answers: &[Answer]) -> bool
+    ensures { result ≡ awaits_any answers.now }
+{
+    answers.iter().any(|answer| answer.confirm_owed)
+}
+
+/// The answer once the place is confirmed.
+fn confirmed_if(answer: Answer, place: Place) -> Answer
+    ensures { result ≡ confirmed_if place answer }
+{
+    if answer.place == place {
+        Answer {
+            confirm_owed: false,
+            ..answer
+        }
+    } else {
+        answer
+    }
+}
+
+/// Ends the awaiting of the answers from the place.
+#[tactic(auto, unfolding(crate::specs::Answers::confirmed))]
+fn end_awaiting(answers: &mut [Answer], place: Place)
+    ensures { answers.new ≡ confirmed answers.old place }
+{
+    for answer in answers.iter_mut() {
+        *answer = confirmed_if(*answer, place);
+    }
+}
+
+impl Answers {
+    /// No answers.
+    pub fn none() -> Self
+        ensures { result ≡ [] }
+    {
+        Answers {
+            room: [NO_ANSWER; PLACES_MAX],
+            count: 0,
+        }
+    }
+
+    /// The answers.
+    pub fn as_slice(&self) -> &[Answer]
+        ensures value { result.now ≡ self.now }
+        ensures within { length result.now ≤ 8 }
+    {
+        &self.room[..self.count]
+    }
+
+    /// Adds an answer behind the others.
+    pub fn add(&mut self, answer: Answer)
+        requires { length self.old < 8 }
+        ensures { self.new ≡ self.old ++ answer ∷ [] }
+    {
+        self.room[self.count] = answer;
+        self.count += 1;
+    }
+
+    /// Ends the awaiting of the answers from the place.
+    #[tactic(auto, unfolding(crate::specs::Answers::confirmed))]
+    pub fn confirm(&mut self, place: Place)
+        ensures { self.new ≡ confirmed self.old place }
+    {
+        end_awaiting(&mut self.room, place);
+    }
+}
