@@ -33,13 +33,13 @@ use Rattle.trdp_script.specs.declared.fault.LineFault.{LineFault}
 use Rattle.trdp_script.specs.declared.fault.LineFault.TheVariants.{BadWord, OutOfMemory}
 
 -- a value that may stand and has the word as its written form is found
-written : {A : Type 0} (text_of : A → List ℕ) (word : List ℕ) (may_stand : Bool) (shown : A) → may_stand ≡ true → word ≡ text_of shown → if_written text_of word may_stand shown ≡ Some shown
+pub written : {A : Type 0} (text_of : A → List ℕ) (word : List ℕ) (may_stand : Bool) (shown : A) → may_stand ≡ true → word ≡ text_of shown → if_written text_of word may_stand shown ≡ Some shown
 unfolding if_written
 written text_of word may_stand shown may is =
     rw (may, (bytes_eq-Decides (text_of shown) word).1 (sym is)) refl
 
 -- where no value that may stand has the word as its written form, none is found
-unwritten : {A : Type 0} (text_of : A → List ℕ) (word : List ℕ) (may_stand : Bool) (shown : A) → (may_stand ≡ true → word ≡ text_of shown → ⊥) → if_written text_of word may_stand shown ≡ None
+pub unwritten : {A : Type 0} (text_of : A → List ℕ) (word : List ℕ) (may_stand : Bool) (shown : A) → (may_stand ≡ true → word ≡ text_of shown → ⊥) → if_written text_of word may_stand shown ≡ None
 unfolding if_written
 unwritten text_of word may_stand shown never =
     elim (cases_Bool (may_stand && bytes_eq (text_of shown) word)) [
@@ -50,7 +50,7 @@ unwritten text_of word may_stand shown never =
     ]
 
 -- the digits of a number show it
-number_shown : (number : ℕ) → number < 2 ^ 64 → digits_value 10 (text_of_number number) ≡ number
+pub number_shown : (number : ℕ) → number < 2 ^ 64 → digits_value 10 (text_of_number number) ≡ number
 number_shown number small = (decimal_is_IsNumeral number small).1
 
 pub number_found : (word : List ℕ) (max number : ℕ) → max < 2 ^ 64 → number ≤ max → word ≡ text_of_number number → Some number ≡ number_of_word max word

@@ -9,6 +9,7 @@ pub mod Playing
 pub mod PortLemmas
 pub mod Readings
 pub mod Results
+pub mod StatusLemmas
 pub mod Steps
 pub mod TextLengths
 pub mod Turns

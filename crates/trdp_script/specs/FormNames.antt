@@ -5,14 +5,16 @@ use Rattle.trdp_script.specs.Forms.{LineForm, moment_form, topology_form, role_f
 use Rattle.trdp_script.specs.Forms.{md_form, publish_form, put_form, unpublish_form}
 use Rattle.trdp_script.specs.Forms.{subscribe_form, get_form, unsubscribe_form, open_pull_form}
 use Rattle.trdp_script.specs.Forms.{pull_form, close_pull_form, listen_form, unlisten_form}
-use Rattle.trdp_script.specs.Forms.{notify_form, call_word}
+use Rattle.trdp_script.specs.Forms.{notify_form, request_form, reply_form, query_form}
+use Rattle.trdp_script.specs.Forms.{reply_error_form, confirm_form, abort_form, call_word}
 use Rattle.trdp_script.specs.Words.{first_word, other_words}
 use Rattle.trdp_script.specs.declared.form.Form.{Form}
 use Rattle.trdp_script.specs.declared.form.Form.TheVariants.{Moment, Topology, Role, Pd, Md}
 use Rattle.trdp_script.specs.declared.form.Form.TheVariants.{Publish, Put, Unpublish, Subscribe}
 use Rattle.trdp_script.specs.declared.form.Form.TheVariants.{Get, Unsubscribe, OpenPull, Pull}
 use Rattle.trdp_script.specs.declared.form.Form.TheVariants.{ClosePull, Listen, Unlisten}
-use Rattle.trdp_script.specs.declared.form.Form.TheVariants.{Notify}
+use Rattle.trdp_script.specs.declared.form.Form.TheVariants.{Notify, Request, Reply, Query}
+use Rattle.trdp_script.specs.declared.form.Form.TheVariants.{ReplyError, Confirm, Abort}
 
 -- the form with that name
 abbrev pub line_form : Form → LineForm
@@ -33,6 +35,12 @@ line_form ClosePull = close_pull_form
 line_form Listen = listen_form
 line_form Unlisten = unlisten_form
 line_form Notify = notify_form
+line_form Request = request_form
+line_form Reply = reply_form
+line_form Query = query_form
+line_form ReplyError = reply_error_form
+line_form Confirm = confirm_form
+line_form Abort = abort_form
 
 -- whether the words begin with `call`, a slot and that word, or else with the word itself
 abbrev pub is_told : Bool → List ℕ → List (List ℕ) → Bool

@@ -1,22 +1,26 @@
 -- The forms that a line of a script can have, each with its words, its fields and its event.
-use Rattle.std.specs.Prelude.{ℕ, ◌^◌, ◌-◌, ◌&&◌, List, [], ◌∷◌, Bool, true, Option, Some, codes}
+use Rattle.std.specs.Prelude.{ℕ, ℤ, ◌^◌, ◌-◌, ◌&&◌, List, [], ◌∷◌, Bool, true, Option, Some, codes}
 use Rattle.std.specs.Prelude.{if◌then◌else◌}
 use Rattle.std.specs.Option.{option_and_then}
 use Rattle.std.specs.Str.{bytes_eq}
 use Rattle.trdp_base.specs.declared.place.Ip.{Ip}
 use Rattle.trdp_base.specs.declared.place.Place.{Place}
+use Rattle.trdp_base.specs.declared.session.SessionId.{SessionId}
 use Rattle.trdp_pd.specs.declared.terms.Behaviour.{Behaviour}
 use Rattle.trdp_pd.specs.declared.terms.Behaviour.TheVariants.{Zero, Keep}
 use Rattle.trdp_md.specs.declared.terms.NotifyTerms.{NotifyTerms}
+use Rattle.trdp_md.specs.declared.terms.CallerTerms.{CallerTerms}
 use Rattle.trdp_engine.specs.Events.{CallModel, PublishCall, PutCall, UnpublishCall, SubscribeCall}
 use Rattle.trdp_engine.specs.Events.{GetCall, UnsubscribeCall, OpenPullCall, PullCall}
 use Rattle.trdp_engine.specs.Events.{ClosePullCall, ListenCall, UnlistenCall, NotifyCall}
+use Rattle.trdp_engine.specs.Events.{RequestCall, ReplyCall, QueryCall, ReplyErrorCall}
+use Rattle.trdp_engine.specs.Events.{ConfirmCall, AbortCall}
 use Rattle.trdp_engine.specs.Events.{EventModel, MomentIs, TopologyIs, RoleIs, DatagramIs, CallIs}
 use Rattle.trdp_engine.specs.declared.record.Protocol.{Protocol}
 use Rattle.trdp_engine.specs.declared.record.Protocol.TheVariants.{Pd, Md}
 use Rattle.trdp_script.specs.Words.{first_word, other_words, number_of_word, ip_of_word}
 use Rattle.trdp_script.specs.Words.{place_of_word, bytes_of_word, choice_of_word}
-use Rattle.trdp_script.specs.Words.{any_or_number, uri_of_word}
+use Rattle.trdp_script.specs.Words.{any_or_number, uri_of_word, status_of_word, session_of_word}
 
 -- what one word of a line is to be
 pub data Part : Type 0 where
@@ -27,6 +31,8 @@ pub data Part : Type 0 where
   PlaceField : Part
   BytesField : Part
   UriField : Part
+  StatusField : Part
+  SessionField : Part
   ChoiceField : (first second : List ℕ) → Part
 
 -- what is made from the value of a field: nothing is taken from a keyword
@@ -38,6 +44,8 @@ From AddressField Made = Ip → Made
 From PlaceField Made = Place → Made
 From BytesField Made = List ℕ → Made
 From UriField Made = List ℕ → Made
+From StatusField Made = ℤ → Made
+From SessionField Made = SessionId → Made
 From (ChoiceField first second) Made = Bool → Made
 
 -- an event, made from the value of each field in their order
@@ -224,12 +232,60 @@ notify_form =
       dest_uri = dest_uri;
     } in CallIs slot (NotifyCall terms payload))
 
+-- call SLOT request COMID SESSION EXPECTED TIME SOURCEURI DESTURI ETB OPTRN TO HEX
+abbrev pub request_form : LineForm
+request_form =
+    call_form (codes "request")
+    (number_32 ∷ SessionField ∷ number_8 ∷ number_32 ∷ UriField ∷ UriField ∷ number_32 ∷ number_32
+    ∷ PlaceField ∷ BytesField ∷ [])
+    (λ slot com_id session expected timeout source_uri dest_uri etb op_trn to payload.
+    let terms : CallerTerms = record {
+      com_id = com_id;
+      session = session;
+      expected = expected;
+      timeout = timeout;
+      topo = record { etb = etb; op_trn = op_trn };
+      to = to;
+      source_uri = source_uri;
+      dest_uri = dest_uri;
+    } in CallIs slot (RequestCall terms payload))
+
+-- call SLOT reply HANDLE COMID STATUS HEX
+abbrev pub reply_form : LineForm
+reply_form =
+    call_form (codes "reply") (number_32 ∷ number_32 ∷ StatusField ∷ BytesField ∷ [])
+    (λ slot handle com_id status payload. CallIs slot (ReplyCall handle com_id status payload))
+
+-- call SLOT query HANDLE COMID STATUS TIME HEX
+abbrev pub query_form : LineForm
+query_form =
+    call_form (codes "query") (number_32 ∷ number_32 ∷ StatusField ∷ number_32 ∷ BytesField ∷ [])
+    (λ slot handle com_id status timeout payload.
+    CallIs slot (QueryCall handle com_id status timeout payload))
+
+-- call SLOT replyerror HANDLE COMID STATUS
+abbrev pub reply_error_form : LineForm
+reply_error_form =
+    call_form (codes "replyerror") (number_32 ∷ number_32 ∷ StatusField ∷ [])
+    (λ slot handle com_id status. CallIs slot (ReplyErrorCall handle com_id status))
+
+-- call SLOT confirm HANDLE PLACE STATUS
+abbrev pub confirm_form : LineForm
+confirm_form =
+    call_form (codes "confirm") (number_32 ∷ PlaceField ∷ StatusField ∷ [])
+    (λ slot handle place status. CallIs slot (ConfirmCall handle place status))
+
+-- call SLOT abort HANDLE
+abbrev pub abort_form : LineForm
+abort_form = handle_form (codes "abort") (λ handle. AbortCall handle)
+
 -- all forms
 unfoldable pub forms : List LineForm
 forms =
     moment_form ∷ topology_form ∷ role_form ∷ pd_form ∷ md_form ∷ publish_form ∷ put_form
     ∷ unpublish_form ∷ subscribe_form ∷ get_form ∷ unsubscribe_form ∷ open_pull_form ∷ pull_form
-    ∷ close_pull_form ∷ listen_form ∷ unlisten_form ∷ notify_form ∷ []
+    ∷ close_pull_form ∷ listen_form ∷ unlisten_form ∷ notify_form ∷ request_form ∷ reply_form
+    ∷ query_form ∷ reply_error_form ∷ confirm_form ∷ abort_form ∷ []
 
 -- whether the keywords stand among the words where they are to stand
 unfoldable pub has_keywords : List Part → List (List ℕ) → Bool
@@ -262,6 +318,12 @@ event_of_words (BytesField ∷ parts) event words =
 event_of_words (UriField ∷ parts) event words =
     option_and_then (λ uri. event_of_words parts (event uri) (other_words words))
     (uri_of_word (first_word words))
+event_of_words (StatusField ∷ parts) event words =
+    option_and_then (λ status. event_of_words parts (event status) (other_words words))
+    (status_of_word (first_word words))
+event_of_words (SessionField ∷ parts) event words =
+    option_and_then (λ session. event_of_words parts (event session) (other_words words))
+    (session_of_word (first_word words))
 event_of_words (ChoiceField first second ∷ parts) event words =
     option_and_then (λ choice. event_of_words parts (event choice) (other_words words))
     (choice_of_word first second (first_word words))

@@ -2,15 +2,15 @@
 use Rattle.std.specs.Prelude.{◌≡◌, ℕ, ◌==◌, List, [], ◌∷◌, length, nat_lt, nat_eq, Bool, true}
 use Rattle.std.specs.Prelude.{Option, Some, None, Result, Ok, Err, if◌then◌else◌, find}
 use Rattle.trdp_engine.specs.Events.{EventModel, MomentIs, TopologyIs, RoleIs, DatagramIs, CallIs}
-use Rattle.trdp_engine.specs.Events.{PutCall, NotifyCall, call_model}
 use Rattle.trdp_script.specs.Forms.{LineForm, forms, has_keywords, event_in}
+use Rattle.trdp_script.specs.LineCalls.{plain_call_of, bytes_call_of}
 use Rattle.trdp_script.specs.Words.{words_of}
 use Rattle.trdp_script.specs.declared.fault.LineFault.{LineFault}
 use Rattle.trdp_script.specs.declared.fault.LineFault.TheVariants.{TooLong, Unknown, Count}
 use Rattle.trdp_script.specs.declared.fault.LineFault.TheVariants.{BadWord, OutOfMemory}
 use Rattle.trdp_script.specs.declared.line.Line.{Line}
 use Rattle.trdp_script.specs.declared.line.Line.TheVariants.{Skipped, Moment, Topology, Role}
-use Rattle.trdp_script.specs.declared.line.Line.TheVariants.{Datagram, Put, Notify, Call}
+use Rattle.trdp_script.specs.declared.line.Line.TheVariants.{Datagram, Call, BytesCall}
 
 -- the line is empty or begins with `#`
 abbrev pub is_skipped : List ℕ → Bool
@@ -53,9 +53,8 @@ event_of (Moment t) = Some (MomentIs t)
 event_of (Topology topo) = Some (TopologyIs topo)
 event_of (Role group leader) = Some (RoleIs group leader)
 event_of (Datagram protocol src dst bytes) = Some (DatagramIs protocol src dst bytes.items)
-event_of (Put slot handle bytes) = Some (CallIs slot (PutCall handle bytes.items))
-event_of (Notify slot terms payload) = Some (CallIs slot (NotifyCall terms payload.items))
-event_of (Call slot call) = Some (CallIs slot (call_model call))
+event_of (Call slot call) = Some (CallIs slot (plain_call_of call))
+event_of (BytesCall slot call) = Some (CallIs slot (bytes_call_of call))
 
 -- what was read is what the line says, or memory ran out where nothing else is wrong
 abbrev pub Reads : Result (Option EventModel) LineFault → Result Line LineFault → Type 0

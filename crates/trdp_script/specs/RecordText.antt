@@ -4,11 +4,21 @@ use Rattle.trdp_base.specs.declared.place.Place.{Place}
 use Rattle.trdp_base.specs.AddressText.{text_of_place}
 use Rattle.trdp_base.specs.HexText.{text_of_hex}
 use Rattle.trdp_base.specs.NumberText.{text_of_number}
+use Rattle.trdp_base.specs.SessionText.{text_of_session}
+use Rattle.trdp_base.specs.StatusText.{text_of_status}
+use Rattle.trdp_head.specs.declared.md.MdKind.{MdKind}
+use Rattle.trdp_head.specs.declared.md.MdKind.TheVariants.{Notify, Request, Reply, Query}
+use Rattle.trdp_head.specs.declared.md.MdKind.TheVariants.{Confirm, Error}
+use Rattle.trdp_pd.specs.declared.object.Reason.{Reason}
+use Rattle.trdp_pd.specs.declared.object.Reason.TheVariants.{Done, NoReply, NotAllReplies}
+use Rattle.trdp_pd.specs.declared.object.Reason.TheVariants.{NotConfirmed, ReplyMissed, NoConfirm}
 use Rattle.trdp_pd.specs.Peeks.{PeekModel}
 use Rattle.trdp_pd.specs.declared.terms.ValueState.{ValueState}
 use Rattle.trdp_pd.specs.declared.terms.ValueState.TheVariants.{Never, Valid, Silent}
 use Rattle.trdp_engine.specs.Records.{AnswerModel, HandleIs, DoneIs, ValueIs, RefusedIs}
-use Rattle.trdp_engine.specs.Records.{MessageModel, IndicationModel, SilentIs, AliveIs, NotifiedIs}
+use Rattle.trdp_engine.specs.Records.{MessageModel, ReplyModel, IndicationModel, SilentIs, AliveIs}
+use Rattle.trdp_engine.specs.Records.{NotifiedIs, AskedIs, OverrunIs, RepliedIs, ConfirmedIs}
+use Rattle.trdp_engine.specs.Records.{ClosedIs}
 use Rattle.trdp_engine.specs.Records.{Content, Answers, Indicates, Sends, RecordModel}
 use Rattle.trdp_engine.specs.declared.fault.NodeFault.{NodeFault}
 use Rattle.trdp_engine.specs.declared.fault.NodeFault.TheVariants.{NoSlot, Past, TooLate}
@@ -56,6 +66,24 @@ name_of_state Never = codes "Never"
 name_of_state Valid = codes "Valid"
 name_of_state Silent = codes "Silent"
 
+-- the two letters of a message type (IEC 61375-2-3)
+abbrev pub letters_of_kind : MdKind → List ℕ
+letters_of_kind Notify = codes "Mn"
+letters_of_kind Request = codes "Mr"
+letters_of_kind Reply = codes "Mp"
+letters_of_kind Query = codes "Mq"
+letters_of_kind Confirm = codes "Mc"
+letters_of_kind Error = codes "Me"
+
+-- the name of why a request or an answer is over
+abbrev pub name_of_reason : Reason → List ℕ
+name_of_reason Done = codes "Done"
+name_of_reason NoReply = codes "NoReply"
+name_of_reason NotAllReplies = codes "NotAllReplies"
+name_of_reason NotConfirmed = codes "NotConfirmed"
+name_of_reason ReplyMissed = codes "ReplyMissed"
+name_of_reason NoConfirm = codes "NoConfirm"
+
 -- the name of a line's fault
 abbrev pub name_of_line_fault : LineFault → List ℕ
 name_of_line_fault LineTooLong = codes "TooLong"
@@ -83,12 +111,29 @@ text_of_message message = codes " " ++ text_of_place message.src
     ++ codes " " ++ text_of_number message.com_id ++ codes " " ++ text_of_hex message.source_uri
     ++ codes " " ++ text_of_hex message.dest_uri ++ codes " " ++ text_of_hex message.payload
 
+-- the words of an answer to a request: where it came from, the letters of its message type, its
+-- status, its comId and its payload, with a space before each
+unfoldable pub text_of_reply : ReplyModel → List ℕ
+text_of_reply reply = codes " " ++ text_of_place reply.src
+    ++ codes " " ++ letters_of_kind reply.kind ++ codes " " ++ text_of_status reply.status
+    ++ codes " " ++ text_of_number reply.com_id ++ codes " " ++ text_of_hex reply.payload
+
 -- the words of what a node tells of its own accord, with a space before each
 unfoldable pub text_of_indication : IndicationModel → List ℕ
 text_of_indication (SilentIs handle) = codes " silent " ++ text_of_number handle
 text_of_indication (AliveIs handle) = codes " alive " ++ text_of_number handle
 text_of_indication (NotifiedIs handle message) =
     codes " notified " ++ text_of_number handle ++ text_of_message message
+text_of_indication (AskedIs listener replier session message) =
+    codes " asked " ++ text_of_number listener ++ codes " " ++ text_of_number replier
+    ++ codes " " ++ text_of_session session.0 ++ text_of_message message
+text_of_indication (OverrunIs listener) = codes " overrun " ++ text_of_number listener
+text_of_indication (RepliedIs handle reply) =
+    codes " replied " ++ text_of_number handle ++ text_of_reply reply
+text_of_indication (ConfirmedIs handle status) =
+    codes " confirmed " ++ text_of_number handle ++ codes " " ++ text_of_status status
+text_of_indication (ClosedIs handle reason) =
+    codes " closed " ++ text_of_number handle ++ codes " " ++ name_of_reason reason
 
 -- the words before a telegram's destination
 abbrev pub words_of_send : Protocol → List ℕ
@@ -127,6 +172,11 @@ abbrev pub indication_bytes : IndicationModel → List ℕ
 indication_bytes (SilentIs handle) = []
 indication_bytes (AliveIs handle) = []
 indication_bytes (NotifiedIs handle message) = message.payload
+indication_bytes (AskedIs listener replier session message) = message.payload
+indication_bytes (OverrunIs listener) = []
+indication_bytes (RepliedIs handle reply) = reply.payload
+indication_bytes (ConfirmedIs handle status) = []
+indication_bytes (ClosedIs handle reason) = []
 
 -- the bytes that a record shows
 abbrev pub bytes_of : Content → List ℕ

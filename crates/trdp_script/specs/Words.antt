@@ -1,7 +1,7 @@
 -- The words of a line, and the values that words are the written forms of.
 use Rattle.std.specs.Prelude.{◌≡◌, ℕ, ◌+◌, ◌*◌, ◌^◌, ◌==◌, ◌&&◌, nat_lt, nat_le, List, [], ◌∷◌}
-use Rattle.std.specs.Prelude.{length, map, Bool, true, false, Option, Some, None, if◌then◌else◌}
-use Rattle.std.specs.Prelude.{option_map, codes}
+use Rattle.std.specs.Prelude.{ℤ, pos, neg_ℤ, int_lt, int_le, length, map, Bool, true, false, Option}
+use Rattle.std.specs.Prelude.{Some, None, if◌then◌else◌, option_map, codes}
 use Rattle.std.specs.Char.{digit_value}
 use Rattle.std.specs.Int.Digits.{number_from_digits}
 use Rattle.std.specs.List.{slice_split, list_all}
@@ -10,8 +10,11 @@ use Rattle.std.specs.Str.Parse.{digits_value}
 use Rattle.trdp_base.specs.AddressText.{text_of_ip, text_of_place}
 use Rattle.trdp_base.specs.HexText.{text_of_hex}
 use Rattle.trdp_base.specs.NumberText.{text_of_number}
+use Rattle.trdp_base.specs.SessionText.{session_of}
+use Rattle.trdp_base.specs.StatusText.{text_of_status}
 use Rattle.trdp_base.specs.declared.place.Ip.{Ip}
 use Rattle.trdp_base.specs.declared.place.Place.{Place}
+use Rattle.trdp_base.specs.declared.session.SessionId.{SessionId}
 use Rattle.trdp_script.specs.declared.fault.LineFault.{LineFault}
 use Rattle.trdp_script.specs.declared.fault.LineFault.TheVariants.{BadWord, OutOfMemory}
 
@@ -40,6 +43,26 @@ unfoldable pub number_of_word : ℕ → List ℕ → Option ℕ
 number_of_word max word =
     let number = digits_value 10 word in
     if_written text_of_number word (nat_le number max) number
+
+-- the number that digits show, below 0 behind `-`
+unfoldable pub status_shown : List ℕ → ℤ
+status_shown [] = pos 0
+status_shown (byte ∷ bytes) =
+    if byte == 45 then neg_ℤ (pos (digits_value 10 bytes)) else pos (digits_value 10 (byte ∷ bytes))
+
+-- the number is one of 32 bits with its sign
+abbrev pub is_status : ℤ → Bool
+is_status number = int_le (neg_ℤ (pos (2 ^ 31))) number && int_lt number (pos (2 ^ 31))
+
+-- the status whose written form the word is
+unfoldable pub status_of_word : List ℕ → Option ℤ
+status_of_word word =
+    let status = status_shown word in if_written text_of_status word (is_status status) status
+
+-- the session identifier that the word reads as, in each of its forms
+unfoldable pub session_of_word : List ℕ → Option SessionId
+session_of_word word =
+    option_map (λ id. let session : SessionId = record { 0 = id } in session) (session_of word)
 
 -- the address that numbers joined by dots show
 unfoldable pub ip_shown : List ℕ → Ip

@@ -1,21 +1,28 @@
 //! The values that words are the written forms of.
 
-ghost use Rattle.std.specs.Prelude.{◌≡◌, ℕ, List, ◌<◌, ◌≤◌, ◌^◌, ◌-◌, IfOk, IfErr, IfSome, All};
+ghost use Rattle.std.specs.Prelude.{◌≡◌, ℕ, ℤ, List, ◌<◌, ◌≤◌, ◌^◌, ◌-◌, IfOk, IfErr, IfSome};
+ghost use Rattle.std.specs.Prelude.{All, FitsSigned};
+ghost use Rattle.std.specs.Int.{w32};
 ghost use Rattle.trdp_base.specs.AddressText.{text_of_ip, text_of_place};
 ghost use Rattle.trdp_base.specs.HexText.{text_of_hex};
 ghost use Rattle.trdp_base.specs.NumberText.{text_of_number};
+ghost use Rattle.trdp_base.specs.StatusText.{text_of_status};
 ghost use Rattle.trdp_base.specs.Uris.{IsUri};
 ghost use Rattle.trdp_base.specs.declared.place.Ip.{Ip};
 ghost use Rattle.trdp_base.specs.declared.place.Place.{Place};
 ghost use Rattle.trdp_script.specs.Words.{first_word, other_words, number_of_word, ip_of_word};
 ghost use Rattle.trdp_script.specs.Words.{place_of_word, bytes_of_word, choice_of_word};
 ghost use Rattle.trdp_script.specs.Words.{any_or_number, uri_of_word, IsBytesFault};
+ghost use Rattle.trdp_script.specs.Words.{status_of_word, session_of_word};
 ghost use Rattle.trdp_script.specs.WordsLeft.{words_left};
 
 use crate::fault::LineFault;
 use crate::words::Words;
 use std::alloc::Global;
-use trdp_base::{Ip, Place, TextFault, Uri, read_hex, read_ip, read_number, read_place, read_uri};
+use trdp_base::{
+    Ip, Place, SessionId, TextFault, Uri, read_hex, read_ip, read_number, read_place, read_session,
+    read_status, read_uri,
+};
 
 /// The word for a number of any value.
 const ANY: &[u8] = b"any";
@@ -87,6 +94,22 @@ impl Words<'_> {
         ensures rest { words_left self.new ≡ other_words (words_left self.old) }
     {
         uri_of(self.next_word())
+    }
+
+    /// The status that the next word is.
+    pub(crate) fn next_status(&mut self) -> Option<i32>
+        ensures value { result ≡ status_of_word (first_word (words_left self.old)) }
+        ensures rest { words_left self.new ≡ other_words (words_left self.old) }
+    {
+        status_of(self.next_word())
+    }
+
+    /// The session identifier that the next word is.
+    pub(crate) fn next_session(&mut self) -> Option<SessionId>
+        ensures value { result ≡ session_of_word (first_word (words_left self.old)) }
+        ensures rest { words_left self.new ≡ other_words (words_left self.old) }
+    {
+        session_of(self.next_word())
     }
 
     /// Whether the next word is the first of two, if it is one of them.
@@ -174,6 +197,30 @@ fn uri_of(word: &[u8]) -> Option<Uri>
 {
     match read_uri(word) {
         Ok(uri) => Some(uri),
+        Err(_) => None,
+    }
+}
+
+/// The status that a word is.
+fn status_of(word: &[u8]) -> Option<i32>
+    ensures value { result ≡ status_of_word word.now }
+    ensures written { IfSome result (λ status. word.now ≡ text_of_status status) }
+    ensures found { (status : ℤ) → FitsSigned w32 status
+        → word.now ≡ text_of_status status → result ≡ Some status }
+{
+    match read_status(word) {
+        Ok(status) => Some(status),
+        Err(_) => None,
+    }
+}
+
+/// The session identifier that a word is.
+#[tactic(auto, unfolding(crate::specs::Words::session_of_word))]
+fn session_of(word: &[u8]) -> Option<SessionId>
+    ensures { result ≡ session_of_word word.now }
+{
+    match read_session(word) {
+        Ok(session) => Some(session),
         Err(_) => None,
     }
 }

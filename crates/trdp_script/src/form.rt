@@ -30,10 +30,16 @@ pub(crate) enum Form {
     Listen,
     Unlisten,
     Notify,
+    Request,
+    Reply,
+    Query,
+    ReplyError,
+    Confirm,
+    Abort,
 }
 
 /// All forms, in the order of their definition.
-pub(crate) static FORMS: [Form; 17] = [
+pub(crate) static FORMS: [Form; 23] = [
     Form::Moment,
     Form::Topology,
     Form::Role,
@@ -51,6 +57,12 @@ pub(crate) static FORMS: [Form; 17] = [
     Form::Listen,
     Form::Unlisten,
     Form::Notify,
+    Form::Request,
+    Form::Reply,
+    Form::Query,
+    Form::ReplyError,
+    Form::Confirm,
+    Form::Abort,
 ];
 
 /// The forms of the operator's lines, in the order of their definition.
@@ -118,6 +130,12 @@ impl Form {
             Form::Listen => Row::call(b"listen", 10),
             Form::Unlisten => Row::call(b"unlisten", 4),
             Form::Notify => Row::call(b"notify", 10),
+            Form::Request => Row::call(b"request", 13),
+            Form::Reply => Row::call(b"reply", 7),
+            Form::Query => Row::call(b"query", 8),
+            Form::ReplyError => Row::call(b"replyerror", 6),
+            Form::Confirm => Row::call(b"confirm", 6),
+            Form::Abort => Row::call(b"abort", 4),
         }
     }
 }

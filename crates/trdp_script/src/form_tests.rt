@@ -1,7 +1,8 @@
 //! Each word of each form as it is, and otherwise.
 
 use super::*;
-use std::alloc::{AllocError, Global};
+use std::alloc::{AllocError, AllocGlobal, Global};
+use std::process::Abort;
 use std::test::Fail;
 
 /// A form, by the words of a good line and for each of them one that can't stand in its place.
@@ -208,6 +209,94 @@ static FORMS: [Form; 17] = [
     },
 ];
 
+/// The forms of sessions.
+static SESSION_FORMS: [Form; 6] = [
+    Form {
+        head: 3,
+        good: &[
+            b"call",
+            b"0",
+            b"request",
+            b"300",
+            b"00000000-0000-0000-0000-000000000001",
+            b"255",
+            b"1000000",
+            b"-",
+            b"6a",
+            b"1",
+            b"2",
+            b"10.0.0.2:17225",
+            b"0d",
+        ],
+        bad: &[
+            b"c",
+            b"65536",
+            b"requests",
+            b"any",
+            b"00000000-0000-0000-0000-00000000000g",
+            b"256",
+            b"-1",
+            b"00",
+            b"6A",
+            b"any",
+            b"-",
+            b"10.0.0.2",
+            b"d",
+        ],
+    },
+    Form {
+        head: 3,
+        good: &[b"call", b"0", b"reply", b"1", b"301", b"2147483647", b"0c"],
+        bad: &[
+            b"c",
+            b"65536",
+            b"replies",
+            b"any",
+            b"4294967296",
+            b"2147483648",
+            b"0C",
+        ],
+    },
+    Form {
+        head: 3,
+        good: &[
+            b"call",
+            b"0",
+            b"query",
+            b"1",
+            b"301",
+            b"-2147483648",
+            b"500000",
+            b"-",
+        ],
+        bad: &[
+            b"c",
+            b"65536",
+            b"queries",
+            b"-1",
+            b"any",
+            b"-2147483649",
+            b"-0",
+            b"--",
+        ],
+    },
+    Form {
+        head: 3,
+        good: &[b"call", b"0", b"replyerror", b"1", b"302", b"-5"],
+        bad: &[b"c", b"65536", b"error", b"01", b"-1", b"-0"],
+    },
+    Form {
+        head: 3,
+        good: &[b"call", b"0", b"confirm", b"1", b"10.0.0.3:17225", b"0"],
+        bad: &[b"c", b"65536", b"confirmed", b"1.0", b"10.0.0.3", b"+0"],
+    },
+    Form {
+        head: 3,
+        good: &[b"call", b"0", b"abort", b"1"],
+        bad: &[b"c", b"65536", b"aborts", b"4294967296"],
+    },
+];
+
 /// Appends a word and the space before it, which the first word lacks.
 fn push_word(line: &mut Vec<u8>, word: &[u8]) -> Result<(), AllocError> {
     if !line.is_empty() {
@@ -258,11 +347,11 @@ fn unknown_or(other: LineFault, tells: bool) -> Option<LineFault> {
     }
 }
 
-// Each word as it is, left out, doubled, and exchanged for one that can't stand there.
-#[test]
-fn reads_each_word_of_each_form(rt: HostRuntime) -> Result<(), Fail> {
+/// Asserts of each word how it is read as it is, left out, doubled, and exchanged for one that
+/// can't stand there.
+fn reads_each_word(rt: &(impl Abort + AllocGlobal), forms: &[Form]) -> Result<(), Fail> {
     let alloc = rt.alloc();
-    for form in &FORMS {
+    for form in forms {
         for (index, (good, bad)) in form.good.iter().zip(form.bad).enumerate() {
             let keyword = index == 0 || index == 2 && form.head == 3;
             let whole = fault_of(alloc, form, index, good, 1)?;
@@ -279,4 +368,10 @@ fn reads_each_word_of_each_form(rt: HostRuntime) -> Result<(), Fail> {
         }
     }
     Ok(())
+}
+
+#[test]
+fn reads_each_word_of_each_form(rt: HostRuntime) -> Result<(), Fail> {
+    reads_each_word(&rt, &FORMS)?;
+    reads_each_word(&rt, &SESSION_FORMS)
 }

@@ -8,6 +8,7 @@
 //! scripts played.
 #![tactic(auto)]
 
+mod calls;
 mod fault;
 mod field;
 mod form;
@@ -18,11 +19,15 @@ mod output;
 mod play;
 mod port;
 mod print;
+mod print_message;
+mod print_words;
 mod read;
 mod read_message;
+mod read_session;
 mod script;
 mod words;
 
+pub use calls::{BytesCall, PlainCall};
 pub use fault::LineFault;
 pub use line::{LINE_MAX, Line, read_line};
 pub use names::line_fault_name;
@@ -35,6 +40,8 @@ pub use script::{ScriptFault, run_script};
 mod form_tests;
 #[cfg(test)]
 mod port_tests;
+#[cfg(test)]
+mod print_tests;
 #[cfg(test)]
 mod run_tests;
 #[cfg(test)]

@@ -1,20 +1,20 @@
 //! What one line of a script says.
 
 ghost use Rattle.std.specs.Prelude.{◌≡◌, map, option_map};
-ghost use Rattle.trdp_engine.specs.Events.{call_model, event_model};
+ghost use Rattle.trdp_engine.specs.Events.{event_model};
 ghost use Rattle.trdp_script.specs.FormNames.{line_form};
 ghost use Rattle.trdp_script.specs.Lines.{line_of, line_among, words_say, form_among};
 ghost use Rattle.trdp_script.specs.Lines.{is_skipped as skipped};
 ghost use Rattle.trdp_script.specs.Lines.{event_of, Reads};
 ghost use Rattle.trdp_script.specs.WordsLeft.{words_left};
 
+use crate::calls::{BytesCall, PlainCall};
 use crate::fault::LineFault;
 use crate::form::{FORMS, Form};
 use crate::words::Words;
 use std::alloc::Global;
 use trdp_base::{Place, Topo};
-use trdp_engine::{Call, Event, Protocol};
-use trdp_md::NotifyTerms;
+use trdp_engine::{Event, Protocol};
 
 /// The longest line, in bytes without its end (profile).
 pub const LINE_MAX: usize = 140_000;
@@ -40,22 +40,15 @@ pub enum Line {
         dst: Place,
         bytes: Vec<u8>,
     },
-    /// The application in the slot gives the publisher of that handle a new value.
-    Put {
-        slot: u16,
-        handle: u32,
-        bytes: Vec<u8>,
-    },
-    /// The application in the slot sends a notification with this payload.
-    Notify {
-        slot: u16,
-        terms: NotifyTerms,
-        payload: Vec<u8>,
-    },
-    /// The application in the slot makes another call, which carries no bytes.
+    /// The application in the slot makes a call that carries no bytes.
     Call {
         slot: u16,
-        call: Call<'static>,
+        call: PlainCall,
+    },
+    /// The application in the slot makes a call that carries bytes.
+    BytesCall {
+        slot: u16,
+        call: BytesCall,
     },
 }
 
@@ -83,54 +76,15 @@ impl Line {
                 dst: *dst,
                 bytes,
             }),
-            Line::Put {
-                slot,
-                handle,
-                bytes,
-            } => Some(Event::Call {
-                slot: *slot,
-                call: Call::Put {
-                    handle: *handle,
-                    bytes,
-                },
-            }),
-            Line::Notify {
-                slot,
-                terms,
-                payload,
-            } => Some(Event::Call {
-                slot: *slot,
-                call: Call::Notify {
-                    terms: *terms,
-                    payload,
-                },
-            }),
             Line::Call { slot, call } => Some(Event::Call {
                 slot: *slot,
-                call: same(call),
+                call: call.call(),
+            }),
+            Line::BytesCall { slot, call } => Some(Event::Call {
+                slot: *slot,
+                call: call.call(),
             }),
         }
-    }
-}
-
-/// The same call, from its parts: the borrow checker doesn't cover a copy of the whole, which names
-/// a lifetime and may hold a URI.
-fn same(call: &Call<'static>) -> Call<'static>
-    ensures { call_model result ≡ call_model call.now }
-{
-    match *call {
-        Call::Publish(terms) => Call::Publish(terms),
-        Call::Put { handle, bytes } => Call::Put { handle, bytes },
-        Call::Unpublish { handle } => Call::Unpublish { handle },
-        Call::Subscribe(terms) => Call::Subscribe(terms),
-        Call::Get { handle } => Call::Get { handle },
-        Call::Unsubscribe { handle } => Call::Unsubscribe { handle },
-        Call::OpenPull(terms) => Call::OpenPull(terms),
-        Call::Pull { handle } => Call::Pull { handle },
-        Call::ClosePull { handle } => Call::ClosePull { handle },
-        Call::Listen(filter) => Call::Listen(filter),
-        Call::Unlisten { handle } => Call::Unlisten { handle },
-        Call::Notify { terms, payload } => Call::Notify { terms, payload },
     }
 }
 

@@ -1,12 +1,14 @@
-//! The words that the program prints for faults, refusals and states.
+//! The words that the program prints for faults, refusals, states, reasons and message types.
 
 ghost use Rattle.std.specs.Prelude.{◌≡◌, ◌≤◌, length};
 ghost use Rattle.trdp_script.specs.RecordText.{name_of_fault, name_of_refusal, name_of_state};
-ghost use Rattle.trdp_script.specs.RecordText.{name_of_line_fault};
+ghost use Rattle.trdp_script.specs.RecordText.{name_of_line_fault, name_of_reason};
+ghost use Rattle.trdp_script.specs.RecordText.{letters_of_kind};
 
 use crate::fault::LineFault;
 use trdp_engine::{NodeFault, Refusal};
-use trdp_pd::ValueState;
+use trdp_head::MdKind;
+use trdp_pd::{Reason, ValueState};
 
 /// The word for a node's fault.
 pub(crate) fn fault_name(fault: NodeFault) -> &'static [u8]
@@ -54,6 +56,36 @@ pub(crate) fn state_name(state: ValueState) -> &'static [u8]
         ValueState::Never => b"Never",
         ValueState::Valid => b"Valid",
         ValueState::Silent => b"Silent",
+    }
+}
+
+/// The word for why a request or an answer is over.
+pub(crate) fn reason_name(reason: Reason) -> &'static [u8]
+    ensures word { result.now ≡ name_of_reason reason }
+    ensures length { length result.now ≤ 13 }
+{
+    match reason {
+        Reason::Done => b"Done",
+        Reason::NoReply => b"NoReply",
+        Reason::NotAllReplies => b"NotAllReplies",
+        Reason::NotConfirmed => b"NotConfirmed",
+        Reason::ReplyMissed => b"ReplyMissed",
+        Reason::NoConfirm => b"NoConfirm",
+    }
+}
+
+/// The two letters of a message type (IEC 61375-2-3).
+pub(crate) fn kind_letters(kind: MdKind) -> &'static [u8]
+    ensures letters { result.now ≡ letters_of_kind kind }
+    ensures length { length result.now ≡ 2 }
+{
+    match kind {
+        MdKind::Notify => b"Mn",
+        MdKind::Request => b"Mr",
+        MdKind::Reply => b"Mp",
+        MdKind::Query => b"Mq",
+        MdKind::Confirm => b"Mc",
+        MdKind::Error => b"Me",
     }
 }
 

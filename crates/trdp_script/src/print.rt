@@ -2,39 +2,26 @@
 
 ghost use Rattle.std.specs.Prelude.{◌≡◌, ◌≤◌, ◌+◌, ◌*◌, ◌++◌, length, OnOk, OnErr};
 ghost use Rattle.std.specs.Prelude.{codes, vec_len, vec_capacity};
-ghost use Rattle.trdp_base.specs.AddressText.{text_of_place};
-ghost use Rattle.trdp_base.specs.HexText.{text_of_hex};
-ghost use Rattle.trdp_base.specs.NumberText.{text_of_number};
-ghost use Rattle.trdp_base.specs.declared.number.TheConstants.{NUMBER_LENGTH};
-ghost use Rattle.trdp_base.specs.declared.address.TheConstants.{PLACE_LENGTH};
 ghost use Rattle.trdp_pd.specs.Peeks.{peek_model};
 ghost use Rattle.trdp_engine.specs.Records.{record_model, content_model, answer_model};
-ghost use Rattle.trdp_engine.specs.Records.{indication_model, message_model};
-ghost use Rattle.trdp_script.specs.declared.print.TheConstants.{CONTENT_ROOM, MESSAGE_ROOM};
-ghost use Rattle.trdp_script.specs.declared.print.TheConstants.{URI_ROOM};
+ghost use Rattle.trdp_engine.specs.Records.{indication_model};
+ghost use Rattle.trdp_script.specs.declared.print.TheConstants.{CONTENT_ROOM};
 ghost use Rattle.trdp_script.specs.RecordText.{text_of_peek, text_of_answer, text_of_indication};
 ghost use Rattle.trdp_script.specs.RecordText.{words_of_send, text_of_send, text_of_content};
 ghost use Rattle.trdp_script.specs.RecordText.{text_of_record, text_of_fault};
-ghost use Rattle.trdp_script.specs.RecordText.{text_of_message};
 ghost use Rattle.trdp_script.specs.RecordText.{bytes_of, answer_bytes, indication_bytes};
 
-use crate::names::{fault_name, refusal_name, state_name};
+use crate::names::{fault_name, reason_name, refusal_name, state_name};
+use crate::print_message::{ASKED_ROOM, put_asked, put_message, put_reply};
+use crate::print_words::{put_handle, put_hex, put_number, put_place, put_status, put_word};
 use std::alloc::AllocError;
-use trdp_base::{
-    NUMBER_LENGTH, PLACE_LENGTH, Place, URI_LIMIT, Uri, push_hex, push_number, push_place,
-};
-use trdp_engine::{Answer, Indication, Message, NodeFault, Protocol, Record, What};
+use trdp_base::{NUMBER_LENGTH, Place};
+use trdp_engine::{Answer, Indication, NodeFault, Protocol, Record, What};
 use trdp_pd::Peek;
 
-/// Enough bytes for the written form of a URI.
-const URI_ROOM: usize = 1 + 2 * URI_LIMIT;
-
-/// Enough bytes for a message, beside the digits of its payload.
-const MESSAGE_ROOM: usize = PLACE_LENGTH + NUMBER_LENGTH + 2 * URI_ROOM + 6;
-
-/// Enough bytes for what a record says, beside the digits of its bytes: the longest is a message
+/// Enough bytes for what a record says, beside the digits of its bytes: the longest is a request
 /// that came in.
-const CONTENT_ROOM: usize = 10 + NUMBER_LENGTH + MESSAGE_ROOM;
+const CONTENT_ROOM: usize = ASKED_ROOM;
 
 /// Enough bytes for a whole line, beside the digits of its bytes.
 const LINE_ROOM: usize = NUMBER_LENGTH + CONTENT_ROOM + 1;
@@ -82,9 +69,20 @@ fn bytes_in<'a>(what: &What<'a>) -> &'a [u8]
 {
     match what {
         What::Answer(Answer::Value(peek)) => peek.bytes,
-        What::Indication(Indication::Notified(_, message)) => message.payload,
-        What::Answer(_) | What::Indication(_) => &[],
+        What::Indication(indication) => payload_in(indication),
+        What::Answer(_) => &[],
         What::Send { telegram, .. } => telegram,
+    }
+}
+
+/// The payload that an indication shows; none of no message.
+fn payload_in<'a>(indication: &Indication<'a>) -> &'a [u8]
+    ensures { result.now ≡ indication_bytes (indication_model indication.now) }
+{
+    match indication {
+        Indication::Notified(_, message) | Indication::Asked { message, .. } => message.payload,
+        Indication::Replied(_, reply) => reply.payload,
+        _ => &[],
     }
 }
 
@@ -123,10 +121,7 @@ fn put_answer(text: &mut Vec<u8>, answer: Answer<'_>)
     ensures capacity { vec_capacity text.old ≤ vec_capacity text.new }
 {
     match answer {
-        Answer::Handle(handle) => {
-            put_word(text, b" handle ");
-            put_number(text, u64::from(handle));
-        }
+        Answer::Handle(handle) => put_handle(text, b" handle ", handle),
         Answer::Done => put_word(text, b" done"),
         Answer::Value(peek) => put_peek(text, peek),
         Answer::Refused(refusal) => {
@@ -169,43 +164,34 @@ fn put_indication(text: &mut Vec<u8>, indication: &Indication<'_>)
     ensures capacity { vec_capacity text.old ≤ vec_capacity text.new }
 {
     match indication {
-        Indication::Silent(handle) => {
-            put_word(text, b" silent ");
-            put_number(text, u64::from(*handle));
-        }
-        Indication::Alive(handle) => {
-            put_word(text, b" alive ");
-            put_number(text, u64::from(*handle));
-        }
+        Indication::Silent(handle) => put_handle(text, b" silent ", *handle),
+        Indication::Alive(handle) => put_handle(text, b" alive ", *handle),
         Indication::Notified(handle, message) => {
-            put_word(text, b" notified ");
-            put_number(text, u64::from(*handle));
+            put_handle(text, b" notified ", *handle);
             put_message(text, message);
         }
+        Indication::Asked {
+            listener,
+            replier,
+            session,
+            message,
+        } => put_asked(text, *listener, *replier, *session, message),
+        Indication::Overrun(handle) => put_handle(text, b" overrun ", *handle),
+        Indication::Replied(handle, reply) => {
+            put_handle(text, b" replied ", *handle);
+            put_reply(text, reply);
+        }
+        Indication::Confirmed(handle, status) => {
+            put_handle(text, b" confirmed ", *handle);
+            put_word(text, b" ");
+            put_status(text, *status);
+        }
+        Indication::Closed(handle, reason) => {
+            put_handle(text, b" closed ", *handle);
+            put_word(text, b" ");
+            put_word(text, reason_name(*reason));
+        }
     }
-}
-
-/// Appends a message that came in, with a space before it, to a list that has room for it.
-#[tactic(auto, unfolding(crate::specs::RecordText::text_of_message))]
-fn put_message(text: &mut Vec<u8>, message: &Message<'_>)
-    requires room { vec_len text.old + (MESSAGE_ROOM + 2 * length message.now.payload.now)
-        ≤ vec_capacity text.old }
-    ensures items { text.new.items ≡ text.old.items
-        ++ text_of_message (message_model message.now) }
-    ensures len { vec_len text.new
-        ≤ vec_len text.old + (MESSAGE_ROOM + 2 * length message.now.payload.now) }
-    ensures capacity { vec_capacity text.old ≤ vec_capacity text.new }
-{
-    put_word(text, b" ");
-    put_place(text, message.src);
-    put_word(text, b" ");
-    put_number(text, u64::from(message.com_id));
-    put_word(text, b" ");
-    put_uri(text, message.source_uri);
-    put_word(text, b" ");
-    put_uri(text, message.dest_uri);
-    put_word(text, b" ");
-    put_hex(text, message.payload);
 }
 
 /// Appends a telegram to be sent, with a space before it, to a list that has room for it.
@@ -233,55 +219,4 @@ fn send_words(protocol: Protocol) -> &'static [u8]
         Protocol::Pd => b" send pd ",
         Protocol::Md => b" send md ",
     }
-}
-
-/// Appends bytes to a list that has room for them.
-fn put_word(text: &mut Vec<u8>, word: &[u8])
-    requires room { vec_len text.old + length word.now ≤ vec_capacity text.old }
-    ensures items { text.new.items ≡ text.old.items ++ word.now }
-    ensures len { vec_len text.new ≡ vec_len text.old + length word.now }
-    ensures capacity { vec_capacity text.old ≤ vec_capacity text.new }
-{
-    text.extend_from_slice(word).unwrap();
-}
-
-/// Appends the written form of a number to a list that has room for the longest.
-fn put_number(text: &mut Vec<u8>, number: u64)
-    requires room { vec_len text.old + NUMBER_LENGTH ≤ vec_capacity text.old }
-    ensures items { text.new.items ≡ text.old.items ++ text_of_number number }
-    ensures len { vec_len text.new ≤ vec_len text.old + NUMBER_LENGTH }
-    ensures capacity { vec_capacity text.old ≤ vec_capacity text.new }
-{
-    push_number(text, number).unwrap();
-}
-
-/// Appends the written form of a place to a list that has room for the longest.
-fn put_place(text: &mut Vec<u8>, place: Place)
-    requires room { vec_len text.old + PLACE_LENGTH ≤ vec_capacity text.old }
-    ensures items { text.new.items ≡ text.old.items ++ text_of_place place }
-    ensures len { vec_len text.new ≤ vec_len text.old + PLACE_LENGTH }
-    ensures capacity { vec_capacity text.old ≤ vec_capacity text.new }
-{
-    push_place(text, place).unwrap();
-}
-
-/// Appends the written form of a URI to a list that has room for the longest.
-fn put_uri(text: &mut Vec<u8>, uri: Uri)
-    requires room { vec_len text.old + URI_ROOM ≤ vec_capacity text.old }
-    ensures items { text.new.items ≡ text.old.items ++ text_of_hex uri }
-    ensures len { vec_len text.new ≤ vec_len text.old + URI_ROOM }
-    ensures capacity { vec_capacity text.old ≤ vec_capacity text.new }
-{
-    put_hex(text, uri.bytes());
-}
-
-/// Appends the written form of bytes to a list that has room for it.
-#[tactic(auto, using(crate::proofs::TextLengths::hex_length))]
-fn put_hex(text: &mut Vec<u8>, bytes: &[u8])
-    requires room { vec_len text.old + (1 + 2 * length bytes.now) ≤ vec_capacity text.old }
-    ensures items { text.new.items ≡ text.old.items ++ text_of_hex bytes.now }
-    ensures len { vec_len text.new ≤ vec_len text.old + (1 + 2 * length bytes.now) }
-    ensures capacity { vec_capacity text.old ≤ vec_capacity text.new }
-{
-    push_hex(text, bytes).unwrap();
 }

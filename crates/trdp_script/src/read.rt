@@ -11,14 +11,18 @@ ghost use Rattle.trdp_script.specs.FormNames.{line_form};
 ghost use Rattle.trdp_script.specs.Lines.{event_of, event_or_fault, Reads};
 ghost use Rattle.trdp_script.specs.WordsLeft.{words_left};
 
+use crate::calls::{BytesCall, PlainCall};
 use crate::fault::LineFault;
 use crate::form::Form;
 use crate::line::Line;
 use crate::read_message::{read_listen, read_notify, read_unlisten};
+use crate::read_session::{
+    read_abort, read_confirm, read_query, read_reply, read_reply_error, read_request,
+};
 use crate::words::Words;
 use std::alloc::Global;
 use trdp_base::Topo;
-use trdp_engine::{Call, Protocol};
+use trdp_engine::Protocol;
 use trdp_filter::PdFilter;
 use trdp_pd::{Behaviour, PublisherTerms, RequesterTerms, SubscriptionTerms};
 
@@ -50,6 +54,12 @@ impl Form {
             Form::Listen => plain(read_listen(words)),
             Form::Unlisten => plain(read_unlisten(words)),
             Form::Notify => read_notify(alloc, words),
+            Form::Request => read_request(alloc, words),
+            Form::Reply => read_reply(alloc, words),
+            Form::Query => read_query(alloc, words),
+            Form::ReplyError => plain(read_reply_error(words)),
+            Form::Confirm => plain(read_confirm(words)),
+            Form::Abort => plain(read_abort(words)),
         }
     }
 }
@@ -125,7 +135,7 @@ fn read_publish(mut words: Words<'_>) -> Option<Line>
     };
     Some(Line::Call {
         slot,
-        call: Call::Publish(terms),
+        call: PlainCall::Publish(terms),
     })
 }
 
@@ -162,7 +172,7 @@ fn read_subscribe(mut words: Words<'_>) -> Option<Line>
     };
     Some(Line::Call {
         slot,
-        call: Call::Subscribe(terms),
+        call: PlainCall::Subscribe(terms),
     })
 }
 
@@ -201,7 +211,7 @@ fn read_open_pull(mut words: Words<'_>) -> Option<Line>
     };
     Some(Line::Call {
         slot,
-        call: Call::OpenPull(terms),
+        call: PlainCall::OpenPull(terms),
     })
 }
 
@@ -211,7 +221,7 @@ fn read_unpublish(words: Words<'_>) -> Option<Line>
         ≡ option_map Some (event_in unpublish_form (words_left words.entry)) }
 {
     let (slot, handle) = slot_and_handle(words)?;
-    let call = Call::Unpublish { handle };
+    let call = PlainCall::Unpublish { handle };
     Some(Line::Call { slot, call })
 }
 
@@ -221,7 +231,7 @@ fn read_get(words: Words<'_>) -> Option<Line>
         ≡ option_map Some (event_in get_form (words_left words.entry)) }
 {
     let (slot, handle) = slot_and_handle(words)?;
-    let call = Call::Get { handle };
+    let call = PlainCall::Get { handle };
     Some(Line::Call { slot, call })
 }
 
@@ -231,7 +241,7 @@ fn read_unsubscribe(words: Words<'_>) -> Option<Line>
         ≡ option_map Some (event_in unsubscribe_form (words_left words.entry)) }
 {
     let (slot, handle) = slot_and_handle(words)?;
-    let call = Call::Unsubscribe { handle };
+    let call = PlainCall::Unsubscribe { handle };
     Some(Line::Call { slot, call })
 }
 
@@ -241,7 +251,7 @@ fn read_pull(words: Words<'_>) -> Option<Line>
         ≡ option_map Some (event_in pull_form (words_left words.entry)) }
 {
     let (slot, handle) = slot_and_handle(words)?;
-    let call = Call::Pull { handle };
+    let call = PlainCall::Pull { handle };
     Some(Line::Call { slot, call })
 }
 
@@ -251,7 +261,7 @@ fn read_close_pull(words: Words<'_>) -> Option<Line>
         ≡ option_map Some (event_in close_pull_form (words_left words.entry)) }
 {
     let (slot, handle) = slot_and_handle(words)?;
-    let call = Call::ClosePull { handle };
+    let call = PlainCall::ClosePull { handle };
     Some(Line::Call { slot, call })
 }
 
@@ -279,10 +289,9 @@ fn read_put(alloc: Global, mut words: Words<'_>) -> Result<Line, LineFault>
     words.next_word();
     let handle = words.next_u32().ok_or(LineFault::BadWord)?;
     let bytes = words.next_bytes(alloc)?;
-    Ok(Line::Put {
+    Ok(Line::BytesCall {
         slot,
-        handle,
-        bytes,
+        call: BytesCall::Put { handle, bytes },
     })
 }
 

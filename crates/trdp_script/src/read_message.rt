@@ -1,17 +1,17 @@
-//! What the words of a call for message data say.
+//! What the words of a call for messages say that need no answer.
 
 ghost use Rattle.std.specs.Prelude.{◌≡◌, option_map};
 ghost use Rattle.trdp_script.specs.Forms.{event_in, listen_form, unlisten_form, notify_form};
 ghost use Rattle.trdp_script.specs.Lines.{event_of, event_or_fault, Reads};
 ghost use Rattle.trdp_script.specs.WordsLeft.{words_left};
 
+use crate::calls::{BytesCall, PlainCall};
 use crate::fault::LineFault;
 use crate::line::Line;
 use crate::read::slot_and_handle;
 use crate::words::Words;
 use std::alloc::Global;
 use trdp_base::Topo;
-use trdp_engine::Call;
 use trdp_filter::MdFilter;
 use trdp_md::NotifyTerms;
 
@@ -41,7 +41,7 @@ pub(crate) fn read_listen(mut words: Words<'_>) -> Option<Line>
     };
     Some(Line::Call {
         slot,
-        call: Call::Listen(filter),
+        call: PlainCall::Listen(filter),
     })
 }
 
@@ -51,7 +51,7 @@ pub(crate) fn read_unlisten(words: Words<'_>) -> Option<Line>
         ≡ option_map Some (event_in unlisten_form (words_left words.entry)) }
 {
     let (slot, handle) = slot_and_handle(words)?;
-    let call = Call::Unlisten { handle };
+    let call = PlainCall::Unlisten { handle };
     Some(Line::Call { slot, call })
 }
 
@@ -77,9 +77,8 @@ pub(crate) fn read_notify(alloc: Global, mut words: Words<'_>) -> Result<Line, L
         source_uri,
         dest_uri,
     };
-    Ok(Line::Notify {
+    Ok(Line::BytesCall {
         slot,
-        terms,
-        payload,
+        call: BytesCall::Notify { terms, payload },
     })
 }

@@ -8,7 +8,7 @@ struct Row {
     fault: Option<LineFault>,
 }
 
-static ROWS: [Row; 22] = [
+static ROWS: [Row; 26] = [
     Row {
         line: "",
         fault: None,
@@ -42,6 +42,22 @@ static ROWS: [Row; 22] = [
         line: "call 0 listen any 0.0.0.0 0.0.0.0 0.0.0.0 \
                616161616161616161616161616161616161616161616161616161616161616161 0 0",
         fault: Some(LineFault::BadWord),
+    },
+    Row {
+        line: "call 0 request 1 urn:uuid:00000000-0000-0000-0000-00000000000A 9 0 - - 0 0 0.0.0.0:0 -",
+        fault: None,
+    },
+    Row {
+        line: "call 0 request 1 {00000000-0000-0000-0000-00000000000a 9 0 - - 0 0 0.0.0.0:0 -",
+        fault: Some(LineFault::BadWord),
+    },
+    Row {
+        line: "call 0 replyerror 1 302 -0",
+        fault: Some(LineFault::BadWord),
+    },
+    Row {
+        line: "call 0 confirm 1 10.0.0.3:17225 - 0",
+        fault: Some(LineFault::Count),
     },
     Row {
         line: "moment",
