@@ -4,7 +4,7 @@
     client.py ADDRESS PORT SECONDS LINE..
     client.py 127.0.0.1 18000 0.5 'publish 2101 0 100000 0 0 0 127.0.0.2:17224' 'put 1 0400'
 
-The node tells an application's indications (silent, alive) to where its latest line came from, so one that follows a value
+The node tells an application's indications (silent, asked ..) to where its latest line came from, so one that follows a value
 keeps one socket open, as this one does for SECONDS. A line that is empty or begins with # has no answer, but has the
 indications come here. The exit status is 0 where something came back, 1 where nothing did, 2 for other words.
 """

@@ -3,9 +3,10 @@
 use std::alloc::Global;
 use std::process::Abort;
 use std::test::Fail;
+use trdp_base::Place;
 use trdp_dataset::NodeConfig;
-use trdp_engine::{Node, Outbox};
-use trdp_script::{print_record, read_line};
+use trdp_engine::{Node, Outbox, Protocol, What};
+use trdp_script::{Line, print_record, read_line};
 
 /// A node, with the records that it has given.
 #[derive(Drop)]
@@ -40,6 +41,34 @@ impl Bench {
         }
         bench.out.clear();
         Ok(bench)
+    }
+
+    /// Hands the telegram that the record of that index is to the node itself, as from a place of
+    /// its own, and answers its length.
+    pub fn loop_back(
+        &mut self,
+        alloc: Global,
+        index: usize,
+        protocol: Protocol,
+        place: Place,
+    ) -> Result<usize, Fail> {
+        let mut bytes = Vec::new(alloc);
+        if let Some(record) = self.out.get(index) {
+            if let What::Send { telegram, .. } = record.what {
+                bytes.extend_from_slice(telegram)?;
+            }
+        }
+        let len = bytes.len();
+        let line = Line::Datagram {
+            protocol,
+            src: place,
+            dst: place,
+            bytes,
+        };
+        if let Some(event) = line.event() {
+            self.node.step(&event, &mut self.out)?;
+        }
+        Ok(len)
     }
 
     /// The records of the outbox as lines.

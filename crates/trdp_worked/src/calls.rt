@@ -1,6 +1,6 @@
 //! What is refused, and what a refusal leaves alone.
 
-use crate::play::{Row, play_all};
+use crate::play::{Row, play_all, play_all_on};
 use std::test::Fail;
 
 static ROWS: [Row; 7] = [
@@ -86,7 +86,9 @@ static ROWS: [Row; 7] = [
             call 0 get 2\n\
             call 0 closepull 3\n\
             call 0 unpublish 1\n\
-            call 0 put 1 -\n",
+            call 0 put 1 -\n\
+            call 0 unsubscribe 2\n\
+            call 0 closepull 3\n",
         output: "\
             0 handle 1\n\
             0 handle 2\n\
@@ -102,6 +104,8 @@ static ROWS: [Row; 7] = [
             0 refused NoHandle\n\
             0 done\n\
             0 done\n\
+            0 refused NoHandle\n\
+            0 refused NoHandle\n\
             0 refused NoHandle\n",
     },
     Row {
@@ -188,4 +192,54 @@ static ROWS: [Row; 7] = [
 #[test]
 fn calls_as_scripts(rt: HostRuntime) -> Result<(), Fail> {
     play_all(&rt, &ROWS)
+}
+
+/// A slot with one publisher and one subscription; a dataset that is as long as process data may be,
+/// and one that is longer.
+static LONG_DATASETS: &[u8] = b"\
+[node]
+address = \"10.0.0.1\"
+[[slot]]
+publishers = 1
+subscriptions = 1
+[[dataset]]
+id = 2001
+element = [{ type = \"UINT8\", size = 1432 }]
+[[dataset]]
+id = 2002
+element = [{ type = \"UINT8\", size = 1433 }]
+";
+
+static TOO_LONG: [Row; 2] = [
+    Row {
+        name: "a publisher's dataset may be as long as process data",
+        script: "\
+            call 0 publish 100 2002 0 0 0 0 10.0.0.2:17224\n\
+            call 0 publish 100 2001 0 0 0 0 10.0.0.2:17224\n\
+            call 0 publish 100 2002 0 0 0 0 10.0.0.2:17224\n\
+            call 0 publish 100 2001 0 0 0 0 10.0.0.2:17224\n",
+        output: "\
+            0 refused TooLong\n\
+            0 handle 1\n\
+            0 refused TooLong\n\
+            0 refused Quota\n",
+    },
+    Row {
+        name: "a subscription's dataset may be as long as process data",
+        script: "\
+            call 0 subscribe 100 2002 0.0.0.0 0.0.0.0 0.0.0.0 0 0 0 zero\n\
+            call 0 subscribe 100 2001 0.0.0.0 0.0.0.0 0.0.0.0 0 0 0 zero\n\
+            call 0 subscribe 100 2002 0.0.0.0 0.0.0.0 0.0.0.0 0 0 0 zero\n\
+            call 0 subscribe 100 2001 0.0.0.0 0.0.0.0 0.0.0.0 0 0 0 zero\n",
+        output: "\
+            0 refused TooLong\n\
+            0 handle 1\n\
+            0 refused TooLong\n\
+            0 refused Quota\n",
+    },
+];
+
+#[test]
+fn datasets_that_are_too_long(rt: HostRuntime) -> Result<(), Fail> {
+    play_all_on(&rt, LONG_DATASETS, &TOO_LONG)
 }

@@ -8,7 +8,7 @@ use std::test::Fail;
 use trdp_base::{Ip, Place};
 use trdp_engine::{Answer, NodeFault, PeekFault, Protocol, Record, ValueFault, What};
 use trdp_marshal::Item;
-use trdp_script::{Line, print_record};
+use trdp_script::print_record;
 
 /// The item of n numbers of 1 to 250.
 fn numbers(alloc: Global, n: u16) -> Result<Item, Fail> {
@@ -323,34 +323,13 @@ const HERE: Place = Place {
     port: 17224,
 };
 
-/// Hands the telegram that the first record is to the node itself, and answers its length.
-fn loop_back(bench: &mut Bench, alloc: Global) -> Result<usize, Fail> {
-    let mut bytes = Vec::new(alloc);
-    if let Some(record) = bench.out.get(0) {
-        if let What::Send { telegram, .. } = record.what {
-            bytes.extend_from_slice(telegram)?;
-        }
-    }
-    let len = bytes.len();
-    let line = Line::Datagram {
-        protocol: Protocol::Pd,
-        src: HERE,
-        dst: HERE,
-        bytes,
-    };
-    if let Some(event) = line.event() {
-        bench.node.step(&event, &mut bench.out)?;
-    }
-    Ok(len)
-}
-
 #[test]
 fn an_item_of_1432_bytes_goes_out_and_comes_in(rt: HostRuntime) -> Result<(), Fail> {
     let alloc = rt.alloc();
     let mut bench = Bench::after(alloc, LARGE, &PAIR)?;
     put_each(&rt, &mut bench, &LARGEST)?;
     bench.take(alloc, PULL)?;
-    assert_eq!(rt; loop_back(&mut bench, alloc)?, 1472);
+    assert_eq!(rt; bench.loop_back(alloc, 0, Protocol::Pd, HERE)?, 1472);
     assert!(rt; shows_item(&bench, alloc, 2, 1430)?);
     Ok(())
 }

@@ -2,24 +2,33 @@
 //! CRC-32, and answers by the rules of the profile, computed by hand.
 //!
 //! Nearly all of them are scripts with the text that they give. In a script a remark before a
-//! datagram says in short what telegram the digits are: its type, its counter (c), its comId (com),
-//! its topology counts (etb, op), the comId and the address for a reply (rcom, rip), its URIs (src,
-//! dst), and behind the bar the payload; what isn't named is 0 or empty. Where the telegram isn't as
-//! it should be, it also says how: another version (v) or length (n), a wrong frame check (bad), no
-//! zeros behind the payload (nopad), or so many bytes alone (cut). What a script can't say stands in
-//! `items` and `node`.
+//! datagram says in short what telegram the digits are: its type, its counter (c) or its session
+//! (s), its comId (com), its topology counts (etb, op), the comId and the address for a reply
+//! (rcom, rip), its status (st), the time for a reply (t), its URIs (src, dst), and behind the bar
+//! the payload; what isn't named is 0 or empty. Where the telegram isn't as it should be, it also
+//! says how: another version (v) or length (n), a wrong frame check (bad), no zeros behind the
+//! payload (nopad), or so many bytes alone (cut). What a script can't say stands in `items`, `node`
+//! and `limits`.
 #![tactic(auto)]
 
 #[cfg(test)]
 mod bench;
 #[cfg(test)]
+mod callers;
+#[cfg(test)]
 mod calls;
 #[cfg(test)]
+mod confirmations;
+#[cfg(test)]
 mod items;
+#[cfg(test)]
+mod limits;
 #[cfg(test)]
 mod lines;
 #[cfg(test)]
 mod long_lines;
+#[cfg(test)]
+mod message_calls;
 #[cfg(test)]
 mod messages;
 #[cfg(test)]
@@ -30,6 +39,8 @@ mod play;
 mod publishers;
 #[cfg(test)]
 mod pulls;
+#[cfg(test)]
+mod repliers;
 #[cfg(test)]
 mod slots;
 #[cfg(test)]

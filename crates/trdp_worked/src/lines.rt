@@ -107,7 +107,7 @@ static READ: [Read; 8] = [
     },
     Read {
         line: "call 0 request",
-        is_event: Err(LineFault::Unknown),
+        is_event: Err(LineFault::Count),
     },
 ];
 

@@ -22,7 +22,7 @@ struct Long {
     ending: Result<(), ScriptFault>,
 }
 
-static LONG: [Long; 12] = [
+static LONG: [Long; 17] = [
     Long {
         name: "a value of 1432 bytes is sent",
         script: Text {
@@ -178,7 +178,7 @@ static LONG: [Long; 12] = [
         ending: Ok(()),
     },
     Long {
-        name: "a longer one is refused",
+        name: "a longer notification is refused",
         script: Text {
             before: "call 0 notify 300 - - 0 0 10.0.0.2:17225 ",
             repeated: "5a",
@@ -187,6 +187,120 @@ static LONG: [Long; 12] = [
         },
         output: Text {
             before: "0 refused TooLong\n",
+            repeated: "",
+            times: 0,
+            after: "",
+        },
+        ending: Ok(()),
+    },
+    Long {
+        name: "a request of 65388 bytes is sent",
+        script: Text {
+            before: "\
+                call 0 request 300 00000000-0000-0000-0000-000000000001 1 1000 - - 0 0 \
+                10.0.0.2:17225 ",
+            repeated: "5a",
+            times: 65388,
+            after: "\n",
+        },
+        output: Text {
+            before: "\
+                0 handle 1\n\
+                0 send md 10.0.0.2:17225 \
+                0000000001004d720000012c00000000000000000000ff6c00000000000000000000000000000000\
+                00000001000003e80000000000000000000000000000000000000000000000000000000000000000\
+                0000000000000000000000000000000000000000000000000000000000000000393c4e09",
+            repeated: "5a",
+            times: 65388,
+            after: "\n",
+        },
+        ending: Ok(()),
+    },
+    Long {
+        name: "a longer request is refused",
+        script: Text {
+            before: "\
+                call 0 request 300 00000000-0000-0000-0000-000000000001 1 1000 - - 0 0 \
+                10.0.0.2:17225 ",
+            repeated: "5a",
+            times: 65389,
+            after: "\n",
+        },
+        output: Text {
+            before: "0 refused TooLong\n",
+            repeated: "",
+            times: 0,
+            after: "",
+        },
+        ending: Ok(()),
+    },
+    Long {
+        name: "a request of 65388 bytes is heard",
+        script: Text {
+            before: "\
+                call 0 listen 300 0.0.0.0 0.0.0.0 0.0.0.0 - 0 0\n\
+                md 10.0.0.2:17225 10.0.0.1:17225 \
+                0000000001004d720000012c00000000000000000000ff6c00000000000000000000000000000000\
+                00000001000000000000000000000000000000000000000000000000000000000000000000000000\
+                0000000000000000000000000000000000000000000000000000000000000000eb500337",
+            repeated: "5a",
+            times: 65388,
+            after: "\n",
+        },
+        output: Text {
+            before: "\
+                0 handle 1\n\
+                0 asked 1 2 00000000-0000-0000-0000-000000000001 10.0.0.2:17225 300 - - ",
+            repeated: "5a",
+            times: 65388,
+            after: "\n",
+        },
+        ending: Ok(()),
+    },
+    Long {
+        name: "a reply of 65389 bytes is refused",
+        script: Text {
+            before: "\
+                call 0 listen 300 0.0.0.0 0.0.0.0 0.0.0.0 - 0 0\n\
+                md 10.0.0.2:17225 10.0.0.1:17225 \
+                0000000001004d720000012c00000000000000000000000100000000000000000000000000000000\
+                00000001000f42400000000000000000000000000000000000000000000000000000000000000000\
+                00000000000000000000000000000000000000000000000000000000000000002e7f5d0e0d000000\n\
+                call 0 reply 2 301 0 ",
+            repeated: "5a",
+            times: 65389,
+            after: "\n",
+        },
+        output: Text {
+            before: "\
+                0 handle 1\n\
+                0 asked 1 2 00000000-0000-0000-0000-000000000001 10.0.0.2:17225 300 - - 0d\n\
+                0 refused TooLong\n",
+            repeated: "",
+            times: 0,
+            after: "",
+        },
+        ending: Ok(()),
+    },
+    Long {
+        name: "a query of 65389 bytes is refused",
+        script: Text {
+            before: "\
+                call 0 listen 300 0.0.0.0 0.0.0.0 0.0.0.0 - 0 0\n\
+                md 10.0.0.2:17225 10.0.0.1:17225 \
+                0000000001004d720000012c00000000000000000000000100000000000000000000000000000000\
+                00000001000f42400000000000000000000000000000000000000000000000000000000000000000\
+                00000000000000000000000000000000000000000000000000000000000000002e7f5d0e0d000000\n\
+                call 0 query 2 301 0 1000 ",
+            repeated: "5a",
+            times: 65389,
+            after: "\n",
+        },
+        output: Text {
+            before: "\
+                0 handle 1\n\
+                0 asked 1 2 00000000-0000-0000-0000-000000000001 10.0.0.2:17225 300 - - 0d\n\
+                0 refused TooLong\n",
             repeated: "",
             times: 0,
             after: "",

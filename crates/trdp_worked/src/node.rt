@@ -1,11 +1,9 @@
-//! The node's calls that no line makes, and a node at every limit.
+//! The node's calls that no line makes.
 
 use crate::bench::Bench;
 use crate::play::CONFIG;
-use std::alloc::Global;
-use std::process::Abort;
 use std::test::Fail;
-use trdp_base::{Ip, Place, Topo, push_number};
+use trdp_base::{Ip, Place, Topo};
 use trdp_engine::{Call, Event, run_both, same_view, view_drops_nothing};
 use trdp_pd::PublisherTerms;
 
@@ -136,122 +134,4 @@ fn two_nodes_run_alike(rt: HostRuntime) -> Result<(), Fail> {
     view_drops_nothing();
     first.tells(&rt, FIRST_TELEGRAM)?;
     second.tells(&rt, OTHER_TELEGRAM)
-}
-
-static SLOT: &[u8] = b"\
-[[slot]]
-publishers = 256
-subscriptions = 256
-requesters = 256
-listeners = 256
-callers = 256
-repliers = 256
-";
-
-/// Appends a dataset of 256 bytes.
-fn push_dataset(text: &mut Vec<u8>, id: u64) -> Result<(), Fail> {
-    text.extend_from_slice(b"[[dataset]]\nid = ")?;
-    push_number(text, id)?;
-    text.extend_from_slice(b"\nelement = [")?;
-    for _ in 0..256 {
-        text.extend_from_slice(b"{ type = 8 }, ")?;
-    }
-    text.extend_from_slice(b"]\n")?;
-    Ok(())
-}
-
-/// A configuration of 16 slots with quotas of 256, and 256 datasets of 256 elements.
-fn largest(alloc: Global) -> Result<Vec<u8>, Fail> {
-    let mut text = Vec::new(alloc);
-    text.extend_from_slice(b"[node]\naddress = \"10.0.0.1\"\n")?;
-    for _ in 0..16 {
-        text.extend_from_slice(SLOT)?;
-    }
-    for id in 1000..1256 {
-        push_dataset(&mut text, id)?;
-    }
-    Ok(text)
-}
-
-/// What is opened 256 times, with the last answer to it.
-struct Opening {
-    line: &'static str,
-    last: &'static str,
-}
-
-static OPENINGS: [Opening; 4] = [
-    Opening {
-        line: "call 0 publish 100 0 1000 0 0 0 10.0.0.2:17224",
-        last: "0 handle 256\n",
-    },
-    Opening {
-        line: "call 0 subscribe 100 1255 0.0.0.0 0.0.0.0 0.0.0.0 0 0 1000 zero",
-        last: "0 handle 512\n",
-    },
-    Opening {
-        line: "call 0 openpull 100 0 0.0.0.0 0 0 10.0.0.2:17224",
-        last: "0 handle 768\n",
-    },
-    Opening {
-        line: "call 0 listen any 0.0.0.0 0.0.0.0 0.0.0.0 - 0 0",
-        last: "0 handle 1024\n",
-    },
-];
-
-/// Takes a line so many times, and drops what it gives but for the last time.
-fn repeat(bench: &mut Bench, alloc: Global, line: &str, times: u32) -> Result<(), Fail> {
-    for _ in 0..times {
-        bench.out.clear();
-        bench.take(alloc, line)?;
-    }
-    Ok(())
-}
-
-/// The longest value.
-static LONGEST: [u8; 1432] = [0x5a; 1432];
-
-/// Gives a publisher the longest value.
-fn put_longest(bench: &mut Bench, handle: u32) -> Result<(), Fail> {
-    let bytes = &LONGEST;
-    let call = Call::Put { handle, bytes };
-    let event = Event::Call { slot: 0, call };
-    bench.node.step(&event, &mut bench.out)?;
-    Ok(())
-}
-
-/// Opens what a line opens 256 times, and is then refused one more.
-fn open_all(
-    rt: &(impl Abort + AllocGlobal),
-    bench: &mut Bench,
-    line: &'static str,
-    last: &'static str,
-) -> Result<(), Fail> {
-    repeat(bench, rt.alloc(), line, 256)?;
-    bench.tells(rt, last)?;
-    bench.take(rt.alloc(), line)?;
-    bench.tells(rt, "0 refused Quota\n")
-}
-
-/// A node with 256 objects of each kind, each publisher with a value of 1,432 bytes.
-fn full(rt: &(impl Abort + AllocGlobal)) -> Result<Bench, Fail> {
-    let text = largest(rt.alloc())?;
-    let mut bench = Bench::new(rt.alloc(), &text)?;
-    for opening in &OPENINGS {
-        open_all(rt, &mut bench, opening.line, opening.last)?;
-    }
-    for handle in 1..=256 {
-        put_longest(&mut bench, handle)?;
-    }
-    Ok(bench)
-}
-
-#[test]
-fn a_node_at_every_limit(rt: HostRuntime) -> Result<(), Fail> {
-    let mut bench = full(&rt)?;
-    assert_eq!(rt; bench.out.len(), 256);
-    bench.out.clear();
-    // Each publisher sends, and each subscription is silent.
-    bench.take(rt.alloc(), "moment 1000")?;
-    assert_eq!(rt; bench.out.len(), 512);
-    Ok(())
 }

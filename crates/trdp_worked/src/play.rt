@@ -6,8 +6,9 @@ use std::test::Fail;
 use trdp_dataset::NodeConfig;
 use trdp_script::{ScriptFault, run_script};
 
-/// Two slots, each of four publishers, four subscriptions and one requester. Two datasets: a count
-/// and so many 16-bit numbers; a signed number, a time of 48 bits and a value of the first one.
+/// Two slots, each of four publishers, four subscriptions, one requester, two listeners, two
+/// callers and one replier. Two datasets: a count and so many 16-bit numbers; a signed number, a
+/// time of 48 bits and a value of the first one.
 pub static CONFIG: &[u8] = b"\
 [node]
 address = \"10.0.0.1\"
@@ -49,21 +50,35 @@ pub struct Played {
     pub ending: Result<(), ScriptFault>,
 }
 
-/// Plays a script on a new node.
-pub fn play(alloc: Global, script: &[u8]) -> Result<Played, Fail> {
-    let config = NodeConfig::from_toml(alloc, CONFIG)?;
+/// Plays a script on a new node of that configuration.
+fn play_on(alloc: Global, config: &[u8], script: &[u8]) -> Result<Played, Fail> {
+    let config = NodeConfig::from_toml(alloc, config)?;
     let mut reader = script;
     let mut output = Vec::new(alloc);
     let ending = run_script(alloc, config, &mut reader, &mut output);
     Ok(Played { output, ending })
 }
 
-/// Plays each of the scripts on a node of its own.
-pub fn play_all(rt: &(impl Abort + AllocGlobal), rows: &[Row]) -> Result<(), Fail> {
+/// Plays a script on a new node.
+pub fn play(alloc: Global, script: &[u8]) -> Result<Played, Fail> {
+    play_on(alloc, CONFIG, script)
+}
+
+/// Plays each of the scripts on a node of its own, of that configuration.
+pub fn play_all_on(
+    rt: &(impl Abort + AllocGlobal),
+    config: &[u8],
+    rows: &[Row],
+) -> Result<(), Fail> {
     for row in rows {
-        let played = play(rt.alloc(), row.script.as_bytes())?;
+        let played = play_on(rt.alloc(), config, row.script.as_bytes())?;
         assert_eq!(rt; str::from_utf8(&played.output)?, row.output, "{}", row.name);
         assert_eq!(rt; played.ending, Ok(()), "{}", row.name);
     }
     Ok(())
+}
+
+/// Plays each of the scripts on a node of its own.
+pub fn play_all(rt: &(impl Abort + AllocGlobal), rows: &[Row]) -> Result<(), Fail> {
+    play_all_on(rt, CONFIG, rows)
 }

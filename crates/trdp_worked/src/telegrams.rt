@@ -73,7 +73,7 @@ static ROWS: [Row; 4] = [
             0 value Valid 11 0c0d\n",
     },
     Row {
-        name: "message data isn't served yet",
+        name: "process data is no telegram at the port of message data",
         script: "\
             call 0 subscribe 100 0 0.0.0.0 0.0.0.0 0.0.0.0 0 0 0 keep\n\
             md 10.0.0.2:17225 10.0.0.1:17225 -\n\

@@ -29,6 +29,58 @@ subscriptions = 1
 control_port = 18911
 ";
 
+/// A device that asks.
+const CALLER: &[u8] = b"
+[node]
+address = \"127.0.0.1\"
+pd_port = 17944
+md_port = 17945
+[[slot]]
+callers = 1
+control_port = 18920
+";
+
+/// A device that is asked.
+const REPLIER: &[u8] = b"
+[node]
+address = \"127.0.0.2\"
+pd_port = 17944
+md_port = 17945
+[[slot]]
+listeners = 1
+repliers = 1
+control_port = 18921
+";
+
+/// What an application says, the one that asks (true) or the one that is asked, and what it hears
+/// then. A remark says nothing.
+type Step = (bool, &'static [u8], &'static [u8]);
+
+/// A request that is answered by a query, and the query's confirmation. Each may take a minute.
+static EXCHANGE: [Step; 8] = [
+    (
+        false,
+        b"listen 300 127.0.0.1 127.0.0.1 0.0.0.0 - 0 0",
+        b"0 handle 1\n",
+    ),
+    (
+        true,
+        b"request 300 00000000-0000-0000-0000-000000000001 1 60000000 61 62 0 0 \
+        127.0.0.2:17945 0d",
+        b"0 handle 1\n",
+    ),
+    (
+        false,
+        b"#",
+        b"0 asked 1 2 00000000-0000-0000-0000-000000000001 127.0.0.1:17945 300 61 62 0d\n",
+    ),
+    (false, b"query 2 301 0 60000000 0c", b"0 done\n"),
+    (true, b"#", b"0 replied 1 127.0.0.2:17945 Mq 0 301 0c\n"),
+    (true, b"confirm 1 127.0.0.2:17945 0", b"0 done\n"),
+    (true, b"#", b"0 closed 1 Done\n"),
+    (false, b"#", b"0 confirmed 2 0\n"),
+];
+
 /// A device that no other one is there for.
 const ALONE: &[u8] = b"
 [node]
@@ -105,7 +157,7 @@ fn answers<C: Clock>(
     line: &[u8],
     answer: &[u8],
 ) -> io::Result<()> {
-    let mut room = [0; 64];
+    let mut room = [0; 128];
     application.send(line)?;
     let text = hear(daemons, application, PATIENCE, &mut room)?;
     assert_eq!(rt; text, answer);
@@ -169,5 +221,17 @@ fn a_device_shows_what_another_one_publishes(rt: HostRuntime) -> Result<(), Fail
     shows_value(&rt, &mut daemons, &second)?;
     answers(&rt, &mut daemons, &first, b"unpublish 1", b"0 done\n")?;
     falls_silent(&rt, &mut daemons, &second)?;
+    Ok(())
+}
+
+#[test]
+fn a_query_answers_a_request_and_is_confirmed(rt: HostRuntime) -> Result<(), Fail> {
+    let mut daemons = [daemon(&rt, CALLER)?, daemon(&rt, REPLIER)?];
+    let first = application(&rt, 0x7f00_0001, 18920)?;
+    let second = application(&rt, 0x7f00_0002, 18921)?;
+    for (asks, line, heard) in EXCHANGE {
+        let application = if asks { &first } else { &second };
+        answers(&rt, &mut daemons, application, line, heard)?;
+    }
     Ok(())
 }
