@@ -10,41 +10,54 @@ use trdp_filter::MdFilter;
 use trdp_md::{CallerTerms, NotifyTerms};
 use trdp_pd::{PublisherTerms, RequesterTerms, SubscriptionTerms};
 
-/// A call that carries no bytes. Each does what the [`Call`] of its name does.
+/// A call that carries no bytes: each is the [`Call`] of its name.
 #[derive(Clone, Copy, Debug)]
 pub enum PlainCall {
+    /// Makes a publisher.
     Publish(PublisherTerms),
+    /// Ends the publisher of that handle.
     Unpublish {
         handle: u32,
     },
+    /// Makes a subscription.
     Subscribe(SubscriptionTerms),
+    /// Answers what the subscription of that handle shows.
     Get {
         handle: u32,
     },
+    /// Ends the subscription of that handle.
     Unsubscribe {
         handle: u32,
     },
+    /// Makes a requester.
     OpenPull(RequesterTerms),
+    /// Lets the requester of that handle send one pull request.
     Pull {
         handle: u32,
     },
+    /// Ends the requester of that handle.
     ClosePull {
         handle: u32,
     },
+    /// Makes a listener.
     Listen(MdFilter),
+    /// Ends the listener of that handle.
     Unlisten {
         handle: u32,
     },
+    /// Lets the replier of that handle send an error.
     ReplyError {
         handle: u32,
         com_id: u32,
         status: i32,
     },
+    /// Lets the caller of that handle confirm the query of that place.
     Confirm {
         handle: u32,
         place: Place,
         status: i32,
     },
+    /// Ends the caller or replier of that handle.
     Abort {
         handle: u32,
     },
@@ -89,27 +102,32 @@ impl PlainCall {
     }
 }
 
-/// A call that carries bytes. Each does what the [`Call`] of its name does.
+/// A call that carries bytes: each is the [`Call`] of its name.
 #[derive(Debug, Drop)]
 pub enum BytesCall {
+    /// Gives the publisher of that handle a new value.
     Put {
         handle: u32,
         bytes: Vec<u8>,
     },
+    /// Sends one notification.
     Notify {
         terms: NotifyTerms,
         payload: Vec<u8>,
     },
+    /// Makes a caller, which sends its request.
     Request {
         terms: CallerTerms,
         payload: Vec<u8>,
     },
+    /// Lets the replier of that handle send its reply.
     Reply {
         handle: u32,
         com_id: u32,
         status: i32,
         payload: Vec<u8>,
     },
+    /// Lets the replier of that handle send a reply that is to be confirmed.
     Query {
         handle: u32,
         com_id: u32,
@@ -120,7 +138,7 @@ pub enum BytesCall {
 }
 
 impl BytesCall {
-    /// The call, with these bytes.
+    /// The call, which borrows the bytes.
     pub fn call(&self) -> Call<'_>
         ensures { call_model result ≡ bytes_call_of self.now }
     {

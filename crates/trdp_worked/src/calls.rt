@@ -194,8 +194,8 @@ fn calls_as_scripts(rt: HostRuntime) -> Result<(), Fail> {
     play_all(&rt, &ROWS)
 }
 
-/// A slot with one publisher and one subscription; a dataset that is as long as process data may be,
-/// and one that is longer.
+/// A slot with one publisher and one subscription; a dataset that is as long as process data may
+/// be, and one that is longer.
 static LONG_DATASETS: &[u8] = b"\
 [node]
 address = \"10.0.0.1\"
