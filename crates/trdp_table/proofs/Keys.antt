@@ -1,76 +1,61 @@
--- A key is that of one object: its slot and its handle tell it from all others.
-use Rattle.std.proofs.Common.{◌≡◌, ◌≢◌, ℕ, zero, suc, ◌+◌, ◌*◌, ◌<◌, List, [], ◌∷◌, ◌++◌, map, set, Option, Some, None, Bool, true, false, refl, ◌∙◌, sym, ap, subst, arith}
-use Rattle.std.specs.Prelude.{slice_get, ◌==◌}
+-- A key is that of one object: the pool holds under it the slot and the handle that name it.
+use Rattle.std.proofs.Common.{◌≡◌, ◌≢◌, ℕ, zero, suc, ◌+◌, ◌<◌, ◌≤◌, List, [], ◌∷◌, ◌++◌, map, set, Option, Some, None, Bool, true, false, refl, ◌∙◌, sym, ap, subst, arith}
+use Rattle.std.specs.Prelude.{◌==◌}
 use Rattle.std.specs.Option.{option_or}
 use Rattle.std.specs.List.{IsDistinct, AllByRecursion}
-use Rattle.std.proofs.lemmas.Option.{same_Some, none-some}
+use Rattle.std.proofs.lemmas.Option.{none-some}
 use Rattle.std.proofs.lemmas.Bool.Decides.{nat_tests}
 use Rattle.std.proofs.lemmas.List.Folds.{find-append}
 use Rattle.trdp_table.specs.declared.any_object.AnyObject.{AnyObject}
-use Rattle.trdp_table.specs.Tables.{Keyed, SlotTable, slot_in, all_objects, by_handle, by_key, other_by_key, with_other_by_key, other_by_handle, with_other_by_handle}
-use Rattle.trdp_table.specs.TableLaws.{AllAbove, AllBelow, IsRising}
-use Rattle.trdp_table.specs.TableKept.{AllKeyed}
-use Rattle.trdp_table.specs.Lending.{with_other, objects_with, slot_with_at}
-use Rattle.trdp_table.proofs.Slots.{above_get}
+use Rattle.trdp_table.specs.declared.entry.Entry.{Entry}
+use Rattle.trdp_table.specs.Tables.{Keyed, slot_in, all_objects, by_handle, by_key, other_by_key, with_other_by_key, other_by_handle, with_other_by_handle}
+use Rattle.trdp_table.specs.Entries.{SlotEntries, entries_in, AreAbove, AreRising}
+use Rattle.trdp_table.specs.Pools.{PoolState, owner_in}
+use Rattle.trdp_table.specs.TableKept.{keyed_of, table_seen}
+use Rattle.trdp_table.proofs.Seen.{objects_seen, AllOwned, AllApart, owned_by, same_owner, apart_unowned}
 
--- the slots from number b on are keyed
-abbrev pub AllKeyedFrom : ℕ → List SlotTable → Type 0
-AllKeyedFrom b [] = Unit {0}
-AllKeyedFrom b (slot ∷ slots) = AllKeyed b slot.objects × AllKeyedFrom (suc b) slots
+-- no two keys have one owner
+abbrev pub AreAlone : PoolState → Type 0
+AreAlone pool = (a b s h : ℕ) → owner_in pool a ≡ Some (s, h) → owner_in pool b ≡ Some (s, h) → a ≡ b
 
-pub keyed_from : (b : ℕ) (slots : List SlotTable) → ((s : ℕ) → AllKeyed (b + s) (slot_in s slots).objects) → AllKeyedFrom b slots
-keyed_from b [] keyed = tt
-keyed_from b (x ∷ xs) keyed =
-    let P : ℕ → Type 0 = λ t. AllKeyed t x.objects in
-    let here : AllKeyed b x.objects = subst P {x = b + 0} (omega arith) (keyed 0) in
-    (here, keyed_from (suc b) xs (λ s. subst (λ (t : ℕ). AllKeyed t (slot_in s xs).objects) {x = b + suc s} (omega arith) (keyed (suc s))))
+-- the slots from number b on own their keys
+abbrev pub AllOwnedFrom : PoolState → ℕ → List SlotEntries → Type 0
+AllOwnedFrom pool b [] = Unit {0}
+AllOwnedFrom pool b (slot ∷ slots) = AllOwned pool b slot.entries × AllOwnedFrom pool (suc b) slots
+
+pub owned_from : (pool : PoolState) (b : ℕ) (slots : List SlotEntries) → ((s : ℕ) → AllOwned pool (b + s) (entries_in s slots).entries) → AllOwnedFrom pool b slots
+owned_from pool b [] owned = tt
+owned_from pool b (x ∷ xs) owned =
+    let P : ℕ → Type 0 = λ t. AllOwned pool t x.entries in
+    let here : AllOwned pool b x.entries = subst P {x = b + 0} (omega arith) (owned 0) in
+    (here, owned_from pool (suc b) xs (λ s. subst (λ (t : ℕ). AllOwned pool t (entries_in s xs).entries) {x = b + suc s} (omega arith) (owned (suc s))))
 
 -- The objects of one slot.
 
-pub same_slot : (s h key : ℕ) (es : List Keyed) → AllKeyed s es → key ≡ s * 4294967296 + h → by_key key es ≡ by_handle h es
-same_slot s h key [] keyed is = refl
-same_slot s h key (e ∷ es) keyed is =
-    let of : e.key ≡ s * 4294967296 + e.handle = keyed.0.0 in
-    let tests : (e.key == key) ≡ (e.handle == h) = grind (arith, nat_tests) in
-    rw (tests, same_slot s h key es keyed.1 is) refl
-
-pub other_slot : (s t h key : ℕ) (es : List Keyed) → AllKeyed s es → key ≡ t * 4294967296 + h → h < 4294967296 → t ≢ s → by_key key es ≡ None
-other_slot s t h key [] keyed is lt differ = refl
-other_slot s t h key (e ∷ es) keyed is lt differ =
-    let of : e.key ≡ s * 4294967296 + e.handle = keyed.0.0 in
-    let within : e.handle < 4294967296 = keyed.0.1 in
-    let apart : e.key ≢ key = λ same. differ (omega (arith, same, of, within, is, lt)) in
-    let test : (e.key == key) ≡ false = grind (arith, nat_tests) in
-    rw test (other_slot s t h key es keyed.1 is lt differ)
-
--- an object that is found has the key of its slot and handle
-pub key_found : (s i : ℕ) (es : List Keyed) (e : Keyed) → AllKeyed s es → slice_get es i ≡ Some e → (e.key ≡ s * 4294967296 + e.handle) × (e.handle < 4294967296)
-key_found s i [] e keyed at = absurd (cc)
-key_found s zero (x ∷ es) e keyed at =
-    subst (λ (k : Keyed). (k.key ≡ s * 4294967296 + k.handle) × (k.handle < 4294967296)) (same_Some x e at) keyed.0
-key_found s (suc i) (x ∷ es) e keyed at = key_found s i es e keyed.1 at
-
-pub key_by_handle : (s h : ℕ) (es : List Keyed) (e : Keyed) → AllKeyed s es → by_handle h es ≡ Some e → (e.key ≡ s * 4294967296 + e.handle) × (e.handle < 4294967296)
-key_by_handle s h [] e keyed at = absurd (cc)
-key_by_handle s h (x ∷ es) e keyed at = either (x.handle == h) refl at (key_by_handle s h es e keyed.1)
+same_tests : (pool : PoolState) (s h key : ℕ) (e : Entry) → AreAlone pool → owner_in pool e.key ≡ Some (s, e.handle) → owner_in pool key ≡ Some (s, h) → (e.key == key) ≡ (e.handle == h)
+same_tests pool s h key e alone of is = either (e.handle == h) refl
   where
-    either : (b : Bool) → (x.handle == h) ≡ b → by_handle h (x ∷ es) ≡ Some e → (by_handle h es ≡ Some e → (e.key ≡ s * 4294967296 + e.handle) × (e.handle < 4294967296)) → (e.key ≡ s * 4294967296 + e.handle) × (e.handle < 4294967296)
-    either true is at rest = subst (λ (k : Keyed). (k.key ≡ s * 4294967296 + k.handle) × (k.handle < 4294967296)) (same_Some x e (rw is at at)) keyed.0
-    either false is at rest = rest (rw is at at)
+    either : (b : Bool) → (e.handle == h) ≡ b → (e.key == key) ≡ (e.handle == h)
+    either true test =
+        let handles : e.handle ≡ h = grind (arith, nat_tests) in
+        let same : e.key ≡ key = alone e.key key s h (of ∙ ap (λ (n : ℕ). owned_by s n) handles) is in
+        grind (arith, nat_tests)
+    either false test =
+        let differ : e.handle ≢ h = grind (arith, nat_tests) in
+        let apart : e.key ≢ key = λ same. differ (same_owner s s e.handle h (sym of ∙ ap (owner_in pool) same ∙ is)).1 in
+        grind (arith, nat_tests)
 
-pub by_handle_above : (h : ℕ) (es : List Keyed) → AllAbove h es → by_handle h es ≡ None
-by_handle_above h [] above = refl
-by_handle_above h (e ∷ es) above =
-    let lt : h < e.handle = above.0 in
-    let test : (e.handle == h) ≡ false = grind (arith, nat_tests) in
-    rw test (by_handle_above h es above.1)
+same_slot : (pool : PoolState) (s h key : ℕ) (es : List Entry) → AreAlone pool → AllOwned pool s es → owner_in pool key ≡ Some (s, h) → by_key key (objects_seen pool es) ≡ by_handle h (objects_seen pool es)
+same_slot pool s h key [] alone owned is = refl
+same_slot pool s h key (e ∷ es) alone owned is =
+    rw (same_tests pool s h key e alone owned.0 is, same_slot pool s h key es alone owned.1 is) refl
 
-pub by_handle_below : (h : ℕ) (es : List Keyed) → AllBelow h es → by_handle h es ≡ None
-by_handle_below h [] below = refl
-by_handle_below h (e ∷ es) below =
-    let lt : e.handle < h = below.0 in
-    let test : (e.handle == h) ≡ false = grind (arith, nat_tests) in
-    rw test (by_handle_below h es below.1)
+none_apart : (pool : PoolState) (key : ℕ) (es : List Entry) → AllApart key es → by_key key (objects_seen pool es) ≡ None
+none_apart pool key [] apart = refl
+none_apart pool key (e ∷ es) apart =
+    let differ : e.key ≢ key = apart.0 in
+    let test : (e.key == key) ≡ false = grind (arith, nat_tests) in
+    rw test (none_apart pool key es apart.1)
 
 -- The objects of all slots.
 
@@ -81,24 +66,29 @@ option_or-none : {X : Type 0} (o : Option X) → option_or o None ≡ o
 option_or-none None = refl
 option_or-none (Some x) = refl
 
-pub none_from : (b t h key : ℕ) (slots : List SlotTable) → AllKeyedFrom b slots → key ≡ t * 4294967296 + h → h < 4294967296 → t < b → by_key key (all_objects slots) ≡ None
-none_from b t h key [] keyed is lt before = refl
-none_from b t h key (x ∷ xs) keyed is lt before =
-    by_key-append key x.objects (all_objects xs)
-    ∙ rw (other_slot b t h key x.objects keyed.0 is lt (λ e. absurd (omega (arith, e, before))), none_from (suc b) t h key xs keyed.1 is lt (omega arith)) refl
+-- a key that none of these slots owns
+pub none_from : (pool : PoolState) (b key : ℕ) (slots : List SlotEntries) → AllOwnedFrom pool b slots → ((s h : ℕ) → b ≤ s → owner_in pool key ≢ Some (s, h)) → by_key key (all_objects (table_seen pool slots)) ≡ None
+none_from pool b key [] owned none = refl
+none_from pool b key (x ∷ xs) owned none =
+    by_key-append key (objects_seen pool x.entries) (all_objects (table_seen pool xs))
+    ∙ rw (none_apart pool key x.entries (apart_unowned pool b key x.entries owned.0 (λ h. none b h (omega arith))), none_from pool (suc b) key xs owned.1 (λ s h le. none s h (omega (arith, le)))) refl
 
-pub by_key_from : (b t h key : ℕ) (slots : List SlotTable) → AllKeyedFrom b slots → key ≡ (b + t) * 4294967296 + h → h < 4294967296 → by_key key (all_objects slots) ≡ by_handle h (slot_in t slots).objects
-by_key_from b t h key [] keyed is lt = refl
-by_key_from b zero h key (x ∷ xs) keyed is lt =
-    let here : key ≡ b * 4294967296 + h = omega (arith, is) in
-    by_key-append key x.objects (all_objects xs)
-    ∙ (rw (none_from (suc b) b h key xs keyed.1 here lt (omega arith)) (option_or-none (by_key key x.objects))
-    ∙ same_slot b h key x.objects keyed.0 here)
-by_key_from b (suc t) h key (x ∷ xs) keyed is lt =
-    let there : key ≡ (suc b + t) * 4294967296 + h = omega (arith, is) in
-    by_key-append key x.objects (all_objects xs)
-    ∙ (rw (other_slot b (b + suc t) h key x.objects keyed.0 is lt (λ e. absurd (omega (arith, e)))) refl
-    ∙ by_key_from (suc b) t h key xs keyed.1 there lt)
+-- a key of slot s isn't that of a later one
+later : (pool : PoolState) (b key s h : ℕ) → owner_in pool key ≡ Some (s, h) → s < b → (t g : ℕ) → b ≤ t → owner_in pool key ≢ Some (t, g)
+later pool b key s h of before t g le at = absurd (omega (arith, (same_owner s t h g (sym of ∙ at)).0, before, le))
+
+pub by_key_from : (pool : PoolState) (b t h key : ℕ) (slots : List SlotEntries) → AreAlone pool → AllOwnedFrom pool b slots → owner_in pool key ≡ Some (b + t, h) → by_key key (all_objects (table_seen pool slots)) ≡ by_handle h (slot_in t (table_seen pool slots)).objects
+by_key_from pool b t h key [] alone owned is = refl
+by_key_from pool b zero h key (x ∷ xs) alone owned is =
+    let here : owner_in pool key ≡ Some (b, h) = is ∙ ap (λ (n : ℕ). owned_by n h) (omega arith) in
+    by_key-append key (objects_seen pool x.entries) (all_objects (table_seen pool xs))
+    ∙ (rw (none_from pool (suc b) key xs owned.1 (later pool (suc b) key b h here (omega arith))) (option_or-none (by_key key (objects_seen pool x.entries)))
+    ∙ same_slot pool b h key x.entries alone owned.0 here)
+by_key_from pool b (suc t) h key (x ∷ xs) alone owned is =
+    let there : owner_in pool key ≡ Some (suc b + t, h) = is ∙ ap (λ (n : ℕ). owned_by n h) (omega arith) in
+    by_key-append key (objects_seen pool x.entries) (all_objects (table_seen pool xs))
+    ∙ (rw (none_apart pool key x.entries (apart_unowned pool b key x.entries owned.0 (λ g at. absurd (omega (arith, (same_owner (b + suc t) b h g (sym is ∙ at)).0))))) refl
+    ∙ by_key_from pool (suc b) t h key xs alone owned.1 there)
 
 -- No key is that of two objects.
 
@@ -127,87 +117,51 @@ distinct-nil : AreDistinct []
 unfolding IsDistinct
 distinct-nil = tt
 
-distinct_slot : (s : ℕ) (es others : List Keyed) → AllKeyed s es → IsRising es → ((h key : ℕ) → key ≡ s * 4294967296 + h → h < 4294967296 → by_key key others ≡ None) → AreDistinct others → AreDistinct (es ++ others)
-distinct_slot s [] others keyed rising none rest = rest
-distinct_slot s (e ∷ es) others keyed rising none rest =
-    let of : e.key ≡ s * 4294967296 + e.handle = keyed.0.0 in
-    let here : by_key e.key es ≡ None = same_slot s e.handle e.key es keyed.1 of ∙ by_handle_above e.handle es rising.0 in
-    let there : by_key e.key others ≡ None = none e.handle e.key of keyed.0.1 in
-    let apart : by_key e.key (es ++ others) ≡ None = by_key-append e.key es others ∙ rw (here, there) refl in
-    distinct-cons e (es ++ others) (all_differ e.key (es ++ others) apart) (distinct_slot s es others keyed.1 rising.1 none rest)
+-- the keys of later entries
+apart_later : (pool : PoolState) (s : ℕ) (e : Entry) (es : List Entry) → owner_in pool e.key ≡ Some (s, e.handle) → AllOwned pool s es → AreAbove e.handle es → AllApart e.key es
+apart_later pool s e [] of owned above = tt
+apart_later pool s e (x ∷ es) of owned above =
+    (λ same. absurd (omega (arith, above.0, (same_owner s s x.handle e.handle (sym owned.0 ∙ ap (owner_in pool) same ∙ of)).1)), apart_later pool s e es of owned.1 above.1)
 
-pub distinct_from : (b : ℕ) (slots : List SlotTable) → AllKeyedFrom b slots → ((s : ℕ) → IsRising (slot_in s slots).objects) → AreDistinct (all_objects slots)
-distinct_from b [] keyed rising = distinct-nil
-distinct_from b (x ∷ xs) keyed rising =
-    distinct_slot b x.objects (all_objects xs) keyed.0 (rising 0) (λ h key is lt. none_from (suc b) b h key xs keyed.1 is lt (omega arith))
-    (distinct_from (suc b) xs keyed.1 (λ s. rising (suc s)))
+distinct_slot : (pool : PoolState) (s : ℕ) (es : List Entry) (others : List Keyed) → AllOwned pool s es → AreRising es → ((h key : ℕ) → owner_in pool key ≡ Some (s, h) → by_key key others ≡ None) → AreDistinct others → AreDistinct (objects_seen pool es ++ others)
+distinct_slot pool s [] others owned rising none rest = rest
+distinct_slot pool s (e ∷ es) others owned rising none rest =
+    let here : by_key e.key (objects_seen pool es) ≡ None = none_apart pool e.key es (apart_later pool s e es owned.0 owned.1 rising.0) in
+    let there : by_key e.key others ≡ None = none e.handle e.key owned.0 in
+    let apart : by_key e.key (objects_seen pool es ++ others) ≡ None = by_key-append e.key (objects_seen pool es) others ∙ rw (here, there) refl in
+    distinct-cons (keyed_of pool e) (objects_seen pool es ++ others) (all_differ e.key (objects_seen pool es ++ others) apart) (distinct_slot pool s es others owned.1 rising.1 none rest)
 
--- The object of a key becomes another one.
+pub distinct_from : (pool : PoolState) (b : ℕ) (slots : List SlotEntries) → AllOwnedFrom pool b slots → ((s : ℕ) → AreRising (entries_in s slots).entries) → AreDistinct (all_objects (table_seen pool slots))
+distinct_from pool b [] owned rising = distinct-nil
+distinct_from pool b (x ∷ xs) owned rising =
+    distinct_slot pool b x.entries (all_objects (table_seen pool xs)) owned.0 (rising 0) (λ h key is. none_from pool (suc b) key xs owned.1 (later pool (suc b) key b h is (omega arith)))
+    (distinct_from pool (suc b) xs owned.1 (λ s. rising (suc s)))
 
-unchanged_slot : (key : ℕ) (w : AnyObject) (es : List Keyed) → by_key key es ≡ None → map (other_by_key key w) es ≡ es
-unchanged_slot key w [] none = refl
-unchanged_slot key w (e ∷ es) none = either (e.key == key) refl none (unchanged_slot key w es)
-  where
-    either : (b : Bool) → (e.key == key) ≡ b → by_key key (e ∷ es) ≡ None → (by_key key es ≡ None → map (other_by_key key w) es ≡ es) → map (other_by_key key w) (e ∷ es) ≡ e ∷ es
-    either true is none rest = absurd (none-some e (sym (rw is at none)))
-    either false is none rest = rw is (ap (λ (r : List Keyed). e ∷ r) (rest (rw is at none)))
+-- The object of a key becomes another one: it is that of the slot and the handle.
 
-both_none : {X : Type 0} (a b : Option X) → option_or a b ≡ None → (a ≡ None) × (b ≡ None)
-both_none None b none = (refl, none)
-both_none (Some x) b none = absurd (none-some x (sym none))
+unchanged_slot : (pool : PoolState) (key : ℕ) (w : AnyObject) (es : List Entry) → AllApart key es → map (other_by_key key w) (objects_seen pool es) ≡ objects_seen pool es
+unchanged_slot pool key w [] apart = refl
+unchanged_slot pool key w (e ∷ es) apart =
+    let differ : e.key ≢ key = apart.0 in
+    let test : (e.key == key) ≡ false = grind (arith, nat_tests) in
+    rw test (ap (λ (r : List Keyed). keyed_of pool e ∷ r) (unchanged_slot pool key w es apart.1))
 
-unchanged_all : (key : ℕ) (w : AnyObject) (slots : List SlotTable) → by_key key (all_objects slots) ≡ None → map (with_other_by_key key w) slots ≡ slots
-unchanged_all key w [] none = refl
-unchanged_all key w (x ∷ xs) none =
-    let both = both_none (by_key key x.objects) (by_key key (all_objects xs)) (sym (by_key-append key x.objects (all_objects xs)) ∙ none) in
-    rw (unchanged_slot key w x.objects both.0, unchanged_all key w xs both.1) refl
+unchanged_all : (pool : PoolState) (b key : ℕ) (w : AnyObject) (slots : List SlotEntries) → AllOwnedFrom pool b slots → ((s h : ℕ) → b ≤ s → owner_in pool key ≢ Some (s, h)) → map (with_other_by_key key w) (table_seen pool slots) ≡ table_seen pool slots
+unchanged_all pool b key w [] owned none = refl
+unchanged_all pool b key w (x ∷ xs) owned none =
+    rw (unchanged_slot pool key w x.entries (apart_unowned pool b key x.entries owned.0 (λ h. none b h (omega arith))), unchanged_all pool (suc b) key w xs owned.1 (λ s h le. none s h (omega (arith, le)))) refl
 
-changed_slot : (s i : ℕ) (w : AnyObject) (es : List Keyed) (e : Keyed) → AllKeyed s es → IsRising es → slice_get es i ≡ Some e → objects_with es i w ≡ map (other_by_key e.key w) es
-changed_slot s i w [] e keyed rising at = absurd (cc)
-changed_slot s zero w (x ∷ es) e keyed rising at =
-    let same : x ≡ e = same_Some x e at in
-    subst (λ (k : Keyed). with_other x w ∷ es ≡ map (other_by_key k.key w) (x ∷ es)) same
-    (let test : (x.key == x.key) ≡ true = grind (arith, nat_tests) in
-    rw (test, unchanged_slot x.key w es (same_slot s x.handle x.key es keyed.1 keyed.0.0 ∙ by_handle_above x.handle es rising.0)) refl)
-changed_slot s (suc i) w (x ∷ es) e keyed rising at =
-    let lt : x.handle < e.handle = above_get x.handle es i e rising.0 at in
-    let there = key_found s i es e keyed.1 at in
-    let of : x.key ≡ s * 4294967296 + x.handle = keyed.0.0 in
-    let apart : x.key ≢ e.key = λ same. absurd (omega (arith, same, of, lt, there.0)) in
-    let test : (x.key == e.key) ≡ false = grind (arith, nat_tests) in
-    rw (test, changed_slot s i w es e keyed.1 rising.1 at) refl
+same_exchange : (pool : PoolState) (s h key : ℕ) (w : AnyObject) (es : List Entry) → AreAlone pool → AllOwned pool s es → owner_in pool key ≡ Some (s, h) → map (other_by_key key w) (objects_seen pool es) ≡ map (other_by_handle h w) (objects_seen pool es)
+same_exchange pool s h key w [] alone owned is = refl
+same_exchange pool s h key w (e ∷ es) alone owned is =
+    rw (same_tests pool s h key e alone owned.0 is, same_exchange pool s h key w es alone owned.1 is) refl
 
-pub changed_from : (b s i : ℕ) (w : AnyObject) (slots : List SlotTable) (e : Keyed) → AllKeyedFrom b slots → IsRising (slot_in s slots).objects → slice_get (slot_in s slots).objects i ≡ Some e → set slots s (slot_with_at (slot_in s slots) i w) ≡ map (with_other_by_key e.key w) slots
-changed_from b s i w [] e keyed rising at = absurd (cc)
-changed_from b zero i w (x ∷ xs) e keyed rising at =
-    let there = key_found b i x.objects e keyed.0 at in
-    let others : by_key e.key (all_objects xs) ≡ None = none_from (suc b) b e.handle e.key xs keyed.1 there.0 there.1 (omega arith) in
-    rw (changed_slot b i w x.objects e keyed.0 rising at, unchanged_all e.key w xs others) refl
-changed_from b (suc s) i w (x ∷ xs) e keyed rising at =
-    let there = in_slot (suc b) s xs keyed.1 at in
-    let here : by_key e.key x.objects ≡ None = other_slot b (suc b + s) e.handle e.key x.objects keyed.0 there.0 there.1 (λ same. absurd (omega (arith, same))) in
-    rw (unchanged_slot e.key w x.objects here, changed_from (suc b) s i w xs e keyed.1 rising at) refl
-  where
-    in_slot : (c t : ℕ) (slots : List SlotTable) → AllKeyedFrom c slots → slice_get (slot_in t slots).objects i ≡ Some e → (e.key ≡ (c + t) * 4294967296 + e.handle) × (e.handle < 4294967296)
-    in_slot c t [] keyed at = absurd (cc)
-    in_slot c zero (y ∷ ys) keyed at = let there = key_found c i y.objects e keyed.0 at in (omega (arith, there.0), there.1)
-    in_slot c (suc t) (y ∷ ys) keyed at = let there = in_slot (suc c) t ys keyed.1 at in (omega (arith, there.0), there.1)
-
--- In a slot, the object of a key and that of its handle are one.
-
-same_exchange : (s h key : ℕ) (w : AnyObject) (es : List Keyed) → AllKeyed s es → key ≡ s * 4294967296 + h → map (other_by_key key w) es ≡ map (other_by_handle h w) es
-same_exchange s h key w [] keyed is = refl
-same_exchange s h key w (e ∷ es) keyed is =
-    let of : e.key ≡ s * 4294967296 + e.handle = keyed.0.0 in
-    let tests : (e.key == key) ≡ (e.handle == h) = grind (arith, nat_tests) in
-    rw (tests, same_exchange s h key w es keyed.1 is) refl
-
-pub exchanged_from : (b t h key : ℕ) (w : AnyObject) (slots : List SlotTable) → AllKeyedFrom b slots → key ≡ (b + t) * 4294967296 + h → h < 4294967296 → map (with_other_by_key key w) slots ≡ set slots t (with_other_by_handle h w (slot_in t slots))
-exchanged_from b t h key w [] keyed is lt = refl
-exchanged_from b zero h key w (x ∷ xs) keyed is lt =
-    let here : key ≡ b * 4294967296 + h = omega (arith, is) in
-    rw (same_exchange b h key w x.objects keyed.0 here, unchanged_all key w xs (none_from (suc b) b h key xs keyed.1 here lt (omega arith))) refl
-exchanged_from b (suc t) h key w (x ∷ xs) keyed is lt =
-    let there : key ≡ (suc b + t) * 4294967296 + h = omega (arith, is) in
-    let none : by_key key x.objects ≡ None = other_slot b (b + suc t) h key x.objects keyed.0 is lt (λ e. absurd (omega (arith, e))) in
-    rw (unchanged_slot key w x.objects none, exchanged_from (suc b) t h key w xs keyed.1 there lt) refl
+pub exchanged_from : (pool : PoolState) (b t h key : ℕ) (w : AnyObject) (slots : List SlotEntries) → AreAlone pool → AllOwnedFrom pool b slots → owner_in pool key ≡ Some (b + t, h) → map (with_other_by_key key w) (table_seen pool slots) ≡ set (table_seen pool slots) t (with_other_by_handle h w (slot_in t (table_seen pool slots)))
+exchanged_from pool b t h key w [] alone owned is = refl
+exchanged_from pool b zero h key w (x ∷ xs) alone owned is =
+    let here : owner_in pool key ≡ Some (b, h) = is ∙ ap (λ (n : ℕ). owned_by n h) (omega arith) in
+    rw (same_exchange pool b h key w x.entries alone owned.0 here, unchanged_all pool (suc b) key w xs owned.1 (later pool (suc b) key b h here (omega arith))) refl
+exchanged_from pool b (suc t) h key w (x ∷ xs) alone owned is =
+    let there : owner_in pool key ≡ Some (suc b + t, h) = is ∙ ap (λ (n : ℕ). owned_by n h) (omega arith) in
+    let apart = apart_unowned pool b key x.entries owned.0 (λ g at. absurd (omega (arith, (same_owner (b + suc t) b h g (sym is ∙ at)).0))) in
+    rw (unchanged_slot pool key w x.entries apart, exchanged_from pool (suc b) t h key w xs alone owned.1 there) refl

@@ -1,206 +1,497 @@
 -- What is true of each table stays true.
-use Rattle.std.proofs.Common.{◌≡◌, inl, inr, ℕ, zero, suc, ◌+◌, ◌*◌, ◌<◌, ◌≤◌, Bool, true, false, cond, not, IsSome, All, take, List, [], ◌∷◌, ◌++◌, length, map, get_or, set, Option, Some, None, refl, ◌∙◌, sym, ap, subst, arith}
-use Rattle.std.specs.Prelude.{slice_get, option_map, filter, ◌==◌}
-use Rattle.std.proofs.lemmas.List.{take_more, map-append, get_or_default, get_or_past, get_or-set_same, get_or-set_other, length-set, length-map}
+use Rattle.std.proofs.Common.{◌≡◌, ◌≢◌, inl, inr, ℕ, zero, suc, ◌+◌, ◌<◌, ◌≤◌, true, false, is_some, IsSome, IfSome, All, take, List, [], ◌∷◌, ◌++◌, length, map, get_or, set, sum_by, cond, Option, Some, None, refl, ◌∙◌, sym, ap, subst, arith}
+use Rattle.std.specs.Prelude.{slice_get, option_map, replicate, ◌==◌}
+use Rattle.std.proofs.lemmas.List.{take_more, map-append, map-set, get_or_default, get_or_past, set-get_or, get_or-set_same, get_or-set_other, length-set, length-map}
 use Rattle.std.proofs.lemmas.List.Elements.{All-get_or}
-use Rattle.std.proofs.lemmas.Bool.{cases_eq, cases_lt}
+use Rattle.std.proofs.lemmas.List.Sums.{sum_by-cons, sum_by-set}
+use Rattle.std.proofs.lemmas.Bool.{cases_eq, cases_lt, false≢true}
 use Rattle.std.proofs.lemmas.Bool.Decides.{nat_tests}
-use Rattle.std.proofs.lemmas.Option.{same_Some}
+use Rattle.std.proofs.lemmas.Option.{same_Some, none-some, slice_get-map}
 use Rattle.std.proofs.Math.ListN.{get_or-map}
 use Rattle.trdp_table.specs.declared.any_object.AnyObject.{AnyObject}
+use Rattle.trdp_table.specs.declared.entry.Entry.{Entry}
+use Rattle.trdp_table.specs.declared.held.Held.{Held}
 use Rattle.trdp_table.specs.declared.kind.Kind.{Kind}
 use Rattle.trdp_table.specs.Kinds.{kind_of}
-use Rattle.trdp_table.specs.Tables.{Keyed, SlotTable, TableState, last_handle, slot_limit, opened_slot, slot_in, all_objects, by_handle, by_key, count_of, refusal, with_object, without, with_next, changed_at, new_object, exchanged, with_other_by_handle, Adds}
-use Rattle.trdp_table.specs.TableLaws.{AllAbove, AllBelow, IsRising, AreLimited, IsSlotTable, IsTable}
-use Rattle.trdp_table.specs.TableKept.{AllKeyed, IsKeptTable, IsAt}
-use Rattle.trdp_table.specs.SlotKept.{IsIndexOf, IsKept}
-use Rattle.trdp_table.specs.Lending.{with_other, objects_with, slot_with_at}
-use Rattle.trdp_table.proofs.Slots.{count_of-cons, IsSlotTable-opened, IsSlotTable-add, IsSlotTable-without, IsSlotTable-next, handles_left, handle_found, few_objects}
-use Rattle.trdp_table.proofs.Searching.{by_handle_get}
-use Rattle.trdp_table.proofs.Keys.{AllKeyedFrom, keyed_from, distinct_from, key_by_handle, by_key_from, by_handle_below, changed_from, exchanged_from}
+use Rattle.trdp_table.specs.Tables.{Keyed, SlotTable, TableState, last_handle, slot_limit, opened_slot, slot_in, all_quotas, room_of, all_objects, by_handle, by_key, refusal, with_object, without, with_next, changed_at, exchanged, with_other_by_handle, Adds}
+use Rattle.trdp_table.specs.TableLaws.{AreLimited, IsSlotTable, IsTable}
+use Rattle.trdp_table.specs.Entries.{SlotEntries, opened_entries, entries_in, entry_of, key_of, refusal_of, new_entry, with_entry, without_entry, with_next_handle, entries_changed, AreRising, AreSlotEntries}
+use Rattle.trdp_table.specs.Pools.{PoolState, held_in, owner_of, owner_in, held_count, pool_with, with_other_held}
+use Rattle.trdp_table.specs.TableKept.{keyed_of, slot_seen, table_seen, IsKeptTable}
+use Rattle.trdp_table.proofs.Searching.{entry_of_get}
+use Rattle.trdp_table.proofs.Slots.{AreSlotEntries-opened, AreSlotEntries-add, AreSlotEntries-without_entry, AreSlotEntries-next, within_quotas, under_quotas, few_objects, same_without}
+use Rattle.trdp_table.proofs.Pools.{count_set, count_unset, count_kept, no_held}
+use Rattle.trdp_table.proofs.Entries.{entry_there, key_above, key_of-more, key_of-last, key_of-push, key_of-without, key_of-gone, length_without}
+use Rattle.trdp_table.proofs.Seen.{AllOwned, AllApart, owned_by, no_owner, unowned, same_owner, apart_unowned, slot_sound, slot_in_seen, room_seen, found_seen, key_seen, refusal_seen, added_seen, removed_seen, without_seen, other_seen, sets_seen, lent_seen}
+use Rattle.trdp_table.proofs.Keys.{AreAlone, AllOwnedFrom, owned_from, none_from, by_key_from, distinct_from, exchanged_from}
+
+abbrev nothing : Option Held
+nothing = None
 
 -- the slot of a number, as it is read
-pub slot_read : (table : TableState) (s : ℕ) (x : SlotTable) → s < length table → x ≡ get_or table s x → slot_in s table ≡ x
-slot_read table s x lt is = get_or_default table s (opened_slot []) x lt ∙ sym is
+pub slot_read : (slots : List SlotEntries) (s : ℕ) (x : SlotEntries) → s < length slots → x ≡ get_or slots s x → entries_in s slots ≡ x
+slot_read slots s x lt is = get_or_default slots s (opened_entries []) x lt ∙ sym is
 
-keyed_table : (table : TableState) → IsKeptTable table → AllKeyedFrom 0 table
-keyed_table table is = keyed_from 0 table (λ s. subst (λ (t : ℕ). AllKeyed t (slot_in s table).objects) {x = s} (omega arith) (is.keyed s))
+-- Whose the keys are.
 
-pub IsTable-kept : (table : TableState) → IsKeptTable table → IsTable table
-IsTable-kept table is = record {
-  few = is.few;
-  slots = is.slots;
-  objects = λ s. few_objects (slot_in s table) (is.slots s);
-  keys = distinct_from 0 table (keyed_table table is) (λ s. (is.slots s).rising);
-}
+pub alone : (slots : List SlotEntries) (pool : PoolState) → IsKeptTable slots pool → AreAlone pool
+alone slots pool is a b s h of there = same_Some a b (sym (is.owned s h a of) ∙ is.owned s h b there)
 
--- the object under a key of a slot and a handle
-pub by_key_of : (table : TableState) (s h key : ℕ) → IsKeptTable table → key ≡ s * 4294967296 + h → h < 4294967296 → by_key key (all_objects table) ≡ by_handle h (slot_in s table).objects
-by_key_of table s h key is of lt = by_key_from 0 s h key table (keyed_table table is) (omega (arith, of)) lt
-
-pub found_by_key : (table : TableState) → IsKeptTable table → (s handle : ℕ) (keyed : Keyed) → by_handle handle (slot_in s table).objects ≡ Some keyed → by_key keyed.key (all_objects table) ≡ Some keyed
-found_by_key table is s handle keyed found =
-    let key = key_by_handle s handle (slot_in s table).objects keyed (is.keyed s) found in
-    let same : keyed.handle ≡ handle = handle_found handle (slot_in s table).objects keyed found in
-    by_key_of table s keyed.handle keyed.key is key.0 key.1 ∙ (ap (λ (h : ℕ). by_handle h (slot_in s table).objects) same ∙ found)
-
--- a table with one slot changed
-pub IsKeptTable-set : (table : TableState) (s : ℕ) (x : SlotTable) → IsKeptTable table → s < length table → IsSlotTable x → AllKeyed s x.objects → IsKeptTable (set table s x)
-IsKeptTable-set table s x is lt sound keyed = record {
-  few = let l = length-set table s x in omega (arith, l, is.few);
-  slots = λ t. elim (cases_eq t s) [
-    | inl same ↦ subst (λ (slot : SlotTable). IsSlotTable slot) (sym (here t same)) sound
-    | inr other ↦ subst (λ (slot : SlotTable). IsSlotTable slot) (sym (get_or-set_other table s t x (opened_slot []) other)) (is.slots t)
-  ];
-  keyed = λ t. elim (cases_eq t s) [
-    | inl same ↦ subst (λ (slot : SlotTable). AllKeyed t slot.objects) (sym (here t same)) (subst (λ (n : ℕ). AllKeyed n x.objects) (sym same) keyed)
-    | inr other ↦ subst (λ (slot : SlotTable). AllKeyed t slot.objects) (sym (get_or-set_other table s t x (opened_slot []) other)) (is.keyed t)
-  ];
-}
+pub all_owned : (slots : List SlotEntries) (pool : PoolState) → IsKeptTable slots pool → (s : ℕ) → AllOwned pool s (entries_in s slots).entries
+all_owned slots pool is s = each (entries_in s slots).entries (is.sound s).rising (is.listed s)
   where
-    here : (t : ℕ) → t ≡ s → slot_in t (set table s x) ≡ x
-    here t same = ap (λ (n : ℕ). slot_in n (set table s x)) same ∙ get_or-set_same table s x (opened_slot []) lt
+    each : (es : List Entry) → AreRising es → ((h key : ℕ) → key_of h es ≡ Some key → owner_in pool key ≡ Some (s, h)) → AllOwned pool s es
+    each [] rising listed = tt
+    each (e ∷ es) rising listed =
+        let same : (e.handle == e.handle) ≡ true = grind (arith, nat_tests) in (
+          listed e.handle e.key (rw same refl),
+          each es rising.1 (λ h key at.
+              let lt : e.handle < h = key_above e.handle h key es rising.0 at in
+              let other : (e.handle == h) ≡ false = grind (arith, nat_tests) in
+              listed h key (rw other at)),
+        )
 
-AllKeyed-filter : (p : Keyed → Bool) (s : ℕ) (es : List Keyed) → AllKeyed s es → AllKeyed s (filter p es)
-AllKeyed-filter p s [] keyed = tt
-AllKeyed-filter p s (e ∷ es) keyed = either (p e) (AllKeyed-filter p s es keyed.1)
-  where
-    either : (b : Bool) → AllKeyed s (filter p es) → AllKeyed s (cond b (e ∷ filter p es) (filter p es))
-    either true rest = (keyed.0, rest)
-    either false rest = rest
+owned_all : (slots : List SlotEntries) (pool : PoolState) → IsKeptTable slots pool → AllOwnedFrom pool 0 slots
+owned_all slots pool is = owned_from pool 0 slots (λ s. subst (λ (t : ℕ). AllOwned pool t (entries_in s slots).entries) {x = s} (omega arith) (all_owned slots pool is s))
 
-AllKeyed-push : (s : ℕ) (es : List Keyed) (e : Keyed) → AllKeyed s es → e.key ≡ s * 4294967296 + e.handle → e.handle < 4294967296 → AllKeyed s (es ++ e ∷ [])
-AllKeyed-push s [] e keyed of lt = ((of, lt), tt)
-AllKeyed-push s (x ∷ es) e keyed of lt = (keyed.0, AllKeyed-push s es e keyed.1 of lt)
+unheld_none : (slots : List SlotEntries) (pool : PoolState) (key : ℕ) → IsKeptTable slots pool → held_in pool key ≡ None → by_key key (all_objects (table_seen pool slots)) ≡ None
+unheld_none slots pool key is none =
+    none_from pool 0 key slots (owned_all slots pool is) (λ s h le. unowned pool key s h none)
 
--- an object goes
-pub IsKeptTable-without : (table : TableState) (s h : ℕ) → IsKeptTable table → s < length table → IsKeptTable (changed_at s (without h) table)
-IsKeptTable-without table s h is lt =
-    IsKeptTable-set table s (without h (slot_in s table)) is lt (IsSlotTable-without h (slot_in s table) (is.slots s)) (AllKeyed-filter (λ keyed. not (keyed.handle == h)) s (slot_in s table).objects (is.keyed s))
+-- the object under a key is that of its slot and handle
+pub by_key_of : (slots : List SlotEntries) (pool : PoolState) (s h key : ℕ) → IsKeptTable slots pool → owner_in pool key ≡ Some (s, h) → by_key key (all_objects (table_seen pool slots)) ≡ by_handle h (slot_in s (table_seen pool slots)).objects
+by_key_of slots pool s h key is of =
+    by_key_from pool 0 s h key slots (alone slots pool is) (owned_all slots pool is) (of ∙ ap (λ (n : ℕ). owned_by n h) (omega arith))
 
--- the next handle rises
-pub IsKeptTable-next : (table : TableState) (s next : ℕ) → IsKeptTable table → s < length table → next ≤ last_handle → IsKeptTable (changed_at s (with_next next) table)
-IsKeptTable-next table s next is lt le =
-    IsKeptTable-set table s (with_next next (slot_in s table)) is lt (IsSlotTable-next next (slot_in s table) le (is.slots s)) (is.keyed s)
+-- what is held under a key is the object that is found by it
+pub record IsFound (slots : List SlotEntries) (pool : PoolState) (key : ℕ) (held : Held) : Type 0 where
+  pub same : by_handle held.handle (slot_in held.slot (table_seen pool slots)).objects ≡ by_key key (all_objects (table_seen pool slots))
+  pub object : option_map (λ keyed. keyed.object) (by_key key (all_objects (table_seen pool slots))) ≡ Some held.object
 
--- an object comes
-pub IsKeptTable-add : (table : TableState) (s key : ℕ) (object : AnyObject) → IsKeptTable table → s < length table → refusal (slot_in s table) (kind_of object) ≡ None → key ≡ s * 4294967296 + (slot_in s table).next → IsKeptTable (changed_at s (with_object key object) table)
-IsKeptTable-add table s key object is lt none of =
-    let slot = slot_in s table in
-    let left = handles_left slot (kind_of object) none in
-    IsKeptTable-set table s (with_object key object slot) is lt (IsSlotTable-add slot key object (is.slots s) none)
-    (AllKeyed-push s slot.objects (new_object slot.next key object) (is.keyed s) of (omega (arith, left)))
-
-pub adds : (table : TableState) (s key : ℕ) (object : AnyObject) → IsKeptTable table → refusal (slot_in s table) (kind_of object) ≡ None → key ≡ s * 4294967296 + (slot_in s table).next → Adds s object table (changed_at s (with_object key object) table)
-adds table s key object is none of =
-    let slot = slot_in s table in
-    let left = handles_left slot (kind_of object) none in
+pub found_held : (slots : List SlotEntries) (pool : PoolState) (key : ℕ) (held : Held) → IsKeptTable slots pool → held_in pool key ≡ Some held → IsFound slots pool key held
+found_held slots pool key held is at =
+    let of : owner_in pool key ≡ Some (held.slot, held.handle) = ap owner_of at in
+    let there = entry_there held.handle key (entries_in held.slot slots).entries (is.owned held.slot held.handle key of) in
+    let seen : by_handle held.handle (slot_in held.slot (table_seen pool slots)).objects ≡ Some (keyed_of pool there.entry) =
+    ap (λ (slot : SlotTable). by_handle held.handle slot.objects) (slot_in_seen pool slots held.slot)
+    ∙ (found_seen pool held.handle (entries_in held.slot slots).entries
+    ∙ ap (option_map (keyed_of pool)) there.found) in
+    let here : held_in pool there.entry.key ≡ Some held = ap (held_in pool) there.key ∙ at in
+    let key_is = by_key_of slots pool held.slot held.handle key is of in
     record {
-      key = key;
-      fresh = by_key_of table s slot.next key is of (omega (arith, left)) ∙ by_handle_below slot.next slot.objects (is.slots s).below;
-      table = refl;
+      same = sym key_is;
+      object = ap (option_map (λ (keyed : Keyed). keyed.object)) (key_is ∙ seen) ∙ rw here refl;
     }
 
--- Where the object of a key stands.
-
-pub is_at : (table : TableState) (s i h key : ℕ) → IsKeptTable table → s < length table → key ≡ s * 4294967296 + h → h < 4294967296 → IsIndexOf h (slot_in s table).objects i → IsAt key s i table
-is_at table s i h key is lt of within index = record {
-  slot = lt;
-  within = index.within;
-  found = index.found ∙ sym (by_key_of table s h key is of within);
-}
-
-pub nowhere : (table : TableState) (s h key : ℕ) → IsKeptTable table → length table ≤ s → key ≡ s * 4294967296 + h → h < 4294967296 → by_key key (all_objects table) ≡ None
-nowhere table s h key is past of within =
-    by_key_of table s h key is of within ∙ ap (λ (slot : SlotTable). by_handle h slot.objects) (get_or_past table s (opened_slot []) past)
-
--- Lending.
-
-AllAbove-with : (h : ℕ) (es : List Keyed) (i : ℕ) (w : AnyObject) → AllAbove h es → AllAbove h (objects_with es i w)
-AllAbove-with h [] i w above = tt
-AllAbove-with h (e ∷ es) zero w above = (above.0, above.1)
-AllAbove-with h (e ∷ es) (suc i) w above = (above.0, AllAbove-with h es i w above.1)
-
-AllBelow-with : (h : ℕ) (es : List Keyed) (i : ℕ) (w : AnyObject) → AllBelow h es → AllBelow h (objects_with es i w)
-AllBelow-with h [] i w below = tt
-AllBelow-with h (e ∷ es) zero w below = (below.0, below.1)
-AllBelow-with h (e ∷ es) (suc i) w below = (below.0, AllBelow-with h es i w below.1)
-
-AllKeyed-with : (s : ℕ) (es : List Keyed) (i : ℕ) (w : AnyObject) → AllKeyed s es → AllKeyed s (objects_with es i w)
-AllKeyed-with s [] i w keyed = tt
-AllKeyed-with s (e ∷ es) zero w keyed = (keyed.0, keyed.1)
-AllKeyed-with s (e ∷ es) (suc i) w keyed = (keyed.0, AllKeyed-with s es i w keyed.1)
-
-IsRising-with : (es : List Keyed) (i : ℕ) (w : AnyObject) → IsRising es → IsRising (objects_with es i w)
-IsRising-with [] i w rising = tt
-IsRising-with (e ∷ es) zero w rising = (rising.0, rising.1)
-IsRising-with (e ∷ es) (suc i) w rising = (AllAbove-with e.handle es i w rising.0, IsRising-with es i w rising.1)
-
-count_of-with : (kind : Kind) (es : List Keyed) (i : ℕ) (w : AnyObject) → count_of kind (objects_with es i w) ≡ count_of kind es
-count_of-with kind [] i w = refl
-count_of-with kind (e ∷ es) zero w = count_of-cons kind (with_other e w) es ∙ sym (count_of-cons kind e es)
-count_of-with kind (e ∷ es) (suc i) w =
-    count_of-cons kind e (objects_with es i w) ∙ (rw (count_of-with kind es i w) (sym (count_of-cons kind e es)))
-
-IsSlotTable-with : (slot : SlotTable) (i : ℕ) (w : AnyObject) → IsSlotTable slot → IsSlotTable (slot_with_at slot i w)
-IsSlotTable-with slot i w is = record {
-  limited = is.limited;
-  handles = is.handles;
-  rising = IsRising-with slot.objects i w is.rising;
-  below = AllBelow-with slot.next slot.objects i w is.below;
-  full = λ kind. rw (count_of-with kind slot.objects i w) (is.full kind);
-}
-
-pub IsKept-with : (slot : SlotTable) (numbers : List ℕ) (capacity i : ℕ) (w : AnyObject) → IsKept slot numbers capacity → IsKept (slot_with_at slot i w) numbers capacity
-IsKept-with slot numbers capacity i w is = record {
-  sound = IsSlotTable-with slot i w is.sound;
-  counted = λ kind. rw (count_of-with kind slot.objects i w) (is.counted kind);
-  room = is.room;
-}
-
-pub IsKeptTable-with : (table : TableState) (s i : ℕ) (w : AnyObject) → IsKeptTable table → s < length table → IsKeptTable (set table s (slot_with_at (slot_in s table) i w))
-IsKeptTable-with table s i w is lt =
-    IsKeptTable-set table s (slot_with_at (slot_in s table) i w) is lt (IsSlotTable-with (slot_in s table) i w (is.slots s)) (AllKeyed-with s (slot_in s table).objects i w (is.keyed s))
-
-pub set_object : (xs : List Keyed) (i : ℕ) (x : Keyed) (w : AnyObject) → i < length xs → x ≡ get_or xs i x → set xs i (with_other x w) ≡ objects_with xs i w
-set_object [] i x w lt is = absurd (omega arith)
-set_object (y ∷ xs) zero x w lt is = ap (λ (e : Keyed). with_other e w ∷ xs) is
-set_object (y ∷ xs) (suc i) x w lt is = ap (λ (es : List Keyed). y ∷ es) (set_object xs i x w (omega arith) is)
-
--- an object that is found has the key
-key_found_is : (key : ℕ) (es : List Keyed) (e : Keyed) → by_key key es ≡ Some e → e.key ≡ key
-key_found_is key [] e found = absurd (cc)
-key_found_is key (x ∷ es) e found = either (x.key == key) refl found (key_found_is key es e)
+pub object_held : (slots : List SlotEntries) (pool : PoolState) (key : ℕ) → IsKeptTable slots pool → option_map (λ held. held.object) (held_in pool key) ≡ option_map (λ keyed. keyed.object) (by_key key (all_objects (table_seen pool slots)))
+object_held slots pool key is = either (held_in pool key) refl
   where
-    either : (b : Bool) → (x.key == key) ≡ b → by_key key (x ∷ es) ≡ Some e → (by_key key es ≡ Some e → e.key ≡ key) → e.key ≡ key
-    either true is found rest =
-        let same : x ≡ e = same_Some x e (rw is at found) in
-        let of : x.key ≡ key = grind (arith, nat_tests) in
-        ap (λ (k : Keyed). k.key) (sym same) ∙ of
-    either false is found rest = rest (rw is at found)
+    either : (o : Option Held) → held_in pool key ≡ o → option_map (λ (held : Held). held.object) (held_in pool key) ≡ option_map (λ (keyed : Keyed). keyed.object) (by_key key (all_objects (table_seen pool slots)))
+    either None at = rw (at, unheld_none slots pool key is at) refl
+    either (Some held) at = ap (option_map (λ (x : Held). x.object)) at ∙ sym (found_held slots pool key held is at).object
 
--- the table after the object of a key became another one, where it stands
-pub exchanged_at : (table : TableState) (key s i : ℕ) (w : AnyObject) → IsKeptTable table → IsAt key s i table → set table s (slot_with_at (slot_in s table) i w) ≡ exchanged key table w
-exchanged_at table key s i w is at = found_at (slice_get (slot_in s table).objects i) refl (slice_get-within (slot_in s table).objects i at.within)
+pub some_held : (slots : List SlotEntries) (pool : PoolState) (key : ℕ) → IsKeptTable slots pool → is_some (held_in pool key) ≡ is_some (by_key key (all_objects (table_seen pool slots)))
+some_held slots pool key is =
+    sym (mapped (held_in pool key)) ∙ (ap is_some (object_held slots pool key is) ∙ unmapped (by_key key (all_objects (table_seen pool slots))))
   where
-    slice_get-within : (es : List Keyed) (i : ℕ) → i < length es → IsSome (slice_get es i)
-    slice_get-within [] i lt = absurd (omega arith)
-    slice_get-within (e ∷ es) zero lt = refl
-    slice_get-within (e ∷ es) (suc i) lt = slice_get-within es i (omega arith)
+    mapped : (o : Option Held) → is_some (option_map (λ (held : Held). held.object) o) ≡ is_some o
+    mapped None = refl
+    mapped (Some held) = refl
 
-    found_at : (o : Option Keyed) → slice_get (slot_in s table).objects i ≡ o → IsSome o → set table s (slot_with_at (slot_in s table) i w) ≡ exchanged key table w
-    found_at None is_o some = absurd (cc)
-    found_at (Some e) is_o some =
-        let same : e.key ≡ key = key_found_is key (all_objects table) e (sym at.found ∙ is_o) in
-        changed_from 0 s i w table e (keyed_table table is) (is.slots s).rising is_o ∙ ap (λ (k : ℕ). exchanged k table w) same
+    unmapped : (o : Option Keyed) → is_some (option_map (λ (keyed : Keyed). keyed.object) o) ≡ is_some o
+    unmapped None = refl
+    unmapped (Some keyed) = refl
 
-pub opened_kept : (quotas : List (List ℕ)) → length quotas ≤ slot_limit → All AreLimited quotas → IsKeptTable (map opened_slot quotas)
+-- the owner of a key
+pub owner_is : (slots : List SlotEntries) (pool : PoolState) (key : ℕ) → IsKeptTable slots pool → IfSome (owner_in pool key) (λ owner. by_handle owner.1 (slot_in owner.0 (table_seen pool slots)).objects ≡ by_key key (all_objects (table_seen pool slots)))
+owner_is slots pool key is = either (held_in pool key) refl
+  where
+    either : (o : Option Held) → held_in pool key ≡ o → IfSome (owner_of o) (λ owner. by_handle owner.1 (slot_in owner.0 (table_seen pool slots)).objects ≡ by_key key (all_objects (table_seen pool slots)))
+    either None at = tt
+    either (Some held) at = (found_held slots pool key held is at).same
+
+pub owner_there : (pool : PoolState) (key : ℕ) → is_some (owner_in pool key) ≡ is_some (held_in pool key)
+owner_there pool key = mapped (held_in pool key)
+  where
+    mapped : (o : Option Held) → is_some (owner_of o) ≡ is_some o
+    mapped None = refl
+    mapped (Some held) = refl
+
+-- the objects of a slot's entries
+pub object_there : (slots : List SlotEntries) (pool : PoolState) (s i : ℕ) (e : Entry) → IsKeptTable slots pool → slice_get (entries_in s slots).entries i ≡ Some e → slice_get (slot_in s (table_seen pool slots)).objects i ≡ Some (keyed_of pool e)
+object_there slots pool s i e is at =
+    ap (λ (slot : SlotTable). slice_get slot.objects i) (slot_in_seen pool slots s)
+    ∙ (slice_get-map (keyed_of pool) (entries_in s slots).entries i
+    ∙ ap (option_map (keyed_of pool)) at)
+
+pub nothing_there : (slots : List SlotEntries) (pool : PoolState) (s i : ℕ) → slice_get (entries_in s slots).entries i ≡ None → slice_get (slot_in s (table_seen pool slots)).objects i ≡ None
+nothing_there slots pool s i at =
+    ap (λ (slot : SlotTable). slice_get slot.objects i) (slot_in_seen pool slots s)
+    ∙ (slice_get-map (keyed_of pool) (entries_in s slots).entries i
+    ∙ ap (option_map (keyed_of pool)) at)
+
+-- the pool holds the object of each entry
+pub entry_held : (slots : List SlotEntries) (pool : PoolState) (s i : ℕ) (e : Entry) → IsKeptTable slots pool → slice_get (entries_in s slots).entries i ≡ Some e → option_map (λ held. held.object) (held_in pool e.key) ≡ Some (keyed_of pool e).object
+entry_held slots pool s i e is at =
+    let found = entry_of_get (entries_in s slots).entries i e (is.sound s).rising at in
+    let of : owner_in pool e.key ≡ Some (s, e.handle) = is.listed s e.handle e.key (ap (option_map (λ (x : Entry). x.key)) found) in
+    either (held_in pool e.key) refl of
+  where
+    either : (o : Option Held) → held_in pool e.key ≡ o → owner_of o ≡ Some (s, e.handle) → option_map (λ (held : Held). held.object) (held_in pool e.key) ≡ Some (keyed_of pool e).object
+    either None at of = absurd (no_owner s e.handle of)
+    either (Some held) at of = rw at refl
+
+-- What holds of every table.
+
+key_below : (slots : List SlotEntries) (pool : PoolState) → IsKeptTable slots pool → (key : ℕ) → IsSome (by_key key (all_objects (table_seen pool slots))) → key < room_of (table_seen pool slots)
+key_below slots pool is key some =
+    let within : key < length pool = place pool key (some_held slots pool key is ∙ some) in
+    omega (arith, within, is.room, room_seen pool slots)
+  where
+    place : (xs : PoolState) (k : ℕ) → IsSome (held_in xs k) → k < length xs
+    place [] k some = absurd (false≢true some)
+    place (x ∷ xs) zero some = omega arith
+    place (x ∷ xs) (suc k) some = omega (arith, place xs k some)
+
+pub IsTable-kept : (slots : List SlotEntries) (pool : PoolState) → IsKeptTable slots pool → IsTable (table_seen pool slots)
+IsTable-kept slots pool is = record {
+  few = omega (arith, is.few, length-map slots (slot_seen pool));
+  slots = λ s. subst (λ (slot : SlotTable). IsSlotTable slot) (sym (slot_in_seen pool slots s)) (slot_sound pool (entries_in s slots) (is.sound s));
+  objects = λ s. omega (arith, ap (λ (slot : SlotTable). length slot.objects) (slot_in_seen pool slots s), length-map (entries_in s slots).entries (keyed_of pool), few_objects (entries_in s slots) (is.sound s));
+  keys = distinct_from pool 0 slots (owned_all slots pool is) (λ s. (is.sound s).rising);
+  below = key_below slots pool is;
+}
+
+-- the key of a handle
+pub found_key : (slots : List SlotEntries) (pool : PoolState) (s h : ℕ) → option_map (λ keyed. keyed.key) (by_handle h (slot_in s (table_seen pool slots)).objects) ≡ key_of h (entries_in s slots).entries
+found_key slots pool s h =
+    ap (λ (slot : SlotTable). option_map (λ (keyed : Keyed). keyed.key) (by_handle h slot.objects)) (slot_in_seen pool slots s)
+    ∙ key_seen pool h (entries_in s slots).entries
+
+owner_found : (slots : List SlotEntries) (pool : PoolState) (s h : ℕ) (keyed : Keyed) → IsKeptTable slots pool → by_handle h (slot_in s (table_seen pool slots)).objects ≡ Some keyed → owner_in pool keyed.key ≡ Some (s, h)
+owner_found slots pool s h keyed is found =
+    is.listed s h keyed.key (sym (found_key slots pool s h) ∙ ap (option_map (λ (k : Keyed). k.key)) found)
+
+pub found_by_key : (slots : List SlotEntries) (pool : PoolState) → IsKeptTable slots pool → (s handle : ℕ) (keyed : Keyed) → by_handle handle (slot_in s (table_seen pool slots)).objects ≡ Some keyed → by_key keyed.key (all_objects (table_seen pool slots)) ≡ Some keyed
+found_by_key slots pool is s handle keyed found =
+    by_key_of slots pool s handle keyed.key is (owner_found slots pool s handle keyed is found) ∙ found
+
+pub listed : (slots : List SlotEntries) (pool : PoolState) → IsKeptTable slots pool → (s index : ℕ) (keyed : Keyed) → slice_get (slot_in s (table_seen pool slots)).objects index ≡ Some keyed → by_handle keyed.handle (slot_in s (table_seen pool slots)).objects ≡ Some keyed
+listed slots pool is s index keyed at = either (slice_get (entries_in s slots).entries index) refl
+  where
+    either : (o : Option Entry) → slice_get (entries_in s slots).entries index ≡ o → by_handle keyed.handle (slot_in s (table_seen pool slots)).objects ≡ Some keyed
+    either None none = absurd (none-some keyed (sym (nothing_there slots pool s index none) ∙ at))
+    either (Some e) there =
+        let same : keyed_of pool e ≡ keyed = same_Some (keyed_of pool e) keyed (sym (object_there slots pool s index e is there) ∙ at) in
+        let found = entry_of_get (entries_in s slots).entries index e (is.sound s).rising there in
+        subst (λ (k : Keyed). by_handle k.handle (slot_in s (table_seen pool slots)).objects ≡ Some k) same
+        (ap (λ (slot : SlotTable). by_handle e.handle slot.objects) (slot_in_seen pool slots s)
+        ∙ (found_seen pool e.handle (entries_in s slots).entries ∙ ap (option_map (keyed_of pool)) found))
+
+pub exchanged_alone : (slots : List SlotEntries) (pool : PoolState) → IsKeptTable slots pool → (s handle : ℕ) (keyed : Keyed) (object : AnyObject) → by_handle handle (slot_in s (table_seen pool slots)).objects ≡ Some keyed → exchanged keyed.key (table_seen pool slots) object ≡ changed_at s (with_other_by_handle handle object) (table_seen pool slots)
+exchanged_alone slots pool is s handle keyed object found =
+    exchanged_from pool 0 s handle keyed.key object slots (alone slots pool is) (owned_all slots pool is) (owner_found slots pool s handle keyed is found ∙ ap (λ (n : ℕ). owned_by n handle) (omega arith))
+
+-- One slot changes.
+
+here_in : (slots : List SlotEntries) (s t : ℕ) (x : SlotEntries) → s < length slots → t ≡ s → entries_in t (set slots s x) ≡ x
+here_in slots s t x lt same = ap (λ (n : ℕ). entries_in n (set slots s x)) same ∙ get_or-set_same slots s x (opened_entries []) lt
+
+there_in : (slots : List SlotEntries) (s t : ℕ) (x : SlotEntries) → t ≢ s → entries_in t (set slots s x) ≡ entries_in t slots
+there_in slots s t x apart = get_or-set_other slots s t x (opened_entries []) apart
+
+slots_sound : (slots : List SlotEntries) (s : ℕ) (x : SlotEntries) → s < length slots → AreSlotEntries x → ((t : ℕ) → AreSlotEntries (entries_in t slots)) → (t : ℕ) → AreSlotEntries (entries_in t (set slots s x))
+slots_sound slots s x lt sound all t = elim (cases_eq t s) [
+  | inl same ↦ subst (λ (slot : SlotEntries). AreSlotEntries slot) (sym (here_in slots s t x lt same)) sound
+  | inr apart ↦ subst (λ (slot : SlotEntries). AreSlotEntries slot) (sym (there_in slots s t x apart)) (all t)
+]
+
+-- the numbers of entries and of keys, once a slot changed
+totals : (slots : List SlotEntries) (s : ℕ) (x : SlotEntries) → s < length slots → x.quotas ≡ (entries_in s slots).quotas → (sum_by (λ (slot : SlotEntries). length slot.entries) (set slots s x) + length (entries_in s slots).entries ≡ sum_by (λ (slot : SlotEntries). length slot.entries) slots + length x.entries) × (sum_by (λ (slot : SlotEntries). all_quotas slot.quotas) (set slots s x) ≡ sum_by (λ (slot : SlotEntries). all_quotas slot.quotas) slots)
+totals slots s x lt same =
+    let quotas = sum_by-set (λ (slot : SlotEntries). all_quotas slot.quotas) slots s x (opened_entries []) lt in
+    let equal : all_quotas x.quotas ≡ all_quotas (entries_in s slots).quotas = ap all_quotas same in
+    (sum_by-set (λ (slot : SlotEntries). length slot.entries) slots s x (opened_entries []) lt, omega (arith, quotas, equal))
+
+-- an object comes
+pub IsKeptTable-add : (slots : List SlotEntries) (pool : PoolState) (s key : ℕ) (object : AnyObject) → IsKeptTable slots pool → s < length slots → refusal_of (entries_in s slots) (kind_of object) ≡ None → key < length pool → held_in pool key ≡ None → IsKeptTable (entries_changed s (with_entry (kind_of object) key) slots) (set pool key (Some (record { slot = s; handle = (entries_in s slots).next; object = object })))
+IsKeptTable-add slots pool s key object is lt none within vacant =
+    let slot = entries_in s slots in
+    let x = with_entry (kind_of object) key slot in
+    let held : Held = record { slot = s; handle = slot.next; object = object } in
+    let pool_then = set pool key (Some held) in
+    let here : owner_in pool_then key ≡ Some (s, slot.next) = ap owner_of (get_or-set_same pool key (Some held) None within) in
+    let there : (k : ℕ) → k ≢ key → owner_in pool_then k ≡ owner_in pool k = λ k apart. ap owner_of (get_or-set_other pool key k (Some held) None apart) in
+    let taken : (k t h : ℕ) → owner_in pool k ≡ Some (t, h) → k ≢ key = λ k t h of same. unowned pool key t h vacant (ap (owner_in pool) (sym same) ∙ of) in
+    let sums = totals slots s x lt refl in
+    record {
+      few = omega (arith, length-set slots s x, is.few);
+      sound = slots_sound slots s x lt (AreSlotEntries-add slot key (kind_of object) (is.sound s) none) is.sound;
+      listed = λ t h k at. elim (cases_eq t s) [
+        | inl same ↦ elim (key_of-push h k slot.entries (new_entry slot.next (kind_of object) key) (sym (ap (λ (y : SlotEntries). key_of h y.entries) (here_in slots s t x lt same)) ∙ at)) [
+          | inl old ↦
+              let of = is.listed s h k old in
+              there k (taken k s h of) ∙ (of ∙ ap (λ (n : ℕ). owned_by n h) (sym same))
+          | inr new ↦ ap (owner_in pool_then) new.1 ∙ (here ∙ (ap (λ (n : ℕ). owned_by s n) (sym new.0) ∙ ap (λ (n : ℕ). owned_by n h) (sym same)))
+        ]
+        | inr apart ↦
+            let of = is.listed t h k (sym (ap (λ (y : SlotEntries). key_of h y.entries) (there_in slots s t x apart)) ∙ at) in
+            there k (taken k t h of) ∙ of
+      ];
+      owned = λ t h k at. elim (cases_eq k key) [
+        | inl same ↦
+            let who = same_owner s t slot.next h (sym here ∙ (ap (owner_in pool_then) (sym same) ∙ at)) in
+            ap (λ (y : SlotEntries). key_of h y.entries) (here_in slots s t x lt (sym who.0))
+            ∙ (ap (λ (n : ℕ). key_of n x.entries) (sym who.1)
+            ∙ (key_of-last slot.entries (new_entry slot.next (kind_of object) key) (is.sound s).below ∙ ap Some (sym same)))
+        | inr apart ↦
+            let old = is.owned t h k (sym (there k apart) ∙ at) in
+            elim (cases_eq t s) [
+              | inl same ↦
+                  ap (λ (y : SlotEntries). key_of h y.entries) (here_in slots s t x lt same)
+                  ∙ key_of-more h k slot.entries (new_entry slot.next (kind_of object) key) (ap (λ (n : ℕ). key_of h (entries_in n slots).entries) (sym same) ∙ old)
+              | inr other ↦ ap (λ (y : SlotEntries). key_of h y.entries) (there_in slots s t x other) ∙ old
+            ]
+      ];
+      count = omega (arith, count_set pool key held within vacant, is.count, sums.0, length_push slot.entries (new_entry slot.next (kind_of object) key));
+      room = omega (arith, length-set pool key (Some held), is.room, sums.1);
+    }
+  where
+    length_push : (es : List Entry) (e : Entry) → length (es ++ e ∷ []) ≡ length es + 1
+    length_push [] e = refl
+    length_push (y ∷ es) e = omega (arith, length_push es e)
+
+-- while a slot takes an object, the pool has a free key
+pub pool_room : (slots : List SlotEntries) (pool : PoolState) (s : ℕ) (kind : Kind) → IsKeptTable slots pool → s < length slots → refusal_of (entries_in s slots) kind ≡ None → held_count pool < length pool
+pool_room slots pool s kind is lt none =
+    let less = less_from slots s lt (λ t. within_quotas (entries_in t slots) (is.sound t)) (under_quotas (entries_in s slots) kind (is.sound s) none) in
+    omega (arith, less, is.count, is.room)
+  where
+    all_within : (xs : List SlotEntries) → ((t : ℕ) → length (entries_in t xs).entries ≤ all_quotas (entries_in t xs).quotas) → sum_by (λ (slot : SlotEntries). length slot.entries) xs ≤ sum_by (λ (slot : SlotEntries). all_quotas slot.quotas) xs
+    all_within [] each = omega arith
+    all_within (x ∷ xs) each = omega (arith, each 0, all_within xs (λ t. each (suc t)), sum_by-cons (λ (slot : SlotEntries). length slot.entries) x xs, sum_by-cons (λ (slot : SlotEntries). all_quotas slot.quotas) x xs)
+
+    less_from : (xs : List SlotEntries) (i : ℕ) → i < length xs → ((t : ℕ) → length (entries_in t xs).entries ≤ all_quotas (entries_in t xs).quotas) → length (entries_in i xs).entries < all_quotas (entries_in i xs).quotas → sum_by (λ (slot : SlotEntries). length slot.entries) xs < sum_by (λ (slot : SlotEntries). all_quotas slot.quotas) xs
+    less_from [] i lt each here = absurd (omega arith)
+    less_from (x ∷ xs) zero lt each here = omega (arith, here, all_within xs (λ t. each (suc t)), sum_by-cons (λ (slot : SlotEntries). length slot.entries) x xs, sum_by-cons (λ (slot : SlotEntries). all_quotas slot.quotas) x xs)
+    less_from (x ∷ xs) (suc i) lt each here = omega (arith, each 0, less_from xs i (omega (arith, lt)) (λ t. each (suc t)) here, sum_by-cons (λ (slot : SlotEntries). length slot.entries) x xs, sum_by-cons (λ (slot : SlotEntries). all_quotas slot.quotas) x xs)
+
+-- an object goes
+pub IsKeptTable-remove : (slots : List SlotEntries) (pool : PoolState) (s h key : ℕ) → IsKeptTable slots pool → s < length slots → key_of h (entries_in s slots).entries ≡ Some key → IsKeptTable (entries_changed s (without_entry h) slots) (set pool key None)
+IsKeptTable-remove slots pool s h key is lt found =
+    let slot = entries_in s slots in
+    let x = without_entry h slot in
+    let pool_then = set pool key None in
+    let of = is.listed s h key found in
+    let held = some_there (held_in pool key) refl of in
+    let none : owner_in pool_then key ≡ None = ap owner_of (unset pool key) in
+    let there : (k : ℕ) → k ≢ key → owner_in pool_then k ≡ owner_in pool k = λ k apart. ap owner_of (get_or-set_other pool key k None None apart) in
+    let sums = totals slots s x lt refl in
+    record {
+      few = omega (arith, length-set slots s x, is.few);
+      sound = slots_sound slots s x lt (AreSlotEntries-without_entry h slot (is.sound s)) is.sound;
+      listed = λ t g k at. elim (cases_eq t s) [
+        | inl same ↦
+            let was : key_of g x.entries ≡ Some k = sym (ap (λ (y : SlotEntries). key_of g y.entries) (here_in slots s t x lt same)) ∙ at in
+            elim (cases_eq g h) [
+              | inl gone ↦ absurd (none-some k (sym (key_of-gone h slot.entries) ∙ (ap (λ (n : ℕ). key_of n x.entries) (sym gone) ∙ was)))
+              | inr stays ↦
+                  let old = is.listed s g k (sym (key_of-without h g slot.entries stays) ∙ was) in
+                  let apart : k ≢ key = λ e. stays (same_owner s s g h (sym old ∙ (ap (owner_in pool) e ∙ of))).1 in
+                  there k apart ∙ (old ∙ ap (λ (n : ℕ). owned_by n g) (sym same))
+            ]
+        | inr other ↦
+            let old = is.listed t g k (sym (ap (λ (y : SlotEntries). key_of g y.entries) (there_in slots s t x other)) ∙ at) in
+            let apart : k ≢ key = λ e. other (same_owner t s g h (sym old ∙ (ap (owner_in pool) e ∙ of))).0 in
+            there k apart ∙ old
+      ];
+      owned = λ t g k at. elim (cases_eq k key) [
+        | inl same ↦ absurd (no_owner t g (sym none ∙ (ap (owner_in pool_then) (sym same) ∙ at)))
+        | inr apart ↦
+            let old = is.owned t g k (sym (there k apart) ∙ at) in
+            elim (cases_eq t s) [
+              | inl same ↦
+                  let here : key_of g slot.entries ≡ Some k = ap (λ (n : ℕ). key_of g (entries_in n slots).entries) (sym same) ∙ old in
+                  let stays : g ≢ h = λ e. apart (same_Some k key (sym here ∙ (ap (λ (n : ℕ). key_of n slot.entries) e ∙ found))) in
+                  ap (λ (y : SlotEntries). key_of g y.entries) (here_in slots s t x lt same)
+                  ∙ (key_of-without h g slot.entries stays ∙ here)
+              | inr other ↦ ap (λ (y : SlotEntries). key_of g y.entries) (there_in slots s t x other) ∙ old
+            ]
+      ];
+      count = omega (arith, count_unset pool key held.0 held.1, is.count, sums.0, length_without h key slot.entries (is.sound s).rising found);
+      room = omega (arith, length-set pool key nothing, is.room, sums.1);
+    }
+  where
+    unset : (xs : PoolState) (k : ℕ) → get_or (set xs k None) k None ≡ None
+    unset [] k = refl
+    unset (y ∷ xs) zero = refl
+    unset (y ∷ xs) (suc k) = unset xs k
+
+    some_there : (o : Option Held) → held_in pool key ≡ o → owner_of o ≡ Some (s, h) → (held : Held) × (held_in pool key ≡ Some held)
+    some_there None at of = absurd (no_owner s h of)
+    some_there (Some held) at of = (held, at)
+
+-- the pool holds the object of a key that is found
+pub found_is_held : (slots : List SlotEntries) (pool : PoolState) (s h key : ℕ) → IsKeptTable slots pool → key_of h (entries_in s slots).entries ≡ Some key → IsSome (held_in pool key)
+found_is_held slots pool s h key is found = sym (owner_there pool key) ∙ ap is_some (is.listed s h key found)
+
+-- the next handle rises
+pub IsKeptTable-next : (slots : List SlotEntries) (pool : PoolState) (s next : ℕ) → IsKeptTable slots pool → s < length slots → next ≤ last_handle → IsKeptTable (entries_changed s (with_next_handle next) slots) pool
+IsKeptTable-next slots pool s next is lt le =
+    let x = with_next_handle next (entries_in s slots) in
+    let same : (t : ℕ) → (entries_in t (set slots s x)).entries ≡ (entries_in t slots).entries = λ t. elim (cases_eq t s) [
+      | inl e ↦ ap (λ (y : SlotEntries). y.entries) (here_in slots s t x lt e) ∙ ap (λ (n : ℕ). (entries_in n slots).entries) (sym e)
+      | inr apart ↦ ap (λ (y : SlotEntries). y.entries) (there_in slots s t x apart)
+    ] in
+    let sums = totals slots s x lt refl in
+    record {
+      few = omega (arith, length-set slots s x, is.few);
+      sound = slots_sound slots s x lt (AreSlotEntries-next next (entries_in s slots) le (is.sound s)) is.sound;
+      listed = λ t h k at. is.listed t h k (ap (key_of h) (sym (same t)) ∙ at);
+      owned = λ t h k at. ap (key_of h) (same t) ∙ is.owned t h k at;
+      count = omega (arith, is.count, sums.0);
+      room = omega (arith, is.room, sums.1);
+    }
+
+-- the object of a key becomes another one
+pub IsKeptTable-lent : (slots : List SlotEntries) (pool : PoolState) (key : ℕ) (held : Held) (w : AnyObject) → IsKeptTable slots pool → held_in pool key ≡ Some held → IsKeptTable slots (pool_with key pool w)
+IsKeptTable-lent slots pool key held w is at = record {
+  few = is.few;
+  sound = is.sound;
+  listed = λ s h k found. owners k ∙ is.listed s h k found;
+  owned = λ s h k of. is.owned s h k (sym (owners k) ∙ of);
+  count = ap (λ (o : Option Held). held_count (set pool key (option_map (λ (x : Held). with_other_held x w) o))) at ∙ (count_kept pool key held (with_other_held held w) at ∙ is.count);
+  room = length-set pool key (option_map (λ (x : Held). with_other_held x w) (held_in pool key)) ∙ is.room;
+}
+  where
+    within : (xs : PoolState) (k : ℕ) → held_in xs k ≡ Some held → k < length xs
+    within [] k at = absurd (none-some held at)
+    within (x ∷ xs) zero at = omega arith
+    within (x ∷ xs) (suc k) at = omega (arith, within xs k at)
+
+    owners : (k : ℕ) → owner_in (pool_with key pool w) k ≡ owner_in pool k
+    owners k = elim (cases_eq k key) [
+      | inl same ↦
+          ap (λ (n : ℕ). owner_in (pool_with key pool w) n) same
+          ∙ (ap owner_of (get_or-set_same pool key (option_map (λ (x : Held). with_other_held x w) (held_in pool key)) None (within pool key at) ∙ ap (option_map (λ (x : Held). with_other_held x w)) at)
+          ∙ (sym (ap owner_of at) ∙ ap (owner_in pool) (sym same)))
+      | inr apart ↦ ap owner_of (get_or-set_other pool key k (option_map (λ (x : Held). with_other_held x w) (held_in pool key)) None apart)
+    ]
+
+-- What is seen of a change.
+
+abbrev apart_slots : PoolState → ℕ → ℕ → List SlotEntries → Type 0
+apart_slots pool s key slots = (t : ℕ) → t ≢ s → AllApart key (entries_in t slots).entries
+
+changed_seen : (slots : List SlotEntries) (pool : PoolState) (s key : ℕ) (v : Option Held) (x : SlotEntries) (y : SlotTable) → apart_slots pool s key slots → slot_seen (set pool key v) x ≡ y → table_seen (set pool key v) (set slots s x) ≡ set (table_seen pool slots) s y
+changed_seen slots pool s key v x y apart is =
+    map-set (slot_seen (set pool key v)) slots s x
+    ∙ (ap (λ (z : SlotTable). set (map (slot_seen (set pool key v)) slots) s z) is
+    ∙ sets_seen (slot_seen (set pool key v)) (slot_seen pool) slots s y (opened_entries []) (λ t other lt. other_seen pool key v (entries_in t slots) (apart t other)))
+
+pub add_seen : (slots : List SlotEntries) (pool : PoolState) (s key : ℕ) (object : AnyObject) → IsKeptTable slots pool → key < length pool → held_in pool key ≡ None → table_seen (set pool key (Some (record { slot = s; handle = (entries_in s slots).next; object = object }))) (entries_changed s (with_entry (kind_of object) key) slots) ≡ changed_at s (with_object key object) (table_seen pool slots)
+add_seen slots pool s key object is within vacant =
+    changed_seen slots pool s key (Some (record { slot = s; handle = (entries_in s slots).next; object = object })) (with_entry (kind_of object) key (entries_in s slots)) (with_object key object (slot_in s (table_seen pool slots)))
+    (λ t other. apart_unowned pool t key (entries_in t slots).entries (all_owned slots pool is t) (λ h. unowned pool key t h vacant))
+    (added_seen pool s key object (entries_in s slots) (all_owned slots pool is s) within vacant ∙ ap (with_object key object) (sym (slot_in_seen pool slots s)))
+
+pub remove_seen : (slots : List SlotEntries) (pool : PoolState) (s h key : ℕ) → IsKeptTable slots pool → key_of h (entries_in s slots).entries ≡ Some key → table_seen (set pool key None) (entries_changed s (without_entry h) slots) ≡ changed_at s (without h) (table_seen pool slots)
+remove_seen slots pool s h key is found =
+    let of = is.listed s h key found in
+    changed_seen slots pool s key None (without_entry h (entries_in s slots)) (without h (slot_in s (table_seen pool slots)))
+    (λ t other. apart_unowned pool t key (entries_in t slots).entries (all_owned slots pool is t) (λ g at. other (same_owner t s g h (sym at ∙ of)).0))
+    (removed_seen pool s h key (entries_in s slots) (all_owned slots pool is s) of ∙ ap (without h) (sym (slot_in_seen pool slots s)))
+
+pub next_seen : (slots : List SlotEntries) (pool : PoolState) (s next : ℕ) → table_seen pool (entries_changed s (with_next_handle next) slots) ≡ changed_at s (with_next next) (table_seen pool slots)
+next_seen slots pool s next =
+    map-set (slot_seen pool) slots s (with_next_handle next (entries_in s slots))
+    ∙ ap (λ (y : SlotTable). set (table_seen pool slots) s (with_next next y)) (sym (slot_in_seen pool slots s))
+
+pub adds : (slots : List SlotEntries) (pool : PoolState) (s key : ℕ) (object : AnyObject) → IsKeptTable slots pool → key < length pool → held_in pool key ≡ None → Adds s object (table_seen pool slots) (table_seen (set pool key (Some (record { slot = s; handle = (entries_in s slots).next; object = object }))) (entries_changed s (with_entry (kind_of object) key) slots))
+adds slots pool s key object is within vacant = record {
+  key = key;
+  fresh = unheld_none slots pool key is vacant;
+  table = add_seen slots pool s key object is within vacant;
+}
+
+-- Nothing goes where there is nothing.
+
+no_entry : (h : ℕ) (es : List Entry) → key_of h es ≡ None → entry_of h es ≡ None
+no_entry h es none = either (entry_of h es) refl none
+  where
+    either : (o : Option Entry) → entry_of h es ≡ o → option_map (λ (entry : Entry). entry.key) o ≡ None → entry_of h es ≡ None
+    either None is none = is
+    either (Some e) is none = absurd (none-some e.key (sym none))
+
+pub same_slots : (slots : List SlotEntries) (s h : ℕ) → s < length slots → key_of h (entries_in s slots).entries ≡ None → entries_changed s (without_entry h) slots ≡ slots
+same_slots slots s h lt none =
+    ap (λ (x : SlotEntries). set slots s x) (sym (same_without h (entries_in s slots) (no_entry h (entries_in s slots).entries none)))
+    ∙ set-get_or slots s (opened_entries [])
+
+pub nothing_found : (slots : List SlotEntries) (pool : PoolState) (s h : ℕ) → key_of h (entries_in s slots).entries ≡ None → by_handle h (slot_in s (table_seen pool slots)).objects ≡ None
+nothing_found slots pool s h none =
+    ap (λ (slot : SlotTable). by_handle h slot.objects) (slot_in_seen pool slots s)
+    ∙ (found_seen pool h (entries_in s slots).entries
+    ∙ ap (option_map (keyed_of pool)) (no_entry h (entries_in s slots).entries none))
+
+pub gone_seen : (slots : List SlotEntries) (pool : PoolState) (s h : ℕ) → table_seen pool (entries_changed s (without_entry h) slots) ≡ changed_at s (without h) (table_seen pool slots)
+gone_seen slots pool s h =
+    map-set (slot_seen pool) slots s (without_entry h (entries_in s slots))
+    ∙ ap (λ (y : SlotTable). set (table_seen pool slots) s y)
+    (ap (λ (es : List Keyed). let x : SlotTable = record { quotas = (entries_in s slots).quotas; next = (entries_in s slots).next; objects = es } in x) (without_seen pool h (entries_in s slots).entries)
+    ∙ ap (without h) (sym (slot_in_seen pool slots s)))
+
+-- the object of a handle is what is held under its key
+pub found_object : (slots : List SlotEntries) (pool : PoolState) (s h key : ℕ) (held : Held) → key_of h (entries_in s slots).entries ≡ Some key → held_in pool key ≡ Some held → option_map (λ keyed. keyed.object) (by_handle h (slot_in s (table_seen pool slots)).objects) ≡ Some held.object
+found_object slots pool s h key held found at =
+    let there = entry_there h key (entries_in s slots).entries found in
+    let here : held_in pool there.entry.key ≡ Some held = ap (held_in pool) there.key ∙ at in
+    ap (λ (slot : SlotTable). option_map (λ (keyed : Keyed). keyed.object) (by_handle h slot.objects)) (slot_in_seen pool slots s)
+    ∙ (ap (option_map (λ (keyed : Keyed). keyed.object)) (found_seen pool h (entries_in s slots).entries ∙ ap (option_map (keyed_of pool)) there.found)
+    ∙ rw here refl)
+
+-- What a caller knows of the table, said of what it is made of.
+
+pub within_slots : (slots : List SlotEntries) (pool : PoolState) (now : TableState) (s : ℕ) → table_seen pool slots ≡ now → s < length now → s < length slots
+within_slots slots pool now s is lt = omega (arith, lt, ap length is, length-map slots (slot_seen pool))
+
+pub granted : (slots : List SlotEntries) (pool : PoolState) (now : TableState) (s : ℕ) (kind : Kind) → table_seen pool slots ≡ now → refusal (slot_in s now) kind ≡ None → refusal_of (entries_in s slots) kind ≡ None
+granted slots pool now s kind is none =
+    sym (refusal_seen pool (entries_in s slots) kind)
+    ∙ (ap (λ (slot : SlotTable). refusal slot kind) (sym (slot_in_seen pool slots s))
+    ∙ (ap (λ (table : TableState). refusal (slot_in s table) kind) is ∙ none))
+
+pub some_lent : (slots : List SlotEntries) (pool : PoolState) (key : ℕ) → IsKeptTable slots pool → IsSome (held_in pool key) → (w : AnyObject) → IsKeptTable slots (pool_with key pool w) × (table_seen (pool_with key pool w) slots ≡ exchanged key (table_seen pool slots) w)
+some_lent slots pool key is some w = either (held_in pool key) refl some
+  where
+    within : (xs : PoolState) (k : ℕ) → IsSome (held_in xs k) → k < length xs
+    within [] k there = absurd (false≢true there)
+    within (x ∷ xs) zero there = omega arith
+    within (x ∷ xs) (suc k) there = omega (arith, within xs k there)
+
+    either : (o : Option Held) → held_in pool key ≡ o → IsSome o → IsKeptTable slots (pool_with key pool w) × (table_seen (pool_with key pool w) slots ≡ exchanged key (table_seen pool slots) w)
+    either None at there = absurd (false≢true there)
+    either (Some held) at there = (IsKeptTable-lent slots pool key held w is at, lent_seen pool key held w slots at (within pool key some))
+
+-- An empty table.
+
+pub opened_seen : (pool : PoolState) (quotas : List (List ℕ)) → table_seen pool (map opened_entries quotas) ≡ map opened_slot quotas
+opened_seen pool [] = refl
+opened_seen pool (q ∷ qs) = ap (λ (r : TableState). opened_slot q ∷ r) (opened_seen pool qs)
+
+pub opened_kept : (quotas : List (List ℕ)) → length quotas ≤ slot_limit → All AreLimited quotas → IsKeptTable (map opened_entries quotas) (replicate (sum_by all_quotas quotas) None)
 opened_kept quotas le limited = record {
-  few = let l = length-map quotas opened_slot in omega (arith, l, le);
-  slots = λ s. subst (λ (slot : SlotTable). IsSlotTable slot) (sym (get_or-map opened_slot quotas s [])) (IsSlotTable-opened (get_or quotas s []) (limits s));
-  keyed = λ s. subst (λ (slot : SlotTable). AllKeyed s slot.objects) (sym (get_or-map opened_slot quotas s [])) tt;
+  few = omega (arith, length-map quotas opened_entries, le);
+  sound = λ s. subst (λ (slot : SlotEntries). AreSlotEntries slot) (sym (opened_at s)) (AreSlotEntries-opened (get_or quotas s []) (limits s));
+  listed = λ s h k at. absurd (none-some k (sym (ap (λ (y : SlotEntries). key_of h y.entries) (opened_at s)) ∙ at));
+  owned = λ s h k of. absurd (unowned (replicate (sum_by all_quotas quotas) None) k s h (no_held (sum_by all_quotas quotas) k) of);
+  count = none_count (sum_by all_quotas quotas) ∙ sym (no_entries quotas);
+  room = all_room (sum_by all_quotas quotas) ∙ sym (same_room quotas);
 }
   where
+    opened_at : (s : ℕ) → entries_in s (map opened_entries quotas) ≡ opened_entries (get_or quotas s [])
+    opened_at s = get_or-map opened_entries quotas s []
+
     none_limited : AreLimited []
     none_limited kind = omega arith
 
@@ -210,30 +501,23 @@ opened_kept quotas le limited = record {
       | inr past ↦ subst (λ (q : List ℕ). AreLimited q) (sym (get_or_past quotas s [] past)) none_limited
     ]
 
--- the object of a key has the slot and the handle of where it stands
-pub owned : (table : TableState) (key s i handle : ℕ) → IsKeptTable table → IsAt key s i table → Some handle ≡ option_map (λ keyed. keyed.handle) (slice_get (slot_in s table).objects i) → by_handle handle (slot_in s table).objects ≡ by_key key (all_objects table)
-owned table key s i handle is at of = either (slice_get (slot_in s table).objects i) refl of
-  where
-    either : (o : Option Keyed) → slice_get (slot_in s table).objects i ≡ o → Some handle ≡ option_map (λ keyed. keyed.handle) o → by_handle handle (slot_in s table).objects ≡ by_key key (all_objects table)
-    either None is_o of = absurd (cc)
-    either (Some e) is_o of =
-        let same : handle ≡ e.handle = same_Some handle e.handle of in
-        ap (λ (h : ℕ). by_handle h (slot_in s table).objects) same
-        ∙ (by_handle_get (slot_in s table).objects i e (is.slots s).rising is_o ∙ (sym is_o ∙ at.found))
+    none_count : (n : ℕ) → held_count (replicate n None) ≡ 0
+    none_count zero = refl
+    none_count (suc n) = omega (arith, sum_by-cons (λ (o : Option Held). cond {A = ℕ} (is_some o) 1 0) None (replicate n None), none_count n)
 
--- the object of an index is that of its handle
-pub listed : (table : TableState) → IsKeptTable table → (s index : ℕ) (keyed : Keyed) → slice_get (slot_in s table).objects index ≡ Some keyed → by_handle keyed.handle (slot_in s table).objects ≡ Some keyed
-listed table is s index keyed at = by_handle_get (slot_in s table).objects index keyed (is.slots s).rising at
+    no_entries : (qs : List (List ℕ)) → sum_by (λ (slot : SlotEntries). length slot.entries) (map opened_entries qs) ≡ 0
+    no_entries [] = refl
+    no_entries (q ∷ qs) = omega (arith, sum_by-cons (λ (slot : SlotEntries). length slot.entries) (opened_entries q) (map opened_entries qs), no_entries qs)
 
--- the object of a handle becomes another one, and no other
-pub exchanged_alone : (table : TableState) → IsKeptTable table → (s handle : ℕ) (keyed : Keyed) (object : AnyObject) → by_handle handle (slot_in s table).objects ≡ Some keyed → exchanged keyed.key table object ≡ changed_at s (with_other_by_handle handle object) table
-exchanged_alone table is s handle keyed object found =
-    let key = key_by_handle s handle (slot_in s table).objects keyed (is.keyed s) found in
-    let same : keyed.handle ≡ handle = handle_found handle (slot_in s table).objects keyed found in
-    let of : keyed.key ≡ s * 4294967296 + handle = omega (arith, key.0, same) in
-    exchanged_from 0 s handle keyed.key object table (keyed_table table is) (omega (arith, of)) (omega (arith, key.1, same))
+    all_room : (n : ℕ) → length (replicate n nothing) ≡ n
+    all_room zero = refl
+    all_room (suc n) = omega (arith, all_room n)
+
+    same_room : (qs : List (List ℕ)) → sum_by (λ (slot : SlotEntries). all_quotas slot.quotas) (map opened_entries qs) ≡ sum_by all_quotas qs
+    same_room [] = refl
+    same_room (q ∷ qs) = sum_by-cons (λ (slot : SlotEntries). all_quotas slot.quotas) (opened_entries q) (map opened_entries qs) ∙ (ap (λ n. all_quotas q + n) (same_room qs) ∙ sym (sum_by-cons all_quotas q qs))
 
 -- one slot more is opened
-pub opened_more : (quotas : List (List ℕ)) (i : ℕ) (q : List ℕ) → i < length quotas → q ≡ get_or quotas i q → map opened_slot (take i quotas) ++ opened_slot q ∷ [] ≡ map opened_slot (take (i + 1) quotas)
+pub opened_more : (quotas : List (List ℕ)) (i : ℕ) (q : List ℕ) → i < length quotas → q ≡ get_or quotas i q → map opened_entries (take i quotas) ++ opened_entries q ∷ [] ≡ map opened_entries (take (i + 1) quotas)
 opened_more quotas i q lt is =
-    sym (ap (λ (qs : List (List ℕ)). map opened_slot qs) (take_more quotas i q lt ∙ ap (λ (x : List ℕ). take i quotas ++ x ∷ []) (sym is)) ∙ map-append opened_slot (take i quotas) (q ∷ []))
+    sym (ap (λ (qs : List (List ℕ)). map opened_entries qs) (take_more quotas i q lt ∙ ap (λ (x : List ℕ). take i quotas ++ x ∷ []) (sym is)) ∙ map-append opened_entries (take i quotas) (q ∷ []))

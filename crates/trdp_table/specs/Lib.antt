@@ -2,7 +2,9 @@ pub mod Objects
 pub mod ObjectLaws
 pub mod Kinds
 pub mod Tables
-pub mod Lending
 pub mod TableLaws
+pub mod Entries
 pub mod SlotKept
+pub mod Pools
 pub mod TableKept
+pub mod Lending

@@ -1,24 +1,55 @@
--- How a table gives its keys, and where it finds the object of one.
-use Rattle.std.specs.Prelude.{◌≡◌, ℕ, ◌+◌, ◌*◌, ◌<◌, ◌≤◌, List, [], ◌∷◌, length, slice_get}
-use Rattle.trdp_table.specs.Tables.{Keyed, TableState, slot_limit}
-use Rattle.trdp_table.specs.Tables.{slot_in, by_key, all_objects}
-use Rattle.trdp_table.specs.TableLaws.{IsSlotTable}
+-- How a table keeps its objects: the lists of the slots name keys, and the pool holds under each of
+-- them the object.
+use Rattle.std.specs.Prelude.{◌≡◌, ℕ, ◌≤◌, List, length, map, sum_by, Option, Some, None}
+use Rattle.trdp_table.specs.declared.any_object.AnyObject.{AnyObject}
+use Rattle.trdp_table.specs.declared.any_object.AnyObject.TheVariants.{Requester}
+use Rattle.trdp_table.specs.declared.entry.Entry.{Entry}
+use Rattle.trdp_table.specs.declared.held.Held.{Held}
+use Rattle.trdp_table.specs.Tables.{Keyed, SlotTable, TableState, slot_limit, all_quotas}
+use Rattle.trdp_table.specs.Entries.{SlotEntries, AreSlotEntries, entries_in, key_of}
+use Rattle.trdp_table.specs.Pools.{PoolState, held_in, owner_in, held_count}
 
--- each key is the slot and the handle, as one number: unique over all slots and for ever
-abbrev pub AllKeyed : ℕ → List Keyed → Type 0
-AllKeyed s [] = Unit {0}
-AllKeyed s (keyed ∷ others) =
-    ((keyed.key ≡ s * 4294967296 + keyed.handle) × (keyed.handle < 4294967296))
-    × AllKeyed s others
+-- what stands for the object of a key that has none; no slot names such a key
+abbrev pub no_object : AnyObject
+no_object = Requester (record {
+  terms = record {
+    com_id = 0;
+    reply_com_id = 0;
+    reply_ip = record { 0 = 0 };
+    topo = record { etb = 0; op_trn = 0 };
+    to = record { ip = record { 0 = 0 }; port = 0 };
+  };
+  counter = 0;
+})
 
--- what a table keeps
-pub record IsKeptTable (table : TableState) : Type 0 where
-  pub few : length table ≤ slot_limit
-  pub slots : (s : ℕ) → IsSlotTable (slot_in s table)
-  pub keyed : (s : ℕ) → AllKeyed s (slot_in s table).objects
+abbrev pub object_or_none : Option Held → AnyObject
+object_or_none None = no_object
+object_or_none (Some held) = held.object
 
--- where the object of a key stands: its slot, and its index in the slot's list
-pub record IsAt (key s i : ℕ) (table : TableState) : Type 0 where
-  pub slot : s < length table
-  pub within : i < length (slot_in s table).objects
-  pub found : slice_get (slot_in s table).objects i ≡ by_key key (all_objects table)
+-- an entry with the object that the pool holds under its key
+abbrev pub keyed_of : PoolState → Entry → Keyed
+keyed_of pool entry = record {
+  handle = entry.handle;
+  kind = entry.kind;
+  key = entry.key;
+  object = object_or_none (held_in pool entry.key);
+}
+
+abbrev pub slot_seen : PoolState → SlotEntries → SlotTable
+slot_seen pool slot =
+    record { quotas = slot.quotas; next = slot.next; objects = map (keyed_of pool) slot.entries }
+
+abbrev pub table_seen : PoolState → List SlotEntries → TableState
+table_seen pool slots = map (slot_seen pool) slots
+
+-- the slots' lists name exactly the keys that the pool holds, and the pool holds under each key the
+-- slot and the handle that name it; it has as many keys as all quotas allow
+pub record IsKeptTable (slots : List SlotEntries) (pool : PoolState) : Type 0 where
+  pub few : length slots ≤ slot_limit
+  pub sound : (s : ℕ) → AreSlotEntries (entries_in s slots)
+  pub listed : (s handle key : ℕ) → key_of handle (entries_in s slots).entries ≡ Some key
+      → owner_in pool key ≡ Some (s, handle)
+  pub owned : (s handle key : ℕ) → owner_in pool key ≡ Some (s, handle)
+      → key_of handle (entries_in s slots).entries ≡ Some key
+  pub count : held_count pool ≡ sum_by (λ slot. length slot.entries) slots
+  pub room : length pool ≡ sum_by (λ slot. all_quotas slot.quotas) slots

@@ -1,12 +1,12 @@
 -- What is true of every table: its handles rise, its objects are within their quotas, and no two
 -- objects have the same key.
-use Rattle.std.specs.Prelude.{◌==◌, ℕ, ◌<◌, ◌≤◌, List, [], ◌∷◌, length, map, slice_index}
+use Rattle.std.specs.Prelude.{◌==◌, ℕ, ◌<◌, ◌≤◌, List, [], ◌∷◌, length, map, slice_index, IsSome}
 use Rattle.std.specs.List.{IsDistinct}
 use Rattle.trdp_base.specs.QuotaLimits.{quota_limit}
 use Rattle.trdp_table.specs.declared.kind.Kind.{Kind}
 use Rattle.trdp_table.specs.Kinds.{kind_index}
 use Rattle.trdp_table.specs.Tables.{Keyed, SlotTable, TableState, slot_limit}
-use Rattle.trdp_table.specs.Tables.{slot_in, count_of, all_objects}
+use Rattle.trdp_table.specs.Tables.{slot_in, count_of, all_objects, by_key, room_of}
 
 -- each handle is above h
 abbrev pub AllAbove : ℕ → List Keyed → Type 0
@@ -40,9 +40,10 @@ pub record IsSlotTable (slot : SlotTable) : Type 0 where
   pub full : (kind : Kind)
       → count_of kind slot.objects ≤ slice_index slot.quotas (kind_index kind)
 
--- a table is of at most sixteen slots, and each key belongs to one object
+-- a table is of at most sixteen slots, and each key belongs to one object and is below the room
 pub record IsTable (table : TableState) : Type 0 where
   pub few : length table ≤ slot_limit
   pub slots : (s : ℕ) → IsSlotTable (slot_in s table)
   pub objects : (s : ℕ) → length (slot_in s table).objects ≤ object_limit
   pub keys : IsDistinct (λ a b. a == b) (map (λ keyed. keyed.key) (all_objects table))
+  pub below : (key : ℕ) → IsSome (by_key key (all_objects table)) → key < room_of table

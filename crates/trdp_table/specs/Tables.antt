@@ -1,6 +1,6 @@
 -- The table of objects: for each slot a list of objects by rising handle.
 use Rattle.std.specs.Prelude.{◌≡◌, ℕ, ◌+◌, max, List, [], ◌∷◌, ◌++◌, map, flat_map, find, filter}
-use Rattle.std.specs.Prelude.{count_by, slice_index, slice_index_or, slice_set, Option, Some, None}
+use Rattle.std.specs.Prelude.{count_by, sum_by, slice_index, slice_index_or, slice_set, Option, Some, None}
 use Rattle.std.specs.Prelude.{◌==◌, nat_le, nat_lt, not, if◌then◌else◌}
 use Rattle.trdp_table.specs.declared.any_object.AnyObject.{AnyObject}
 use Rattle.trdp_table.specs.declared.kind.Kind.{Kind}
@@ -41,6 +41,16 @@ opened_slot quotas = record { quotas = quotas; next = 1; objects = [] }
 -- the slot of a number; where there is none, an empty one without quotas
 abbrev pub slot_in : ℕ → TableState → SlotTable
 slot_in s table = slice_index_or table s (opened_slot [])
+
+-- all objects that the quotas allow together
+abbrev pub all_quotas : List ℕ → ℕ
+all_quotas quotas =
+    slice_index quotas 0 + slice_index quotas 1 + slice_index quotas 2
+    + slice_index quotas 3 + slice_index quotas 4 + slice_index quotas 5
+
+-- all objects that the quotas of all slots allow together
+abbrev pub room_of : TableState → ℕ
+room_of table = sum_by (λ slot. all_quotas slot.quotas) table
 
 -- the objects of all slots
 abbrev pub all_objects : TableState → List Keyed

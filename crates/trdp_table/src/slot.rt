@@ -1,15 +1,12 @@
-//! The objects of one slot.
+//! The handles of one slot.
 
-ghost use Rattle.std.specs.Prelude.{◌≡◌, ◌+◌, ◌<◌, ◌≤◌, length, Some, None, IfOk, IfSome};
-ghost use Rattle.std.specs.Prelude.{slice_get, option_map, option_copied};
-ghost use Rattle.std.specs.Borrow.{sem};
-ghost use Rattle.trdp_table.specs.Kinds.{kind_of};
-ghost use Rattle.trdp_table.specs.Tables.{opened_slot, refusal, last_handle, by_handle};
-ghost use Rattle.trdp_table.specs.Tables.{with_object, without, with_next};
+ghost use Rattle.std.specs.Prelude.{◌≡◌, ◌≤◌, length, None, IfOk, IfSome, slice_get};
+ghost use Rattle.trdp_table.specs.Tables.{last_handle, all_quotas};
 ghost use Rattle.trdp_table.specs.TableLaws.{AreLimited, object_limit};
-ghost use Rattle.trdp_table.specs.SlotKept.{all_quotas, IsIndexOf};
+ghost use Rattle.trdp_table.specs.Entries.{opened_entries, refusal_of, entry_of, key_of};
+ghost use Rattle.trdp_table.specs.Entries.{with_entry, without_entry, with_next_handle};
+ghost use Rattle.trdp_table.specs.SlotKept.{IsIndexOf};
 
-use crate::any_object::AnyObject;
 use crate::counts::KindCounts;
 use crate::entry::Entry;
 use crate::fault::TableFault;
@@ -22,7 +19,7 @@ use trdp_base::Quotas;
 /// The last handle of a slot (profile).
 const HANDLE_MAX: u64 = 4_294_967_295;
 
-/// The objects of one slot, each under its handle.
+/// The handles of one slot, each with the key of its object.
 #[derive(Drop)]
 pub struct Slot {
     /// How many objects of each kind it may hold.
@@ -38,22 +35,23 @@ pub struct Slot {
 
 impl Model for Slot {
     ghost use Rattle.std.specs.Prelude.{vec_capacity};
-    ghost use Rattle.trdp_table.specs.Tables.{SlotTable};
+    ghost use Rattle.trdp_table.specs.Entries.{SlotEntries};
     ghost use Rattle.trdp_table.specs.SlotKept.{IsKept};
 
-    ghost Value = { SlotTable };
+    ghost Value = { SlotEntries };
 
-    ghost view = { λ s. record { quotas = s.quotas; next = s.next; objects = s.entries.items } };
+    ghost view = { λ s. record { quotas = s.quotas; next = s.next; entries = s.entries.items } };
 
     ghost invariant = { λ s. IsKept
-        (record { quotas = s.quotas; next = s.next; objects = s.entries.items })
+        (record { quotas = s.quotas; next = s.next; entries = s.entries.items })
         s.counts.numbers (vec_capacity s.entries) };
 }
 
 /// How many objects the quotas allow together, at most 1,536.
-fn room_of(quotas: Quotas) -> usize
+pub fn room_of(quotas: Quotas) -> usize
     ensures room { result ≡ all_quotas quotas }
     ensures limited { AreLimited quotas }
+    ensures within { result ≤ object_limit }
 {
     usize::from(quotas.get(Kind::Publisher.index()))
         + usize::from(quotas.get(Kind::Subscription.index()))
@@ -64,14 +62,12 @@ fn room_of(quotas: Quotas) -> usize
 }
 
 impl Slot {
-    ghost use Rattle.trdp_table.specs.Lending.{LendsOfSlot};
-
     /// An empty slot.
     ///
     /// # Errors
-    /// [`AllocError`] where there is no memory for all objects that the quotas allow.
+    /// [`AllocError`] where there is no memory for the handles of all objects that the quotas allow.
     pub fn new(alloc: Global, quotas: Quotas) -> Result<Slot, AllocError>
-        ensures slot { IfOk result (λ slot. slot ≡ opened_slot quotas) }
+        ensures slot { IfOk result (λ slot. slot ≡ opened_entries quotas) }
         ensures limited { AreLimited quotas }
     {
         let entries = Vec::with_capacity(alloc, room_of(quotas))?;
@@ -85,90 +81,38 @@ impl Slot {
 
     /// How many objects it has, at most 1,536.
     pub fn count(&self) -> usize
-        ensures count { result ≡ length self.now.objects }
+        ensures count { result ≡ length self.now.entries }
         ensures within { result ≤ object_limit }
     {
         self.entries.len()
     }
 
-    /// The key of its object of that index, by rising handle from 0; None past the last one.
-    pub fn key_at(&self, index: usize) -> Option<usize>
-        ensures { result ≡ option_map (λ keyed. keyed.key) (slice_get self.now.objects index) }
+    /// Its object of that index, by rising handle from 0; None past the last one.
+    pub fn entry_at(&self, index: usize) -> Option<Entry>
+        ensures { result ≡ slice_get self.now.entries index }
     {
-        self.entries.get(index).map(|entry| entry.key())
+        self.entries.get(index).copied()
     }
 
     /// The index of its object of that handle; None where there is none.
-    pub fn index_of(&self, handle: u32) -> Option<usize>
-        ensures found { IfSome result (IsIndexOf handle self.now.objects) }
-        ensures absent { result ≡ None → by_handle handle self.now.objects ≡ None }
+    fn index_of(&self, handle: u32) -> Option<usize>
+        ensures found { IfSome result (IsIndexOf handle self.now.entries) }
+        ensures absent { result ≡ None → entry_of handle self.now.entries ≡ None }
     {
         index_of(&self.entries, handle)
     }
 
     /// The key of its object of that handle; None where there is none.
     pub fn find(&self, handle: u32) -> Option<usize>
-        ensures { result
-            ≡ option_map (λ keyed. keyed.key) (by_handle handle self.now.objects) }
+        ensures { result ≡ key_of handle self.now.entries }
     {
         let index = self.index_of(handle)?;
-        self.key_at(index)
-    }
-
-    /// The object of that index.
-    pub fn object_at(&self, index: usize) -> &AnyObject
-        requires { index < length self.now.objects }
-        ensures { Some result.now
-            ≡ option_map (λ keyed. keyed.object) (slice_get self.now.objects index) }
-    {
-        self.entries[index].object()
-    }
-
-    /// The handle of its object of that index.
-    pub fn handle_at(&self, index: usize) -> u32
-        requires { index < length self.now.objects }
-        ensures { Some result
-            ≡ option_map (λ keyed. keyed.handle) (slice_get self.now.objects index) }
-    {
-        self.entries[index].handle()
-    }
-
-    /// The object of that index; None past the last one.
-    pub fn object_of(&self, index: usize) -> Option<&AnyObject>
-        ensures { option_copied result
-            ≡ option_map (λ keyed. keyed.object) (slice_get self.now.objects index) }
-    {
-        match self.entries.get(index) {
-            Some(entry) => Some(entry.object()),
-            None => None,
-        }
-    }
-
-    /// The handle of the object of that index; None past the last one.
-    pub fn handle_of(&self, index: usize) -> Option<u32>
-        ensures { result
-            ≡ option_map (λ keyed. keyed.handle) (slice_get self.now.objects index) }
-    {
-        match self.entries.get(index) {
-            Some(entry) => Some(entry.handle()),
-            None => None,
-        }
-    }
-
-    /// Lends its object of that index alone.
-    pub fn object_mut(&mut self, index: usize) -> &mut AnyObject
-        requires { index < length self.old.objects }
-        ensures* writes_back { sem 𝓛 (LendsOfSlot self.entry index result) }
-        ensures value { Some result.now
-            ≡ option_map (λ keyed. keyed.object) (slice_get self.old.objects index) }
-    {
-        let entry = &mut self.entries[index];
-        entry.object_mut()
+        self.entry_at(index).map(|entry| entry.key)
     }
 
     /// Why it takes no further object of a kind: its quota is used up, or its handles are.
     pub fn refuses(&self, kind: Kind) -> Option<TableFault>
-        ensures { result ≡ refusal self.now kind }
+        ensures { result ≡ refusal_of self.now kind }
     {
         if self.quotas.get(kind.index()) <= self.counts.get(kind) {
             Some(TableFault::Quota)
@@ -187,32 +131,31 @@ impl Slot {
         self.next as u32
     }
 
-    /// Adds an object under the next handle and a key of the caller's.
-    pub fn add(&mut self, key: usize, object: AnyObject)
-        requires { refusal self.old (kind_of object) ≡ None }
-        ensures { self.new ≡ with_object key object self.old }
+    /// Adds an object of a kind under the next handle and the key that the pool gave it.
+    pub fn add(&mut self, kind: Kind, key: usize)
+        requires { refusal_of self.old kind ≡ None }
+        ensures { self.new ≡ with_entry kind key self.old }
     {
-        let entry = Entry::new(self.next_handle(), key, object);
-        self.counts.add(entry.kind());
+        let handle = self.next_handle();
+        self.counts.add(kind);
         self.next += 1;
-        self.entries.push_reserved(entry);
+        self.entries.push_reserved(Entry { handle, kind, key });
     }
 
-    /// Takes out the object of that handle; None where there is none.
-    pub fn remove(&mut self, handle: u32) -> Option<AnyObject>
-        ensures object { result
-            ≡ option_map (λ keyed. keyed.object) (by_handle handle self.old.objects) }
-        ensures slot { self.new ≡ without handle self.old }
+    /// Forgets the object of that handle, and answers its key; None where there is none.
+    pub fn remove(&mut self, handle: u32) -> Option<usize>
+        ensures key { result ≡ key_of handle self.old.entries }
+        ensures slot { self.new ≡ without_entry handle self.old }
     {
         let index = self.index_of(handle)?;
         let entry = self.entries.remove(index);
-        self.counts.remove(entry.kind());
-        Some(entry.into_object())
+        self.counts.remove(entry.kind);
+        Some(entry.key)
     }
 
     /// Makes the next handle at least this.
     pub fn raise(&mut self, next: u32)
-        ensures { self.new ≡ with_next next self.old }
+        ensures { self.new ≡ with_next_handle next self.old }
     {
         self.next = self.next.max(u64::from(next));
     }

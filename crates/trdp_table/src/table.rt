@@ -1,29 +1,28 @@
 //! The table of objects of all slots.
 
-ghost use Rattle.std.specs.Prelude.{◌≡◌, ℕ, ◌+◌, ◌*◌, ◌<◌, ◌≤◌, length, map, All, Some, None};
-ghost use Rattle.std.specs.Prelude.{IfOk, IfErr, OnOk, OnErr, IfSome, is_some, slice_get};
+ghost use Rattle.std.specs.Prelude.{◌≡◌, ℕ, ◌<◌, ◌≤◌, length, map, sum_by, All, Some, None};
+ghost use Rattle.std.specs.Prelude.{IfOk, IfErr, OnOk, OnErr, IfSome, IsSome, is_some, slice_get};
 ghost use Rattle.std.specs.Prelude.{option_map, option_copied};
 ghost use Rattle.std.specs.Option.{option_copied_mut};
 ghost use Rattle.std.specs.Borrow.{sem};
 ghost use Rattle.trdp_table.specs.declared.any_object.AnyObject.{AnyObject};
 ghost use Rattle.trdp_table.specs.Kinds.{kind_of};
-ghost use Rattle.trdp_table.specs.Tables.{Keyed, slot_limit, opened_slot, slot_in};
+ghost use Rattle.trdp_table.specs.Tables.{Keyed, slot_limit, opened_slot, slot_in, all_quotas};
 ghost use Rattle.trdp_table.specs.Tables.{all_objects, by_handle, by_key, refusal, Adds};
-ghost use Rattle.trdp_table.specs.Tables.{changed_at, without, with_next, exchanged};
+ghost use Rattle.trdp_table.specs.Tables.{changed_at, without, with_next, exchanged, room_of};
 ghost use Rattle.trdp_table.specs.Tables.{with_other_by_handle};
 ghost use Rattle.trdp_table.specs.TableLaws.{AreLimited, object_limit, IsTable};
-ghost use Rattle.trdp_table.specs.TableKept.{IsAt};
+ghost use Rattle.trdp_table.specs.Entries.{opened_entries};
 
 use crate::any_object::AnyObject;
 use crate::fault::TableFault;
+use crate::held::Held;
 use crate::kind::Kind;
-use crate::slot::Slot;
+use crate::pool::Pool;
+use crate::slot::{Slot, room_of};
 use std::alloc::{AllocError, Global};
 use std::marker::Model;
 use trdp_base::Quotas;
-
-/// How many keys a slot has: one for each handle, 0 to 4,294,967,295.
-const SLOT_KEYS: usize = 4_294_967_296;
 
 /// The objects of all slots of a node, at most 16, each object under a handle of its slot and a key
 /// of the table.
@@ -31,38 +30,24 @@ const SLOT_KEYS: usize = 4_294_967_296;
 pub struct Table {
     /// The slots by their numbers, from 0.
     slots: Vec<Slot>,
+    /// The objects of all slots, each under the key that its slot names.
+    pool: Pool,
 }
 
 impl Model for Table {
     ghost use Rattle.trdp_table.specs.Tables.{TableState};
-    ghost use Rattle.trdp_table.specs.TableKept.{IsKeptTable};
+    ghost use Rattle.trdp_table.specs.TableKept.{table_seen, IsKeptTable};
 
     ghost Value = { TableState };
 
-    ghost view = { λ t. t.slots.items };
+    ghost view = { λ t. table_seen t.pool t.slots.items };
 
-    ghost invariant = { λ t. IsKeptTable t.slots.items };
-}
-
-/// Where an object stands.
-#[derive(Clone, Copy)]
-struct Location {
-    /// The number of its slot.
-    slot: usize,
-    /// Its index in the slot's list.
-    index: usize,
-}
-
-/// The key of the object of that handle in a slot.
-fn key_of(slot: u16, handle: u32) -> usize
-    ensures { result ≡ slot * 4294967296 + handle }
-{
-    usize::from(slot) * SLOT_KEYS + handle as usize
+    ghost invariant = { λ t. IsKeptTable t.slots.items t.pool };
 }
 
 /// An empty slot for each of the quotas.
 fn opened(alloc: Global, quotas: &[Quotas]) -> Result<Vec<Slot>, AllocError>
-    ensures slots { IfOk result (λ slots. slots.items ≡ map opened_slot quotas.now) }
+    ensures slots { IfOk result (λ slots. slots.items ≡ map opened_entries quotas.now) }
     ensures limited { OnOk result (All AreLimited quotas.now) }
 {
     let mut slots = Vec::with_capacity(alloc, quotas.len())?;
@@ -70,6 +55,18 @@ fn opened(alloc: Global, quotas: &[Quotas]) -> Result<Vec<Slot>, AllocError>
         slots.push_reserved(Slot::new(alloc, *slot_quotas)?);
     }
     Ok(slots)
+}
+
+/// How many objects all of the quotas allow together, at most 24,576.
+fn total_room(quotas: &[Quotas]) -> usize
+    requires { length quotas.now ≤ slot_limit }
+    ensures { result ≡ sum_by all_quotas quotas.now }
+{
+    let mut room = 0;
+    for slot_quotas in quotas {
+        room += room_of(*slot_quotas);
+    }
+    room
 }
 
 impl Table {
@@ -83,7 +80,8 @@ impl Table {
         ensures { IfOk result (λ table. table ≡ map opened_slot quotas.now) }
     {
         let slots = opened(alloc, quotas)?;
-        Ok(Table { slots })
+        let pool = Pool::new(alloc, total_room(quotas))?;
+        Ok(Table { slots, pool })
     }
 
     /// How many slots there are, at most 16.
@@ -92,6 +90,14 @@ impl Table {
         ensures within { result ≤ slot_limit }
     {
         self.slots.len()
+    }
+
+    /// How many objects all slots together can have, which is the total of their quotas: each key
+    /// is below this. It never changes.
+    pub fn room(&self) -> usize
+        ensures { result ≡ room_of self.now }
+    {
+        self.pool.room()
     }
 
     /// How many objects a slot has, at most 1,536.
@@ -109,7 +115,8 @@ impl Table {
         ensures { result
             ≡ option_map (λ keyed. keyed.key) (slice_get (slot_in slot self.now).objects index) }
     {
-        self.slots[usize::from(slot)].key_at(index)
+        let entry = self.slots[usize::from(slot)].entry_at(index)?;
+        Some(entry.key)
     }
 
     /// A slot's object of that index, by rising handle from 0; None past the last one.
@@ -118,7 +125,8 @@ impl Table {
         ensures { option_copied result
             ≡ option_map (λ keyed. keyed.object) (slice_get (slot_in slot self.now).objects index) }
     {
-        self.slots[usize::from(slot)].object_of(index)
+        let entry = self.slots[usize::from(slot)].entry_at(index)?;
+        self.pool.object(entry.key)
     }
 
     /// The handle of a slot's object of that index, from 0; None past the last one.
@@ -127,7 +135,8 @@ impl Table {
         ensures { result
             ≡ option_map (λ keyed. keyed.handle) (slice_get (slot_in slot self.now).objects index) }
     {
-        self.slots[usize::from(slot)].handle_of(index)
+        let entry = self.slots[usize::from(slot)].entry_at(index)?;
+        Some(entry.handle)
     }
 
     /// The key of a slot's object of that handle; None where the slot has none.
@@ -140,18 +149,11 @@ impl Table {
         self.slots[usize::from(slot)].find(handle)
     }
 
-    /// Where the object of that key stands; None where no slot has one.
-    fn locate(&self, key: usize) -> Option<Location>
-        ensures found { IfSome result (λ at. IsAt key at.slot at.index self.now) }
-        ensures absent { result ≡ None → by_key key (all_objects self.now) ≡ None }
+    /// Whether a slot has an object of that key.
+    fn holds(&self, key: usize) -> bool
+        ensures { result ≡ is_some (by_key key (all_objects self.now)) }
     {
-        let slot = key / SLOT_KEYS;
-        let handle = (key % SLOT_KEYS) as u32;
-        if slot >= self.slots.len() {
-            return None;
-        }
-        let index = self.slots[slot].index_of(handle)?;
-        Some(Location { slot, index })
+        self.pool.holds(key)
     }
 
     /// The object of that key; None where no slot has one.
@@ -159,8 +161,7 @@ impl Table {
         ensures { option_copied result
             ≡ option_map (λ keyed. keyed.object) (by_key key (all_objects self.now)) }
     {
-        let location = self.locate(key)?;
-        Some(self.slots[location.slot].object_at(location.index))
+        self.pool.object(key)
     }
 
     /// The slot and the handle of the object of that key; None where no slot has one.
@@ -170,9 +171,7 @@ impl Table {
             ≡ by_key key (all_objects self.now)) }
         ensures variant { is_some result ≡ is_some (by_key key (all_objects self.now)) }
     {
-        let location = self.locate(key)?;
-        let handle = self.slots[location.slot].handle_at(location.index);
-        Some((location.slot as u16, handle))
+        self.pool.owner(key)
     }
 
     /// Why a slot takes no further object of a kind: the first that applies of its quota and its
@@ -191,9 +190,15 @@ impl Table {
         ensures handle { result ≡ (slot_in slot self.old).next }
         ensures added { Adds slot object self.old self.new }
     {
-        let row = &mut self.slots[usize::from(slot)];
-        let handle = row.next_handle();
-        row.add(key_of(slot, handle), object);
+        let kind = Kind::of(&object);
+        let handle = self.slots[usize::from(slot)].next_handle();
+        let held = Held {
+            slot,
+            handle,
+            object,
+        };
+        let key = self.pool.insert(held);
+        self.slots[usize::from(slot)].add(kind, key);
         handle
     }
 
@@ -228,7 +233,9 @@ impl Table {
             (by_handle handle (slot_in slot self.old).objects) }
         ensures table { self.new ≡ changed_at slot (without handle) self.old }
     {
-        self.slots[usize::from(slot)].remove(handle)
+        let key = self.slots[usize::from(slot)].remove(handle)?;
+        let held = self.pool.remove(key);
+        Some(held.object)
     }
 
     /// Makes a slot's next handle at least this; for tests of the last handles.
@@ -243,15 +250,14 @@ impl Table {
 impl Table {
     ghost use Rattle.trdp_table.specs.Lending.{LendsOfTable, LendsAtKey};
 
-    /// Lends the object of the key, which stands there.
-    fn lend(&mut self, key: usize, location: Location) -> &mut AnyObject
-        requires { IsAt key location.slot location.index self.old }
+    /// Lends the object of a key.
+    fn lend(&mut self, key: usize) -> &mut AnyObject
+        requires { IsSome (by_key key (all_objects self.old)) }
         ensures* writes_back { sem 𝓛 (LendsOfTable self.entry key result) }
         ensures value { Some result.now
             ≡ option_map (λ keyed. keyed.object) (by_key key (all_objects self.old)) }
     {
-        let row = &mut self.slots[location.slot];
-        row.object_mut(location.index)
+        self.pool.object_mut(key)
     }
 
     /// Lends the object of that key alone; None where no slot has one. Whatever becomes of it, its
@@ -261,9 +267,10 @@ impl Table {
         ensures value { option_copied_mut result
             ≡ option_map (λ keyed. keyed.object) (by_key key (all_objects self.old)) }
     {
-        match self.locate(key) {
-            Some(location) => Some(self.lend(key, location)),
-            None => None,
+        if self.holds(key) {
+            Some(self.lend(key))
+        } else {
+            None
         }
     }
 }

@@ -155,3 +155,22 @@ fn handles_and_quotas(rt: HostRuntime) -> Result<(), Fail> {
     }
     Ok(())
 }
+
+/// A key that is free again stands under the slot and the handle of its next object.
+#[test]
+fn key_used_again(rt: HostRuntime) -> Result<(), Fail> {
+    let one = Quotas::new([1, 0, 0, 0, 0, 0]).ok_or("no quotas")?;
+    let mut table = Table::new(rt.alloc(), &[one, one])?;
+    assert_eq!(rt; table.room(), 2);
+    for slot in [0, 1, 0, 1] {
+        assert!(rt; usize::from(slot) < table.slots());
+        let object = AnyObject::Publisher(Publisher::new(rt.alloc(), &terms(100), 0)?);
+        let handle = table.add(slot, object).map_err(|_| "refused")?;
+        let key = table.find(slot, handle).ok_or("no key")?;
+        assert!(rt; key < table.room());
+        assert_eq!(rt; table.owner(key), Some((slot, handle)));
+        assert!(rt; table.remove(slot, handle).is_some());
+        assert_eq!(rt; (table.find(slot, handle), table.owner(key)), (None, None));
+    }
+    Ok(())
+}

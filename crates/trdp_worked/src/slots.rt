@@ -6,7 +6,7 @@
 use crate::play::{Row, play_all};
 use std::test::Fail;
 
-static ROWS: [Row; 10] = [
+static ROWS: [Row; 11] = [
     Row {
         name: "what is due at one moment goes out slot by slot",
         script: "\
@@ -48,6 +48,30 @@ static ROWS: [Row; 10] = [
             1 handle 1\n\
             0 handle 2\n\
             1 handle 2\n",
+    },
+    Row {
+        name: "a slot's objects fire by handle, whatever place a removal left free",
+        script: "\
+            call 0 publish 1 0 100000 0 0 0 10.0.0.2:17224\n\
+            call 0 publish 2 0 100000 0 0 0 10.0.0.2:17224\n\
+            call 0 unpublish 1\n\
+            call 0 publish 3 0 100000 0 0 0 10.0.0.2:17224\n\
+            call 0 put 2 00\n\
+            call 0 put 3 00\n\
+            moment 100000\n",
+        output: "\
+            0 handle 1\n\
+            0 handle 2\n\
+            0 done\n\
+            0 handle 3\n\
+            0 done\n\
+            0 done\n\
+            0 send pd 10.0.0.2:17224 \
+            000000000100506400000002000000000000000000000001000000000000000000000000a1c28e49\
+            00000000\n\
+            0 send pd 10.0.0.2:17224 \
+            000000000100506400000003000000000000000000000001000000000000000000000000af5205ec\
+            00000000\n",
     },
     Row {
         name: "a quota is of one slot alone",

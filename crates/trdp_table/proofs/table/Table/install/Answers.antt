@@ -1,20 +1,33 @@
-use Rattle.std.proofs.Common.{◌≡◌, ◌<◌, ◌+◌, ◌*◌, length, refl}
-use Rattle.trdp_table.specs.Tables.{slot_in}
-use Rattle.trdp_table.proofs.Tables.{slot_read, IsKeptTable-add, adds}
+use Rattle.trdp_table.specs.Kinds.{kind_of}
+use Rattle.trdp_table.proofs.Tables.{within_slots, slot_read, granted, pool_room, IsKeptTable-add, adds}
 use Rattle.trdp_table.proofs.table.Table.install.Goals as goal
+
+pub insert-key-requires : goal.insert-key-requires
+insert-key-requires c =
+    let slots = c.self.inside.slots.items in
+    let pool = c.self.inside.pool in
+    let lt = within_slots slots pool c.args.self.now c.args.slot c.self.view_is c.requires.slot in
+    let none = granted slots pool c.args.self.now c.args.slot (kind_of c.args.object) c.self.view_is c.requires.granted in
+    pool_room slots pool c.args.slot (kind_of c.args.object) c.self.invariant lt none
 
 pub invariant_of-self : goal.invariant_of-self
 invariant_of-self c =
-    let table = c.self.inside.slots.items in
-    let lt : c.args.slot < length table = rw c.self.view_is c.requires.slot in
-    let row = slot_read table c.args.slot c.index_mut-row.result.now lt (rw c.from.ensures at c.index_mut-row.ensures.value) in
-    let of : c.key_of.result ≡ c.args.slot * 4294967296 + (slot_in c.args.slot table).next = rw (c.key_of.ensures, c.next_handle-handle.ensures, row) refl in
-    rw (c.from.ensures, c.add.ensures, ← row) (IsKeptTable-add table c.args.slot c.key_of.result c.args.object c.self.invariant lt (rw (← c.self.view_is) at c.requires.granted) of)
+    let slots = c.self.inside.slots.items in
+    let pool = c.self.inside.pool in
+    let lt = within_slots slots pool c.args.self.now c.args.slot c.self.view_is c.requires.slot in
+    let none = granted slots pool c.args.self.now c.args.slot (kind_of c.args.object) c.self.view_is c.requires.granted in
+    let row = slot_read slots c.args.slot c.index.result.now lt (rw c.from.ensures at c.index.ensures) in
+    let row_then = slot_read slots c.args.slot c.index_mut.result.now lt (rw c.from-2.ensures at c.index_mut.ensures.value) in
+    rw (c.insert-key.ensures.pool, c.from-2.ensures, c.add.ensures, ← row_then, c.next_handle-handle.ensures, ← row, c.of-kind.ensures)
+    (IsKeptTable-add slots pool c.args.slot c.insert-key.result c.args.object c.self.invariant lt none c.insert-key.ensures.within c.insert-key.ensures.vacant)
 
 pub returns-clause-added : goal.returns-clause-added
 returns-clause-added c =
-    let table = c.self.inside.slots.items in
-    let lt : c.args.slot < length table = rw c.self.view_is c.requires.slot in
-    let row = slot_read table c.args.slot c.index_mut-row.result.now lt (rw c.from.ensures at c.index_mut-row.ensures.value) in
-    let of : c.key_of.result ≡ c.args.slot * 4294967296 + (slot_in c.args.slot table).next = rw (c.key_of.ensures, c.next_handle-handle.ensures, row) refl in
-    rw (← c.self.view_is, c.from.ensures, c.add.ensures, ← row) (adds table c.args.slot c.key_of.result c.args.object c.self.invariant (rw (← c.self.view_is) at c.requires.granted) of)
+    let slots = c.self.inside.slots.items in
+    let pool = c.self.inside.pool in
+    let lt = within_slots slots pool c.args.self.now c.args.slot c.self.view_is c.requires.slot in
+    let none = granted slots pool c.args.self.now c.args.slot (kind_of c.args.object) c.self.view_is c.requires.granted in
+    let row = slot_read slots c.args.slot c.index.result.now lt (rw c.from.ensures at c.index.ensures) in
+    let row_then = slot_read slots c.args.slot c.index_mut.result.now lt (rw c.from-2.ensures at c.index_mut.ensures.value) in
+    rw (← c.self.view_is, c.insert-key.ensures.pool, c.from-2.ensures, c.add.ensures, ← row_then, c.next_handle-handle.ensures, ← row, c.of-kind.ensures)
+    (adds slots pool c.args.slot c.insert-key.result c.args.object c.self.invariant c.insert-key.ensures.within c.insert-key.ensures.vacant)

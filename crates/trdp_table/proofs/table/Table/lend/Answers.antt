@@ -1,19 +1,26 @@
-use Rattle.std.proofs.Common.{refl}
-use Rattle.trdp_table.proofs.Tables.{slot_read, exchanged_at, IsKeptTable-with}
+use Rattle.std.proofs.Common.{◌∙◌, refl}
+use Rattle.trdp_table.proofs.Tables.{some_held, object_held, some_lent}
 use Rattle.trdp_table.proofs.table.Table.lend.Goals as goal
+
+pub object_mut-requires : goal.object_mut-requires
+object_mut-requires c =
+    let slots = c.self.inside.slots.items in
+    let pool = c.self.inside.pool in
+    let some = some_held slots pool c.args.key c.self.invariant ∙ (rw (← c.self.view_is) at c.requires) in
+    some
 
 pub invariant_of-self-lent : goal.invariant_of-self-lent
 invariant_of-self-lent c = λ w.
-    let table = c.self.inside.slots.items in
-    let at = rw (← c.self.view_is) at c.requires in
-    let row = slot_read table c.args.location.slot c.index_mut-row.result.now at.slot c.index_mut-row.ensures.value in
-    rw (← row) (IsKeptTable-with table c.args.location.slot _ w c.self.invariant at.slot)
+    let slots = c.self.inside.slots.items in
+    let pool = c.self.inside.pool in
+    let some = some_held slots pool c.args.key c.self.invariant ∙ (rw (← c.self.view_is) at c.requires) in
+    (some_lent slots pool c.args.key c.self.invariant some w).0
 
 pub returns : goal.returns
 returns c =
-    let table = c.self.inside.slots.items in
-    let at = rw (← c.self.view_is) at c.requires in
-    let row = slot_read table c.args.location.slot c.index_mut-row.result.now at.slot c.index_mut-row.ensures.value in (
-      (refl, λ w. rw (← c.self.view_is, ← row) (exchanged_at table c.args.key c.args.location.slot c.args.location.index w c.self.invariant at)),
-      record { writes_back = tt; value = rw (← c.self.view_is, c.object_mut.ensures.value, ← row, at.found) refl },
+    let slots = c.self.inside.slots.items in
+    let pool = c.self.inside.pool in
+    let some = some_held slots pool c.args.key c.self.invariant ∙ (rw (← c.self.view_is) at c.requires) in (
+      (refl, λ w. rw (← c.self.view_is) (some_lent slots pool c.args.key c.self.invariant some w).1),
+      record { writes_back = tt; value = rw (← c.self.view_is) (c.object_mut.ensures.value ∙ object_held slots pool c.args.key c.self.invariant) },
     )

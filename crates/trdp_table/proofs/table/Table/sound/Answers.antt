@@ -2,13 +2,13 @@ use Rattle.trdp_table.proofs.Tables.{IsTable-kept, found_by_key, listed, exchang
 use Rattle.trdp_table.proofs.table.Table.sound.Goals as goal
 
 pub returns-clause-sound : goal.returns-clause-sound
-returns-clause-sound c = rw (← c.self.view_is) (IsTable-kept c.self.inside.slots.items c.self.invariant)
+returns-clause-sound c = rw (← c.self.view_is) (IsTable-kept c.self.inside.slots.items c.self.inside.pool c.self.invariant)
 
 pub returns-clause-found : goal.returns-clause-found
-returns-clause-found c = rw (← c.self.view_is) (found_by_key c.self.inside.slots.items c.self.invariant)
+returns-clause-found c = rw (← c.self.view_is) (found_by_key c.self.inside.slots.items c.self.inside.pool c.self.invariant)
 
 pub returns-clause-listed : goal.returns-clause-listed
-returns-clause-listed c = rw (← c.self.view_is) (listed c.self.inside.slots.items c.self.invariant)
+returns-clause-listed c = rw (← c.self.view_is) (listed c.self.inside.slots.items c.self.inside.pool c.self.invariant)
 
 pub returns-clause-exchanged : goal.returns-clause-exchanged
-returns-clause-exchanged c = rw (← c.self.view_is) (exchanged_alone c.self.inside.slots.items c.self.invariant)
+returns-clause-exchanged c = rw (← c.self.view_is) (exchanged_alone c.self.inside.slots.items c.self.inside.pool c.self.invariant)

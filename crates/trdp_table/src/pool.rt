@@ -1,0 +1,165 @@
+//! The objects of all slots, in one pool.
+
+ghost use Rattle.std.specs.Prelude.{◌≡◌, ◌<◌, length, Some, None, IfOk, IsSome, is_some};
+ghost use Rattle.std.specs.Prelude.{replicate, option_map, option_copied, slice_index_or};
+ghost use Rattle.std.specs.Prelude.{slice_set, vec_capacity};
+ghost use Rattle.std.specs.Borrow.{sem};
+ghost use Rattle.trdp_table.specs.Pools.{held_in, owner_in, held_count, AreAllKeys};
+
+use crate::any_object::AnyObject;
+use crate::held::Held;
+use slab::Slab;
+use std::alloc::{AllocError, Global};
+use std::marker::Model;
+
+/// Objects under keys below a fixed room: a key is that of one object until this is removed, and
+/// may then become that of another one.
+#[derive(Drop)]
+pub struct Pool {
+    /// The objects, at places of the slab's own choice.
+    slab: Slab<Held>,
+    /// For each key the object's place in the slab; None where the key is free.
+    places: Vec<Option<usize>>,
+    /// The free keys, of which the last is the next to be given; the list never grows.
+    free: Vec<usize>,
+}
+
+impl Model for Pool {
+    ghost use Rattle.std.specs.Prelude.{map, vec_capacity};
+    ghost use Rattle.trdp_table.specs.Pools.{PoolState, placed, IsKeptPool};
+
+    ghost Value = { PoolState };
+
+    ghost view = { λ p. map (placed p.slab) p.places.items };
+
+    ghost invariant = { λ p. IsKeptPool p.slab p.places.items p.free.items (vec_capacity p.free) };
+}
+
+/// No place for any of the keys.
+fn no_places(alloc: Global, room: usize) -> Result<Vec<Option<usize>>, AllocError>
+    ensures { IfOk result (λ places. places.items ≡ replicate room None) }
+{
+    vec![in alloc; None; room]
+}
+
+/// All keys below the room.
+fn all_keys(alloc: Global, room: usize) -> Result<Vec<usize>, AllocError>
+    ensures { IfOk result (λ keys. AreAllKeys room keys.items (vec_capacity keys)) }
+{
+    let mut keys = Vec::with_capacity(alloc, room)?;
+    for key in 0..room {
+        keys.push_reserved(key);
+    }
+    Ok(keys)
+}
+
+/// The place of a key that has one.
+fn place_of(places: &[Option<usize>], key: usize) -> usize
+    requires { IsSome (slice_index_or places.now key None) }
+    ensures { slice_index_or places.now key None ≡ Some result }
+{
+    match places.get(key) {
+        Some(Some(place)) => *place,
+        _ => unreachable!(),
+    }
+}
+
+impl Pool {
+    ghost use Rattle.trdp_table.specs.Lending.{LendsOfPool};
+
+    /// An empty pool, with the memory for as many objects as its room.
+    ///
+    /// # Errors
+    /// [`AllocError`] where there is no such memory.
+    pub fn new(alloc: Global, room: usize) -> Result<Pool, AllocError>
+        ensures { IfOk result (λ pool. pool ≡ replicate room None) }
+    {
+        let places = no_places(alloc, room)?;
+        let free = all_keys(alloc, room)?;
+        let slab = Slab::with_capacity(alloc, room)?;
+        Ok(Pool { slab, places, free })
+    }
+
+    /// How many objects it can hold: each key is below this.
+    pub fn room(&self) -> usize
+        ensures { result ≡ length self.now }
+    {
+        self.places.len()
+    }
+
+    /// What is held under that key; None where the key is free or there is no such key.
+    fn held(&self, key: usize) -> Option<&Held>
+        ensures { option_copied result ≡ held_in self.now key }
+    {
+        match self.places.get(key) {
+            Some(Some(place)) => self.slab.get(*place),
+            _ => None,
+        }
+    }
+
+    /// Whether an object is held under that key.
+    pub fn holds(&self, key: usize) -> bool
+        ensures { result ≡ is_some (held_in self.now key) }
+    {
+        self.held(key).is_some()
+    }
+
+    /// The object of that key; None where the key is free or there is no such key.
+    pub fn object(&self, key: usize) -> Option<&AnyObject>
+        ensures { option_copied result ≡ option_map (λ held. held.object) (held_in self.now key) }
+    {
+        match self.held(key) {
+            Some(held) => Some(&held.object),
+            None => None,
+        }
+    }
+
+    /// The slot and the handle of the object of that key; None where there is no object.
+    pub fn owner(&self, key: usize) -> Option<(u16, u32)>
+        ensures { result ≡ owner_in self.now key }
+    {
+        match self.held(key) {
+            Some(held) => Some((held.slot, held.handle)),
+            None => None,
+        }
+    }
+
+    /// Holds an object under a free key.
+    pub fn insert(&mut self, held: Held) -> usize
+        requires { held_count self.old < length self.old }
+        ensures vacant { held_in self.old result ≡ None }
+        ensures within { result < length self.old }
+        ensures pool { self.new ≡ slice_set self.old result (Some held) }
+    {
+        let Some(key) = self.free.pop() else {
+            unreachable!()
+        };
+        let place = self.slab.insert_reserved(held);
+        self.places[key] = Some(place);
+        key
+    }
+
+    /// Takes out the object of a key, which is free then.
+    pub fn remove(&mut self, key: usize) -> Held
+        requires { IsSome (held_in self.old key) }
+        ensures held { held_in self.old key ≡ Some result }
+        ensures pool { self.new ≡ slice_set self.old key None }
+    {
+        let place = place_of(&self.places, key);
+        self.places[key] = None;
+        self.free.push_reserved(key);
+        self.slab.remove(place)
+    }
+
+    /// Lends the object of a key alone.
+    pub fn object_mut(&mut self, key: usize) -> &mut AnyObject
+        requires { IsSome (held_in self.old key) }
+        ensures* writes_back { sem 𝓛 (LendsOfPool self.entry key result) }
+        ensures value { Some result.now
+            ≡ option_map (λ held. held.object) (held_in self.old key) }
+    {
+        let place = place_of(&self.places, key);
+        let held = &mut self.slab[place];
+        held.object_mut()
+    }
+}
