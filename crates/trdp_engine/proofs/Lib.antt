@@ -1,5 +1,7 @@
 pub mod Handles
 pub mod Tables
+pub mod Indexed
+pub mod Stored
 pub mod Quiet
 pub mod Asking
 pub mod Turns
@@ -10,6 +12,7 @@ pub mod Moving
 pub mod Each
 pub mod Receiving
 pub mod Noting
+pub mod Seeking
 pub mod Hearing
 pub mod Requesting
 pub mod Unasked

@@ -26,3 +26,5 @@ pub mod NodeRuns
 pub mod Acting
 pub mod Noted
 pub mod Asked
+pub mod Indexed
+pub mod Sought

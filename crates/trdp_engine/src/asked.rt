@@ -9,6 +9,7 @@ ghost use Rattle.trdp_engine.specs.Replies.{aborts};
 ghost use Rattle.trdp_engine.specs.Rooms.{HasRoom, answer_room, asked_room};
 ghost use Rattle.trdp_engine.specs.Acting.{slot_at, Becomes};
 ghost use Rattle.trdp_engine.specs.Asked.{asked_act, left_of};
+ghost use Rattle.trdp_engine.specs.Indexed.{com_of};
 
 use crate::callers::confirm;
 use crate::fault::Refusal;
@@ -17,11 +18,12 @@ use crate::publishers::put;
 use crate::repliers::{query, reply, reply_error};
 use crate::requesters::pull;
 use crate::row::PlainAnswer;
+use crate::store::Store;
 use crate::subscriptions::show;
 use trdp_base::Place;
 use trdp_dataset::NodeConfig;
 use trdp_filter::Globals;
-use trdp_table::{AnyObject, Kind, Table};
+use trdp_table::{AnyObject, Kind};
 
 /// What a call asks of one object.
 #[derive(Clone, Copy)]
@@ -105,7 +107,7 @@ fn abort(object: &AnyObject, s: u16, out: &mut Outbox) -> Left
 }
 
 /// Has the object of that handle do what is asked, and records what it gives.
-fn ask(
+pub fn ask(
     object: &mut AnyObject,
     handle: u32,
     asked: &Asked<'_>,
@@ -122,6 +124,7 @@ fn ask(
         ≡ out.old.records
         ++ labelled s
         (asked_act (setup_of config.now) globals.entry.now handle asked.now object.old).records }
+    ensures sought { com_of object.new ≡ com_of object.old }
 {
     match *asked {
         Asked::Put(bytes) => {
@@ -151,40 +154,4 @@ fn ask(
         Asked::Abort => return abort(object, s, out),
     }
     Left::Stays
-}
-
-/// Has the object of that handle in slot `s` do what is asked, and records what it gives; where
-/// there is none, the call is refused.
-pub fn at_object(
-    table: &mut Table,
-    s: u16,
-    handle: u32,
-    asked: &Asked<'_>,
-    config: &NodeConfig,
-    globals: &Globals,
-    out: &mut Outbox,
-)
-    requires slot { s < length table.old }
-    requires now { globals.now.now ≤ last_moment }
-    requires room { HasRoom out.old (asked_room asked.now) }
-    ensures { Becomes s
-        (at_object (slot_at s table.old) handle
-        (asked_act (setup_of config.now) globals.entry.now handle asked.now)) table.old table.new
-        out.old out.new }
-{
-    table.sound();
-    let left = match table.find(s, handle) {
-        None => None,
-        Some(key) => match table.get_mut(key) {
-            None => None,
-            Some(object) => Some(ask(object, handle, asked, config, globals, s, out)),
-        },
-    };
-    match left {
-        None => out.push_plain_answer(s, PlainAnswer::Refused(Refusal::NoHandle)),
-        Some(Left::Stays) => {}
-        Some(Left::Ended) => {
-            table.remove(s, handle);
-        }
-    }
 }

@@ -13,6 +13,7 @@ ghost use Rattle.trdp_engine.specs.Replies.{reply_of, replied};
 ghost use Rattle.trdp_engine.specs.Rooms.{HasRoom, message_room, confirm_room};
 ghost use Rattle.trdp_engine.specs.Acting.{slot_at, Becomes};
 ghost use Rattle.trdp_engine.specs.Asked.{left_of};
+ghost use Rattle.trdp_engine.specs.Indexed.{com_of};
 
 use crate::asked::Left;
 use crate::fault::Refusal;
@@ -21,11 +22,12 @@ use crate::outbox::Outbox;
 use crate::record::Reply;
 use crate::row::{Form, PlainAnswer};
 use crate::sessions::has_session;
+use crate::store::Store;
 use trdp_base::Place;
 use trdp_filter::{Globals, Telegram, topo_valid};
 use trdp_head::{MD_PAYLOAD_MAX, MdView};
 use trdp_md::{Caller, CallerTerms, request_head};
-use trdp_table::{AnyObject, Kind, Table};
+use trdp_table::{AnyObject, Kind};
 
 /// The shortest timeout of a request or query, in microseconds (profile).
 pub const TIMEOUT_MIN: u32 = 1_000;
@@ -35,15 +37,15 @@ const EXPECTED_MAX: u8 = 8;
 
 /// Why slot `s` doesn't send a request.
 fn request_refusal(
-    table: &Table,
+    store: &Store,
     s: u16,
     terms: &CallerTerms,
     payload: &[u8],
     globals: &Globals,
 ) -> Option<Refusal>
-    requires { s < length table.now }
+    requires { s < length store.now }
     ensures { result
-        ≡ request_refusal (slot_at s table.now) globals.entry.now terms.now payload.now }
+        ≡ request_refusal (slot_at s store.now) globals.entry.now terms.now payload.now }
 {
     if !topo_valid(terms.topo, globals.topo) {
         return Some(Refusal::State);
@@ -57,36 +59,36 @@ fn request_refusal(
     if payload.len() > MD_PAYLOAD_MAX {
         return Some(Refusal::TooLong);
     }
-    if has_session(table, s, Kind::Caller, terms.session) {
+    if has_session(store, s, Kind::Caller, terms.session) {
         return Some(Refusal::SessionOpen);
     }
-    opening_refusal(table, s, Kind::Caller)
+    opening_refusal(store, s, Kind::Caller)
 }
 
 /// Makes a caller in slot `s`, and records the answer and its request. It needs no memory.
 pub fn request(
-    table: &mut Table,
+    store: &mut Store,
     s: u16,
     terms: &CallerTerms,
     payload: &[u8],
     globals: &Globals,
     out: &mut Outbox,
 )
-    requires slot { s < length table.old }
+    requires slot { s < length store.old }
     requires now { globals.now.now ≤ last_moment }
     requires room { HasRoom out.old (message_room (length payload.now)) }
     ensures { Becomes s
         (opened_with
-        (request_refusal (slot_at s table.old) globals.entry.now terms.now payload.now)
-        (slot_at s table.old) (Asking (new_caller terms.now globals.entry.now.now))
-        (request_sent terms.now payload.now ∷ [])) table.old table.new out.old out.new }
+        (request_refusal (slot_at s store.old) globals.entry.now terms.now payload.now)
+        (slot_at s store.old) (Asking (new_caller terms.now globals.entry.now.now))
+        (request_sent terms.now payload.now ∷ [])) store.old store.new out.old out.new }
 {
-    if let Some(refusal) = request_refusal(table, s, terms, payload, globals) {
+    if let Some(refusal) = request_refusal(store, s, terms, payload, globals) {
         out.push_plain_answer(s, PlainAnswer::Refused(refusal));
         return;
     }
     let caller = Caller::new(terms, globals.now);
-    let answer = open(table, s, AnyObject::Caller(caller));
+    let answer = open(store, s, AnyObject::Caller(caller));
     out.push_plain_answer(s, answer);
     out.push_md(s, terms.to, &request_head(terms), payload);
 }
@@ -152,6 +154,7 @@ pub fn confirm(
     ensures left { left_of result object.new ≡ (confirms handle place status object.old).left }
     ensures records { out.new.records
         ≡ out.old.records ++ labelled s (confirms handle place status object.old).records }
+    ensures sought { com_of object.new ≡ com_of object.old }
 {
     match object {
         AnyObject::Caller(caller) => confirm_by(caller, handle, place, status, s, out),

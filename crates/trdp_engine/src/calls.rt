@@ -13,7 +13,7 @@ ghost use Rattle.trdp_engine.specs.Rooms.{HasRoom, call_room, makes_buffer, Call
 ghost use Rattle.trdp_engine.specs.Asked.{concerns_no_object, IsAskedBy};
 ghost use Rattle.trdp_engine.specs.Acting.{slot_at, Becomes};
 
-use crate::asked::{Asked, at_object};
+use crate::asked::Asked;
 use crate::callers::request;
 use crate::event::Call;
 use crate::fault::Refusal;
@@ -25,6 +25,7 @@ use crate::publishers::publish;
 use crate::requesters::open_pull;
 use crate::room::Room;
 use crate::row::PlainAnswer;
+use crate::store::Store;
 use crate::subscriptions::subscribe;
 use crate::value::{SpellFault, spell};
 use std::alloc::{AllocError, Global};
@@ -32,7 +33,7 @@ use trdp_dataset::NodeConfig;
 use trdp_filter::Globals;
 use trdp_head::PD_PAYLOAD_MAX;
 use trdp_marshal::Item;
-use trdp_table::{Kind, Table};
+use trdp_table::Kind;
 
 /// Which object a call concerns, by its handle, and what it asks of it; None where it concerns none
 /// that there is.
@@ -96,7 +97,7 @@ fn asked_of<'a>(call: &Call<'a>) -> Option<(u32, Asked<'a>)>
 /// # Errors
 /// Want of memory for a new object; nothing has changed.
 fn serve_slot(
-    table: &mut Table,
+    store: &mut Store,
     s: u16,
     alloc: Global,
     config: &NodeConfig,
@@ -104,28 +105,28 @@ fn serve_slot(
     globals: &Globals,
     out: &mut Outbox,
 ) -> Result<(), AllocError>
-    requires slot { s < length table.old }
+    requires slot { s < length store.old }
     requires now { globals.now.now ≤ last_moment }
     requires none { concerns_no_object (call_model call.now) ≡ true }
     requires room { HasRoom out.old (call_room (call_model call.now)) }
     ensures becomes { OnOk result (Becomes s
-        (called (setup_of config.now) (slot_at s table.old) globals.entry.now
-        (call_model call.now)) table.old table.new out.old out.new) }
-    ensures kept { OnErr result (table.new ≡ table.old) }
+        (called (setup_of config.now) (slot_at s store.old) globals.entry.now
+        (call_model call.now)) store.old store.new out.old out.new) }
+    ensures kept { OnErr result (store.new ≡ store.old) }
     ensures same { OnErr result (out.new ≡ out.old) }
     ensures makes { OnErr result (makes_buffer (call_model call.now) ≡ true) }
 {
     let answer = match *call {
-        Call::Publish(terms) => publish(table, s, alloc, config, &terms, globals)?,
-        Call::Subscribe(terms) => subscribe(table, s, alloc, config, &terms, globals)?,
-        Call::OpenPull(terms) => open_pull(table, s, &terms),
-        Call::Listen(filter) => listen(table, s, &filter),
+        Call::Publish(terms) => publish(store, s, alloc, config, &terms, globals)?,
+        Call::Subscribe(terms) => subscribe(store, s, alloc, config, &terms, globals)?,
+        Call::OpenPull(terms) => open_pull(store, s, &terms),
+        Call::Listen(filter) => listen(store, s, &filter),
         Call::Notify { terms, payload } => {
             notify(&terms, payload, globals, s, out);
             return Ok(());
         }
         Call::Request { terms, payload } => {
-            request(table, s, &terms, payload, globals, out);
+            request(store, s, &terms, payload, globals, out);
             return Ok(());
         }
         _ => return Ok(()),
@@ -139,7 +140,7 @@ fn serve_slot(
 /// # Errors
 /// Want of memory for the answer or a new object; nothing has changed.
 pub fn serve(
-    table: &mut Table,
+    store: &mut Store,
     s: u16,
     alloc: Global,
     config: &NodeConfig,
@@ -147,12 +148,12 @@ pub fn serve(
     globals: &Globals,
     out: &mut Outbox,
 ) -> Result<(), AllocError>
-    requires slot { s < length table.old }
+    requires slot { s < length store.old }
     requires now { globals.now.now ≤ last_moment }
     ensures becomes { OnOk result (Becomes s
-        (called (setup_of config.now) (slot_at s table.old) globals.entry.now
-        (call_model call.now)) table.old table.new out.old out.new) }
-    ensures kept { OnErr result (table.new ≡ table.old) }
+        (called (setup_of config.now) (slot_at s store.old) globals.entry.now
+        (call_model call.now)) store.old store.new out.old out.new) }
+    ensures kept { OnErr result (store.new ≡ store.old) }
     ensures unrecorded { OnErr result (out.new.records ≡ out.old.records) }
     ensures full { OnErr result (CallMayLack out.old (call_model call.now)) }
     ensures still { OnErr result (CallMayLack out.new (call_model call.now)) }
@@ -160,10 +161,10 @@ pub fn serve(
     let room = Room::of_call(call);
     out.reserve(room.rows, room.bytes)?;
     if let Some((handle, asked)) = asked_of(call) {
-        at_object(table, s, handle, &asked, config, globals, out);
+        store.ask(s, handle, &asked, config, globals, out);
         return Ok(());
     }
-    serve_slot(table, s, alloc, config, call, globals, out)
+    serve_slot(store, s, alloc, config, call, globals, out)
 }
 
 /// The bytes of an item as a value of the object of that handle in slot `s`.
@@ -172,27 +173,27 @@ pub fn serve(
 /// Refused: the first that applies of `NoHandle`, `WrongKind`, `NoDataset` (dataset 0), `Shape`
 /// and `TooLong`. `NoMemory` comes last.
 fn spelled(
-    table: &Table,
+    store: &Store,
     s: u16,
     alloc: Global,
     config: &NodeConfig,
     handle: u32,
     item: &Item,
 ) -> Result<Vec<u8>, SpellFault>
-    requires { s < length table.now }
+    requires { s < length store.now }
     ensures bytes { IfOk result
         (λ bytes. bytes.items ≡ item_bytes (setup_of config.now) (model_of item.now)
-        (entry_of handle (slot_at s table.now).objects)) }
+        (entry_of handle (slot_at s store.now).objects)) }
     ensures spelled { IfOk result
         (λ bytes.
         item_refusal (setup_of config.now) (model_of item.now)
-        (entry_of handle (slot_at s table.now).objects) ≡ None) }
+        (entry_of handle (slot_at s store.now).objects) ≡ None) }
     ensures refused { IfErr result
         (IsRefusedAs
         (item_refusal (setup_of config.now) (model_of item.now)
-        (entry_of handle (slot_at s table.now).objects))) }
+        (entry_of handle (slot_at s store.now).objects))) }
 {
-    match object_of(table, s, handle) {
+    match object_of(store, s, handle) {
         None => Err(SpellFault::Refused(Refusal::NoHandle)),
         Some(object) => spell(alloc, config, object, item),
     }
@@ -204,7 +205,7 @@ fn spelled(
 /// # Errors
 /// Want of memory for the item's bytes or the answer; nothing has changed.
 pub fn put_value(
-    table: &mut Table,
+    store: &mut Store,
     s: u16,
     alloc: Global,
     config: &NodeConfig,
@@ -213,17 +214,17 @@ pub fn put_value(
     globals: &Globals,
     out: &mut Outbox,
 ) -> Result<(), AllocError>
-    requires slot { s < length table.old }
+    requires slot { s < length store.old }
     requires now { globals.now.now ≤ last_moment }
     ensures becomes { OnOk result (Becomes s
-        (valued (setup_of config.now) (slot_at s table.old) handle (model_of item.now)) table.old
-        table.new out.old out.new) }
-    ensures kept { OnErr result (table.new ≡ table.old) }
+        (valued (setup_of config.now) (slot_at s store.old) handle (model_of item.now)) store.old
+        store.new out.old out.new) }
+    ensures kept { OnErr result (store.new ≡ store.old) }
     ensures unrecorded { OnErr result (out.new.records ≡ out.old.records) }
 {
-    table.sound();
+    store.sound();
     out.reserve(2, PD_PAYLOAD_MAX)?;
-    match spelled(table, s, alloc, config, handle, item) {
+    match spelled(store, s, alloc, config, handle, item) {
         Err(SpellFault::NoMemory) => Err(AllocError),
         Err(SpellFault::Refused(refusal)) => {
             out.push_plain_answer(s, PlainAnswer::Refused(refusal));
@@ -231,7 +232,7 @@ pub fn put_value(
         }
         Ok(bytes) => {
             let asked = Asked::Put(&bytes);
-            at_object(table, s, handle, &asked, config, globals, out);
+            store.ask(s, handle, &asked, config, globals, out);
             Ok(())
         }
     }

@@ -20,6 +20,7 @@ ghost use Rattle.trdp_engine.specs.Rooms.{HasRoom, kind_room, entries_room};
 ghost use Rattle.trdp_engine.specs.Acting.{slot_at, MayAct, TookWithin, ActsAt};
 ghost use Rattle.trdp_engine.specs.Noted.{noted_as, noted_from};
 ghost use Rattle.trdp_engine.specs.Quiet.{IsQuiet};
+ghost use Rattle.trdp_engine.specs.Indexed.{com_of};
 
 use crate::addressees::Addressee;
 use crate::asked::Left;
@@ -29,11 +30,12 @@ use crate::outbox::Outbox;
 use crate::pull::{answer_place, push_answer};
 use crate::quiet_slots::wake;
 use crate::row::Form;
+use crate::store::Store;
 use trdp_dataset::NodeConfig;
 use trdp_filter::{Globals, Telegram, topo_valid};
 use trdp_marshal::fits;
 use trdp_pd::{Object, Reason, Taken};
-use trdp_table::{AnyObject, Table};
+use trdp_table::AnyObject;
 
 /// Whether the telegram's topology counts match the node's.
 pub fn is_valid_at(telegram: &Telegram<'_>, globals: &Globals) -> bool
@@ -59,7 +61,7 @@ fn fits_object(config: &NodeConfig, telegram: &Telegram<'_>, object: &AnyObject)
 }
 
 /// Hands the telegram to an object of that handle, which it is for, and records what it gives.
-fn take_object(
+pub fn take_object(
     object: &mut AnyObject,
     handle: u32,
     config: &NodeConfig,
@@ -86,6 +88,7 @@ fn take_object(
         (taken object.old (telegram_model telegram.now) globals.entry.now
         (fits_object (setup_of config.now) (telegram_model telegram.now) object.old))) }
     ensures within { TookWithin out.old out.new (kind_room (kind_of object.old)) }
+    ensures sought { com_of object.new ≡ com_of object.old }
 {
     let fits = fits_object(config, telegram, object);
     match object.take(telegram, globals, fits) {
@@ -109,43 +112,9 @@ fn take_object(
     Left::Stays
 }
 
-/// Hands the telegram to the object of that handle in slot `s`, which it is for. An object that
-/// ends leaves the table.
-fn take(
-    table: &mut Table,
-    s: u16,
-    handle: u32,
-    config: &NodeConfig,
-    telegram: &Telegram<'_>,
-    globals: &Globals,
-    out: &mut Outbox,
-)
-    requires slot { s < length table.old }
-    requires may { MayAct (slot_at s table.old) handle out.old }
-    requires addressed { IfSome (entry_of handle (slot_at s table.old).objects)
-        (λ entry. is_for_entry (telegram_model telegram.now) globals.now entry ≡ true) }
-    requires now { globals.now.now ≤ last_moment }
-    requires limit { IsWithinLimit (telegram_model telegram.now) }
-    ensures { ActsAt s handle
-        (taking_act (setup_of config.now) (telegram_model telegram.now) globals.entry.now)
-        table.old table.new out.old out.new }
-{
-    table.sound();
-    let left = match table.find(s, handle) {
-        None => Left::Stays,
-        Some(key) => match table.get_mut(key) {
-            None => Left::Stays,
-            Some(object) => take_object(object, handle, config, telegram, globals, s, out),
-        },
-    };
-    if let Left::Ended = left {
-        table.remove(s, handle);
-    }
-}
-
 /// Hands the telegram to each object that was noted, in turn, and wakes its slot.
 pub fn take_all(
-    table: &mut Table,
+    store: &mut Store,
     quiet: &mut Vec<u64>,
     noted: &[Addressee],
     config: &NodeConfig,
@@ -153,25 +122,24 @@ pub fn take_all(
     globals: &Globals,
     out: &mut Outbox,
 )
-    requires quiet { IsQuiet quiet.old.items (slots_of table.old) }
+    requires quiet { IsQuiet quiet.old.items (slots_of store.old) }
     requires noted { noted.now
-        ≡ noted_from 0 (telegram_model telegram.now) globals.now (slots_of table.old) }
+        ≡ noted_from 0 (telegram_model telegram.now) globals.now (slots_of store.old) }
     requires now { globals.now.now ≤ last_moment }
     requires limit { IsWithinLimit (telegram_model telegram.now) }
     requires room { HasRoom out.old (entries_room
         (flat_map (λ slot. acting (telegram_model telegram.now) globals.now slot.objects)
-        (slots_of table.old))) }
-    ensures count { length table.new ≡ length table.old }
-    ensures parts { (s : ℕ) (slot : SlotState) → slice_get (slots_of table.old) s ≡ Some slot
-        → HasOutcome (slots_of table.new) out.old.records out.new.records s
+        (slots_of store.old))) }
+    ensures count { length store.new ≡ length store.old }
+    ensures parts { (s : ℕ) (slot : SlotState) → slice_get (slots_of store.old) s ≡ Some slot
+        → HasOutcome (slots_of store.new) out.old.records out.new.records s
         (handed (setup_of config.now) slot globals.entry.now (telegram_model telegram.now)) }
-    ensures appends { Appends (slots_of table.old) out.old.records out.new.records }
-    ensures quiet { IsQuiet quiet.new.items (slots_of table.new) }
+    ensures appends { Appends (slots_of store.old) out.old.records out.new.records }
+    ensures quiet { IsQuiet quiet.new.items (slots_of store.new) }
 {
-    table.sound();
+    store.sound();
     for addressee in noted {
-        take(
-            table,
+        store.take(
             addressee.slot,
             addressee.handle,
             config,

@@ -39,6 +39,7 @@ mod sessions;
 mod shown;
 mod slots;
 mod start;
+mod store;
 mod subscriptions;
 mod value;
 

@@ -11,20 +11,21 @@ ghost use Rattle.trdp_engine.specs.Acting.{slot_at};
 use crate::fault::Refusal;
 use crate::opening::open;
 use crate::row::PlainAnswer;
+use crate::store::Store;
 use trdp_filter::MdFilter;
 use trdp_md::Listener;
-use trdp_table::{AnyObject, Table};
+use trdp_table::AnyObject;
 
 /// Makes a listener of the messages that the filter lets in, in slot `s`. It needs no memory.
-pub fn listen(table: &mut Table, s: u16, filter: &MdFilter) -> PlainAnswer
-    requires { s < length table.old }
-    ensures outcome { opened_unless (listen_refusal (slot_at s table.old) filter.now)
-        (slot_at s table.old) (AnyObject.Listener (listening filter.now))
-        ≡ answered (slot_at s table.new) (plain_answer_model result) }
-    ensures others { slots_of table.new ≡ slice_set (slots_of table.old) s (slot_at s table.new) }
+pub fn listen(store: &mut Store, s: u16, filter: &MdFilter) -> PlainAnswer
+    requires { s < length store.old }
+    ensures outcome { opened_unless (listen_refusal (slot_at s store.old) filter.now)
+        (slot_at s store.old) (AnyObject.Listener (listening filter.now))
+        ≡ answered (slot_at s store.new) (plain_answer_model result) }
+    ensures others { slots_of store.new ≡ slice_set (slots_of store.old) s (slot_at s store.new) }
 {
     if filter.low > filter.high {
         return PlainAnswer::Refused(Refusal::Range);
     }
-    open(table, s, AnyObject::Listener(Listener::new(filter)))
+    open(store, s, AnyObject::Listener(Listener::new(filter)))
 }

@@ -5,8 +5,9 @@ ghost use Rattle.trdp_engine.specs.Looks.{as_subscription, subscription_at};
 ghost use Rattle.trdp_engine.specs.Acting.{slot_at};
 
 use crate::objects::object_of;
+use crate::store::Store;
 use trdp_pd::Subscription;
-use trdp_table::{AnyObject, Table};
+use trdp_table::AnyObject;
 
 /// Why a slot has no such subscription: the first of these that applies (profile).
 #[derive(Clone, Copy, Debug, PartialEq, Eq)]
@@ -35,14 +36,14 @@ pub fn as_subscription(object: &AnyObject) -> Result<&Subscription, LookFault>
 ///
 /// # Errors
 /// The first that applies of `NoHandle` and `WrongKind`.
-pub fn subscription_at(table: &Table, s: u16, handle: u32) -> Result<&Subscription, LookFault>
-    requires { s < length table.now }
+pub fn subscription_at(store: &Store, s: u16, handle: u32) -> Result<&Subscription, LookFault>
+    requires { s < length store.now }
     ensures found { IfOk result
-        (λ found. subscription_at handle (slot_at s table.now).objects ≡ Ok found.now) }
+        (λ found. subscription_at handle (slot_at s store.now).objects ≡ Ok found.now) }
     ensures fault { IfErr result
-        (λ fault. subscription_at handle (slot_at s table.now).objects ≡ Err fault) }
+        (λ fault. subscription_at handle (slot_at s store.now).objects ≡ Err fault) }
 {
-    match object_of(table, s, handle) {
+    match object_of(store, s, handle) {
         None => Err(LookFault::NoHandle),
         Some(object) => as_subscription(object),
     }

@@ -16,16 +16,18 @@ ghost use Rattle.trdp_engine.specs.Asked.{left_of};
 ghost use Rattle.trdp_engine.specs.Rooms.{HasRoom, kind_room, entries_room};
 ghost use Rattle.trdp_engine.specs.Acting.{slot_at, MayAct, TookWithin, Becomes, ActsAt};
 ghost use Rattle.trdp_engine.specs.Firing.{due_time, sooner, IsFirst, IsNext};
+ghost use Rattle.trdp_engine.specs.Indexed.{com_of};
 
 use crate::asked::Left;
 use crate::objects::{handle_at, object_at};
 use crate::outbox::Outbox;
 use crate::room::Room;
 use crate::row::Form;
+use crate::store::Store;
 use trdp_filter::Globals;
 use trdp_head::{PD_TELEGRAM_MAX, PdHead};
 use trdp_pd::{Fired, Object};
-use trdp_table::{AnyObject, Table};
+use trdp_table::AnyObject;
 
 /// The object's due moment, if it has come by `t`.
 fn due_time(object: &AnyObject, t: u64) -> Option<u64>
@@ -57,26 +59,26 @@ fn sooner(first: Option<(usize, u64)>, at: usize, due: Option<u64>) -> Option<(u
 }
 
 /// The due moment of the object of that index in slot `s`, if it has come by `t`.
-fn due_time_at(table: &Table, s: u16, index: usize, t: u64) -> Option<u64>
-    requires slot { s < length table.now }
-    ensures { IfSome (slice_get (slot_at s table.now).objects index)
+fn due_time_at(store: &Store, s: u16, index: usize, t: u64) -> Option<u64>
+    requires slot { s < length store.now }
+    ensures { IfSome (slice_get (slot_at s store.now).objects index)
         (λ entry. result ≡ due_time t (due_of entry.object)) }
 {
-    match object_at(table, s, index) {
+    match object_at(store, s, index) {
         None => None,
         Some(object) => due_time(object, t),
     }
 }
 
 /// The index of the object of slot `s` that fires first of those that are due by `t`.
-fn first_due(table: &Table, s: u16, t: u64) -> Option<usize>
-    requires { s < length table.now }
-    ensures { IsFirst t (slot_at s table.now).objects result }
+fn first_due(store: &Store, s: u16, t: u64) -> Option<usize>
+    requires { s < length store.now }
+    ensures { IsFirst t (slot_at s store.now).objects result }
 {
-    table.sound();
+    store.sound();
     let mut first = None;
-    for index in (0..table.count(s)).rev() {
-        first = sooner(first, index, due_time_at(table, s, index, t));
+    for index in (0..store.count(s)).rev() {
+        first = sooner(first, index, due_time_at(store, s, index, t));
     }
     match first {
         None => None,
@@ -85,12 +87,12 @@ fn first_due(table: &Table, s: u16, t: u64) -> Option<usize>
 }
 
 /// The handle of the object of slot `s` that fires next of those that are due by `t`.
-fn next_due(table: &Table, s: u16, t: u64) -> Option<u32>
-    requires { s < length table.now }
-    ensures { IsNext t (slot_at s table.now).objects result }
+fn next_due(store: &Store, s: u16, t: u64) -> Option<u32>
+    requires { s < length store.now }
+    ensures { IsNext t (slot_at s store.now).objects result }
 {
-    let index = first_due(table, s, t)?;
-    handle_at(table, s, index)
+    let index = first_due(store, s, t)?;
+    handle_at(store, s, index)
 }
 
 /// Records the data of a publisher, with its value, under this header.
@@ -110,7 +112,7 @@ fn push_data(object: &AnyObject, head: &PdHead, s: u16, out: &mut Outbox)
 }
 
 /// Fires one object that is due, of that handle, and records what it gives.
-fn fire_object(
+pub fn fire_object(
     object: &mut AnyObject,
     handle: u32,
     globals: &Globals,
@@ -127,6 +129,7 @@ fn fire_object(
         ≡ out.old.records
         ++ labelled s (firing_records handle object.old (fired object.old globals.entry.now)) }
     ensures within { TookWithin out.old out.new (kind_room (kind_of object.old)) }
+    ensures sought { com_of object.new ≡ com_of object.old }
 {
     match object.fire(globals) {
         Fired::Nothing => {}
@@ -140,55 +143,33 @@ fn fire_object(
     Left::Stays
 }
 
-/// Fires the object of that handle in slot `s`, which is due. One that ends leaves the table.
-fn fire(table: &mut Table, s: u16, handle: u32, globals: &Globals, out: &mut Outbox)
-    requires slot { s < length table.old }
-    requires may { MayAct (slot_at s table.old) handle out.old }
-    requires due { IfSome (entry_of handle (slot_at s table.old).objects)
-        (λ entry. is_due globals.now.now entry ≡ true) }
-    requires now { globals.now.now ≤ last_moment }
-    ensures { ActsAt s handle (firing_act globals.entry.now) table.old table.new out.old out.new }
-{
-    table.sound();
-    let left = match table.find(s, handle) {
-        None => Left::Stays,
-        Some(key) => match table.get_mut(key) {
-            None => Left::Stays,
-            Some(object) => fire_object(object, handle, globals, s, out),
-        },
-    };
-    if let Left::Ended = left {
-        table.remove(s, handle);
-    }
-}
-
 /// Fires the objects of slot `s` that are due, once each, in the order of their due moments and
 /// handles.
-pub fn fire_all(table: &mut Table, s: u16, globals: &Globals, out: &mut Outbox)
-    requires slot { s < length table.old }
+pub fn fire_all(store: &mut Store, s: u16, globals: &Globals, out: &mut Outbox)
+    requires slot { s < length store.old }
     requires now { globals.now.now ≤ last_moment }
     requires room { HasRoom out.old
-        (entries_room (filter (is_due globals.now.now) (slot_at s table.old).objects)) }
-    ensures becomes { Becomes s (moved_to (slot_at s table.old) globals.entry.now) table.old
-        table.new out.old out.new }
+        (entries_room (filter (is_due globals.now.now) (slot_at s store.old).objects)) }
+    ensures becomes { Becomes s (moved_to (slot_at s store.old) globals.entry.now) store.old
+        store.new out.old out.new }
     ensures within { TookWithin out.old out.new
-        (entries_room (filter (is_due globals.entry.now.now) (slot_at s table.old).objects)) }
+        (entries_room (filter (is_due globals.entry.now.now) (slot_at s store.old).objects)) }
 {
-    table.sound();
-    while let Some(handle) = next_due(table, s, globals.now) {
-        fire(table, s, handle, globals, out);
+    store.sound();
+    while let Some(handle) = next_due(store, s, globals.now) {
+        store.fire(s, handle, globals, out);
     }
 }
 
 /// Room for what the object of that index in slot `s` may give as it fires, if it is due by `t`.
-fn due_room_at(table: &Table, s: u16, index: usize, t: u64) -> Room
-    requires { s < length table.now }
-    ensures room { IfSome (slice_get (slot_at s table.now).objects index)
+fn due_room_at(store: &Store, s: u16, index: usize, t: u64) -> Room
+    requires { s < length store.now }
+    ensures room { IfSome (slice_get (slot_at s store.now).objects index)
         (λ entry. result ≡ entries_room (filter (is_due t) (entry ∷ []))) }
     ensures rows { result.rows ≤ 2 }
     ensures bytes { result.bytes ≤ 65388 }
 {
-    match object_at(table, s, index) {
+    match object_at(store, s, index) {
         None => Room::none(),
         Some(object) => match due_time(object, t) {
             None => Room::none(),
@@ -198,16 +179,16 @@ fn due_room_at(table: &Table, s: u16, index: usize, t: u64) -> Room
 }
 
 /// Room for what fires in slot `s` by `t`, in microseconds.
-pub fn due_room_in(table: &Table, s: u16, t: u64) -> Room
-    requires { s < length table.now }
-    ensures room { result ≡ entries_room (filter (is_due t) (slot_at s table.now).objects) }
+pub fn due_room_in(store: &Store, s: u16, t: u64) -> Room
+    requires { s < length store.now }
+    ensures room { result ≡ entries_room (filter (is_due t) (slot_at s store.now).objects) }
     ensures rows { result.rows ≤ 2 * object_limit }
     ensures bytes { result.bytes ≤ 65388 * object_limit }
 {
-    table.sound();
+    store.sound();
     let mut room = Room::none();
-    for index in 0..table.count(s) {
-        room = room.plus(due_room_at(table, s, index, t));
+    for index in 0..store.count(s) {
+        room = room.plus(due_room_at(store, s, index, t));
     }
     room
 }

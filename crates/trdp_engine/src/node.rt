@@ -24,6 +24,7 @@ use crate::record::Protocol;
 use crate::shown::{ValueFault, item_shown};
 use crate::slots::{due_room, move_slots};
 use crate::start::parts;
+use crate::store::Store;
 use std::alloc::Global;
 use std::marker::Model;
 use trdp_base::{MOMENT_MAX, Place, Topo};
@@ -31,7 +32,6 @@ use trdp_dataset::NodeConfig;
 use trdp_filter::{Globals, Groups};
 use trdp_marshal::Item;
 use trdp_pd::Peek;
-use trdp_table::Table;
 
 /// The communication node of one end device. It serves each slot of its configuration.
 #[derive(Drop)]
@@ -43,7 +43,7 @@ pub struct Node {
     /// Its latest moment in microseconds, its topology counts, and the groups that it leads.
     globals: Globals,
     /// The objects of its slots, 1 to 16, in the order of the configuration.
-    table: Table,
+    store: Store,
     /// The objects that act at the telegram that is being handled; between events it says nothing.
     /// It has room for all objects, so that a telegram takes no memory for it.
     noted: Vec<Addressee>,
@@ -68,13 +68,13 @@ impl Model for Node {
     ghost view = { λ n. record {
       config = n.config;
       globals = n.globals;
-      slots = slots_of n.table;
+      slots = slots_of n.store;
     } };
 
     ghost invariant = { λ n. (n.globals.now ≤ last_moment) × IsRegistry n.config.registry
-        × EachFits (setup_of n.config) (slots_of n.table)
+        × EachFits (setup_of n.config) (slots_of n.store)
         × (16 * object_limit ≤ vec_capacity n.noted)
-        × IsQuiet n.quiet.items (slots_of n.table) };
+        × IsQuiet n.quiet.items (slots_of n.store) };
 }
 
 impl Node {
@@ -96,7 +96,7 @@ impl Node {
         config.registry().sound();
         match parts(alloc, &config) {
             Err(_) => Err(config),
-            Ok((table, noted, quiet)) => {
+            Ok((store, noted, quiet)) => {
                 let globals = Globals {
                     now: 0,
                     topo: Topo { etb: 0, op_trn: 0 },
@@ -106,7 +106,7 @@ impl Node {
                     alloc,
                     config,
                     globals,
-                    table,
+                    store,
                     noted,
                     quiet,
                 })
@@ -151,10 +151,10 @@ impl Node {
         if t > MOMENT_MAX {
             return Err(NodeFault::TooLate);
         }
-        let room = due_room(&self.table, &self.quiet, t);
+        let room = due_room(&self.store, &self.quiet, t);
         out.reserve(room.rows, room.bytes)?;
         self.globals.now = t;
-        move_slots(&mut self.table, &mut self.quiet, &self.globals, out);
+        move_slots(&mut self.store, &mut self.quiet, &self.globals, out);
         Ok(())
     }
 
@@ -223,7 +223,7 @@ impl Node {
         ensures appends { Appends self.old.slots out.old.records out.new.records }
     {
         hear(
-            &mut self.table,
+            &mut self.store,
             &mut self.quiet,
             &mut self.noted,
             &self.config,
@@ -261,11 +261,11 @@ impl Node {
             (CallIs s (call_model call.now)) r slot) }
         ensures appends { Appends self.old.slots out.old.records out.new.records }
     {
-        if usize::from(s) >= self.table.slots() {
+        if usize::from(s) >= self.store.slots() {
             return Err(NodeFault::NoSlot);
         }
         serve(
-            &mut self.table,
+            &mut self.store,
             s,
             self.alloc,
             &self.config,
@@ -350,11 +350,11 @@ impl Node {
             (valued_at (setup_of self.old.config) slot s state handle (model_of item.now))) }
         ensures appends { Appends self.old.slots out.old.records out.new.records }
     {
-        if usize::from(slot) >= self.table.slots() {
+        if usize::from(slot) >= self.store.slots() {
             return Err(NodeFault::NoSlot);
         }
         put_value(
-            &mut self.table,
+            &mut self.store,
             slot,
             alloc,
             &self.config,
@@ -375,10 +375,10 @@ impl Node {
     pub fn peek(&self, slot: u16, handle: u32) -> Result<Peek<'_>, PeekFault>
         ensures { peeked result ≡ peek_in (slice_get self.now.slots slot) handle }
     {
-        if usize::from(slot) >= self.table.slots() {
+        if usize::from(slot) >= self.store.slots() {
             return Err(PeekFault::NoSlot);
         }
-        Ok(subscription_at(&self.table, slot, handle)?.peek())
+        Ok(subscription_at(&self.store, slot, handle)?.peek())
     }
 
     /// The item that the subscription of that handle shows, in every state of it: it spells, as a
@@ -391,10 +391,10 @@ impl Node {
         ensures { ShowsItem (setup_of self.now.config)
             (showing_in (slice_get self.now.slots slot) handle) result }
     {
-        if usize::from(slot) >= self.table.slots() {
+        if usize::from(slot) >= self.store.slots() {
             return Err(ValueFault::NoSlot);
         }
-        let subscription = subscription_at(&self.table, slot, handle)?;
+        let subscription = subscription_at(&self.store, slot, handle)?;
         item_shown(alloc, &self.config, subscription)
     }
 }

@@ -13,33 +13,34 @@ ghost use Rattle.trdp_engine.specs.Acting.{slot_at};
 
 use crate::fault::Refusal;
 use crate::row::PlainAnswer;
+use crate::store::Store;
 use trdp_dataset::NodeConfig;
 use trdp_head::PD_PAYLOAD_MAX;
-use trdp_table::{AnyObject, Kind, Table};
+use trdp_table::{AnyObject, Kind};
 
 /// The shortest cycle or supervision time but 0, in microseconds (profile).
 const SPAN_MIN: u32 = 1_000;
 
 /// Why slot `s` takes no new object of the kind.
-pub fn opening_refusal(table: &Table, s: u16, kind: Kind) -> Option<Refusal>
-    requires { s < length table.now }
-    ensures { result ≡ opening_refusal (slot_at s table.now) kind }
+pub fn opening_refusal(store: &Store, s: u16, kind: Kind) -> Option<Refusal>
+    requires { s < length store.now }
+    ensures { result ≡ opening_refusal (slot_at s store.now) kind }
 {
-    match table.refuses(s, kind) {
+    match store.refuses(s, kind) {
         None => None,
         Some(fault) => Some(Refusal::from(fault)),
     }
 }
 
 /// Adds an object to slot `s` and answers its handle, or says why not.
-pub fn open(table: &mut Table, s: u16, object: AnyObject) -> PlainAnswer
-    requires { s < length table.old }
-    ensures outcome { opened_unless (opening_refusal (slot_at s table.old) (kind_of object))
-        (slot_at s table.old) object
-        ≡ answered (slot_at s table.new) (plain_answer_model result) }
-    ensures others { slots_of table.new ≡ slice_set (slots_of table.old) s (slot_at s table.new) }
+pub fn open(store: &mut Store, s: u16, object: AnyObject) -> PlainAnswer
+    requires { s < length store.old }
+    ensures outcome { opened_unless (opening_refusal (slot_at s store.old) (kind_of object))
+        (slot_at s store.old) object
+        ≡ answered (slot_at s store.new) (plain_answer_model result) }
+    ensures others { slots_of store.new ≡ slice_set (slots_of store.old) s (slot_at s store.new) }
 {
-    match table.add(s, object) {
+    match store.add(s, object) {
         Ok(handle) => PlainAnswer::Handle(handle),
         Err((_, fault)) => PlainAnswer::Refused(Refusal::from(fault)),
     }

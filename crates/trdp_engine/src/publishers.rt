@@ -10,34 +10,36 @@ ghost use Rattle.trdp_engine.specs.Openings.{answered};
 ghost use Rattle.trdp_engine.specs.Acts.{answers};
 ghost use Rattle.trdp_engine.specs.Outboxes.{plain_answer_model};
 ghost use Rattle.trdp_engine.specs.Acting.{slot_at};
+ghost use Rattle.trdp_engine.specs.Indexed.{com_of};
 
 use crate::fault::Refusal;
 use crate::opening::{is_span, open, opening_refusal, value_size};
 use crate::row::PlainAnswer;
+use crate::store::Store;
 use std::alloc::{AllocError, Global};
 use trdp_dataset::NodeConfig;
 use trdp_filter::Globals;
 use trdp_head::PD_PAYLOAD_MAX;
 use trdp_marshal::fits;
 use trdp_pd::{Publisher, PublisherTerms};
-use trdp_table::{AnyObject, Kind, Table};
+use trdp_table::{AnyObject, Kind};
 
 /// Why slot `s` refuses a publisher of these terms.
 fn publish_refusal(
-    table: &Table,
+    store: &Store,
     s: u16,
     config: &NodeConfig,
     terms: &PublisherTerms,
 ) -> Option<Refusal>
-    requires { s < length table.now }
-    ensures { result ≡ publish_refusal (setup_of config.now) (slot_at s table.now) terms.now }
+    requires { s < length store.now }
+    ensures { result ≡ publish_refusal (setup_of config.now) (slot_at s store.now) terms.now }
 {
     if !is_span(terms.cycle) {
         return Some(Refusal::Cycle);
     }
     match value_size(config, terms.dataset) {
         Err(refusal) => Some(refusal),
-        Ok(_) => opening_refusal(table, s, Kind::Publisher),
+        Ok(_) => opening_refusal(store, s, Kind::Publisher),
     }
 }
 
@@ -47,34 +49,35 @@ fn publish_refusal(
 /// # Errors
 /// Want of memory for the publisher.
 pub fn publish(
-    table: &mut Table,
+    store: &mut Store,
     s: u16,
     alloc: Global,
     config: &NodeConfig,
     terms: &PublisherTerms,
     globals: &Globals,
 ) -> Result<PlainAnswer, AllocError>
-    requires slot { s < length table.old }
+    requires slot { s < length store.old }
     requires now { globals.now.now ≤ last_moment }
     ensures outcome { IfOk result
         (λ answer.
-        called (setup_of config.now) (slot_at s table.old) globals.entry.now
+        called (setup_of config.now) (slot_at s store.old) globals.entry.now
         (PublishCall terms.now)
-        ≡ answered (slot_at s table.new) (plain_answer_model answer)) }
-    ensures others { slots_of table.new ≡ slice_set (slots_of table.old) s (slot_at s table.new) }
-    ensures kept { OnErr result (table.new ≡ table.old) }
+        ≡ answered (slot_at s store.new) (plain_answer_model answer)) }
+    ensures others { slots_of store.new ≡ slice_set (slots_of store.old) s (slot_at s store.new) }
+    ensures kept { OnErr result (store.new ≡ store.old) }
 {
-    if let Some(refusal) = publish_refusal(table, s, config, terms) {
+    if let Some(refusal) = publish_refusal(store, s, config, terms) {
         return Ok(PlainAnswer::Refused(refusal));
     }
     let publisher = Publisher::new(alloc, terms, globals.now)?;
-    Ok(open(table, s, AnyObject::Publisher(publisher)))
+    Ok(open(store, s, AnyObject::Publisher(publisher)))
 }
 
 /// Gives the object a new value, or says why not.
 pub fn put(object: &mut AnyObject, config: &NodeConfig, bytes: &[u8]) -> PlainAnswer
-    ensures { puts (setup_of config.now) bytes.now object.old
+    ensures answers { puts (setup_of config.now) bytes.now object.old
         ≡ answers object.new (plain_answer_model result) }
+    ensures sought { com_of object.new ≡ com_of object.old }
 {
     match object {
         AnyObject::Publisher(publisher) => {

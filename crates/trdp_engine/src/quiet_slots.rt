@@ -7,8 +7,8 @@ ghost use Rattle.trdp_engine.specs.Acting.{slot_at};
 ghost use Rattle.trdp_engine.specs.Quiet.{IsFrom, AllFrom};
 
 use crate::objects::object_at;
+use crate::store::Store;
 use trdp_pd::Object;
-use trdp_table::Table;
 
 /// Any object of slot `s` may be due from now on: its quiet moment becomes 0.
 pub fn wake(quiet: &mut Vec<u64>, s: u16)
@@ -30,26 +30,26 @@ fn earlier(first: u64, due: Option<u64>) -> u64
 }
 
 /// The earlier of a moment and the due moment of the object of that index in slot `s`.
-fn earlier_at(table: &Table, s: u16, index: usize, first: u64) -> u64
-    requires { s < length table.now }
+fn earlier_at(store: &Store, s: u16, index: usize, first: u64) -> u64
+    requires { s < length store.now }
     ensures before { result ≤ first }
-    ensures from { IfSome (slice_get (slot_at s table.now).objects index)
+    ensures from { IfSome (slice_get (slot_at s store.now).objects index)
         (λ entry. IsFrom result (due_of entry.object)) }
 {
-    match object_at(table, s, index) {
+    match object_at(store, s, index) {
         None => first,
         Some(object) => earlier(first, object.due()),
     }
 }
 
 /// A moment before which no object of slot `s` is due, in microseconds.
-pub fn earliest_in(table: &Table, s: u16) -> u64
-    requires { s < length table.now }
-    ensures { AllFrom result (slot_at s table.now).objects }
+pub fn earliest_in(store: &Store, s: u16) -> u64
+    requires { s < length store.now }
+    ensures { AllFrom result (slot_at s store.now).objects }
 {
     let mut first = u64::MAX;
-    for index in 0..table.count(s) {
-        first = earlier_at(table, s, index, first);
+    for index in 0..store.count(s) {
+        first = earlier_at(store, s, index, first);
     }
     first
 }

@@ -18,12 +18,12 @@ use crate::datagram::{is_valid_at, take_all};
 use crate::outbox::Outbox;
 use crate::record::Protocol;
 use crate::requests::{ask_all, is_request};
+use crate::store::Store;
 use std::alloc::AllocError;
 use trdp_base::Place;
 use trdp_dataset::NodeConfig;
 use trdp_filter::{Globals, Telegram};
 use trdp_head::{read_md, read_pd};
-use trdp_table::Table;
 
 /// Takes a telegram. One whose topology counts don't match the node's changes nothing. Room for
 /// the records of all slots comes first.
@@ -31,7 +31,7 @@ use trdp_table::Table;
 /// # Errors
 /// Want of memory for the records, where the telegram concerns a slot; nothing has changed.
 fn receive(
-    table: &mut Table,
+    store: &mut Store,
     quiet: &mut Vec<u64>,
     noted: &mut Vec<Addressee>,
     config: &NodeConfig,
@@ -39,40 +39,40 @@ fn receive(
     globals: &Globals,
     out: &mut Outbox,
 ) -> Result<(), AllocError>
-    requires quiet { IsQuiet quiet.old.items (slots_of table.old) }
+    requires quiet { IsQuiet quiet.old.items (slots_of store.old) }
     requires capacity { 16 * object_limit ≤ vec_capacity noted.old }
     requires now { globals.now.now ≤ last_moment }
     requires limit { IsWithinLimit (telegram_model telegram.now) }
-    ensures count { length table.new ≡ length table.old }
+    ensures count { length store.new ≡ length store.old }
     ensures capacity { vec_capacity noted.new ≡ vec_capacity noted.old }
     ensures parts { OnOk result ((s : ℕ) (slot : SlotState)
-        → slice_get (slots_of table.old) s ≡ Some slot
-        → HasOutcome (slots_of table.new) out.old.records out.new.records s
+        → slice_get (slots_of store.old) s ≡ Some slot
+        → HasOutcome (slots_of store.new) out.old.records out.new.records s
         (received_if (setup_of config.now) slot globals.entry.now
         (Some (telegram_model telegram.now)))) }
-    ensures appends { Appends (slots_of table.old) out.old.records out.new.records }
-    ensures quiet { IsQuiet quiet.new.items (slots_of table.new) }
-    ensures kept { OnErr result (table.new ≡ table.old) }
+    ensures appends { Appends (slots_of store.old) out.old.records out.new.records }
+    ensures quiet { IsQuiet quiet.new.items (slots_of store.new) }
+    ensures kept { OnErr result (store.new ≡ store.old) }
     ensures unrecorded { OnErr result (out.new.records ≡ out.old.records) }
     ensures memory { OnErr result
         (list_any (concerns globals.entry.now (Some (telegram_model telegram.now)))
-        (slots_of table.old) ≡ true) }
+        (slots_of store.old) ≡ true) }
     ensures full { OnErr result (LacksRoom out.old
-        (datagram_room globals.entry.now (slots_of table.old)
+        (datagram_room globals.entry.now (slots_of store.old)
         (Some (telegram_model telegram.now)))) }
     ensures still { OnErr result (LacksRoom out.new
-        (datagram_room globals.entry.now (slots_of table.old)
+        (datagram_room globals.entry.now (slots_of store.old)
         (Some (telegram_model telegram.now)))) }
 {
     if !is_valid_at(telegram, globals) {
         return Ok(());
     }
-    let room = note_all(table, telegram, globals, noted);
+    let room = note_all(store, telegram, globals, noted);
     out.reserve(room.rows, room.bytes)?;
     if is_request(telegram) {
-        ask_all(table, quiet, telegram, globals, out);
+        ask_all(store, quiet, telegram, globals, out);
     } else {
-        take_all(table, quiet, noted, config, telegram, globals, out);
+        take_all(store, quiet, noted, config, telegram, globals, out);
     }
     Ok(())
 }
@@ -82,7 +82,7 @@ fn receive(
 /// # Errors
 /// Want of memory, where the datagram concerns a slot; nothing has changed.
 pub fn hear(
-    table: &mut Table,
+    store: &mut Store,
     quiet: &mut Vec<u64>,
     noted: &mut Vec<Addressee>,
     config: &NodeConfig,
@@ -93,28 +93,28 @@ pub fn hear(
     globals: &Globals,
     out: &mut Outbox,
 ) -> Result<(), AllocError>
-    requires quiet { IsQuiet quiet.old.items (slots_of table.old) }
+    requires quiet { IsQuiet quiet.old.items (slots_of store.old) }
     requires capacity { 16 * object_limit ≤ vec_capacity noted.old }
     requires now { globals.now.now ≤ last_moment }
-    ensures count { length table.new ≡ length table.old }
+    ensures count { length store.new ≡ length store.old }
     ensures capacity { vec_capacity noted.new ≡ vec_capacity noted.old }
     ensures parts { OnOk result ((s : ℕ) (slot : SlotState)
-        → slice_get (slots_of table.old) s ≡ Some slot
-        → HasOutcome (slots_of table.new) out.old.records out.new.records s
+        → slice_get (slots_of store.old) s ≡ Some slot
+        → HasOutcome (slots_of store.new) out.old.records out.new.records s
         (received_if (setup_of config.now) slot globals.entry.now
         (telegram_of protocol src dst bytes.now))) }
-    ensures appends { Appends (slots_of table.old) out.old.records out.new.records }
-    ensures quiet { IsQuiet quiet.new.items (slots_of table.new) }
-    ensures kept { OnErr result (table.new ≡ table.old) }
+    ensures appends { Appends (slots_of store.old) out.old.records out.new.records }
+    ensures quiet { IsQuiet quiet.new.items (slots_of store.new) }
+    ensures kept { OnErr result (store.new ≡ store.old) }
     ensures unrecorded { OnErr result (out.new.records ≡ out.old.records) }
     ensures memory { OnErr result
         (list_any (concerns globals.entry.now (telegram_of protocol src dst bytes.now))
-        (slots_of table.old) ≡ true) }
+        (slots_of store.old) ≡ true) }
     ensures full { OnErr result (LacksRoom out.old
-        (datagram_room globals.entry.now (slots_of table.old)
+        (datagram_room globals.entry.now (slots_of store.old)
         (telegram_of protocol src dst bytes.now))) }
     ensures still { OnErr result (LacksRoom out.new
-        (datagram_room globals.entry.now (slots_of table.old)
+        (datagram_room globals.entry.now (slots_of store.old)
         (telegram_of protocol src dst bytes.now))) }
 {
     match protocol {
@@ -122,14 +122,14 @@ pub fn hear(
             Err(_) => Ok(()),
             Ok(view) => {
                 let telegram = Telegram::Pd { src, dst, view };
-                receive(table, quiet, noted, config, &telegram, globals, out)
+                receive(store, quiet, noted, config, &telegram, globals, out)
             }
         },
         Protocol::Md => match read_md(bytes) {
             Err(_) => Ok(()),
             Ok(view) => {
                 let telegram = Telegram::Md { src, dst, view };
-                receive(table, quiet, noted, config, &telegram, globals, out)
+                receive(store, quiet, noted, config, &telegram, globals, out)
             }
         },
     }

@@ -9,6 +9,7 @@ ghost use Rattle.trdp_engine.specs.Replies.{reply_refusal, query_refusal, error_
 ghost use Rattle.trdp_engine.specs.Replies.{replies, queries, reply_errors};
 ghost use Rattle.trdp_engine.specs.Rooms.{HasRoom, message_room};
 ghost use Rattle.trdp_engine.specs.Asked.{left_of};
+ghost use Rattle.trdp_engine.specs.Indexed.{com_of};
 
 use crate::asked::Left;
 use crate::callers::TIMEOUT_MIN;
@@ -89,6 +90,7 @@ pub fn reply(
         ≡ (replies com_id status payload.now object.old).left }
     ensures records { out.new.records
         ≡ out.old.records ++ labelled s (replies com_id status payload.now object.old).records }
+    ensures sought { com_of object.new ≡ com_of object.old }
 {
     let AnyObject::Replier(replier) = object else {
         out.push_plain_answer(s, PlainAnswer::Refused(Refusal::WrongKind));
@@ -127,6 +129,7 @@ pub fn query(
         ≡ out.old.records
         ++ labelled s
         (queries globals.entry.now.now com_id status timeout payload.now object.old).records }
+    ensures sought { com_of object.new ≡ com_of object.old }
 {
     let AnyObject::Replier(replier) = object else {
         out.push_plain_answer(s, PlainAnswer::Refused(Refusal::WrongKind));
@@ -158,6 +161,7 @@ pub fn reply_error(
     ensures left { left_of result object.new ≡ (reply_errors com_id status object.old).left }
     ensures records { out.new.records
         ≡ out.old.records ++ labelled s (reply_errors com_id status object.old).records }
+    ensures sought { com_of object.new ≡ com_of object.old }
 {
     let AnyObject::Replier(replier) = object else {
         out.push_plain_answer(s, PlainAnswer::Refused(Refusal::WrongKind));

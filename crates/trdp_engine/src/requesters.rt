@@ -12,24 +12,26 @@ ghost use Rattle.trdp_engine.specs.Rooms.{HasRoom, answer_room};
 ghost use Rattle.trdp_engine.specs.Acting.{slot_at};
 ghost use Rattle.trdp_pd.specs.Requesters.{opened};
 ghost use Rattle.trdp_table.specs.declared.kind.Kind.TheVariants.{Requester as Requesting};
+ghost use Rattle.trdp_engine.specs.Indexed.{com_of};
 
 use crate::fault::Refusal;
 use crate::opening::open;
 use crate::outbox::Outbox;
 use crate::row::PlainAnswer;
+use crate::store::Store;
 use trdp_filter::{Globals, topo_valid};
 use trdp_pd::{Requester, RequesterTerms};
-use trdp_table::{AnyObject, Table};
+use trdp_table::AnyObject;
 
 /// Makes a requester in slot `s`. It needs no memory.
-pub fn open_pull(table: &mut Table, s: u16, terms: &RequesterTerms) -> PlainAnswer
-    requires { s < length table.old }
-    ensures outcome { opened_unless (opening_refusal (slot_at s table.old) Requesting)
-        (slot_at s table.old) (AnyObject.Requester (opened terms.now))
-        ≡ answered (slot_at s table.new) (plain_answer_model result) }
-    ensures others { slots_of table.new ≡ slice_set (slots_of table.old) s (slot_at s table.new) }
+pub fn open_pull(store: &mut Store, s: u16, terms: &RequesterTerms) -> PlainAnswer
+    requires { s < length store.old }
+    ensures outcome { opened_unless (opening_refusal (slot_at s store.old) Requesting)
+        (slot_at s store.old) (AnyObject.Requester (opened terms.now))
+        ≡ answered (slot_at s store.new) (plain_answer_model result) }
+    ensures others { slots_of store.new ≡ slice_set (slots_of store.old) s (slot_at s store.new) }
 {
-    open(table, s, AnyObject::Requester(Requester::new(terms)))
+    open(store, s, AnyObject::Requester(Requester::new(terms)))
 }
 
 /// Lets the object pull, and records the answer and its pull request.
@@ -38,6 +40,7 @@ pub fn pull(object: &mut AnyObject, globals: &Globals, s: u16, out: &mut Outbox)
     ensures object { Some object.new ≡ (pulls globals.entry.now object.old).left }
     ensures records { out.new.records
         ≡ out.old.records ++ labelled s (pulls globals.entry.now object.old).records }
+    ensures sought { com_of object.new ≡ com_of object.old }
 {
     match object {
         AnyObject::Requester(requester) => {

@@ -19,11 +19,12 @@ use crate::outbox::Outbox;
 use crate::quiet_slots::wake;
 use crate::row::{Form, PlainAnswer};
 use crate::sessions::has_session;
+use crate::store::Store;
 use trdp_base::Place;
 use trdp_filter::{Globals, Telegram};
 use trdp_head::{MdKind, MdView};
 use trdp_md::Replier;
-use trdp_table::{AnyObject, Kind, Table};
+use trdp_table::{AnyObject, Kind};
 
 /// Whether the telegram is a request.
 pub fn is_request(telegram: &Telegram<'_>) -> bool
@@ -38,7 +39,7 @@ pub fn is_request(telegram: &Telegram<'_>) -> bool
 /// Records what slot `s` makes of a request that its listener of that handle heard: it opens a
 /// replier, unless one of the session is open, or tells that it takes none.
 fn ask(
-    table: &mut Table,
+    store: &mut Store,
     s: u16,
     listener: u32,
     src: Place,
@@ -46,24 +47,24 @@ fn ask(
     globals: &Globals,
     out: &mut Outbox,
 )
-    requires slot { s < length table.old }
+    requires slot { s < length store.old }
     requires now { globals.now.now ≤ last_moment }
     requires limit { length view.now.payload.now ≤ 65388 }
     requires row { 1 ≤ out.old.row_room }
     requires bytes { 65388 ≤ out.old.byte_room }
     ensures becomes { Becomes s
-        (asked (slot_at s table.old) listener globals.entry.now src
-        (record { head = view.now.head; payload = view.now.payload.now })) table.old table.new
+        (asked (slot_at s store.old) listener globals.entry.now src
+        (record { head = view.now.head; payload = view.now.payload.now })) store.old store.new
         out.old out.new }
     ensures row_room { out.old.row_room ≤ out.new.row_room + 1 }
     ensures byte_room { out.old.byte_room ≤ out.new.byte_room + 65388 }
 {
     let session = view.head.session;
-    if has_session(table, s, Kind::Replier, session) {
+    if has_session(store, s, Kind::Replier, session) {
         return;
     }
     let replier = Replier::new(src, &view.head, globals.now);
-    match open(table, s, AnyObject::Replier(replier)) {
+    match open(store, s, AnyObject::Replier(replier)) {
         PlainAnswer::Handle(handle) => {
             out.push_asked(s, listener, handle, session, &message(src, view));
         }
@@ -73,51 +74,51 @@ fn ask(
 
 /// Records what slot `s` makes of a telegram that is a request, if one of its listeners hears it,
 /// and answers whether one did.
-fn ask_in(table: &mut Table, s: u16, telegram: &Telegram<'_>, globals: &Globals, out: &mut Outbox)
-    requires slot { s < length table.old }
+fn ask_in(store: &mut Store, s: u16, telegram: &Telegram<'_>, globals: &Globals, out: &mut Outbox)
+    requires slot { s < length store.old }
     requires now { globals.now.now ≤ last_moment }
     requires limit { IsWithinLimit (telegram_model telegram.now) }
     requires room { HasRoom out.old (entries_room
-        (acting (telegram_model telegram.now) globals.now (slot_at s table.old).objects)) }
+        (acting (telegram_model telegram.now) globals.now (slot_at s store.old).objects)) }
     ensures becomes { Becomes s
-        (requested (slot_at s table.old) globals.entry.now (telegram_model telegram.now)) table.old
-        table.new out.old out.new }
+        (requested (slot_at s store.old) globals.entry.now (telegram_model telegram.now)) store.old
+        store.new out.old out.new }
     ensures within { TookWithin out.old out.new (entries_room
-        (acting (telegram_model telegram.now) globals.entry.now (slot_at s table.old).objects)) }
+        (acting (telegram_model telegram.now) globals.entry.now (slot_at s store.old).objects)) }
 {
-    match hearing(table, s, telegram, globals) {
+    match hearing(store, s, telegram, globals) {
         None => {}
         Some(listener) => match telegram {
             Telegram::Pd { .. } => {}
-            Telegram::Md { src, view, .. } => ask(table, s, listener, *src, view, globals, out),
+            Telegram::Md { src, view, .. } => ask(store, s, listener, *src, view, globals, out),
         },
     }
 }
 
 /// Records what each slot makes of a telegram that is a request, and wakes it.
 pub fn ask_all(
-    table: &mut Table,
+    store: &mut Store,
     quiet: &mut Vec<u64>,
     telegram: &Telegram<'_>,
     globals: &Globals,
     out: &mut Outbox,
 )
-    requires quiet { IsQuiet quiet.old.items (slots_of table.old) }
+    requires quiet { IsQuiet quiet.old.items (slots_of store.old) }
     requires now { globals.now.now ≤ last_moment }
     requires limit { IsWithinLimit (telegram_model telegram.now) }
     requires room { HasRoom out.old (entries_room
         (flat_map (λ slot. acting (telegram_model telegram.now) globals.now slot.objects)
-        (slots_of table.old))) }
-    ensures count { length table.new ≡ length table.old }
-    ensures parts { (s : ℕ) (slot : SlotState) → slice_get (slots_of table.old) s ≡ Some slot
-        → HasOutcome (slots_of table.new) out.old.records out.new.records s
+        (slots_of store.old))) }
+    ensures count { length store.new ≡ length store.old }
+    ensures parts { (s : ℕ) (slot : SlotState) → slice_get (slots_of store.old) s ≡ Some slot
+        → HasOutcome (slots_of store.new) out.old.records out.new.records s
         (requested slot globals.entry.now (telegram_model telegram.now)) }
-    ensures appends { Appends (slots_of table.old) out.old.records out.new.records }
-    ensures quiet { IsQuiet quiet.new.items (slots_of table.new) }
+    ensures appends { Appends (slots_of store.old) out.old.records out.new.records }
+    ensures quiet { IsQuiet quiet.new.items (slots_of store.new) }
 {
-    table.sound();
-    for s in 0..table.slots() {
-        ask_in(table, s as u16, telegram, globals, out);
+    store.sound();
+    for s in 0..store.slots() {
+        ask_in(store, s as u16, telegram, globals, out);
         wake(quiet, s as u16);
     }
 }

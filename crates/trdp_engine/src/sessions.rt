@@ -6,8 +6,9 @@ ghost use Rattle.trdp_engine.specs.Requests.{is_of_session, has_session};
 ghost use Rattle.trdp_engine.specs.Acting.{slot_at};
 
 use crate::objects::object_at;
+use crate::store::Store;
 use trdp_base::SessionId;
-use trdp_table::{AnyObject, Kind, Table};
+use trdp_table::{AnyObject, Kind};
 
 /// Whether the object is a caller or a replier of that session.
 fn is_of_session(object: &AnyObject, session: SessionId) -> bool
@@ -21,13 +22,13 @@ fn is_of_session(object: &AnyObject, session: SessionId) -> bool
 }
 
 /// Whether the object of that index in slot `s` is one of the kind in that session.
-fn is_in_session(table: &Table, s: u16, index: usize, kind: Kind, session: SessionId) -> bool
-    requires { s < length table.now }
-    ensures { IfSome (slice_get (slot_at s table.now).objects index)
+fn is_in_session(store: &Store, s: u16, index: usize, kind: Kind, session: SessionId) -> bool
+    requires { s < length store.now }
+    ensures { IfSome (slice_get (slot_at s store.now).objects index)
         (λ entry. result ≡ (is_same_kind (kind_of entry.object) kind
         && is_of_session session entry.object)) }
 {
-    match object_at(table, s, index) {
+    match object_at(store, s, index) {
         None => false,
         Some(object) => {
             Kind::of(object).index() == kind.index() && is_of_session(object, session)
@@ -36,12 +37,12 @@ fn is_in_session(table: &Table, s: u16, index: usize, kind: Kind, session: Sessi
 }
 
 /// Whether an object of the kind in that session is open in slot `s`.
-pub fn has_session(table: &Table, s: u16, kind: Kind, session: SessionId) -> bool
-    requires { s < length table.now }
-    ensures { result ≡ has_session kind session (slot_at s table.now).objects }
+pub fn has_session(store: &Store, s: u16, kind: Kind, session: SessionId) -> bool
+    requires { s < length store.now }
+    ensures { result ≡ has_session kind session (slot_at s store.now).objects }
 {
-    for index in 0..table.count(s) {
-        if is_in_session(table, s, index, kind, session) {
+    for index in 0..store.count(s) {
+        if is_in_session(store, s, index, kind, session) {
             return true;
         }
     }

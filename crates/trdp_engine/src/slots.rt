@@ -12,41 +12,41 @@ use crate::moment::{due_room_in, fire_all};
 use crate::outbox::Outbox;
 use crate::quiet_slots::earliest_in;
 use crate::room::Room;
+use crate::store::Store;
 use trdp_filter::Globals;
-use trdp_table::Table;
 
 /// Room for what fires in all slots by `t`, in microseconds.
-pub fn due_room(table: &Table, quiet: &[u64], t: u64) -> Room
-    requires { IsQuiet quiet.now (slots_of table.now) }
-    ensures { result ≡ moment_room t (slots_of table.now) }
+pub fn due_room(store: &Store, quiet: &[u64], t: u64) -> Room
+    requires { IsQuiet quiet.now (slots_of store.now) }
+    ensures { result ≡ moment_room t (slots_of store.now) }
 {
-    table.sound();
+    store.sound();
     let mut room = Room::none();
-    for s in 0..table.slots() {
+    for s in 0..store.slots() {
         if quiet[s] <= t {
-            room = room.plus(due_room_in(table, s as u16, t));
+            room = room.plus(due_room_in(store, s as u16, t));
         }
     }
     room
 }
 
 /// Fires in each slot what is due, and notes from when on something will be due again.
-pub fn move_slots(table: &mut Table, quiet: &mut Vec<u64>, globals: &Globals, out: &mut Outbox)
-    requires quiet { IsQuiet quiet.old.items (slots_of table.old) }
+pub fn move_slots(store: &mut Store, quiet: &mut Vec<u64>, globals: &Globals, out: &mut Outbox)
+    requires quiet { IsQuiet quiet.old.items (slots_of store.old) }
     requires now { globals.now.now ≤ last_moment }
-    requires room { HasRoom out.old (moment_room globals.now.now (slots_of table.old)) }
-    ensures count { length table.new ≡ length table.old }
-    ensures parts { (s : ℕ) (slot : SlotState) → slice_get (slots_of table.old) s ≡ Some slot
-        → HasOutcome (slots_of table.new) out.old.records out.new.records s
+    requires room { HasRoom out.old (moment_room globals.now.now (slots_of store.old)) }
+    ensures count { length store.new ≡ length store.old }
+    ensures parts { (s : ℕ) (slot : SlotState) → slice_get (slots_of store.old) s ≡ Some slot
+        → HasOutcome (slots_of store.new) out.old.records out.new.records s
         (moved_to slot globals.entry.now) }
-    ensures appends { Appends (slots_of table.old) out.old.records out.new.records }
-    ensures quiet { IsQuiet quiet.new.items (slots_of table.new) }
+    ensures appends { Appends (slots_of store.old) out.old.records out.new.records }
+    ensures quiet { IsQuiet quiet.new.items (slots_of store.new) }
 {
-    table.sound();
-    for s in 0..table.slots() {
+    store.sound();
+    for s in 0..store.slots() {
         if quiet[s] <= globals.now {
-            fire_all(table, s as u16, globals, out);
-            quiet[s] = earliest_in(table, s as u16);
+            fire_all(store, s as u16, globals, out);
+            quiet[s] = earliest_in(store, s as u16);
         }
     }
 }

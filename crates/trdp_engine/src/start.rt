@@ -6,10 +6,10 @@ ghost use Rattle.trdp_engine.specs.Slots.{opened_slot, slots_of};
 ghost use Rattle.trdp_engine.specs.Quiet.{IsQuiet};
 
 use crate::addressees::Addressee;
+use crate::store::Store;
 use std::alloc::{AllocError, Global};
 use trdp_base::Quotas;
 use trdp_dataset::NodeConfig;
-use trdp_table::Table;
 
 /// The most objects of a node: 256 of each of six kinds in each of 16 slots (profile).
 const NOTED_MAX: usize = 24_576;
@@ -34,12 +34,12 @@ fn quotas_of(alloc: Global, config: &NodeConfig) -> Result<Vec<Quotas>, AllocErr
 ///
 /// # Errors
 /// Want of memory for the slots.
-fn open_slots(alloc: Global, config: &NodeConfig) -> Result<Table, AllocError>
+fn open_slots(alloc: Global, config: &NodeConfig) -> Result<Store, AllocError>
     ensures { IfOk result
-        (λ table. slots_of table ≡ map (λ slot. opened_slot slot.quotas) config.now.slots) }
+        (λ store. slots_of store ≡ map (λ slot. opened_slot slot.quotas) config.now.slots) }
 {
     let quotas = quotas_of(alloc, config)?;
-    Table::new(alloc, &quotas)
+    Store::new(alloc, &quotas)
 }
 
 /// The empty table of a configuration, room to note all objects that it can hold, and moment 0
@@ -50,14 +50,14 @@ fn open_slots(alloc: Global, config: &NodeConfig) -> Result<Table, AllocError>
 pub fn parts(
     alloc: Global,
     config: &NodeConfig,
-) -> Result<(Table, Vec<Addressee>, Vec<u64>), AllocError>
+) -> Result<(Store, Vec<Addressee>, Vec<u64>), AllocError>
     ensures slots { IfOk result
         (λ parts. slots_of parts.0 ≡ map (λ slot. opened_slot slot.quotas) config.now.slots) }
     ensures capacity { IfOk result (λ parts. 16 * object_limit ≤ vec_capacity parts.1) }
     ensures quiet { IfOk result (λ parts. IsQuiet parts.2.items (slots_of parts.0)) }
 {
-    let table = open_slots(alloc, config)?;
+    let store = open_slots(alloc, config)?;
     let noted = Vec::with_capacity(alloc, NOTED_MAX)?;
-    let quiet = vec![in alloc; 0u64; table.slots()]?;
-    Ok((table, noted, quiet))
+    let quiet = vec![in alloc; 0u64; store.slots()]?;
+    Ok((store, noted, quiet))
 }

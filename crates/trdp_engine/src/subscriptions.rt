@@ -19,11 +19,12 @@ use crate::look::as_subscription;
 use crate::opening::{is_span, open, opening_refusal, value_size};
 use crate::outbox::Outbox;
 use crate::row::PlainAnswer;
+use crate::store::Store;
 use std::alloc::{AllocError, Global};
 use trdp_dataset::NodeConfig;
 use trdp_filter::Globals;
 use trdp_pd::{Subscription, SubscriptionTerms};
-use trdp_table::{AnyObject, Kind, Table};
+use trdp_table::{AnyObject, Kind};
 
 /// How many bytes the zero value of a subscription of these terms in slot `s` takes.
 ///
@@ -31,17 +32,17 @@ use trdp_table::{AnyObject, Kind, Table};
 /// Why the slot refuses it: the first that applies of `Timeout`, `Range`, `NoDataset`, `TooLong`,
 /// `Quota` and `Exhausted`.
 fn subscribed_size(
-    table: &Table,
+    store: &Store,
     s: u16,
     config: &NodeConfig,
     terms: &SubscriptionTerms,
 ) -> Result<usize, Refusal>
-    requires { s < length table.now }
+    requires { s < length store.now }
     ensures refused { IfErr result
-        (λ refusal. subscribe_refusal (setup_of config.now) (slot_at s table.now) terms.now
+        (λ refusal. subscribe_refusal (setup_of config.now) (slot_at s store.now) terms.now
         ≡ Some refusal) }
     ensures accepted { IfOk result
-        (λ size. subscribe_refusal (setup_of config.now) (slot_at s table.now) terms.now
+        (λ size. subscribe_refusal (setup_of config.now) (slot_at s store.now) terms.now
         ≡ None) }
     ensures size { IfOk result
         (λ size. size ≡ zero_size_of (setup_of config.now) terms.now.dataset) }
@@ -55,7 +56,7 @@ fn subscribed_size(
     }
     match value_size(config, terms.dataset) {
         Err(refusal) => Err(refusal),
-        Ok(size) => match opening_refusal(table, s, Kind::Subscription) {
+        Ok(size) => match opening_refusal(store, s, Kind::Subscription) {
             Some(refusal) => Err(refusal),
             None => Ok(size),
         },
@@ -68,28 +69,28 @@ fn subscribed_size(
 /// # Errors
 /// Want of memory for the subscription.
 pub fn subscribe(
-    table: &mut Table,
+    store: &mut Store,
     s: u16,
     alloc: Global,
     config: &NodeConfig,
     terms: &SubscriptionTerms,
     globals: &Globals,
 ) -> Result<PlainAnswer, AllocError>
-    requires slot { s < length table.old }
+    requires slot { s < length store.old }
     requires now { globals.now.now ≤ last_moment }
     ensures outcome { IfOk result
         (λ answer.
-        called (setup_of config.now) (slot_at s table.old) globals.entry.now
+        called (setup_of config.now) (slot_at s store.old) globals.entry.now
         (SubscribeCall terms.now)
-        ≡ answered (slot_at s table.new) (plain_answer_model answer)) }
-    ensures others { slots_of table.new ≡ slice_set (slots_of table.old) s (slot_at s table.new) }
-    ensures kept { OnErr result (table.new ≡ table.old) }
+        ≡ answered (slot_at s store.new) (plain_answer_model answer)) }
+    ensures others { slots_of store.new ≡ slice_set (slots_of store.old) s (slot_at s store.new) }
+    ensures kept { OnErr result (store.new ≡ store.old) }
 {
-    match subscribed_size(table, s, config, terms) {
+    match subscribed_size(store, s, config, terms) {
         Err(refusal) => Ok(PlainAnswer::Refused(refusal)),
         Ok(size) => {
             let subscription = Subscription::new(alloc, terms, size, globals.now)?;
-            Ok(open(table, s, AnyObject::Subscription(subscription)))
+            Ok(open(store, s, AnyObject::Subscription(subscription)))
         }
     }
 }

@@ -34,6 +34,13 @@ impl Listener {
         Listener { filter: *filter }
     }
 
+    /// The comId of the messages that it hears; None for any.
+    pub fn com_id(&self) -> Option<u32>
+        ensures { result ≡ self.now.filter.com_id }
+    {
+        self.filter.com_id
+    }
+
     /// Whether the message is a notification or a request that the filter passes.
     #[tactic(auto, unfolding(crate::specs::Listeners::is_for))]
     fn is_for(&self, src: Place, dst: Place, head: &MdHead, globals: &Globals) -> bool

@@ -1,7 +1,8 @@
 -- What is true of a slot's entries is true of its objects, as they are seen with the pool.
 use Rattle.std.proofs.Common.{◌≡◌, ◌≢◌, ℕ, zero, suc, ◌+◌, ◌<◌, List, [], ◌∷◌, ◌++◌, length, map, get_or, set, Option, Some, None, Bool, true, false, cond, not, sum_by, refl, ◌∙◌, sym, ap, arith}
 use Rattle.std.specs.Prelude.{option_map, filter, ◌==◌}
-use Rattle.std.proofs.lemmas.List.{map-append, get_or-set_same, get_or-set_other}
+use Rattle.std.proofs.lemmas.List.{map-append, length-map, get_or-set_same, get_or-set_other}
+use Rattle.std.proofs.lemmas.List.Concat.{length-flat_map}
 use Rattle.std.proofs.lemmas.List.Sums.{sum_by-cons}
 use Rattle.std.proofs.lemmas.Bool.Decides.{nat_tests}
 use Rattle.std.proofs.lemmas.Option.{same_Some, none-some}
@@ -11,7 +12,7 @@ use Rattle.trdp_table.specs.declared.entry.Entry.{Entry}
 use Rattle.trdp_table.specs.declared.held.Held.{Held}
 use Rattle.trdp_table.specs.declared.kind.Kind.{Kind}
 use Rattle.trdp_table.specs.Kinds.{kind_of, is_same_kind}
-use Rattle.trdp_table.specs.Tables.{Keyed, SlotTable, slot_in, by_handle, count_of, refusal, all_quotas, room_of, with_object, without, exchanged, other_by_key}
+use Rattle.trdp_table.specs.Tables.{Keyed, SlotTable, slot_in, all_objects, by_handle, count_of, refusal, all_quotas, room_of, with_object, without, exchanged, other_by_key}
 use Rattle.trdp_table.specs.TableLaws.{AllAbove, AllBelow, IsRising, IsSlotTable}
 use Rattle.trdp_table.specs.Entries.{SlotEntries, opened_entries, entries_in, entry_of, key_of, entries_of, refusal_of, new_entry, with_entry, without_entry, AreAbove, AreBelow, AreRising, AreSlotEntries}
 use Rattle.trdp_table.specs.Pools.{PoolState, held_in, owner_of, owner_in, pool_with, with_other_held}
@@ -61,6 +62,16 @@ room_seen pool [] = refl
 room_seen pool (x ∷ xs) =
     sum_by-cons (λ (slot : SlotTable). all_quotas slot.quotas) (slot_seen pool x) (table_seen pool xs)
     ∙ (ap (λ n. all_quotas x.quotas + n) (room_seen pool xs) ∙ sym (sum_by-cons (λ (slot : SlotEntries). all_quotas slot.quotas) x xs))
+
+pub length_seen : (pool : PoolState) (slots : List SlotEntries) → length (all_objects (table_seen pool slots)) ≡ sum_by (λ slot. length slot.entries) slots
+length_seen pool slots = length-flat_map (λ (slot : SlotTable). slot.objects) (table_seen pool slots) ∙ summed slots
+  where
+    summed : (xs : List SlotEntries) → sum_by (λ (slot : SlotTable). length slot.objects) (table_seen pool xs) ≡ sum_by (λ (slot : SlotEntries). length slot.entries) xs
+    summed [] = refl
+    summed (x ∷ xs) =
+        let here = sum_by-cons (λ (slot : SlotTable). length slot.objects) (slot_seen pool x) (table_seen pool xs) in
+        let seen = sum_by-cons (λ (slot : SlotEntries). length slot.entries) x xs in
+        omega (arith, here, seen, length-map x.entries (keyed_of pool), summed xs)
 
 -- The object of a handle.
 

@@ -22,7 +22,7 @@ use Rattle.trdp_table.proofs.Searching.{entry_of_get}
 use Rattle.trdp_table.proofs.Slots.{AreSlotEntries-opened, AreSlotEntries-add, AreSlotEntries-without_entry, AreSlotEntries-next, within_quotas, under_quotas, few_objects, same_without}
 use Rattle.trdp_table.proofs.Pools.{count_set, count_unset, count_kept, no_held}
 use Rattle.trdp_table.proofs.Entries.{entry_there, key_above, key_of-more, key_of-last, key_of-push, key_of-without, key_of-gone, length_without}
-use Rattle.trdp_table.proofs.Seen.{AllOwned, AllApart, owned_by, no_owner, unowned, same_owner, apart_unowned, slot_sound, slot_in_seen, room_seen, found_seen, key_seen, refusal_seen, added_seen, removed_seen, without_seen, other_seen, sets_seen, lent_seen}
+use Rattle.trdp_table.proofs.Seen.{AllOwned, AllApart, owned_by, no_owner, unowned, same_owner, apart_unowned, slot_sound, slot_in_seen, room_seen, length_seen, found_seen, key_seen, refusal_seen, added_seen, removed_seen, without_seen, other_seen, sets_seen, lent_seen}
 use Rattle.trdp_table.proofs.Keys.{AreAlone, AllOwnedFrom, owned_from, none_from, by_key_from, distinct_from, exchanged_from}
 
 abbrev nothing : Option Held
@@ -261,16 +261,17 @@ IsKeptTable-add slots pool s key object is lt none within vacant =
     length_push [] e = refl
     length_push (y ∷ es) e = omega (arith, length_push es e)
 
+-- slots within their quotas are together within the total of all quotas
+all_within : (xs : List SlotEntries) → ((t : ℕ) → length (entries_in t xs).entries ≤ all_quotas (entries_in t xs).quotas) → sum_by (λ (slot : SlotEntries). length slot.entries) xs ≤ sum_by (λ (slot : SlotEntries). all_quotas slot.quotas) xs
+all_within [] each = omega arith
+all_within (x ∷ xs) each = omega (arith, each 0, all_within xs (λ t. each (suc t)), sum_by-cons (λ (slot : SlotEntries). length slot.entries) x xs, sum_by-cons (λ (slot : SlotEntries). all_quotas slot.quotas) x xs)
+
 -- while a slot takes an object, the pool has a free key
 pub pool_room : (slots : List SlotEntries) (pool : PoolState) (s : ℕ) (kind : Kind) → IsKeptTable slots pool → s < length slots → refusal_of (entries_in s slots) kind ≡ None → held_count pool < length pool
 pool_room slots pool s kind is lt none =
     let less = less_from slots s lt (λ t. within_quotas (entries_in t slots) (is.sound t)) (under_quotas (entries_in s slots) kind (is.sound s) none) in
     omega (arith, less, is.count, is.room)
   where
-    all_within : (xs : List SlotEntries) → ((t : ℕ) → length (entries_in t xs).entries ≤ all_quotas (entries_in t xs).quotas) → sum_by (λ (slot : SlotEntries). length slot.entries) xs ≤ sum_by (λ (slot : SlotEntries). all_quotas slot.quotas) xs
-    all_within [] each = omega arith
-    all_within (x ∷ xs) each = omega (arith, each 0, all_within xs (λ t. each (suc t)), sum_by-cons (λ (slot : SlotEntries). length slot.entries) x xs, sum_by-cons (λ (slot : SlotEntries). all_quotas slot.quotas) x xs)
-
     less_from : (xs : List SlotEntries) (i : ℕ) → i < length xs → ((t : ℕ) → length (entries_in t xs).entries ≤ all_quotas (entries_in t xs).quotas) → length (entries_in i xs).entries < all_quotas (entries_in i xs).quotas → sum_by (λ (slot : SlotEntries). length slot.entries) xs < sum_by (λ (slot : SlotEntries). all_quotas slot.quotas) xs
     less_from [] i lt each here = absurd (omega arith)
     less_from (x ∷ xs) zero lt each here = omega (arith, here, all_within xs (λ t. each (suc t)), sum_by-cons (λ (slot : SlotEntries). length slot.entries) x xs, sum_by-cons (λ (slot : SlotEntries). all_quotas slot.quotas) x xs)
@@ -460,6 +461,20 @@ granted slots pool now s kind is none =
     sym (refusal_seen pool (entries_in s slots) kind)
     ∙ (ap (λ (slot : SlotTable). refusal slot kind) (sym (slot_in_seen pool slots s))
     ∙ (ap (λ (table : TableState). refusal (slot_in s table) kind) is ∙ none))
+
+-- the room is for all objects
+pub table_room : (slots : List SlotEntries) (pool : PoolState) → IsKeptTable slots pool → length (all_objects (table_seen pool slots)) ≤ room_of (table_seen pool slots)
+table_room slots pool is =
+    let all = all_within slots (λ t. within_quotas (entries_in t slots) (is.sound t)) in
+    omega (arith, all, length_seen pool slots, room_seen pool slots)
+
+-- while a slot takes an object, the room is for one more
+pub table_spare : (slots : List SlotEntries) (pool : PoolState) → IsKeptTable slots pool → (s : ℕ) (kind : Kind) → s < length (table_seen pool slots) → refusal (slot_in s (table_seen pool slots)) kind ≡ None → length (all_objects (table_seen pool slots)) < room_of (table_seen pool slots)
+table_spare slots pool is s kind lt none =
+    let within = within_slots slots pool (table_seen pool slots) s refl lt in
+    let takes = granted slots pool (table_seen pool slots) s kind refl none in
+    let less = pool_room slots pool s kind is within takes in
+    omega (arith, less, is.count, is.room, length_seen pool slots, room_seen pool slots)
 
 pub some_lent : (slots : List SlotEntries) (pool : PoolState) (key : ℕ) → IsKeptTable slots pool → IsSome (held_in pool key) → (w : AnyObject) → IsKeptTable slots (pool_with key pool w) × (table_seen (pool_with key pool w) slots ≡ exchanged key (table_seen pool slots) w)
 some_lent slots pool key is some w = either (held_in pool key) refl some

@@ -6,6 +6,7 @@ ghost use Rattle.std.specs.Prelude.{option_map, option_copied};
 ghost use Rattle.std.specs.Option.{option_copied_mut};
 ghost use Rattle.std.specs.Borrow.{sem};
 ghost use Rattle.trdp_table.specs.declared.any_object.AnyObject.{AnyObject};
+ghost use Rattle.trdp_table.specs.declared.kind.Kind.{Kind};
 ghost use Rattle.trdp_table.specs.Kinds.{kind_of};
 ghost use Rattle.trdp_table.specs.Tables.{Keyed, slot_limit, opened_slot, slot_in, all_quotas};
 ghost use Rattle.trdp_table.specs.Tables.{all_objects, by_handle, by_key, refusal, Adds};
@@ -278,7 +279,8 @@ impl Table {
 impl Table {
     /// What holds of every table: a law for callers, which does nothing when it runs. Handles rise,
     /// quotas are kept, and no key is that of two objects. The object of a handle, or of an index,
-    /// is the one that its key gives; where it becomes another one, all other objects stay.
+    /// is the one that its key gives; where it becomes another one, all other objects stay. The
+    /// room is for all objects, and for one more while a slot takes one.
     pub fn sound(&self)
         ensures sound { IsTable self.now }
         ensures found { (s handle : ℕ) (keyed : Keyed)
@@ -291,6 +293,11 @@ impl Table {
             → by_handle handle (slot_in s self.now).objects ≡ Some keyed
             → exchanged keyed.key self.now object
             ≡ changed_at s (with_other_by_handle handle object) self.now }
+        ensures room { length (all_objects self.now) ≤ room_of self.now }
+        ensures spare { (s : ℕ) (kind : Kind)
+            → s < length self.now
+            → refusal (slot_in s self.now) kind ≡ None
+            → length (all_objects self.now) < room_of self.now }
     {
         let _ = &self.slots;
     }

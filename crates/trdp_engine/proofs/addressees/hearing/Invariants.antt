@@ -7,5 +7,5 @@ use Rattle.trdp_engine.proofs.addressees.hearing.Given as goal
 -- the listener isn't among the objects before the index
 abbrev pub invariant-loop-index : goal.invariant-loop-index
 invariant-loop-index l =
-    hearing (telegram_model l.telegram) l.globals (slot_at l.s l.table).objects
-    ≡ hearing (telegram_model l.telegram) l.globals (drop l.index (slot_at l.s l.table).objects)
+    hearing (telegram_model l.telegram) l.globals (slot_at l.s l.store).objects
+    ≡ hearing (telegram_model l.telegram) l.globals (drop l.index (slot_at l.s l.store).objects)

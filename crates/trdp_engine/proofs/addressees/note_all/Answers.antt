@@ -1,27 +1,19 @@
-use Rattle.std.proofs.Common.{◌<◌, length, ◌∙◌, arith}
+use Rattle.std.proofs.Common.{◌≡◌, ◌∙◌, ap, sym, Some, [], ◌++◌}
 use Rattle.trdp_filter.specs.Telegrams.{telegram_model}
-use Rattle.trdp_engine.specs.Slots.{slots_of}
-use Rattle.trdp_engine.specs.Acting.{slot_at}
-use Rattle.trdp_engine.proofs.Tables.{slots_length, slot_there}
-use Rattle.trdp_engine.proofs.Noting.{notes_all_next, notes_all_end_items, notes_all_end_room}
+use Rattle.trdp_engine.specs.Sought.{noted_rows, hits}
+use Rattle.trdp_engine.specs.Indexed.{rows_from}
+use Rattle.trdp_engine.specs.Rooms.{entries_room}
+use Rattle.trdp_engine.proofs.Seeking.{KeysTell, run_noted, run_room}
 use Rattle.trdp_engine.proofs.addressees.note_all.Goals as goal
 
-pub loop-s-preserved : goal.loop-s-preserved
-loop-s-preserved c =
-    let there : c.loop-s.s < length c.args.table.now = omega (arith, c.loop-s-test.true, c.slots-s-end.ensures.count) in
-    let lt : c.loop-s.s < length (slots_of c.args.table.now) = omega (arith, there, slots_length c.args.table.now) in
-    record {
-      notes = rw c.plus-room.ensures (notes_all_next (telegram_model c.args.telegram.now) c.args.globals.now (slots_of c.args.table.now) (slot_at c.loop-s.s c.args.table.now) c.loop-s.noted.items c.note_in.new.noted.items c.loop-s.room c.note_in.result c.loop-s.s lt (slot_there c.args.table.now c.loop-s.s there) c.loop-s.invariant.notes c.note_in.ensures.noted c.note_in.ensures.room);
-      rows = rw c.plus-room.ensures (omega (arith, c.loop-s.invariant.rows, c.note_in.ensures.rows));
-      bytes = rw c.plus-room.ensures (omega (arith, c.loop-s.invariant.bytes, c.note_in.ensures.bytes));
-      capacity = c.note_in.ensures.capacity ∙ c.loop-s.invariant.capacity;
-      length = omega (arith, c.note_in.ensures.length, c.loop-s.invariant.length);
-    }
+pub returns-in-Pd-clause-noted : goal.returns-in-Pd-clause-noted
+returns-in-Pd-clause-noted c =
+    let tell : KeysTell c.args.store.now = record { found = c.sound.ensures.found; listed = c.sound.ensures.listed } in
+    let noted = rw (c.clear.ensures.items, c.sought_by.ensures) at c.note_run.ensures.noted in
+    rw c.in-Pd.is (rw c.in-Pd.is at noted ∙ run_noted c.args.store.now c.in-Pd.src c.in-Pd.dst _ c.args.globals.now tell)
 
-pub returns-clause-noted : goal.returns-clause-noted
-returns-clause-noted c =
-    notes_all_end_items (telegram_model c.args.telegram.now) c.args.globals.now (slots_of c.args.table.now) c.loop-s.noted.items c.loop-s.room c.loop-s.s (omega (arith, c.loop-s-test.false, c.slots-s-end.ensures.count, slots_length c.args.table.now)) c.loop-s.invariant.notes
-
-pub returns-clause-room : goal.returns-clause-room
-returns-clause-room c =
-    notes_all_end_room (telegram_model c.args.telegram.now) c.args.globals.now (slots_of c.args.table.now) c.loop-s.noted.items c.loop-s.room c.loop-s.s (omega (arith, c.loop-s-test.false, c.slots-s-end.ensures.count, slots_length c.args.table.now)) c.loop-s.invariant.notes
+pub returns-in-Pd-clause-room : goal.returns-in-Pd-clause-room
+returns-in-Pd-clause-room c =
+    let tell : KeysTell c.args.store.now = record { found = c.sound.ensures.found; listed = c.sound.ensures.listed } in
+    let room = rw c.sought_by.ensures at c.note_run.ensures.room in
+    rw c.in-Pd.is (rw c.in-Pd.is at room ∙ run_room c.args.store.now c.in-Pd.src c.in-Pd.dst _ c.args.globals.now tell)

@@ -13,7 +13,7 @@ use Rattle.trdp_engine.proofs.addressees.note_in.Goals as goal
 pub loop-index-init : goal.loop-index-init
 loop-index-init c =
     record {
-      notes = rw c.none-room.ensures (notes_first (acts_where c.hearing-listener.result (telegram_model c.args.telegram.now) c.args.globals.now) c.args.s (slot_at c.args.s c.args.table.now).objects c.args.noted.now.items);
+      notes = rw c.none-room.ensures (notes_first (acts_where c.hearing-listener.result (telegram_model c.args.telegram.now) c.args.globals.now) c.args.s (slot_at c.args.s c.args.store.now).objects c.args.noted.now.items);
       rows = rw c.none-room.ensures (omega arith);
       bytes = rw c.none-room.ensures (omega arith);
       capacity = search rules;
@@ -26,10 +26,10 @@ note_at-requires-clause-capacity c =
 
 pub loop-index-preserved : goal.loop-index-preserved
 loop-index-preserved c =
-    let lt : c.loop-index.index < length (slot_at c.args.s c.args.table.now).objects =
-    omega (arith, c.loop-index-test.true, c.count-index-end.ensures.count, length-map (slot_in c.args.s c.args.table.now).objects entry_of_keyed) in
+    let lt : c.loop-index.index < length (slot_at c.args.s c.args.store.now).objects =
+    omega (arith, c.loop-index-test.true, c.count-index-end.ensures.count, length-map (slot_in c.args.s c.args.store.now).objects entry_of_keyed) in
     record {
-      notes = rw c.plus-room.ensures (notes_next (acts_where c.hearing-listener.result (telegram_model c.args.telegram.now) c.args.globals.now) c.args.s (slot_at c.args.s c.args.table.now).objects c.args.noted.now.items c.loop-index.noted.items c.note_at.new.noted.items c.loop-index.room c.note_at.result c.loop-index.index lt c.loop-index.invariant.notes c.note_at.ensures.noted c.note_at.ensures.room);
+      notes = rw c.plus-room.ensures (notes_next (acts_where c.hearing-listener.result (telegram_model c.args.telegram.now) c.args.globals.now) c.args.s (slot_at c.args.s c.args.store.now).objects c.args.noted.now.items c.loop-index.noted.items c.note_at.new.noted.items c.loop-index.room c.note_at.result c.loop-index.index lt c.loop-index.invariant.notes c.note_at.ensures.noted c.note_at.ensures.room);
       rows = rw c.plus-room.ensures (omega (arith, c.loop-index.invariant.rows, c.note_at.ensures.rows));
       bytes = rw c.plus-room.ensures (omega (arith, c.loop-index.invariant.bytes, c.note_at.ensures.bytes));
       capacity = c.note_at.ensures.capacity ∙ c.loop-index.invariant.capacity;
@@ -38,8 +38,8 @@ loop-index-preserved c =
 
 pub returns-clause-noted : goal.returns-clause-noted
 returns-clause-noted c =
-    subst (λ (listener : Option ℕ). c.loop-index.noted.items ≡ c.args.noted.now.items ++ noted_as c.args.s (filter (acts_where listener (telegram_model c.args.telegram.now) c.args.globals.now) (slot_at c.args.s c.args.table.now).objects)) c.hearing-listener.ensures (notes_end_items (acts_where c.hearing-listener.result (telegram_model c.args.telegram.now) c.args.globals.now) c.args.s (slot_at c.args.s c.args.table.now).objects c.args.noted.now.items c.loop-index.noted.items c.loop-index.room c.loop-index.index (omega (arith, c.loop-index-test.false, c.count-index-end.ensures.count, length-map (slot_in c.args.s c.args.table.now).objects entry_of_keyed)) c.loop-index.invariant.notes)
+    subst (λ (listener : Option ℕ). c.loop-index.noted.items ≡ c.args.noted.now.items ++ noted_as c.args.s (filter (acts_where listener (telegram_model c.args.telegram.now) c.args.globals.now) (slot_at c.args.s c.args.store.now).objects)) c.hearing-listener.ensures (notes_end_items (acts_where c.hearing-listener.result (telegram_model c.args.telegram.now) c.args.globals.now) c.args.s (slot_at c.args.s c.args.store.now).objects c.args.noted.now.items c.loop-index.noted.items c.loop-index.room c.loop-index.index (omega (arith, c.loop-index-test.false, c.count-index-end.ensures.count, length-map (slot_in c.args.s c.args.store.now).objects entry_of_keyed)) c.loop-index.invariant.notes)
 
 pub returns-clause-room : goal.returns-clause-room
 returns-clause-room c =
-    subst (λ (listener : Option ℕ). c.loop-index.room ≡ entries_room (filter (acts_where listener (telegram_model c.args.telegram.now) c.args.globals.now) (slot_at c.args.s c.args.table.now).objects)) c.hearing-listener.ensures (notes_end_room (acts_where c.hearing-listener.result (telegram_model c.args.telegram.now) c.args.globals.now) c.args.s (slot_at c.args.s c.args.table.now).objects c.args.noted.now.items c.loop-index.noted.items c.loop-index.room c.loop-index.index (omega (arith, c.loop-index-test.false, c.count-index-end.ensures.count, length-map (slot_in c.args.s c.args.table.now).objects entry_of_keyed)) c.loop-index.invariant.notes)
+    subst (λ (listener : Option ℕ). c.loop-index.room ≡ entries_room (filter (acts_where listener (telegram_model c.args.telegram.now) c.args.globals.now) (slot_at c.args.s c.args.store.now).objects)) c.hearing-listener.ensures (notes_end_room (acts_where c.hearing-listener.result (telegram_model c.args.telegram.now) c.args.globals.now) c.args.s (slot_at c.args.s c.args.store.now).objects c.args.noted.now.items c.loop-index.noted.items c.loop-index.room c.loop-index.index (omega (arith, c.loop-index-test.false, c.count-index-end.ensures.count, length-map (slot_in c.args.s c.args.store.now).objects entry_of_keyed)) c.loop-index.invariant.notes)

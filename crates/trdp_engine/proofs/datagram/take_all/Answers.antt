@@ -9,7 +9,7 @@ use Rattle.trdp_engine.proofs.datagram.take_all.Goals as goal
 
 pub loop-addressee-init : goal.loop-addressee-init
 loop-addressee-init c = record {
-  goes = goes_first (setup_of c.args.config.now) (telegram_model c.args.telegram.now) c.args.globals.now c.args.table.now c.args.out.now c.args.noted.now c.sound.ensures.sound c.requires.noted c.requires.room;
+  goes = goes_first (setup_of c.args.config.now) (telegram_model c.args.telegram.now) c.args.globals.now c.args.store.now c.args.out.now c.args.noted.now c.sound.ensures.sound c.requires.noted c.requires.room;
   quiet = c.requires.quiet;
 }
 
@@ -28,25 +28,25 @@ take-requires-clause-addressed c =
 pub wake-requires : goal.wake-requires
 wake-requires c =
     let within = goes_within _ _ _ _ _ (goes_next _ _ _ c.args.noted.now c.loop-addressee.addressee-index (record { slot = 0; handle = 0 }) c.loop-addressee-test.true c.loop-addressee.invariant.goes) in
-    omega (arith, within, slots_length c.loop-addressee.table, c.loop-addressee.invariant.quiet.count)
+    omega (arith, within, slots_length c.loop-addressee.store, c.loop-addressee.invariant.quiet.count)
 
 pub loop-addressee-preserved : goal.loop-addressee-preserved
 loop-addressee-preserved c = record {
   goes = goes_on _ _ _ _ _ _ _ (goes_next _ _ _ c.args.noted.now c.loop-addressee.addressee-index (record { slot = 0; handle = 0 }) c.loop-addressee-test.true c.loop-addressee.invariant.goes) c.take.ensures;
-  quiet = rw c.wake.ensures (woken c.loop-addressee.quiet.items _ (slots_of c.loop-addressee.table) (slots_of c.take.new.table) _ c.loop-addressee.invariant.quiet c.take.ensures.becomes.slots);
+  quiet = rw c.wake.ensures (woken c.loop-addressee.quiet.items _ (slots_of c.loop-addressee.store) (slots_of c.take.new.self) _ c.loop-addressee.invariant.quiet c.take.ensures.becomes.slots);
 }
 
 pub returns-clause-count : goal.returns-clause-count
 returns-clause-count c =
     let end = goes_end _ _ _ c.args.noted.now c.loop-addressee.addressee-index c.loop-addressee-test.false c.loop-addressee.invariant.goes in
-    reached_count (setup_of c.args.config.now) (telegram_model c.args.telegram.now) c.args.globals.now c.args.table.now c.loop-addressee.table c.args.out.now.records end.0
+    reached_count (setup_of c.args.config.now) (telegram_model c.args.telegram.now) c.args.globals.now c.args.store.now c.loop-addressee.store c.args.out.now.records end.0
 
 pub returns-clause-parts : goal.returns-clause-parts
 returns-clause-parts c =
     let end = goes_end _ _ _ c.args.noted.now c.loop-addressee.addressee-index c.loop-addressee-test.false c.loop-addressee.invariant.goes in
-    reached_parts (setup_of c.args.config.now) (telegram_model c.args.telegram.now) c.args.globals.now (slots_of c.args.table.now) (slots_of c.loop-addressee.table) c.args.out.now.records c.loop-addressee.out.records end.0 end.1
+    reached_parts (setup_of c.args.config.now) (telegram_model c.args.telegram.now) c.args.globals.now (slots_of c.args.store.now) (slots_of c.loop-addressee.store) c.args.out.now.records c.loop-addressee.out.records end.0 end.1
 
 pub returns-clause-appends : goal.returns-clause-appends
 returns-clause-appends c =
     let end = goes_end _ _ _ c.args.noted.now c.loop-addressee.addressee-index c.loop-addressee-test.false c.loop-addressee.invariant.goes in
-    reached_appends (setup_of c.args.config.now) (telegram_model c.args.telegram.now) c.args.globals.now (slots_of c.args.table.now) c.args.out.now.records c.loop-addressee.out.records end.1
+    reached_appends (setup_of c.args.config.now) (telegram_model c.args.telegram.now) c.args.globals.now (slots_of c.args.store.now) c.args.out.now.records c.loop-addressee.out.records end.1

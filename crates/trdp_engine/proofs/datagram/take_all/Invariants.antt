@@ -9,6 +9,6 @@ use Rattle.trdp_engine.proofs.datagram.take_all.Given as goal
 -- those that were noted and haven't had the telegram lead to what it makes of the slots
 abbrev pub invariant-loop-addressee : goal.invariant-loop-addressee
 invariant-loop-addressee l = record {
-  goes : Goes (aim_of (setup_of l.config) (telegram_model l.telegram) l.globals (slots_of l.fn.table) l.fn.out.records) l.table l.out (drop l.addressee-index l.noted);
-  quiet : IsQuiet l.quiet.items (slots_of l.table);
+  goes : Goes (aim_of (setup_of l.config) (telegram_model l.telegram) l.globals (slots_of l.fn.store) l.fn.out.records) l.store l.out (drop l.addressee-index l.noted);
+  quiet : IsQuiet l.quiet.items (slots_of l.store);
 }

@@ -3,4 +3,4 @@ use Rattle.trdp_engine.proofs.Tables.{slots_kept}
 use Rattle.trdp_engine.proofs.listeners.listen.Goals as goal
 
 pub returns-then-gt-clause-others : goal.returns-then-gt-clause-others
-returns-then-gt-clause-others c = sym (slots_kept c.args.table.now c.args.s c.requires)
+returns-then-gt-clause-others c = sym (slots_kept c.args.store.now c.args.s c.requires)

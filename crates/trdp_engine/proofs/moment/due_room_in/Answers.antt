@@ -12,9 +12,9 @@ use Rattle.trdp_engine.proofs.moment.due_room_in.Goals as goal
 
 pub loop-index-preserved : goal.loop-index-preserved
 loop-index-preserved c =
-    let objects = (slot_at c.args.s c.args.table.now).objects in
+    let objects = (slot_at c.args.s c.args.store.now).objects in
     let due = is_due c.args.t in
-    let count : c.count-index-end.result ≡ length objects = c.count-index-end.ensures.count ∙ sym (length-map (slot_in c.args.s c.args.table.now).objects entry_of_keyed) in
+    let count : c.count-index-end.result ≡ length objects = c.count-index-end.ensures.count ∙ sym (length-map (slot_in c.args.s c.args.store.now).objects entry_of_keyed) in
     let r = reads objects c.loop-index.index (λ entry. c.due_room_at.result ≡ entries_room (filter due (entry ∷ []))) (omega (arith, count)) c.due_room_at.ensures.room in
     record {
       room =

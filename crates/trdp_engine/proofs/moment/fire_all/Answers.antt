@@ -8,7 +8,7 @@ use Rattle.trdp_engine.proofs.moment.fire_all.Goals as goal
 pub loop-handle-init : goal.loop-handle-init
 loop-handle-init c = record {
   slot = c.requires.slot;
-  rising = rising c.args.table.now c.args.s c.sound.ensures.sound;
+  rising = rising c.args.store.now c.args.s c.sound.ensures.sound;
   slots = refl;
   told = refl;
   room = c.requires.room;
@@ -18,28 +18,28 @@ loop-handle-init c = record {
 
 pub fire-requires-clause-may : goal.fire-requires-clause-may
 fire-requires-clause-may c =
-    let slot = slot_at c.args.s c.loop-handle.table in
+    let slot = slot_at c.args.s c.loop-handle.store in
     next_may c.args.globals.now slot c.in-Some.handle c.loop-handle.out
     (next_is c.args.globals.now.now slot.objects c.in-Some.handle c.loop-handle.invariant.rising c.in-Some.ensures)
     c.loop-handle.invariant.room
 
 pub fire-requires-clause-due : goal.fire-requires-clause-due
 fire-requires-clause-due c =
-    let objects = (slot_at c.args.s c.loop-handle.table).objects in
+    let objects = (slot_at c.args.s c.loop-handle.store).objects in
     next_is_due c.args.globals.now.now objects c.in-Some.handle
     (next_is c.args.globals.now.now objects c.in-Some.handle c.loop-handle.invariant.rising c.in-Some.ensures)
 
 pub loop-handle-smaller : goal.loop-handle-smaller
 loop-handle-smaller c =
-    let objects = (slot_at c.args.s c.loop-handle.table).objects in
+    let objects = (slot_at c.args.s c.loop-handle.store).objects in
     let n = next_is c.args.globals.now.now objects c.in-Some.handle c.loop-handle.invariant.rising c.in-Some.ensures in
-    (fires_one c.args.globals.now c.args.s c.in-Some.handle c.loop-handle.table c.fire.new.table c.loop-handle.out c.fire.new.out c.loop-handle.invariant.slot c.loop-handle.invariant.rising n c.fire.ensures).fewer
+    (fires_one c.args.globals.now c.args.s c.in-Some.handle c.loop-handle.store c.fire.new.self c.loop-handle.out c.fire.new.out c.loop-handle.invariant.slot c.loop-handle.invariant.rising n c.fire.ensures).fewer
 
 pub loop-handle-preserved : goal.loop-handle-preserved
 loop-handle-preserved c =
-    let objects = (slot_at c.args.s c.loop-handle.table).objects in
+    let objects = (slot_at c.args.s c.loop-handle.store).objects in
     let n = next_is c.args.globals.now.now objects c.in-Some.handle c.loop-handle.invariant.rising c.in-Some.ensures in
-    let f = fires_one c.args.globals.now c.args.s c.in-Some.handle c.loop-handle.table c.fire.new.table c.loop-handle.out c.fire.new.out c.loop-handle.invariant.slot c.loop-handle.invariant.rising n c.fire.ensures in
+    let f = fires_one c.args.globals.now c.args.s c.in-Some.handle c.loop-handle.store c.fire.new.self c.loop-handle.out c.fire.new.out c.loop-handle.invariant.slot c.loop-handle.invariant.rising n c.fire.ensures in
     record {
       slot = f.slot;
       rising = f.rising;
@@ -55,6 +55,6 @@ loop-handle-preserved c =
 
 pub returns-clause-becomes : goal.returns-clause-becomes
 returns-clause-becomes c =
-    moment_ends c.args.globals.now c.args.s c.args.table.now c.loop-handle.table c.args.out.now c.loop-handle.out c.loop-handle.invariant.slot
-    (none_next c.args.globals.now.now (slot_at c.args.s c.loop-handle.table).objects c.in_default.ensures)
+    moment_ends c.args.globals.now c.args.s c.args.store.now c.loop-handle.store c.args.out.now c.loop-handle.out c.loop-handle.invariant.slot
+    (none_next c.args.globals.now.now (slot_at c.args.s c.loop-handle.store).objects c.in_default.ensures)
     c.loop-handle.invariant.slots c.loop-handle.invariant.told

@@ -4,4 +4,4 @@ use Rattle.trdp_engine.proofs.moment.next_due.Goals as goal
 
 pub returns : goal.returns
 returns c =
-    first_comes c.args.t (slot_at c.args.s c.args.table.now).objects c.in_ok-index.index c.handle_at.result c.in_ok-index.ensures c.handle_at.ensures
+    first_comes c.args.t (slot_at c.args.s c.args.store.now).objects c.in_ok-index.index c.handle_at.result c.in_ok-index.ensures c.handle_at.ensures

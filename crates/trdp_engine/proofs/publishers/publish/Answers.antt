@@ -3,7 +3,7 @@ use Rattle.trdp_engine.proofs.Tables.{slots_kept}
 use Rattle.trdp_engine.proofs.publishers.publish.Goals as goal
 
 pub returns-in-Some-clause-others : goal.returns-in-Some-clause-others
-returns-in-Some-clause-others c = sym (slots_kept c.args.table.now c.args.s c.requires.slot)
+returns-in-Some-clause-others c = sym (slots_kept c.args.store.now c.args.s c.requires.slot)
 
 pub returns-in_err-publisher-clause-others : goal.returns-in_err-publisher-clause-others
-returns-in_err-publisher-clause-others c = sym (slots_kept c.args.table.now c.args.s c.requires.slot)
+returns-in_err-publisher-clause-others c = sym (slots_kept c.args.store.now c.args.s c.requires.slot)

@@ -5,4 +5,4 @@ use Rattle.trdp_engine.proofs.quiet_slots.earliest_in.Given as goal
 
 -- none of the objects before the index is due earlier
 abbrev pub invariant-loop-index : goal.invariant-loop-index
-invariant-loop-index l = AllFrom l.first (take l.index (slot_at l.s l.table).objects)
+invariant-loop-index l = AllFrom l.first (take l.index (slot_at l.s l.store).objects)

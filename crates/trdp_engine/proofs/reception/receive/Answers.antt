@@ -11,7 +11,7 @@ pub returns-in_err-reserve-clause-memory : goal.returns-in_err-reserve-clause-me
 returns-in_err-reserve-clause-memory c =
     let valid : is_valid_at c.args.globals.now (telegram_model c.args.telegram.now) ≡ true = sym c.if-not-is_valid_at.ensures in
     let lacks = rw c.note_all-room.ensures.room at c.in_err-reserve.ensures.full in
-    of_an_error c.from_residual.result _ (lacking_concerns (telegram_model c.args.telegram.now) c.args.globals.now (slots_of c.args.table.now) c.args.out.now valid lacks)
+    of_an_error c.from_residual.result _ (lacking_concerns (telegram_model c.args.telegram.now) c.args.globals.now (slots_of c.args.store.now) c.args.out.now valid lacks)
 
 pub returns-then-is_request-clause-parts : goal.returns-then-is_request-clause-parts
 returns-then-is_request-clause-parts c = λ s slot is.

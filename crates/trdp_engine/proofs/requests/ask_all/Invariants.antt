@@ -11,7 +11,7 @@ use Rattle.trdp_engine.proofs.requests.ask_all.Given as goal
 -- the slots before the index had the request, and the others not yet
 abbrev pub invariant-loop-s : goal.invariant-loop-s
 invariant-loop-s l = record {
-  moved : HaveMoved (λ slot. requested slot l.globals (telegram_model l.telegram)) l.s (slots_of l.fn.table) (slots_of l.table) l.fn.out.records l.out.records;
-  room : HasRoom l.out (entries_room (flat_map (λ slot. acting (telegram_model l.telegram) l.globals slot.objects) (drop l.s (slots_of l.fn.table))));
-  quiet : IsQuiet l.quiet.items (slots_of l.table);
+  moved : HaveMoved (λ slot. requested slot l.globals (telegram_model l.telegram)) l.s (slots_of l.fn.store) (slots_of l.store) l.fn.out.records l.out.records;
+  room : HasRoom l.out (entries_room (flat_map (λ slot. acting (telegram_model l.telegram) l.globals slot.objects) (drop l.s (slots_of l.fn.store))));
+  quiet : IsQuiet l.quiet.items (slots_of l.store);
 }

@@ -7,7 +7,7 @@ use Rattle.trdp_engine.proofs.slots.due_room.Given as goal
 -- the room is that of the slots before the index
 abbrev pub invariant-loop-s : goal.invariant-loop-s
 invariant-loop-s l = record {
-  room : l.room ≡ moment_room l.t (take l.s (slots_of l.table));
+  room : l.room ≡ moment_room l.t (take l.s (slots_of l.store));
   rows : l.room.rows ≤ 2 * object_limit * l.s;
   bytes : l.room.bytes ≤ 65388 * object_limit * l.s;
 }

@@ -9,7 +9,7 @@ use Rattle.trdp_engine.proofs.slots.move_slots.Given as goal
 -- the slots before the index have moved, and the others not yet
 abbrev pub invariant-loop-s : goal.invariant-loop-s
 invariant-loop-s l = record {
-  moved : HaveMoved (λ slot. moved_to slot l.globals) l.s (slots_of l.fn.table) (slots_of l.table) l.fn.out.records l.out.records;
-  room : HasRoom l.out (moment_room l.globals.now (drop l.s (slots_of l.fn.table)));
-  quiet : IsQuiet l.quiet.items (slots_of l.table);
+  moved : HaveMoved (λ slot. moved_to slot l.globals) l.s (slots_of l.fn.store) (slots_of l.store) l.fn.out.records l.out.records;
+  room : HasRoom l.out (moment_room l.globals.now (drop l.s (slots_of l.fn.store)));
+  quiet : IsQuiet l.quiet.items (slots_of l.store);
 }

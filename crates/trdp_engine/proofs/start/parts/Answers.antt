@@ -7,4 +7,4 @@ use Rattle.trdp_engine.proofs.start.parts.Goals as goal
 pub returns-clause-quiet : goal.returns-clause-quiet
 returns-clause-quiet c =
     rw (c.in_ok-quiet.ensures.items_if_clones_equal (λ y same. same))
-    (all_awake (slots_of c.in_ok-table.table) c.slots.result (c.slots.ensures.count ∙ sym (slots_length c.in_ok-table.table)))
+    (all_awake (slots_of c.in_ok-store.store) c.slots.result (c.slots.ensures.count ∙ sym (slots_length c.in_ok-store.store)))

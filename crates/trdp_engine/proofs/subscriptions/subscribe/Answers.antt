@@ -5,7 +5,7 @@ use Rattle.trdp_engine.proofs.subscriptions.subscribe.Goals as goal
 pub returns-in_err-subscription-in-Ok-clause-others :
     goal.returns-in_err-subscription-in-Ok-clause-others
 returns-in_err-subscription-in-Ok-clause-others c =
-    sym (slots_kept c.args.table.now c.args.s c.requires.slot)
+    sym (slots_kept c.args.store.now c.args.s c.requires.slot)
 
 pub returns-in-Err-clause-others : goal.returns-in-Err-clause-others
-returns-in-Err-clause-others c = sym (slots_kept c.args.table.now c.args.s c.requires.slot)
+returns-in-Err-clause-others c = sym (slots_kept c.args.store.now c.args.s c.requires.slot)

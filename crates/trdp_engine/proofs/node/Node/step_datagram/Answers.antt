@@ -16,6 +16,6 @@ returns-clause-steps c =
 
 pub invariant_of-self-2 : goal.invariant_of-self-2
 invariant_of-self-2 c =
-    let count = same_count c.self.inside.table c.hear.new.table c.in_ok-hear.ensures.count in
-    let fits = outcomes_fit (setup_of c.self.inside.config) (λ s slot. received_if (setup_of c.self.inside.config) slot c.self.inside.globals (telegram_of c.args.protocol c.args.src c.args.dst c.args.bytes.now)) (slots_of c.self.inside.table) (slots_of c.hear.new.table) _ _ count c.in_ok-hear.ensures.parts (λ s slot fit. received_fits (setup_of c.self.inside.config) slot c.self.inside.globals (telegram_of c.args.protocol c.args.src c.args.dst c.args.bytes.now) fit) c.self.invariant.2 in
+    let count = same_count c.self.inside.store c.hear.new.store c.in_ok-hear.ensures.count in
+    let fits = outcomes_fit (setup_of c.self.inside.config) (λ s slot. received_if (setup_of c.self.inside.config) slot c.self.inside.globals (telegram_of c.args.protocol c.args.src c.args.dst c.args.bytes.now)) (slots_of c.self.inside.store) (slots_of c.hear.new.store) _ _ count c.in_ok-hear.ensures.parts (λ s slot fit. received_fits (setup_of c.self.inside.config) slot c.self.inside.globals (telegram_of c.args.protocol c.args.src c.args.dst c.args.bytes.now) fit) c.self.invariant.2 in
     (c.self.invariant.0, c.self.invariant.1, fits, rw c.in_ok-hear.ensures.capacity c.self.invariant.3, c.in_ok-hear.ensures.quiet)

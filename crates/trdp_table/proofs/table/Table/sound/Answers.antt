@@ -1,4 +1,4 @@
-use Rattle.trdp_table.proofs.Tables.{IsTable-kept, found_by_key, listed, exchanged_alone}
+use Rattle.trdp_table.proofs.Tables.{IsTable-kept, found_by_key, listed, exchanged_alone, table_room, table_spare}
 use Rattle.trdp_table.proofs.table.Table.sound.Goals as goal
 
 pub returns-clause-sound : goal.returns-clause-sound
@@ -12,3 +12,9 @@ returns-clause-listed c = rw (← c.self.view_is) (listed c.self.inside.slots.it
 
 pub returns-clause-exchanged : goal.returns-clause-exchanged
 returns-clause-exchanged c = rw (← c.self.view_is) (exchanged_alone c.self.inside.slots.items c.self.inside.pool c.self.invariant)
+
+pub returns-clause-room : goal.returns-clause-room
+returns-clause-room c = rw (← c.self.view_is) (table_room c.self.inside.slots.items c.self.inside.pool c.self.invariant)
+
+pub returns-clause-spare : goal.returns-clause-spare
+returns-clause-spare c = rw (← c.self.view_is) (table_spare c.self.inside.slots.items c.self.inside.pool c.self.invariant)

@@ -4,12 +4,12 @@ use Rattle.trdp_filter.specs.Telegrams.{telegram_model}
 use Rattle.trdp_table.specs.TableLaws.{object_limit}
 use Rattle.trdp_engine.specs.Slots.{slots_of}
 use Rattle.trdp_engine.proofs.Noting.{NotesAll}
-use Rattle.trdp_engine.proofs.addressees.note_all.Given as goal
+use Rattle.trdp_engine.proofs.addressees.note_slots.Given as goal
 
 -- those of the slots before the number are noted, each with its room
 abbrev pub invariant-loop-s : goal.invariant-loop-s
 invariant-loop-s l = record {
-  notes : NotesAll (telegram_model l.telegram) l.globals (slots_of l.table) l.noted.items l.room l.s;
+  notes : NotesAll (telegram_model l.telegram) l.globals (slots_of l.store) l.noted.items l.room l.s;
   rows : l.room.rows ≤ 2 * object_limit * l.s;
   bytes : l.room.bytes ≤ 65388 * object_limit * l.s;
   capacity : vec_capacity l.noted ≡ vec_capacity l.fn.noted;

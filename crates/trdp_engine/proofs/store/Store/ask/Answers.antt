@@ -1,0 +1,64 @@
+use Rattle.std.proofs.Common.{◌≡◌, ◌∙◌, sym}
+use Rattle.std.proofs.lemmas.Option.{same_Some}
+use Rattle.trdp_engine.specs.declared.asked.Left.TheVariants.{Stays, Ended}
+use Rattle.trdp_engine.proofs.Tables.{reached, none_found, none_reached}
+use Rattle.trdp_engine.proofs.Stored.{indexed_reached}
+use Rattle.trdp_engine.proofs.Asking.{stayed, asked_nobody, asked_stays, asked_ended}
+use Rattle.trdp_engine.proofs.store.Store.ask.Goals as goal
+use Rattle.trdp_engine.proofs.store.Store.ask.Goals.{in-None, in-Some, in-None-get_mut, in-Some-get_mut}
+
+pub invariant_of-self : goal.invariant_of-self
+invariant_of-self c = elim c.match-get_mut.branch [
+  | in-None-get_mut w ↦ rw w.self-inside-is c.self.invariant
+  | in-Some-get_mut w ↦
+      let r = reached c.self.inside.table c.args.s c.args.handle c.in-Some.key w.in-Some-get_mut.object.now c.sound.ensures.found c.in-Some.ensures w.in-Some-get_mut.ensures.value in
+      rw w.self-inside-is
+      (indexed_reached c.self.inside.table c.self.inside.coms c.args.s c.args.handle c.in-Some.key w.in-Some-get_mut.object.now w.ask.new.object c.self.invariant c.sound.ensures.sound (rw (← c.self.view_is) at c.requires.slot) c.sound.ensures.exchanged r w.ask.ensures.sought)
+]
+
+pub returns-in_default : goal.returns-in_default
+returns-in_default c = elim c.match-find.branch [
+  | in-None w ↦
+      rw (w.self-is, ← c.self.view_is)
+      (asked_nobody c.self.inside.table c.args.s c.args.handle _ c.args.out.now c.push_plain_answer.new.self (rw (← c.self.view_is) at c.requires.slot)
+      (none_found c.self.inside.table c.args.s c.args.handle w.in-None.ensures)
+      (rw w.out-is at c.push_plain_answer.ensures.records))
+  | in-Some w ↦ elim w.match-get_mut.branch [
+    | in-None-get_mut w' ↦
+        rw (← c.self.view_is, w.self-is, w'.self-inside-is)
+        (asked_nobody c.self.inside.table c.args.s c.args.handle _ c.args.out.now c.push_plain_answer.new.self (rw (← c.self.view_is) at c.requires.slot)
+        (none_reached c.self.inside.table c.args.s c.args.handle w.in-Some.key c.sound.ensures.found w.in-Some.ensures w'.in-None-get_mut.ensures.value)
+        (rw (w.out-is, w'.out-is) at c.push_plain_answer.ensures.records))
+    | in-Some-get_mut w' ↦ absurd (cc)
+  ]
+]
+
+pub returns-in_default-left : goal.returns-in_default-left
+returns-in_default-left c = elim c.match-find.branch [
+  | in-None w ↦ absurd (cc)
+  | in-Some w ↦ elim w.match-get_mut.branch [
+    | in-None-get_mut w' ↦ absurd (cc)
+    | in-Some-get_mut w' ↦
+        let stays : w'.ask.result ≡ Stays = stayed w'.ask.result (λ is. c.in_default-left.not-Ended (same_Some c.in-Some-left.left w'.ask.result (sym c.in-Some-left.is ∙ (w.left-is ∙ w'.left-is)) ∙ is)) in
+        rw (← c.self.view_is, w.self-is, w.out-is, w'.self-inside-is, w'.out-is)
+        (asked_stays c.self.inside.table c.args.s c.args.handle w.in-Some.key w'.in-Some-get_mut.object.now w'.ask.new.object _ c.args.out.now w'.ask.new.out c.sound.ensures.exchanged
+        (reached c.self.inside.table c.args.s c.args.handle w.in-Some.key w'.in-Some-get_mut.object.now c.sound.ensures.found w.in-Some.ensures w'.in-Some-get_mut.ensures.value)
+        (rw stays at w'.ask.ensures.left)
+        w'.ask.ensures.records)
+  ]
+]
+
+pub returns-in-Ended : goal.returns-in-Ended
+returns-in-Ended c = elim c.match-find.branch [
+  | in-None w ↦ absurd (cc)
+  | in-Some w ↦ elim w.match-get_mut.branch [
+    | in-None-get_mut w' ↦ absurd (cc)
+    | in-Some-get_mut w' ↦
+        let ended : w'.ask.result ≡ Ended = same_Some w'.ask.result c.in-Some-left.left (sym w'.left-is ∙ (sym w.left-is ∙ c.in-Some-left.is)) ∙ c.in-Ended.is in
+        rw (← c.self.view_is, c.remove.ensures.table, w.self-is, w.out-is, w'.self-inside-is, w'.out-is)
+        (asked_ended c.self.inside.table c.args.s c.args.handle w.in-Some.key w'.in-Some-get_mut.object.now w'.ask.new.object _ c.args.out.now w'.ask.new.out (rw (← c.self.view_is) at c.requires.slot) c.sound.ensures.exchanged
+        (reached c.self.inside.table c.args.s c.args.handle w.in-Some.key w'.in-Some-get_mut.object.now c.sound.ensures.found w.in-Some.ensures w'.in-Some-get_mut.ensures.value)
+        (rw ended at w'.ask.ensures.left)
+        w'.ask.ensures.records)
+  ]
+]

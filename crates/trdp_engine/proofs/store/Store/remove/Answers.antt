@@ -1,0 +1,15 @@
+use Rattle.trdp_engine.proofs.Stored.{is_there, indexed_removed}
+use Rattle.trdp_engine.proofs.store.Store.remove.Goals as goal
+
+pub delist-requires : goal.delist-requires
+delist-requires c = record {
+  there = rw (c.com_at-sought.ensures, ← c.self.view_is) (is_there c.self.inside.table c.self.inside.coms c.args.slot c.args.handle c.self.invariant);
+}
+
+pub invariant_of-self : goal.invariant_of-self
+invariant_of-self c =
+    rw c.remove.ensures.table
+    (indexed_removed c.self.inside.table c.self.inside.coms c.delist.new.coms c.args.slot c.args.handle c.self.invariant c.sound.ensures.sound (rw (← c.self.view_is) at c.requires)
+    (rw (c.com_at-sought.ensures, ← c.self.view_is) at c.delist.ensures.runs)
+    (rw (c.com_at-sought.ensures, ← c.self.view_is) at c.delist.ensures.count)
+    c.delist.ensures.room)

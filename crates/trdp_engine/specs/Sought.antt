@@ -1,0 +1,46 @@
+-- The objects that process data is for, found by its comId.
+use Rattle.std.specs.Prelude.{ℕ, List, [], ◌∷◌, Option, Some, None, ◌==◌, if◌then◌else◌}
+use Rattle.std.specs.List.{flat_map}
+use Rattle.trdp_head.specs.declared.pd.PdHead.{PdHead}
+use Rattle.trdp_head.specs.declared.pd.PdKind.{PdKind}
+use Rattle.trdp_head.specs.declared.pd.PdKind.TheVariants.{PullRequest}
+use Rattle.trdp_filter.specs.declared.globals.Globals.{Globals}
+use Rattle.trdp_filter.specs.Telegrams.{TelegramModel}
+use Rattle.trdp_table.specs.Objects.{is_addressed}
+use Rattle.trdp_table.specs.Tables.{Keyed, TableState, all_objects, by_key}
+use Rattle.trdp_index.specs.declared.com_row.ComRow.{ComRow}
+use Rattle.trdp_engine.specs.declared.addressees.Addressee.{Addressee}
+use Rattle.trdp_engine.specs.Slots.{Entry}
+use Rattle.trdp_engine.specs.Noted.{noted_as}
+
+-- the comId of the objects that a header of this type may be for
+abbrev pub sought_as : PdKind → PdHead → ℕ
+sought_as PullRequest head = if head.reply_com_id == 0 then head.com_id else head.reply_com_id
+sought_as kind head = head.com_id
+
+-- the comId of the objects that process data may be for: a pull request is for the publishers of
+-- the comId that it asks for, all else for the subscriptions of its own
+abbrev pub sought_by : PdHead → ℕ
+sought_by head = sought_as head.kind head
+
+-- the object of a row, if a telegram is for it
+abbrev pub hit_by : TelegramModel → Globals → ComRow → Option Keyed → List Entry
+hit_by telegram globals row None = []
+hit_by telegram globals row (Some keyed) =
+    if is_addressed keyed.object telegram globals
+    then record { handle = row.handle; kind = keyed.kind; object = keyed.object } ∷ []
+    else []
+
+-- the object that the table has under a row's key, if a telegram is for it
+abbrev pub hit : TelegramModel → Globals → TableState → ComRow → List Entry
+hit telegram globals table row =
+    hit_by telegram globals row (by_key row.key (all_objects table))
+
+-- those of these rows that a telegram is for
+abbrev pub hits : TelegramModel → Globals → TableState → List ComRow → List Entry
+hits telegram globals table rows = flat_map (hit telegram globals table) rows
+
+-- the same, each with its slot
+abbrev pub noted_rows : TelegramModel → Globals → TableState → List ComRow → List Addressee
+noted_rows telegram globals table rows =
+    flat_map (λ row. noted_as row.slot (hit telegram globals table row)) rows

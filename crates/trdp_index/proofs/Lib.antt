@@ -1,0 +1,5 @@
+pub mod Halves
+pub mod Ranks
+pub mod Rows
+pub mod Searching
+pub mod Runs

@@ -1,0 +1,24 @@
+//! The two indexes of a node: which objects telegrams of a comId are for, and which objects are
+//! open for a session.
+//!
+//! Each index is a set of rows, kept in one order in a list with room that is taken when the index
+//! is made and when it grows; nothing else here takes memory. What is found by a comId comes by
+//! slot and handle. A look-up halves the list: it compares no more often than the number of rows
+//! has binary digits, at each of the two ends of a run.
+#![tactic(auto)]
+
+mod com_index;
+mod com_row;
+mod com_run;
+mod rank;
+mod ranked;
+mod search;
+mod session_index;
+mod session_row;
+#[cfg(test)]
+mod tests;
+
+pub use com_index::ComIndex;
+pub use com_row::ComRow;
+pub use session_index::SessionIndex;
+pub use session_row::{Role, SessionRow};

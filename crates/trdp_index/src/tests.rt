@@ -1,0 +1,139 @@
+//! Worked examples: runs by comId, sessions by slot and role, growth and removal.
+
+use crate::{ComIndex, ComRow, Role, SessionIndex};
+use std::process::Abort;
+use std::test::Fail;
+use trdp_base::SessionId;
+
+/// Rows of four comIds, in no order: comId, slot, handle and key, which is the row's place in the
+/// order of all.
+static ROWS: [(Option<u32>, u16, u32, usize); 8] = [
+    (Some(200), 0, 1, 5),
+    (Some(100), 1, 1, 4),
+    (None, 1, 7, 1),
+    (Some(100), 0, 9, 3),
+    (Some(4_294_967_295), 15, 4_294_967_295, 7),
+    (None, 0, 8, 0),
+    (Some(200), 0, 2, 6),
+    (Some(0), 0, 3, 2),
+];
+
+/// A comId, the key of its first row, and how many rows it has.
+static RUNS: [(Option<u32>, usize, usize); 8] = [
+    (None, 0, 2),
+    (Some(0), 2, 1),
+    (Some(1), 0, 0),
+    (Some(100), 3, 2),
+    (Some(101), 0, 0),
+    (Some(200), 5, 2),
+    (Some(4_294_967_294), 0, 0),
+    (Some(4_294_967_295), 7, 1),
+];
+
+/// A row.
+fn row(com_id: Option<u32>, slot: u16, handle: u32, key: usize) -> ComRow {
+    ComRow {
+        com_id,
+        slot,
+        handle,
+        key,
+    }
+}
+
+/// Adds a row, for which there is room and which isn't there yet.
+fn add(rt: &impl Abort, index: &mut ComIndex, row: ComRow) {
+    assert!(rt; index.len() < index.room());
+    assert!(rt; !index.has(row.com_id, row.slot, row.handle));
+    index.insert(row);
+    assert!(rt; index.has(row.com_id, row.slot, row.handle));
+}
+
+/// The run of a comId has so many rows, whose keys follow one another, and took so many
+/// comparisons at the most.
+fn runs(rt: &impl Abort, index: &ComIndex, com_id: Option<u32>, first: usize, rows: usize) {
+    let mut comparisons = 0;
+    let run = index.run(com_id, &mut comparisons);
+    assert_eq!(rt; run.len(), rows);
+    assert!(rt; (2..=8).contains(&comparisons));
+    let mut key = first;
+    for row in run {
+        assert_eq!(rt; (row.com_id, row.key), (com_id, key));
+        key = key.saturating_add(1);
+    }
+}
+
+/// The run of a comId is these rows.
+fn is_run(rt: &impl Abort, index: &ComIndex, com_id: Option<u32>, rows: &[ComRow]) {
+    let mut comparisons = 0;
+    assert_eq!(rt; index.run(com_id, &mut comparisons), rows);
+}
+
+#[test]
+fn worked_runs(rt: HostRuntime) -> Result<(), Fail> {
+    let mut index = ComIndex::with_room(rt.alloc(), 3)?;
+    let mut comparisons = 0;
+    assert!(rt; index.run(Some(100), &mut comparisons).is_empty());
+    assert_eq!(rt; comparisons, 0);
+    let late = row(Some(100), 1, 1, 5);
+    let soon = row(Some(100), 0, 2, 6);
+    let any = row(None, 0, 1, 7);
+    add(&rt, &mut index, late);
+    add(&rt, &mut index, soon);
+    add(&rt, &mut index, any);
+    is_run(&rt, &index, Some(100), &[soon, late]);
+    index.grow(4)?;
+    assert_eq!(rt; (index.len(), index.room()), (3, 4));
+    is_run(&rt, &index, Some(100), &[soon, late]);
+    is_run(&rt, &index, None, &[any]);
+    is_run(&rt, &index, Some(7), &[]);
+    assert!(rt; index.remove(Some(100), 0, 2));
+    assert!(rt; !index.remove(Some(100), 0, 2));
+    is_run(&rt, &index, Some(100), &[late]);
+    index.sound();
+    Ok(())
+}
+
+#[test]
+fn runs_of_all(rt: HostRuntime) -> Result<(), Fail> {
+    let mut index = ComIndex::with_room(rt.alloc(), 8)?;
+    for (com_id, slot, handle, key) in &ROWS {
+        add(&rt, &mut index, row(*com_id, *slot, *handle, *key));
+    }
+    for (com_id, first, rows) in &RUNS {
+        runs(&rt, &index, *com_id, *first, *rows);
+    }
+    for (com_id, slot, handle, _) in &ROWS {
+        assert!(rt; index.remove(*com_id, *slot, *handle));
+        assert!(rt; !index.has(*com_id, *slot, *handle));
+    }
+    assert_eq!(rt; index.len(), 0);
+    Ok(())
+}
+
+/// Adds a key, for which there is room and which isn't there yet.
+fn open(rt: &impl Abort, index: &mut SessionIndex, slot: u16, role: Role, key: usize) {
+    assert!(rt; index.len() < index.room());
+    assert!(rt; index.get(SessionId(1), slot, role).is_none());
+    index.insert(SessionId(1), slot, role, key);
+}
+
+#[test]
+fn worked_sessions(rt: HostRuntime) -> Result<(), Fail> {
+    let mut index = SessionIndex::with_room(rt.alloc(), 2)?;
+    open(&rt, &mut index, 1, Role::Caller, 5);
+    open(&rt, &mut index, 0, Role::Caller, 6);
+    index.grow(4)?;
+    assert_eq!(rt; (index.len(), index.room()), (2, 4));
+    assert_eq!(rt; index.get(SessionId(1), 0, Role::Caller), Some(6));
+    assert_eq!(rt; index.get(SessionId(1), 1, Role::Caller), Some(5));
+    assert_eq!(rt; index.get(SessionId(1), 0, Role::Replier), None);
+    assert_eq!(rt; index.get(SessionId(2), 0, Role::Caller), None);
+    open(&rt, &mut index, 0, Role::Replier, 7);
+    assert_eq!(rt; index.get(SessionId(1), 0, Role::Replier), Some(7));
+    assert!(rt; index.remove(SessionId(1), 0, Role::Caller));
+    assert!(rt; !index.remove(SessionId(1), 0, Role::Caller));
+    assert_eq!(rt; index.get(SessionId(1), 0, Role::Caller), None);
+    assert_eq!(rt; index.get(SessionId(1), 1, Role::Caller), Some(5));
+    index.sound();
+    Ok(())
+}
