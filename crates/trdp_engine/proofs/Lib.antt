@@ -13,6 +13,7 @@ pub mod Each
 pub mod Receiving
 pub mod Noting
 pub mod Seeking
+pub mod Heard
 pub mod Hearing
 pub mod Requesting
 pub mod Unasked

@@ -37,11 +37,11 @@ use Rattle.trdp_engine.proofs.Noting.{Split, split, Notes, both_rooms, same_room
 
 -- Which objects process data is for.
 
-and_left : (a b : Bool) → (a && b) ≡ true → a ≡ true
+pub and_left : (a b : Bool) → (a && b) ≡ true → a ≡ true
 and_left true b both = refl
 and_left false b both = absurd (false≢true both)
 
-and_right : (a b : Bool) → (a && b) ≡ true → b ≡ true
+pub and_right : (a b : Bool) → (a && b) ≡ true → b ≡ true
 and_right true b both = both
 and_right false b both = absurd (false≢true both)
 

@@ -1,5 +1,5 @@
 -- The objects that process data is for, found by its comId.
-use Rattle.std.specs.Prelude.{ℕ, List, [], ◌∷◌, Option, Some, None, ◌==◌, if◌then◌else◌}
+use Rattle.std.specs.Prelude.{ℕ, min, List, [], ◌∷◌, Option, Some, None, ◌==◌, if◌then◌else◌}
 use Rattle.std.specs.List.{flat_map}
 use Rattle.trdp_head.specs.declared.pd.PdHead.{PdHead}
 use Rattle.trdp_head.specs.declared.pd.PdKind.{PdKind}
@@ -44,3 +44,25 @@ hits telegram globals table rows = flat_map (hit telegram globals table) rows
 abbrev pub noted_rows : TelegramModel → Globals → TableState → List ComRow → List Addressee
 noted_rows telegram globals table rows =
     flat_map (λ row. noted_as row.slot (hit telegram globals table row)) rows
+
+-- the lesser of two handles that there may be
+abbrev pub earlier : Option ℕ → Option ℕ → Option ℕ
+earlier None b = b
+earlier (Some a) None = Some a
+earlier (Some a) (Some b) = Some (min a b)
+
+-- the handle of the first of these
+abbrev pub first_handle : List Entry → Option ℕ
+first_handle [] = None
+first_handle (entry ∷ entries) = Some entry.handle
+
+-- the handle of a row's object, if it is of slot s and a telegram is for it
+abbrev pub hit_in : TelegramModel → Globals → TableState → ℕ → ComRow → Option ℕ
+hit_in telegram globals table s row =
+    if row.slot == s then first_handle (hit telegram globals table row) else None
+
+-- the least handle of those rows of slot s that a telegram is for
+abbrev pub first_in : TelegramModel → Globals → TableState → ℕ → List ComRow → Option ℕ
+first_in telegram globals table s [] = None
+first_in telegram globals table s (row ∷ rows) =
+    earlier (hit_in telegram globals table s row) (first_in telegram globals table s rows)
