@@ -104,7 +104,7 @@ no_listener e src dst t globals = by_kind e.object
     by_kind (Caller c) = refl
     by_kind (Replier r) = refl
 
-nobody_hears : (src dst : Place) (t : PdTelegram) (globals : Globals) (es : List Entry) → hearing (PdIs src dst t) globals es ≡ None
+pub nobody_hears : (src dst : Place) (t : PdTelegram) (globals : Globals) (es : List Entry) → hearing (PdIs src dst t) globals es ≡ None
 nobody_hears src dst t globals [] = refl
 nobody_hears src dst t globals (e ∷ es) = rw (no_listener e src dst t globals) (nobody_hears src dst t globals es)
 
@@ -133,7 +133,7 @@ abbrev pub AllKeyed : TableState → List Keyed → Type 0
 AllKeyed table [] = Unit {0}
 AllKeyed table (k ∷ ks) = (by_key k.key (all_objects table) ≡ Some k) × AllKeyed table ks
 
-all_keyed : (table : TableState) (ks : List Keyed) → ((i : ℕ) (k : Keyed) → slice_get ks i ≡ Some k → by_key k.key (all_objects table) ≡ Some k) → AllKeyed table ks
+pub all_keyed : (table : TableState) (ks : List Keyed) → ((i : ℕ) (k : Keyed) → slice_get ks i ≡ Some k → by_key k.key (all_objects table) ≡ Some k) → AllKeyed table ks
 all_keyed table [] each = tt
 all_keyed table (k ∷ ks) each = (each 0 k refl, all_keyed table ks (λ i x at. each (suc i) x at))
 

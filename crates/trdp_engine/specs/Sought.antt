@@ -1,15 +1,19 @@
 -- The objects that process data is for, found by its comId.
-use Rattle.std.specs.Prelude.{ℕ, min, List, [], ◌∷◌, Option, Some, None, ◌==◌, if◌then◌else◌}
+use Rattle.std.specs.Prelude.{ℕ, min, List, [], ◌∷◌, Option, Some, None, Bool, true, false, ◌==◌}
+use Rattle.std.specs.Prelude.{if◌then◌else◌}
 use Rattle.std.specs.List.{flat_map}
 use Rattle.trdp_head.specs.declared.pd.PdHead.{PdHead}
 use Rattle.trdp_head.specs.declared.pd.PdKind.{PdKind}
 use Rattle.trdp_head.specs.declared.pd.PdKind.TheVariants.{PullRequest}
+use Rattle.trdp_head.specs.declared.md.MdKind.{MdKind}
+use Rattle.trdp_head.specs.declared.md.MdKind.TheVariants as message
 use Rattle.trdp_filter.specs.declared.globals.Globals.{Globals}
-use Rattle.trdp_filter.specs.Telegrams.{TelegramModel}
+use Rattle.trdp_filter.specs.Telegrams.{TelegramModel, PdIs, MdIs}
 use Rattle.trdp_table.specs.Objects.{is_addressed}
 use Rattle.trdp_table.specs.Tables.{Keyed, TableState, all_objects, by_key}
 use Rattle.trdp_index.specs.declared.com_row.ComRow.{ComRow}
 use Rattle.trdp_engine.specs.declared.addressees.Addressee.{Addressee}
+use Rattle.trdp_engine.specs.declared.room.Room.{Room}
 use Rattle.trdp_engine.specs.Slots.{Entry}
 use Rattle.trdp_engine.specs.Noted.{noted_as}
 
@@ -66,3 +70,24 @@ abbrev pub first_in : TelegramModel → Globals → TableState → ℕ → List 
 first_in telegram globals table s [] = None
 first_in telegram globals table s (row ∷ rows) =
     earlier (hit_in telegram globals table s row) (first_in telegram globals table s rows)
+
+-- the message types that come unasked: these are for listeners alone
+abbrev pub is_unasked : MdKind → Bool
+is_unasked message.Notify = true
+is_unasked message.Request = true
+is_unasked kind = false
+
+-- the telegram is a notification or a request
+abbrev pub comes_unasked : TelegramModel → Bool
+comes_unasked (PdIs src dst telegram) = false
+comes_unasked (MdIs src dst telegram) = is_unasked telegram.head.kind
+
+-- the listener of slot s that hears, if one does
+abbrev pub noted_listener : ℕ → Option ℕ → List Addressee
+noted_listener s None = []
+noted_listener s (Some handle) = record { slot = s; handle = handle } ∷ []
+
+-- room for what it may give
+abbrev pub listener_room : Option ℕ → Room
+listener_room None = record { rows = 0; bytes = 0 }
+listener_room (Some handle) = record { rows = 1; bytes = 65388 }

@@ -3,6 +3,7 @@
 
 ghost use Rattle.std.specs.Prelude.{◌≡◌, ◌+◌, ◌*◌, ◌<◌, ◌≤◌, ◌++◌, ◌∷◌, [], length, IfSome};
 ghost use Rattle.std.specs.Prelude.{slice_get, filter, ◌&&◌, vec_len, vec_capacity, Some};
+ghost use Rattle.std.specs.Prelude.{true};
 ghost use Rattle.std.specs.List.{flat_map};
 ghost use Rattle.trdp_filter.specs.Telegrams.{telegram_model};
 ghost use Rattle.trdp_table.specs.declared.kind.Kind.TheVariants.{Listener as Listening};
@@ -15,13 +16,15 @@ ghost use Rattle.trdp_engine.specs.Rooms.{entries_room};
 ghost use Rattle.trdp_engine.specs.Acting.{slot_at};
 ghost use Rattle.trdp_engine.specs.Noted.{noted_as, noted_from};
 ghost use Rattle.trdp_engine.specs.Indexed.{rows_from};
-ghost use Rattle.trdp_engine.specs.Sought.{sought_by, hit, hits, noted_rows};
+ghost use Rattle.trdp_engine.specs.Sought.{sought_by, hit, hits, noted_rows, comes_unasked};
+ghost use Rattle.trdp_engine.specs.Sought.{is_unasked, noted_listener, listener_room};
 
+use crate::first_listeners::hearers;
 use crate::objects::{handle_at, object_at};
 use crate::room::Room;
 use crate::store::Store;
 use trdp_filter::{Globals, Telegram};
-use trdp_head::{PdHead, PdKind};
+use trdp_head::{MD_PAYLOAD_MAX, MdKind, PdHead, PdKind};
 use trdp_index::ComRow;
 use trdp_pd::Object;
 use trdp_table::{AnyObject, Kind};
@@ -242,8 +245,68 @@ fn note_slots(
     room
 }
 
+/// Notes the listener of slot `s` that hears a message, if one does, and answers the room for what
+/// it may give.
+fn note_listener(s: u16, listener: Option<u32>, noted: &mut Vec<Addressee>) -> Room
+    requires { vec_len noted.old < vec_capacity noted.old }
+    ensures noted { noted.new.items ≡ noted.old.items ++ noted_listener s listener }
+    ensures room { result ≡ listener_room listener }
+    ensures rows { result.rows ≤ 1 }
+    ensures bytes { result.bytes ≤ 65388 }
+    ensures capacity { vec_capacity noted.new ≡ vec_capacity noted.old }
+    ensures length { vec_len noted.new ≤ vec_len noted.old + 1 }
+{
+    match listener {
+        None => Room::none(),
+        Some(handle) => {
+            noted.push_reserved(Addressee { slot: s, handle });
+            Room {
+                rows: 1,
+                bytes: MD_PAYLOAD_MAX,
+            }
+        }
+    }
+}
+
+/// Notes in each slot the listener that hears a message which comes unasked, and answers the room
+/// for what they may give.
+fn note_hearers(
+    store: &Store,
+    telegram: &Telegram<'_>,
+    globals: &Globals,
+    noted: &mut Vec<Addressee>,
+) -> Room
+    requires capacity { 16 * object_limit ≤ vec_capacity noted.old }
+    requires unasked { comes_unasked (telegram_model telegram.now) ≡ true }
+    ensures noted { noted.new.items
+        ≡ noted_from 0 (telegram_model telegram.now) globals.entry.now (slots_of store.now) }
+    ensures room { result ≡ entries_room
+        (flat_map (λ slot. acting (telegram_model telegram.now) globals.entry.now slot.objects)
+        (slots_of store.now)) }
+    ensures capacity { vec_capacity noted.new ≡ vec_capacity noted.old }
+{
+    store.sound();
+    let heard = hearers(store, telegram, globals);
+    noted.clear();
+    let mut room = Room::none();
+    for s in 0..store.slots() {
+        room = room.plus(note_listener(s as u16, heard[s], noted));
+    }
+    room
+}
+
+/// Whether a message of this type comes unasked: these are for listeners alone.
+fn is_unasked(kind: MdKind) -> bool
+    ensures { result ≡ is_unasked kind }
+{
+    match kind {
+        MdKind::Notify | MdKind::Request => true,
+        MdKind::Reply | MdKind::Query | MdKind::Confirm | MdKind::Error => false,
+    }
+}
+
 /// Notes the objects that act at the telegram, by slot and handle, and answers the room for what
-/// they may give. Those that process data is for are found by its comId.
+/// they may give. Those of process data, and listeners, are found by the comId.
 pub fn note_all(
     store: &Store,
     telegram: &Telegram<'_>,
@@ -264,6 +327,12 @@ pub fn note_all(
             noted.clear();
             note_run(store, sought_by(&view.head), telegram, globals, noted)
         }
-        Telegram::Md { .. } => note_slots(store, telegram, globals, noted),
+        Telegram::Md { view, .. } => {
+            if is_unasked(view.head.kind) {
+                note_hearers(store, telegram, globals, noted)
+            } else {
+                note_slots(store, telegram, globals, noted)
+            }
+        }
     }
 }

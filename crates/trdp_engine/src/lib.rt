@@ -14,6 +14,7 @@ mod calls;
 mod datagram;
 mod event;
 mod fault;
+mod first_listeners;
 mod laws;
 mod listeners;
 mod look;

@@ -1,0 +1,17 @@
+use Rattle.std.proofs.Common.{◌≡◌, ◌∙◌, sym, rules}
+use Rattle.trdp_engine.specs.Acting.{slot_at}
+use Rattle.trdp_engine.proofs.Seeking.{KeysTell, nobody_hears}
+use Rattle.trdp_engine.proofs.Heard.{none_heard, heard_by_both}
+use Rattle.trdp_engine.proofs.first_listeners.hearers.Goals as goal
+
+pub returns-in-Md : goal.returns-in-Md
+returns-in-Md c = λ s lt.
+    let tell : KeysTell c.args.store.now = record { found = c.sound.ensures.found; listed = c.sound.ensures.listed } in
+    let first = rw c.in-Md.is at c.hear_run.ensures.heard s in
+    let second = rw c.in-Md.is at c.hear_run-in-Md.ensures.heard s in
+    rw c.in-Md.is
+    (heard_by_both c.args.store.now s c.in-Md.src c.in-Md.dst _ c.args.globals.now tell (c.sound.ensures.sound.slots s).rising _ c.hear_run.new.heard c.hear_run-in-Md.new.heard (none_heard _ s (search rules)) first second)
+
+pub returns-in_default : goal.returns-in_default
+returns-in_default c = λ s lt.
+    rw c.in_default.is (none_heard _ s (search rules) ∙ sym (nobody_hears _ _ _ c.args.globals.now (slot_at s c.args.store.now).objects))
