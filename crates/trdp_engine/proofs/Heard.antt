@@ -336,6 +336,13 @@ none_heard [] s none = refl
 none_heard (x ∷ xs) zero none = none.0
 none_heard (x ∷ xs) (suc s) none = none_heard xs s none.1
 
+-- none of sixteen slots
+abbrev pub sixteen : List (Option ℕ)
+sixteen = None ∷ None ∷ None ∷ None ∷ None ∷ None ∷ None ∷ None ∷ None ∷ None ∷ None ∷ None ∷ None ∷ None ∷ None ∷ None ∷ []
+
+pub none_of_sixteen : (s : ℕ) → get_or sixteen s None ≡ None
+none_of_sixteen s = none_heard sixteen s (refl, (refl, (refl, (refl, (refl, (refl, (refl, (refl, (refl, (refl, (refl, (refl, (refl, (refl, (refl, (refl, tt))))))))))))))))
+
 -- both runs tell who hears
 pub heard_by_both : (table : TableState) (s : ℕ) (src dst : Place) (t : MdTelegram) (globals : Globals) (tell : KeysTell table) → IsRising (slot_in s table).objects → (none once twice : List (Option ℕ)) → get_or none s None ≡ None → get_or once s None ≡ earlier (get_or none s None) (first_in (MdIs src dst t) globals table s (rows_from 0 (Some t.head.com_id) table)) → get_or twice s None ≡ earlier (get_or once s None) (first_in (MdIs src dst t) globals table s (rows_from 0 None table)) → get_or twice s None ≡ hearing (MdIs src dst t) globals (slot_at s table).objects
 heard_by_both table s src dst t globals tell rising none once twice empty first second =
@@ -421,19 +428,21 @@ acting_hearer telegram globals (e ∷ es) unasked rising = either (is_listening 
   where
     either : (b : Bool) → (is_listening e && is_for_entry telegram globals e) ≡ b → acting telegram globals es ≡ hearer telegram globals es → acting telegram globals (e ∷ es) ≡ hearer telegram globals (e ∷ es)
     either true both rest =
+        let own : (e.handle == e.handle) ≡ true = grind (arith, nat_tests) in
         let listens : is_listening e ≡ true = and_left _ _ both in
         let for : is_for_entry telegram globals e ≡ true = and_right _ _ both in
-        let own : (e.handle == e.handle) ≡ true = grind (arith, nat_tests) in
         let none = none_act telegram globals e.handle es unasked rising.0 in
         let heard : hearing telegram globals (e ∷ es) ≡ Some e.handle = rw both refl in
         let acts : acts_where (Some e.handle) telegram globals e ≡ true = rw (for, listens, own) refl in
-        ap (λ (l : Option ℕ). filter (acts_where l telegram globals) (e ∷ es)) heard
-        ∙ (rw (acts, none) refl ∙ sym (rw both refl))
+        let here : filter (acts_where (Some e.handle) telegram globals) (e ∷ es) ≡ e ∷ [] = rw (acts, none) refl in
+        let it : hearer telegram globals (e ∷ es) ≡ e ∷ [] = rw both refl in
+        ap (λ (l : Option ℕ). filter (acts_where l telegram globals) (e ∷ es)) heard ∙ (here ∙ sym it)
     either false both rest =
         let heard : hearing telegram globals (e ∷ es) ≡ hearing telegram globals es = rw both refl in
         let for = not_for e telegram globals unasked both in
-        ap (λ (l : Option ℕ). filter (acts_where l telegram globals) (e ∷ es)) heard
-        ∙ (rw for rest ∙ sym (rw both refl))
+        let here : filter (acts_where (hearing telegram globals es) telegram globals) (e ∷ es) ≡ hearer telegram globals es = rw for rest in
+        let it : hearer telegram globals (e ∷ es) ≡ hearer telegram globals es = rw both refl in
+        ap (λ (l : Option ℕ). filter (acts_where l telegram globals) (e ∷ es)) heard ∙ (here ∙ sym it)
 
 hearer_noted : (telegram : TelegramModel) (globals : Globals) (s : ℕ) (es : List Entry) → noted_as s (hearer telegram globals es) ≡ noted_listener s (hearing telegram globals es)
 hearer_noted telegram globals s [] = refl

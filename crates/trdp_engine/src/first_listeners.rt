@@ -98,13 +98,7 @@ pub fn hearers(store: &Store, telegram: &Telegram<'_>, globals: &Globals) -> [Op
     store.sound();
     let mut heard = [None; 16];
     if let Telegram::Md { view, .. } = telegram {
-        hear_run(
-            store,
-            Some(view.head.com_id),
-            telegram,
-            globals,
-            &mut heard,
-        );
+        hear_run(store, Some(view.head.com_id), telegram, globals, &mut heard);
         hear_run(store, None, telegram, globals, &mut heard);
     }
     heard

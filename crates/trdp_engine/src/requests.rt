@@ -5,14 +5,14 @@ ghost use Rattle.std.specs.List.{flat_map};
 ghost use Rattle.trdp_base.specs.Moments.{last_moment};
 ghost use Rattle.trdp_filter.specs.Telegrams.{telegram_model, IsWithinLimit};
 ghost use Rattle.trdp_engine.specs.Slots.{SlotState, slots_of};
-ghost use Rattle.trdp_engine.specs.Datagrams.{is_request, requested, acting};
+ghost use Rattle.trdp_engine.specs.Datagrams.{is_request, requested, acting, hearing};
 ghost use Rattle.trdp_engine.specs.Requests.{asked, asked_by_hearing};
 ghost use Rattle.trdp_engine.specs.NodeStates.{HasOutcome, Appends};
 ghost use Rattle.trdp_engine.specs.Rooms.{HasRoom, entries_room};
 ghost use Rattle.trdp_engine.specs.Acting.{slot_at, Becomes, TookWithin};
 ghost use Rattle.trdp_engine.specs.Quiet.{IsQuiet};
 
-use crate::addressees::hearing;
+use crate::first_listeners::hearers;
 use crate::notices::message;
 use crate::opening::open;
 use crate::outbox::Outbox;
@@ -72,10 +72,18 @@ fn ask(
     }
 }
 
-/// Records what slot `s` makes of a telegram that is a request, if one of its listeners hears it,
-/// and answers whether one did.
-fn ask_in(store: &mut Store, s: u16, telegram: &Telegram<'_>, globals: &Globals, out: &mut Outbox)
+/// Records what slot `s` makes of a telegram that is a request, if one of its listeners hears it.
+fn ask_in(
+    store: &mut Store,
+    s: u16,
+    listener: Option<u32>,
+    telegram: &Telegram<'_>,
+    globals: &Globals,
+    out: &mut Outbox,
+)
     requires slot { s < length store.old }
+    requires listener { listener
+        ≡ hearing (telegram_model telegram.now) globals.now (slot_at s store.old).objects }
     requires now { globals.now.now ≤ last_moment }
     requires limit { IsWithinLimit (telegram_model telegram.now) }
     requires room { HasRoom out.old (entries_room
@@ -86,7 +94,7 @@ fn ask_in(store: &mut Store, s: u16, telegram: &Telegram<'_>, globals: &Globals,
     ensures within { TookWithin out.old out.new (entries_room
         (acting (telegram_model telegram.now) globals.entry.now (slot_at s store.old).objects)) }
 {
-    match hearing(store, s, telegram, globals) {
+    match listener {
         None => {}
         Some(listener) => match telegram {
             Telegram::Pd { .. } => {}
@@ -117,8 +125,9 @@ pub fn ask_all(
     ensures quiet { IsQuiet quiet.new.items (slots_of store.new) }
 {
     store.sound();
+    let heard = hearers(store, telegram, globals);
     for s in 0..store.slots() {
-        ask_in(store, s as u16, telegram, globals, out);
+        ask_in(store, s as u16, heard[s], telegram, globals, out);
         wake(quiet, s as u16);
     }
 }

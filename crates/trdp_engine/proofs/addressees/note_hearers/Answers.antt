@@ -18,8 +18,8 @@ loop-s-preserved c =
     let room = rw heard at c.note_listener.ensures.room in
     record {
       notes = rw c.plus-room.ensures (notes_all_next (telegram_model c.args.telegram.now) c.args.globals.now (slots_of c.args.store.now) (slot_at c.loop-s.s c.args.store.now) c.loop-s.noted.items c.note_listener.new.noted.items c.loop-s.room c.note_listener.result c.loop-s.s lt (slot_there c.args.store.now c.loop-s.s there) c.loop-s.invariant.notes
-      (rw (noted_heard (telegram_model c.args.telegram.now) c.args.globals.now c.loop-s.s (slot_at c.loop-s.s c.args.store.now).objects c.requires.unasked up) at noted)
-      (room ∙ room_heard (telegram_model c.args.telegram.now) c.args.globals.now (slot_at c.loop-s.s c.args.store.now).objects c.requires.unasked up));
+          (rw (noted_heard (telegram_model c.args.telegram.now) c.args.globals.now c.loop-s.s (slot_at c.loop-s.s c.args.store.now).objects c.requires.unasked up) at noted)
+          (room ∙ room_heard (telegram_model c.args.telegram.now) c.args.globals.now (slot_at c.loop-s.s c.args.store.now).objects c.requires.unasked up));
       rows = rw c.plus-room.ensures (omega (arith, c.loop-s.invariant.rows, c.note_listener.ensures.rows));
       bytes = rw c.plus-room.ensures (omega (arith, c.loop-s.invariant.bytes, c.note_listener.ensures.bytes));
       capacity = c.note_listener.ensures.capacity ∙ c.loop-s.invariant.capacity;

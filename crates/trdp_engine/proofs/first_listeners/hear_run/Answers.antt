@@ -1,14 +1,19 @@
-use Rattle.std.proofs.Common.{◌≡◌, ◌<◌, ◌∙◌, None, length, arith}
+use Rattle.std.proofs.Common.{◌≡◌, ◌<◌, ◌∙◌, Some, None, get_or, length, arith}
 use Rattle.trdp_filter.specs.Telegrams.{telegram_model}
+use Rattle.std.specs.Prelude.{slice_get}
 use Rattle.std.proofs.lemmas.Option.{slice_get-get_or}
+use Rattle.trdp_index.specs.declared.com_row.ComRow.{ComRow}
+use Rattle.trdp_engine.specs.Indexed.{rows_from}
 use Rattle.trdp_engine.proofs.Heard.{row_slot, hears_next, hears_end}
 use Rattle.trdp_engine.proofs.first_listeners.hear_run.Goals as goal
 
 pub hear_row-requires : goal.hear_row-requires
 hear_row-requires c =
     let lt : c.loop-row.row-index < length c.run-rows.result.now = c.loop-row-test.true in
-    let there = rw c.run-rows.ensures.rows at slice_get-get_or c.run-rows.result.now c.loop-row.row-index (record { com_id = None; slot = 0; handle = 0; key = 0 }) lt in
-    let below = row_slot 0 c.args.com_id c.args.store.now c.loop-row.row-index _ there in
+    let none : ComRow = record { com_id = None; slot = 0; handle = 0; key = 0 } in
+    let read : slice_get c.run-rows.result.now c.loop-row.row-index ≡ Some (get_or c.run-rows.result.now c.loop-row.row-index none) = slice_get-get_or {X = ComRow} c.run-rows.result.now c.loop-row.row-index none lt in
+    let there = rw c.run-rows.ensures.rows at read in
+    let below = row_slot 0 c.args.com_id c.args.store.now c.loop-row.row-index (get_or (rows_from 0 c.args.com_id c.args.store.now) c.loop-row.row-index none) there in
     rw c.run-rows.ensures.rows (omega (arith, below, c.sound.ensures.sound.few, c.loop-row.invariant.length))
 
 pub loop-row-preserved : goal.loop-row-preserved

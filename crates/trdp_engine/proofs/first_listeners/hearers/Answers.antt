@@ -1,7 +1,7 @@
-use Rattle.std.proofs.Common.{◌≡◌, ◌∙◌, sym, rules}
+use Rattle.std.proofs.Common.{◌≡◌, ◌∙◌, sym}
 use Rattle.trdp_engine.specs.Acting.{slot_at}
 use Rattle.trdp_engine.proofs.Seeking.{KeysTell, nobody_hears}
-use Rattle.trdp_engine.proofs.Heard.{none_heard, heard_by_both}
+use Rattle.trdp_engine.proofs.Heard.{sixteen, none_of_sixteen, heard_by_both}
 use Rattle.trdp_engine.proofs.first_listeners.hearers.Goals as goal
 
 pub returns-in-Md : goal.returns-in-Md
@@ -10,8 +10,8 @@ returns-in-Md c = λ s lt.
     let first = rw c.in-Md.is at c.hear_run.ensures.heard s in
     let second = rw c.in-Md.is at c.hear_run-in-Md.ensures.heard s in
     rw c.in-Md.is
-    (heard_by_both c.args.store.now s c.in-Md.src c.in-Md.dst _ c.args.globals.now tell (c.sound.ensures.sound.slots s).rising _ c.hear_run.new.heard c.hear_run-in-Md.new.heard (none_heard _ s (search rules)) first second)
+    (heard_by_both c.args.store.now s c.in-Md.src c.in-Md.dst _ c.args.globals.now tell (c.sound.ensures.sound.slots s).rising sixteen c.hear_run.new.heard c.hear_run-in-Md.new.heard (none_of_sixteen s) first second)
 
 pub returns-in_default : goal.returns-in_default
 returns-in_default c = λ s lt.
-    rw c.in_default.is (none_heard _ s (search rules) ∙ sym (nobody_hears _ _ _ c.args.globals.now (slot_at s c.args.store.now).objects))
+    rw c.in_default.is (none_of_sixteen s ∙ sym (nobody_hears _ _ _ c.args.globals.now (slot_at s c.args.store.now).objects))
