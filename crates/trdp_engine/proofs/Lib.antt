@@ -1,7 +1,10 @@
 pub mod Handles
 pub mod Tables
+pub mod Counted
+pub mod Found
 pub mod Indexed
 pub mod Stored
+pub mod InSession
 pub mod Quiet
 pub mod Asking
 pub mod Turns

@@ -1,8 +1,4 @@
-use Rattle.std.proofs.Common.{◌≡◌, ◌∙◌, ap, sym, Some, [], ◌++◌}
-use Rattle.trdp_filter.specs.Telegrams.{telegram_model}
-use Rattle.trdp_engine.specs.Sought.{noted_rows, hits}
-use Rattle.trdp_engine.specs.Indexed.{rows_from}
-use Rattle.trdp_engine.specs.Rooms.{entries_room}
+use Rattle.std.proofs.Common.{◌∙◌}
 use Rattle.trdp_engine.proofs.Seeking.{KeysTell, run_noted, run_room}
 use Rattle.trdp_engine.proofs.addressees.note_all.Goals as goal
 
