@@ -57,7 +57,7 @@ same_role AsCaller AsReplier same = absurd (omega (arith, same))
 same_role AsReplier AsCaller same = absurd (omega (arith, same))
 same_role AsReplier AsReplier same = refl
 
-same_session : (a b : SessionId) → a.0 ≡ b.0 → a ≡ b
+pub same_session : (a b : SessionId) → a.0 ≡ b.0 → a ≡ b
 same_session a b same = ap (λ (n : ℕ). let session : SessionId = record { 0 = n } in session) same
 
 same_own : (a b : SessionId × Role) (s t : ℕ) → is_same (session_rank a.0 s a.1) (session_rank b.0 t b.1) ≡ true → a ≡ b

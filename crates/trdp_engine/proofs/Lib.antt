@@ -15,6 +15,8 @@ pub mod Moving
 pub mod Each
 pub mod Receiving
 pub mod Noting
+pub mod Unheard
+pub mod Meant
 pub mod Seeking
 pub mod Hearing
 pub mod Requesting

@@ -1,6 +1,6 @@
 -- The objects that process data is for stand in the run of one comId.
-use Rattle.std.proofs.Common.{◌≡◌, ℕ, suc, ◌+◌, ◌<◌, ◌≤◌, List, [], ◌∷◌, ◌++◌, length, map, drop, filter, not, Option, Some, None, Bool, true, false, refl, ◌∙◌, sym, ap, arith, append_assoc, append-nil}
-use Rattle.std.specs.Prelude.{slice_get, ◌==◌, ◌&&◌, ◌||◌}
+use Rattle.std.proofs.Common.{◌≡◌, ℕ, suc, ◌+◌, ◌<◌, ◌≤◌, List, [], ◌∷◌, ◌++◌, length, map, drop, filter, not, Some, Bool, true, false, refl, ◌∙◌, sym, ap, arith, append_assoc, append-nil}
+use Rattle.std.specs.Prelude.{slice_get, ◌==◌, ◌&&◌}
 use Rattle.std.proofs.lemmas.Bool.{false≢true}
 use Rattle.std.proofs.lemmas.Bool.Decides.{nat_tests}
 use Rattle.std.proofs.lemmas.List.{map-append, drop_all}
@@ -28,10 +28,11 @@ use Rattle.trdp_engine.specs.declared.addressees.Addressee.{Addressee}
 use Rattle.trdp_engine.specs.declared.room.Room.{Room}
 use Rattle.trdp_engine.specs.Slots.{Entry, entry_of_keyed, slot_of, slots_of}
 use Rattle.trdp_engine.specs.Rooms.{kind_room, entries_room}
-use Rattle.trdp_engine.specs.Datagrams.{is_for_entry, is_listening, hearing, acts_where, acting}
+use Rattle.trdp_engine.specs.Datagrams.{is_for_entry, is_listening, acting}
 use Rattle.trdp_engine.specs.Noted.{noted_as, noted_from}
 use Rattle.trdp_engine.specs.Indexed.{com_of, is_com, is_listed, listed_as, rows_in, rows_from}
 use Rattle.trdp_engine.specs.Sought.{sought_as, sought_by, hit, hits, noted_rows}
+use Rattle.trdp_engine.proofs.Unheard.{acting_all}
 use Rattle.trdp_engine.proofs.Noting.{split, Notes, both_rooms, same_room, acting_in}
 
 -- Which objects process data is for.
@@ -103,27 +104,8 @@ no_listener e src dst t globals = by_kind e.object
     by_kind (Caller c) = refl
     by_kind (Replier r) = refl
 
-nobody_hears : (src dst : Place) (t : PdTelegram) (globals : Globals) (es : List Entry) → hearing (PdIs src dst t) globals es ≡ None
-nobody_hears src dst t globals [] = refl
-nobody_hears src dst t globals (e ∷ es) = rw (no_listener e src dst t globals) (nobody_hears src dst t globals es)
-
-acts_is : (e : Entry) (src dst : Place) (t : PdTelegram) (globals : Globals) → acts_where None (PdIs src dst t) globals e ≡ is_for_entry (PdIs src dst t) globals e
-acts_is e src dst t globals = either (is_listening e) (is_for_entry (PdIs src dst t) globals e) (no_listener e src dst t globals)
-  where
-    either : (l a : Bool) → (l && a) ≡ false → (a && (not l || false)) ≡ a
-    either true true none = absurd (false≢true (sym none))
-    either true false none = refl
-    either false true none = refl
-    either false false none = refl
-
-filter_same : (p q : Entry → Bool) (es : List Entry) → ((e : Entry) → p e ≡ q e) → filter p es ≡ filter q es
-filter_same p q [] same = refl
-filter_same p q (e ∷ es) same = rw (same e, filter_same p q es same) refl
-
 acting_is : (src dst : Place) (t : PdTelegram) (globals : Globals) (es : List Entry) → acting (PdIs src dst t) globals es ≡ filter (is_for_entry (PdIs src dst t) globals) es
-acting_is src dst t globals es =
-    ap (λ (l : Option ℕ). filter (acts_where l (PdIs src dst t) globals) es) (nobody_hears src dst t globals es)
-    ∙ filter_same (acts_where None (PdIs src dst t) globals) (is_for_entry (PdIs src dst t) globals) es (λ e. acts_is e src dst t globals)
+acting_is src dst t globals es = acting_all (PdIs src dst t) globals (λ e. no_listener e src dst t globals) es
 
 -- The rows of a slot.
 

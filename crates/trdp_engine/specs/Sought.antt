@@ -1,14 +1,19 @@
--- The objects that process data is for, found by its comId.
+-- The objects that telegrams are for: process data by its comId, messages by their session.
 use Rattle.std.specs.Prelude.{ℕ, List, [], ◌∷◌, Option, Some, None, ◌==◌, if◌then◌else◌}
 use Rattle.std.specs.List.{flat_map}
+use Rattle.trdp_base.specs.declared.session.SessionId.{SessionId}
+use Rattle.trdp_head.specs.declared.md.MdKind.{MdKind}
+use Rattle.trdp_head.specs.declared.md.MdKind.TheVariants as message
 use Rattle.trdp_head.specs.declared.pd.PdHead.{PdHead}
 use Rattle.trdp_head.specs.declared.pd.PdKind.{PdKind}
 use Rattle.trdp_head.specs.declared.pd.PdKind.TheVariants.{PullRequest}
 use Rattle.trdp_filter.specs.declared.globals.Globals.{Globals}
-use Rattle.trdp_filter.specs.Telegrams.{TelegramModel}
+use Rattle.trdp_filter.specs.Telegrams.{TelegramModel, PdIs, MdIs}
 use Rattle.trdp_table.specs.Objects.{is_addressed}
 use Rattle.trdp_table.specs.Tables.{Keyed, TableState, all_objects, by_key}
 use Rattle.trdp_index.specs.declared.com_row.ComRow.{ComRow}
+use Rattle.trdp_index.specs.declared.session_row.Role.{Role}
+use Rattle.trdp_index.specs.declared.session_row.Role.TheVariants.{Caller, Replier}
 use Rattle.trdp_engine.specs.declared.addressees.Addressee.{Addressee}
 use Rattle.trdp_engine.specs.Slots.{Entry}
 use Rattle.trdp_engine.specs.Noted.{noted_as}
@@ -44,3 +49,18 @@ hits telegram globals table rows = flat_map (hit telegram globals table) rows
 abbrev pub noted_rows : TelegramModel → Globals → TableState → List ComRow → List Addressee
 noted_rows telegram globals table rows =
     flat_map (λ row. noted_as row.slot (hit telegram globals table row)) rows
+
+-- the session of a message of this type, and what an object that it is for is there; those that
+-- come unasked are for listeners
+abbrev pub part_as : MdKind → SessionId → Option (SessionId × Role)
+part_as message.Notify session = None
+part_as message.Request session = None
+part_as message.Reply session = Some (session, Caller)
+part_as message.Query session = Some (session, Caller)
+part_as message.Confirm session = Some (session, Replier)
+part_as message.Error session = Some (session, Caller)
+
+-- the same of a telegram; no object is in a session of process data
+abbrev pub part_of : TelegramModel → Option (SessionId × Role)
+part_of (PdIs src dst telegram) = None
+part_of (MdIs src dst telegram) = part_as telegram.head.kind telegram.head.session

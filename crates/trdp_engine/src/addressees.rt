@@ -15,14 +15,17 @@ ghost use Rattle.trdp_engine.specs.Rooms.{entries_room};
 ghost use Rattle.trdp_engine.specs.Acting.{slot_at};
 ghost use Rattle.trdp_engine.specs.Noted.{noted_as, noted_from};
 ghost use Rattle.trdp_engine.specs.Indexed.{rows_from};
-ghost use Rattle.trdp_engine.specs.Sought.{sought_by, hit, hits, noted_rows};
+ghost use Rattle.trdp_base.specs.declared.session.SessionId.{SessionId};
+ghost use Rattle.trdp_index.specs.declared.session_row.Role.{Role};
+ghost use Rattle.trdp_engine.specs.Sought.{sought_by, hit, hits, noted_rows, part_of};
 
-use crate::objects::{handle_at, object_at};
+use crate::objects::{handle_at, object_at, object_of};
 use crate::room::Room;
 use crate::store::Store;
+use trdp_base::SessionId;
 use trdp_filter::{Globals, Telegram};
-use trdp_head::{PdHead, PdKind};
-use trdp_index::ComRow;
+use trdp_head::{MdKind, PdHead, PdKind};
+use trdp_index::{ComRow, Role};
 use trdp_pd::Object;
 use trdp_table::{AnyObject, Kind};
 
@@ -117,8 +120,8 @@ fn note_at(
 }
 
 /// Notes the objects of slot `s` that act at the telegram, behind what is noted, and answers the
-/// room for what they may give.
-fn note_in(
+/// room for what they may give. It looks at each object of the slot.
+fn note_each(
     store: &Store,
     s: u16,
     telegram: &Telegram<'_>,
@@ -142,6 +145,86 @@ fn note_in(
         room = room.plus(note_at(store, s, index, listener, telegram, globals, noted));
     }
     room
+}
+
+/// The session of the telegram, if it is a message that one of its objects awaits, and what that
+/// object is there.
+fn part_of(telegram: &Telegram<'_>) -> Option<(SessionId, Role)>
+    ensures { result ≡ part_of (telegram_model telegram.now) }
+{
+    match telegram {
+        Telegram::Pd { .. } => None,
+        Telegram::Md { view, .. } => match view.head.kind {
+            MdKind::Notify | MdKind::Request => None,
+            MdKind::Reply | MdKind::Query | MdKind::Error => {
+                Some((view.head.session, Role::Caller))
+            }
+            MdKind::Confirm => Some((view.head.session, Role::Replier)),
+        },
+    }
+}
+
+/// Notes the object of slot `s` that is in the telegram's session in that role, if the telegram is
+/// for it, behind what is noted, and answers the room for what it may give.
+fn note_part(
+    store: &Store,
+    s: u16,
+    session: SessionId,
+    role: Role,
+    telegram: &Telegram<'_>,
+    globals: &Globals,
+    noted: &mut Vec<Addressee>,
+) -> Room
+    requires slot { s < length store.now }
+    requires part { part_of (telegram_model telegram.now) ≡ Some (session, role) }
+    requires capacity { vec_len noted.old < vec_capacity noted.old }
+    ensures noted { noted.new.items ≡ noted.old.items ++ noted_as s
+        (acting (telegram_model telegram.now) globals.entry.now (slot_at s store.now).objects) }
+    ensures room { result ≡ entries_room
+        (acting (telegram_model telegram.now) globals.entry.now (slot_at s store.now).objects) }
+    ensures rows { result.rows ≤ 2 }
+    ensures bytes { result.bytes ≤ 65388 }
+    ensures capacity { vec_capacity noted.new ≡ vec_capacity noted.old }
+    ensures length { vec_len noted.new ≤ vec_len noted.old + 1 }
+{
+    store.sound();
+    let Some(handle) = store.handle_in(s, session, role) else {
+        return Room::none();
+    };
+    let Some(object) = object_of(store, s, handle) else {
+        return Room::none();
+    };
+    if !object.addressed(telegram, globals) {
+        return Room::none();
+    }
+    noted.push_reserved(Addressee { slot: s, handle });
+    Room::of(object)
+}
+
+/// Notes the objects of slot `s` that act at the telegram, behind what is noted, and answers the
+/// room for what they may give. The one that a message of its session is for is looked up.
+fn note_in(
+    store: &Store,
+    s: u16,
+    telegram: &Telegram<'_>,
+    globals: &Globals,
+    noted: &mut Vec<Addressee>,
+) -> Room
+    requires slot { s < length store.now }
+    requires capacity { vec_len noted.old + object_limit ≤ vec_capacity noted.old }
+    ensures noted { noted.new.items ≡ noted.old.items ++ noted_as s
+        (acting (telegram_model telegram.now) globals.entry.now (slot_at s store.now).objects) }
+    ensures room { result ≡ entries_room
+        (acting (telegram_model telegram.now) globals.entry.now (slot_at s store.now).objects) }
+    ensures rows { result.rows ≤ 2 * object_limit }
+    ensures bytes { result.bytes ≤ 65388 * object_limit }
+    ensures capacity { vec_capacity noted.new ≡ vec_capacity noted.old }
+    ensures length { vec_len noted.new ≤ vec_len noted.old + object_limit }
+{
+    match part_of(telegram) {
+        None => note_each(store, s, telegram, globals, noted),
+        Some((session, role)) => note_part(store, s, session, role, telegram, globals, noted),
+    }
 }
 
 /// The comId of the objects that process data may be for: a pull request is for the publishers of
@@ -243,7 +326,8 @@ fn note_slots(
 }
 
 /// Notes the objects that act at the telegram, by slot and handle, and answers the room for what
-/// they may give. Those that process data is for are found by its comId.
+/// they may give. Those that process data is for are found by its comId, the callers and repliers
+/// of a message by its session.
 pub fn note_all(
     store: &Store,
     telegram: &Telegram<'_>,

@@ -43,8 +43,8 @@ use trdp_filter::{Globals, Telegram};
 use trdp_index::{ComIndex, ComRow, Role, SessionIndex};
 use trdp_table::{AnyObject, Kind, Table, TableFault};
 
-/// The objects of all slots of a node, as its table has them, an index of those that telegrams of a
-/// comId may be for, and one of those that are in a session.
+/// The objects of all slots of a node, as its table has them, an index of those that telegrams of
+/// a comId may be for, and one of those that are in a session.
 #[derive(Drop)]
 pub struct Store {
     /// The objects, each under a handle of its slot and a key.
@@ -254,6 +254,19 @@ impl Store {
     {
         self.table.sound();
         self.sessions.get(session, slot, role)
+    }
+
+    /// The handle of a slot's object that is in a session in that role; None where there is none.
+    pub fn handle_in(&self, slot: u16, session: SessionId, role: Role) -> Option<u32>
+        ensures { (index : ℕ) (keyed : Keyed)
+            → slice_get (slot_in slot self.now).objects index ≡ Some keyed
+            → session_of keyed.object ≡ Some (session, role)
+            → result ≡ Some keyed.handle }
+    {
+        self.table.sound();
+        let key = self.sessions.get(session, slot, role)?;
+        let owner = self.table.owner(key)?;
+        Some(owner.1)
     }
 
     /// Adds an object to a slot, last under the slot's next handle, and answers that handle. It

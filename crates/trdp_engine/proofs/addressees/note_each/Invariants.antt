@@ -4,7 +4,7 @@ use Rattle.trdp_filter.specs.Telegrams.{telegram_model}
 use Rattle.trdp_engine.specs.Acting.{slot_at}
 use Rattle.trdp_engine.specs.Datagrams.{acts_where}
 use Rattle.trdp_engine.proofs.Noting.{NotesIn}
-use Rattle.trdp_engine.proofs.addressees.note_in.Given as goal
+use Rattle.trdp_engine.proofs.addressees.note_each.Given as goal
 
 -- those before the index are noted, each with its room
 abbrev pub invariant-loop-index : goal.invariant-loop-index

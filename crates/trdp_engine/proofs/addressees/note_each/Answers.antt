@@ -8,7 +8,7 @@ use Rattle.trdp_engine.specs.Datagrams.{acts_where}
 use Rattle.trdp_engine.specs.Noted.{noted_as}
 use Rattle.trdp_engine.specs.Rooms.{entries_room}
 use Rattle.trdp_engine.proofs.Noting.{notes_first, notes_next, notes_end_items, notes_end_room}
-use Rattle.trdp_engine.proofs.addressees.note_in.Goals as goal
+use Rattle.trdp_engine.proofs.addressees.note_each.Goals as goal
 
 pub loop-index-init : goal.loop-index-init
 loop-index-init c =
