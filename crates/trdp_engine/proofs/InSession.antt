@@ -438,6 +438,11 @@ looked_up table index s own is listed = either (session_key own.0 s own.1 index.
         let part = (is.slots s).there k own at in
         ap is_some at ∙ sym (seen own part.handle (slot_in s table).objects part.keyed part.found part.session)
 
+-- what is found is the key of such an object
+pub part_there : (table : TableState) (index : SessionIndexState) (s : ℕ) (own : SessionId × Role) (found : Option ℕ) → IsInSession table index → session_key own.0 s own.1 index.rows ≡ found → IfSome found (λ key. HasPart (slot_in s table).objects own key)
+part_there table index s own None is at = tt
+part_there table index s own (Some key) is at = (is.slots s).there key own at
+
 -- What a call of the index asks for.
 
 pub session_fresh : (table : TableState) (index : SessionIndexState) (s : ℕ) (object : AnyObject) → IsInSession table index → IsNewInSession object (slot_at s table).objects → IfSome (session_of object) (λ its. session_key its.0 s its.1 index.rows ≡ None)

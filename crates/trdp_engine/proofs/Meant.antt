@@ -34,7 +34,7 @@ use Rattle.trdp_engine.specs.Datagrams.{is_for_entry, is_listening, acting}
 use Rattle.trdp_engine.specs.declared.addressees.Addressee.{Addressee}
 use Rattle.trdp_engine.specs.Noted.{noted_as}
 use Rattle.trdp_engine.specs.Rooms.{kind_room, entries_room}
-use Rattle.trdp_engine.specs.InSession.{session_of, IsInSession}
+use Rattle.trdp_engine.specs.InSession.{session_of, session_found, session_in, IsInSession}
 use Rattle.trdp_engine.specs.Sought.{part_as, part_of}
 use Rattle.trdp_engine.proofs.Tables.{KeysGive, handle_found}
 use Rattle.trdp_engine.proofs.InSession.{same_session, AreListed}
@@ -194,6 +194,16 @@ owner_told table index s i t h key own keyed is listed gives got owner at of =
     let same : key ≡ keyed.key = same_Some key keyed.key (sym got ∙ key_told table index s i own keyed is listed at of) in
     sym (handle_found h (slot_in t table).objects keyed
     (owner ∙ (ap (λ (k : ℕ). by_key k (all_objects table)) same ∙ gives s keyed.handle keyed (listed s i keyed at))))
+
+-- the owner of the key is in the session
+pub owner_there : (table : TableState) (index : SessionIndexState) (s t h key : ℕ) (own : SessionId × Role) → IsInSession table index → KeysGive table → session_key own.0 s own.1 index.rows ≡ Some key → by_handle h (slot_in t table).objects ≡ by_key key (all_objects table) → session_in s h table ≡ Some own
+owner_there table index s t h key own is gives got owner =
+    let part = (is.slots s).there key own got in
+    let there : by_handle h (slot_in t table).objects ≡ Some part.keyed =
+    owner ∙ (ap (λ (k : ℕ). by_key k (all_objects table)) (sym part.key_is) ∙ gives s part.handle part.keyed part.found) in
+    let number : part.handle ≡ h =
+    sym (handle_found part.handle (slot_in s table).objects part.keyed part.found) ∙ handle_found h (slot_in t table).objects part.keyed there in
+    ap (λ (n : ℕ). session_in s n table) (sym number) ∙ (ap session_found part.found ∙ part.session)
 
 pub nobody_told : (table : TableState) (index : SessionIndexState) (s i key : ℕ) (own : SessionId × Role) (keyed : Keyed) → IsInSession table index → AreListed table → KeysGive table → session_key own.0 s own.1 index.rows ≡ Some key → is_some (by_key key (all_objects table)) ≡ false → slice_get (slot_in s table).objects i ≡ Some keyed → session_of keyed.object ≢ Some own
 nobody_told table index s i key own keyed is listed gives got none at of =

@@ -27,7 +27,7 @@ ghost use Rattle.trdp_index.specs.declared.session_row.Role.{Role};
 ghost use Rattle.trdp_index.specs.SessionRows.{session_key};
 ghost use Rattle.trdp_engine.specs.Requests.{has_session};
 ghost use Rattle.trdp_engine.specs.InSession.{session_of, session_in, kind_as, IsNewInSession};
-ghost use Rattle.trdp_engine.specs.InSession.{key_with, key_without};
+ghost use Rattle.trdp_engine.specs.InSession.{HasPart, key_with, key_without};
 
 use crate::asked::{Asked, Left, ask};
 use crate::datagram::take_object;
@@ -249,7 +249,9 @@ impl Store {
 
     /// The key of a slot's object that is in a session in that role; None where there is none.
     pub fn session(&self, slot: u16, session: SessionId, role: Role) -> Option<usize>
-        ensures { is_some result
+        ensures key { IfSome result
+            (λ key. HasPart (slot_in slot self.now).objects (session, role) key) }
+        ensures variant { is_some result
             ≡ has_session (kind_as role) session (slot_at slot self.now).objects }
     {
         self.table.sound();
@@ -258,7 +260,9 @@ impl Store {
 
     /// The handle of a slot's object that is in a session in that role; None where there is none.
     pub fn handle_in(&self, slot: u16, session: SessionId, role: Role) -> Option<u32>
-        ensures { (index : ℕ) (keyed : Keyed)
+        ensures found { IfSome result
+            (λ handle. session_in slot handle self.now ≡ Some (session, role)) }
+        ensures alone { (index : ℕ) (keyed : Keyed)
             → slice_get (slot_in slot self.now).objects index ≡ Some keyed
             → session_of keyed.object ≡ Some (session, role)
             → result ≡ Some keyed.handle }
