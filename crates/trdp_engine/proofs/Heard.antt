@@ -39,7 +39,7 @@ use Rattle.trdp_engine.specs.Noted.{noted_as}
 use Rattle.trdp_engine.specs.Rooms.{kind_room, entries_room}
 use Rattle.trdp_engine.specs.Datagrams.{is_for_entry, is_listening, is_handle, hearing, acts_where, acting}
 use Rattle.trdp_engine.specs.Indexed.{com_of, is_com, is_listed, listed_as, rows_in, rows_from}
-use Rattle.trdp_engine.specs.Sought.{hit_by, hit, earlier, first_handle, hit_in, first_in, comes_unasked, noted_listener, listener_room}
+use Rattle.trdp_engine.specs.Sought.{hit_by, hit, earlier, first_handle, hit_in, first_in, comes_unasked, part_as, part_of, noted_listener, listener_room}
 use Rattle.trdp_engine.specs.Sought.{is_unasked as is_unasked_kind}
 use Rattle.trdp_engine.proofs.Noting.{split}
 use Rattle.trdp_engine.proofs.Handles.{AllAbove as AllEntriesAbove, IsRising as AreEntriesRising}
@@ -351,6 +351,19 @@ heard_by_both table s src dst t globals tell rising none once twice empty first 
     ∙ heard_by_runs table s src dst t globals (all_keyed table (slot_in s table).objects (λ i k at. tell.found s k.handle k (tell.listed s i k at))) rising)
 
 -- A message that comes unasked is for listeners alone.
+
+-- it is in no session that an object awaits
+pub unasked_part : (telegram : TelegramModel) (src dst : Place) (t : MdTelegram) → telegram ≡ MdIs src dst t → part_of telegram ≡ None → comes_unasked telegram ≡ true
+unasked_part telegram src dst t is none =
+    ap comes_unasked is ∙ by_kind t.head.kind (sym (ap part_of is) ∙ none)
+  where
+    by_kind : (k : MdKind) → part_as k t.head.session ≡ None → is_unasked_kind k ≡ true
+    by_kind Notify none = refl
+    by_kind Request none = refl
+    by_kind Reply none = absurd (cc)
+    by_kind Query none = absurd (cc)
+    by_kind Confirm none = absurd (cc)
+    by_kind Error none = absurd (cc)
 
 answers_none : (k : MdKind) → is_unasked_kind k ≡ true → is_answer k ≡ false
 unfolding is_answer

@@ -1,7 +1,10 @@
 pub mod Handles
 pub mod Tables
+pub mod Counted
+pub mod Found
 pub mod Indexed
 pub mod Stored
+pub mod InSession
 pub mod Quiet
 pub mod Asking
 pub mod Turns
@@ -12,9 +15,10 @@ pub mod Moving
 pub mod Each
 pub mod Receiving
 pub mod Noting
+pub mod Unheard
+pub mod Meant
 pub mod Seeking
 pub mod Heard
-pub mod Hearing
 pub mod Requesting
 pub mod Unasked
 pub mod Noted

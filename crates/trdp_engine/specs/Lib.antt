@@ -27,4 +27,5 @@ pub mod Acting
 pub mod Noted
 pub mod Asked
 pub mod Indexed
+pub mod InSession
 pub mod Sought

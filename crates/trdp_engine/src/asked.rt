@@ -10,6 +10,7 @@ ghost use Rattle.trdp_engine.specs.Rooms.{HasRoom, answer_room, asked_room};
 ghost use Rattle.trdp_engine.specs.Acting.{slot_at, Becomes};
 ghost use Rattle.trdp_engine.specs.Asked.{asked_act, left_of};
 ghost use Rattle.trdp_engine.specs.Indexed.{com_of};
+ghost use Rattle.trdp_engine.specs.InSession.{session_of};
 
 use crate::callers::confirm;
 use crate::fault::Refusal;
@@ -125,6 +126,7 @@ pub fn ask(
         ++ labelled s
         (asked_act (setup_of config.now) globals.entry.now handle asked.now object.old).records }
     ensures sought { com_of object.new ≡ com_of object.old }
+    ensures session { session_of object.new ≡ session_of object.old }
 {
     match *asked {
         Asked::Put(bytes) => {

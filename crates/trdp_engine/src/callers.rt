@@ -14,6 +14,7 @@ ghost use Rattle.trdp_engine.specs.Rooms.{HasRoom, message_room, confirm_room};
 ghost use Rattle.trdp_engine.specs.Acting.{slot_at, Becomes};
 ghost use Rattle.trdp_engine.specs.Asked.{left_of};
 ghost use Rattle.trdp_engine.specs.Indexed.{com_of};
+ghost use Rattle.trdp_engine.specs.InSession.{session_of};
 
 use crate::asked::Left;
 use crate::fault::Refusal;
@@ -123,6 +124,7 @@ fn confirm_by(
         ≡ out.old.records
         ++ labelled s (confirms_unless (confirm_refusal caller.old place status) handle place
         status caller.old).records }
+    ensures terms { caller.new.terms ≡ caller.old.terms }
 {
     if let Some(refusal) = confirm_refusal(caller, place, status) {
         out.push_plain_answer(s, PlainAnswer::Refused(refusal));
@@ -155,6 +157,7 @@ pub fn confirm(
     ensures records { out.new.records
         ≡ out.old.records ++ labelled s (confirms handle place status object.old).records }
     ensures sought { com_of object.new ≡ com_of object.old }
+    ensures session { session_of object.new ≡ session_of object.old }
 {
     match object {
         AnyObject::Caller(caller) => confirm_by(caller, handle, place, status, s, out),

@@ -21,6 +21,7 @@ ghost use Rattle.trdp_engine.specs.Acting.{slot_at, MayAct, TookWithin, ActsAt};
 ghost use Rattle.trdp_engine.specs.Noted.{noted_as, noted_from};
 ghost use Rattle.trdp_engine.specs.Quiet.{IsQuiet};
 ghost use Rattle.trdp_engine.specs.Indexed.{com_of};
+ghost use Rattle.trdp_engine.specs.InSession.{session_of};
 
 use crate::addressees::Addressee;
 use crate::asked::Left;
@@ -89,6 +90,7 @@ pub fn take_object(
         (fits_object (setup_of config.now) (telegram_model telegram.now) object.old))) }
     ensures within { TookWithin out.old out.new (kind_room (kind_of object.old)) }
     ensures sought { com_of object.new ≡ com_of object.old }
+    ensures session { session_of object.new ≡ session_of object.old }
 {
     let fits = fits_object(config, telegram, object);
     match object.take(telegram, globals, fits) {

@@ -17,6 +17,7 @@ ghost use Rattle.trdp_engine.specs.Rooms.{HasRoom, kind_room, entries_room};
 ghost use Rattle.trdp_engine.specs.Acting.{slot_at, MayAct, TookWithin, Becomes, ActsAt};
 ghost use Rattle.trdp_engine.specs.Firing.{due_time, sooner, IsFirst, IsNext};
 ghost use Rattle.trdp_engine.specs.Indexed.{com_of};
+ghost use Rattle.trdp_engine.specs.InSession.{session_of};
 
 use crate::asked::Left;
 use crate::objects::{handle_at, object_at};
@@ -130,6 +131,7 @@ pub fn fire_object(
         ++ labelled s (firing_records handle object.old (fired object.old globals.entry.now)) }
     ensures within { TookWithin out.old out.new (kind_room (kind_of object.old)) }
     ensures sought { com_of object.new ≡ com_of object.old }
+    ensures session { session_of object.new ≡ session_of object.old }
 {
     match object.fire(globals) {
         Fired::Nothing => {}

@@ -10,6 +10,7 @@ ghost use Rattle.trdp_engine.specs.Openings.{opening_refusal};
 ghost use Rattle.trdp_engine.specs.Openings.{opened_unless, answered};
 ghost use Rattle.trdp_engine.specs.Outboxes.{plain_answer_model};
 ghost use Rattle.trdp_engine.specs.Acting.{slot_at};
+ghost use Rattle.trdp_engine.specs.InSession.{IsNewInSession};
 
 use crate::fault::Refusal;
 use crate::row::PlainAnswer;
@@ -32,9 +33,11 @@ pub fn opening_refusal(store: &Store, s: u16, kind: Kind) -> Option<Refusal>
     }
 }
 
-/// Adds an object to slot `s` and answers its handle, or says why not.
+/// Adds an object to slot `s`, of which none is in its session in its role, and answers its handle,
+/// or says why not.
 pub fn open(store: &mut Store, s: u16, object: AnyObject) -> PlainAnswer
-    requires { s < length store.old }
+    requires slot { s < length store.old }
+    requires fresh { IsNewInSession object (slot_at s store.old).objects }
     ensures outcome { opened_unless (opening_refusal (slot_at s store.old) (kind_of object))
         (slot_at s store.old) object
         ≡ answered (slot_at s store.new) (plain_answer_model result) }

@@ -11,6 +11,7 @@ ghost use Rattle.trdp_engine.specs.Acts.{answers};
 ghost use Rattle.trdp_engine.specs.Outboxes.{plain_answer_model};
 ghost use Rattle.trdp_engine.specs.Acting.{slot_at};
 ghost use Rattle.trdp_engine.specs.Indexed.{com_of};
+ghost use Rattle.trdp_engine.specs.InSession.{session_of};
 
 use crate::fault::Refusal;
 use crate::opening::{is_span, open, opening_refusal, value_size};
@@ -78,6 +79,7 @@ pub fn put(object: &mut AnyObject, config: &NodeConfig, bytes: &[u8]) -> PlainAn
     ensures answers { puts (setup_of config.now) bytes.now object.old
         ≡ answers object.new (plain_answer_model result) }
     ensures sought { com_of object.new ≡ com_of object.old }
+    ensures session { session_of object.new ≡ session_of object.old }
 {
     match object {
         AnyObject::Publisher(publisher) => {

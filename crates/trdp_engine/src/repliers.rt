@@ -10,6 +10,7 @@ ghost use Rattle.trdp_engine.specs.Replies.{replies, queries, reply_errors};
 ghost use Rattle.trdp_engine.specs.Rooms.{HasRoom, message_room};
 ghost use Rattle.trdp_engine.specs.Asked.{left_of};
 ghost use Rattle.trdp_engine.specs.Indexed.{com_of};
+ghost use Rattle.trdp_engine.specs.InSession.{session_of};
 
 use crate::asked::Left;
 use crate::callers::TIMEOUT_MIN;
@@ -91,6 +92,7 @@ pub fn reply(
     ensures records { out.new.records
         ≡ out.old.records ++ labelled s (replies com_id status payload.now object.old).records }
     ensures sought { com_of object.new ≡ com_of object.old }
+    ensures session { session_of object.new ≡ session_of object.old }
 {
     let AnyObject::Replier(replier) = object else {
         out.push_plain_answer(s, PlainAnswer::Refused(Refusal::WrongKind));
@@ -130,6 +132,7 @@ pub fn query(
         ++ labelled s
         (queries globals.entry.now.now com_id status timeout payload.now object.old).records }
     ensures sought { com_of object.new ≡ com_of object.old }
+    ensures session { session_of object.new ≡ session_of object.old }
 {
     let AnyObject::Replier(replier) = object else {
         out.push_plain_answer(s, PlainAnswer::Refused(Refusal::WrongKind));
@@ -162,6 +165,7 @@ pub fn reply_error(
     ensures records { out.new.records
         ≡ out.old.records ++ labelled s (reply_errors com_id status object.old).records }
     ensures sought { com_of object.new ≡ com_of object.old }
+    ensures session { session_of object.new ≡ session_of object.old }
 {
     let AnyObject::Replier(replier) = object else {
         out.push_plain_answer(s, PlainAnswer::Refused(Refusal::WrongKind));

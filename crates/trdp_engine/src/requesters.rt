@@ -13,6 +13,7 @@ ghost use Rattle.trdp_engine.specs.Acting.{slot_at};
 ghost use Rattle.trdp_pd.specs.Requesters.{opened};
 ghost use Rattle.trdp_table.specs.declared.kind.Kind.TheVariants.{Requester as Requesting};
 ghost use Rattle.trdp_engine.specs.Indexed.{com_of};
+ghost use Rattle.trdp_engine.specs.InSession.{session_of};
 
 use crate::fault::Refusal;
 use crate::opening::open;
@@ -41,6 +42,7 @@ pub fn pull(object: &mut AnyObject, globals: &Globals, s: u16, out: &mut Outbox)
     ensures records { out.new.records
         ≡ out.old.records ++ labelled s (pulls globals.entry.now object.old).records }
     ensures sought { com_of object.new ≡ com_of object.old }
+    ensures session { session_of object.new ≡ session_of object.old }
 {
     match object {
         AnyObject::Requester(requester) => {

@@ -1,8 +1,8 @@
-//! The objects of all slots, and the index by which a telegram finds those that it may be for.
+//! The objects of all slots, and the indexes by which a telegram finds those that it may be for.
 
 ghost use Rattle.std.specs.Prelude.{◌≡◌, ℕ, ◌<◌, ◌≤◌, length, map, Some, None, IfOk, IfErr, OnOk};
 ghost use Rattle.std.specs.Prelude.{OnErr, IfSome, OnSome, slice_get, option_map, option_copied};
-ghost use Rattle.std.specs.Prelude.{◌+◌, ◌*◌, ◌^◌, Option, true, false};
+ghost use Rattle.std.specs.Prelude.{◌+◌, ◌*◌, ◌^◌, Option, true, false, is_some};
 ghost use Rattle.trdp_base.specs.Moments.{last_moment};
 ghost use Rattle.trdp_filter.specs.Telegrams.{telegram_model, IsWithinLimit};
 ghost use Rattle.trdp_table.specs.declared.any_object.AnyObject.{AnyObject};
@@ -22,6 +22,12 @@ ghost use Rattle.trdp_engine.specs.Acting.{slot_at, MayAct, Becomes, ActsAt};
 ghost use Rattle.trdp_index.specs.ComRows.{run_of, has_com_row};
 ghost use Rattle.trdp_engine.specs.Indexed.{com_of, com_in, rows_from, run_with};
 ghost use Rattle.trdp_engine.specs.Indexed.{run_without, one_if_some};
+ghost use Rattle.trdp_base.specs.declared.session.SessionId.{SessionId};
+ghost use Rattle.trdp_index.specs.declared.session_row.Role.{Role};
+ghost use Rattle.trdp_index.specs.SessionRows.{session_key};
+ghost use Rattle.trdp_engine.specs.Requests.{has_session};
+ghost use Rattle.trdp_engine.specs.InSession.{session_of, session_in, kind_as, IsNewInSession};
+ghost use Rattle.trdp_engine.specs.InSession.{HasPart, key_with, key_without};
 
 use crate::asked::{Asked, Left, ask};
 use crate::datagram::take_object;
@@ -31,31 +37,33 @@ use crate::outbox::Outbox;
 use crate::row::PlainAnswer;
 use std::alloc::{AllocError, Global};
 use std::marker::Model;
-use trdp_base::Quotas;
+use trdp_base::{Quotas, SessionId};
 use trdp_dataset::NodeConfig;
 use trdp_filter::{Globals, Telegram};
-use trdp_index::{ComIndex, ComRow};
+use trdp_index::{ComIndex, ComRow, Role, SessionIndex};
 use trdp_table::{AnyObject, Kind, Table, TableFault};
 
-/// The objects of all slots of a node, as its table has them, and an index of those that telegrams
-/// of a comId may be for.
+/// The objects of all slots of a node, as its table has them, an index of those that telegrams of
+/// a comId may be for, and one of those that are in a session.
 #[derive(Drop)]
 pub struct Store {
     /// The objects, each under a handle of its slot and a key.
     table: Table,
     /// A row for each publisher, subscription and listener.
     coms: ComIndex,
+    /// The callers and repliers, by identifier, slot and role.
+    sessions: SessionIndex,
 }
 
 impl Model for Store {
     ghost use Rattle.trdp_table.specs.Tables.{TableState};
-    ghost use Rattle.trdp_engine.specs.Indexed.{IsIndexed};
+    ghost use Rattle.trdp_engine.specs.InSession.{IsStore};
 
     ghost Value = { TableState };
 
     ghost view = { λ s. s.table };
 
-    ghost invariant = { λ s. IsIndexed s.table s.coms };
+    ghost invariant = { λ s. IsStore s.table s.coms s.sessions };
 }
 
 /// The comId, or any, under which telegrams look for the object; None for one that isn't looked
@@ -103,6 +111,47 @@ fn delist(coms: &mut ComIndex, sought: Option<Option<u32>>, slot: u16, handle: u
     }
 }
 
+/// The session of a caller or replier, and what it is there; None for all others.
+fn session_of(object: &AnyObject) -> Option<(SessionId, Role)>
+    ensures { result ≡ session_of object.now }
+{
+    match object {
+        AnyObject::Caller(caller) => Some((caller.session(), Role::Caller)),
+        AnyObject::Replier(replier) => Some((replier.session(), Role::Replier)),
+        _ => None,
+    }
+}
+
+/// Adds the key of a new object to the index, if it is in a session.
+fn enter(sessions: &mut SessionIndex, own: Option<(SessionId, Role)>, slot: u16, key: usize)
+    requires spare { OnSome own (length sessions.old.rows < sessions.old.room) }
+    requires fresh { IfSome own (λ its. session_key its.0 slot its.1 sessions.old.rows ≡ None) }
+    ensures keys { (other : SessionId × Role) (t : ℕ)
+        → session_key other.0 t other.1 sessions.new.rows
+        ≡ key_with own slot key other t (session_key other.0 t other.1 sessions.old.rows) }
+    ensures count { length sessions.new.rows ≡ length sessions.old.rows + one_if_some own }
+    ensures room { sessions.new.room ≡ sessions.old.room }
+{
+    if let Some((session, role)) = own {
+        sessions.insert(session, slot, role, key);
+    }
+}
+
+/// Takes the key of an object out of the index, if it is in a session.
+fn leave(sessions: &mut SessionIndex, own: Option<(SessionId, Role)>, slot: u16)
+    requires there { IfSome own
+        (λ its. is_some (session_key its.0 slot its.1 sessions.old.rows) ≡ true) }
+    ensures keys { (other : SessionId × Role) (t : ℕ)
+        → session_key other.0 t other.1 sessions.new.rows
+        ≡ key_without own slot other t (session_key other.0 t other.1 sessions.old.rows) }
+    ensures count { length sessions.old.rows ≡ length sessions.new.rows + one_if_some own }
+    ensures room { sessions.new.room ≡ sessions.old.room }
+{
+    if let Some((session, role)) = own {
+        sessions.remove(session, slot, role);
+    }
+}
+
 impl Store {
     /// A store with an empty slot for each of the quotas, in their order, at most 16. It takes the
     /// memory for all objects that they allow.
@@ -115,7 +164,12 @@ impl Store {
     {
         let table = Table::new(alloc, quotas)?;
         let coms = ComIndex::with_room(alloc, table.room())?;
-        Ok(Store { table, coms })
+        let sessions = SessionIndex::with_room(alloc, table.room())?;
+        Ok(Store {
+            table,
+            coms,
+            sessions,
+        })
     }
 
     /// How many slots there are, at most 16.
@@ -193,13 +247,40 @@ impl Store {
         self.table.refuses(slot, kind)
     }
 
+    /// The key of a slot's object that is in a session in that role; None where there is none.
+    pub fn session(&self, slot: u16, session: SessionId, role: Role) -> Option<usize>
+        ensures key { IfSome result
+            (λ key. HasPart (slot_in slot self.now).objects (session, role) key) }
+        ensures variant { is_some result
+            ≡ has_session (kind_as role) session (slot_at slot self.now).objects }
+    {
+        self.table.sound();
+        self.sessions.get(session, slot, role)
+    }
+
+    /// The handle of a slot's object that is in a session in that role; None where there is none.
+    pub fn handle_in(&self, slot: u16, session: SessionId, role: Role) -> Option<u32>
+        ensures found { IfSome result
+            (λ handle. session_in slot handle self.now ≡ Some (session, role)) }
+        ensures alone { (index : ℕ) (keyed : Keyed)
+            → slice_get (slot_in slot self.now).objects index ≡ Some keyed
+            → session_of keyed.object ≡ Some (session, role)
+            → result ≡ Some keyed.handle }
+    {
+        self.table.sound();
+        let key = self.sessions.get(session, slot, role)?;
+        let owner = self.table.owner(key)?;
+        Some(owner.1)
+    }
+
     /// Adds an object to a slot, last under the slot's next handle, and answers that handle. It
     /// takes no memory.
     ///
     /// # Errors
     /// The object, and the first that applies of `Quota` and `Exhausted`; nothing has changed.
     pub fn add(&mut self, slot: u16, object: AnyObject) -> Result<u32, (AnyObject, TableFault)>
-        requires { slot < length self.old }
+        requires slot { slot < length self.old }
+        requires fresh { IsNewInSession object (slot_at slot self.old).objects }
         ensures handle { IfOk result (λ handle. handle ≡ (slot_in slot self.old).next) }
         ensures granted { OnOk result
             (refusal (slot_in slot self.old) (kind_of object) ≡ None) }
@@ -210,6 +291,7 @@ impl Store {
         ensures kept { OnErr result (self.new ≡ self.old) }
     {
         let sought = com_of(&object);
+        let own = session_of(&object);
         self.table.sound();
         self.coms.sound();
         match self.table.add(slot, object) {
@@ -217,6 +299,7 @@ impl Store {
             Ok(handle) => {
                 if let Some(key) = self.table.find(slot, handle) {
                     enlist(&mut self.coms, sought, slot, handle, key);
+                    enter(&mut self.sessions, own, slot, key);
                 }
                 Ok(handle)
             }
@@ -233,6 +316,16 @@ impl Store {
         com_of(self.table.get(key)?)
     }
 
+    /// The session of a slot's object of that handle, and what it is there.
+    fn session_at(&self, slot: u16, handle: u32) -> Option<(SessionId, Role)>
+        requires { slot < length self.now }
+        ensures { result ≡ session_in slot handle self.now }
+    {
+        self.table.sound();
+        let key = self.table.find(slot, handle)?;
+        session_of(self.table.get(key)?)
+    }
+
     /// Takes a slot's object of that handle out of the store; all other objects keep their keys.
     /// None where the slot has no such object; nothing has changed.
     pub fn remove(&mut self, slot: u16, handle: u32) -> Option<AnyObject>
@@ -244,7 +337,9 @@ impl Store {
     {
         self.table.sound();
         let sought = self.com_at(slot, handle);
+        let own = self.session_at(slot, handle);
         delist(&mut self.coms, sought, slot, handle);
+        leave(&mut self.sessions, own, slot);
         self.table.remove(slot, handle)
     }
 

@@ -1,4 +1,4 @@
-use Rattle.std.proofs.Common.{◌≡◌, ◌<◌, length, ◌∙◌, arith}
+use Rattle.std.proofs.Common.{◌<◌, length, ◌∙◌, arith}
 use Rattle.trdp_filter.specs.Telegrams.{telegram_model}
 use Rattle.std.proofs.lemmas.Option.{slice_get-get_or}
 use Rattle.trdp_engine.proofs.Seeking.{run_next, run_end_items, run_end_room}

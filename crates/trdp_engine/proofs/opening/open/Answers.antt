@@ -3,4 +3,4 @@ use Rattle.trdp_engine.proofs.opening.open.Goals as goal
 
 pub returns-clause-others : goal.returns-clause-others
 returns-clause-others c =
-    slots_of_added c.args.store.now c.add.new.self c.args.s c.args.object c.add.result c.requires c.add.ensures.added c.add.ensures.kept
+    slots_of_added c.args.store.now c.add.new.self c.args.s c.args.object c.add.result c.requires.slot c.add.ensures.added c.add.ensures.kept

@@ -3,6 +3,7 @@ use Rattle.std.proofs.lemmas.Option.{same_Some}
 use Rattle.trdp_engine.specs.declared.asked.Left.TheVariants.{Stays, Ended}
 use Rattle.trdp_engine.proofs.Tables.{reached, none_found, none_reached}
 use Rattle.trdp_engine.proofs.Stored.{indexed_reached}
+use Rattle.trdp_engine.proofs.InSession.{session_reached}
 use Rattle.trdp_engine.proofs.Asking.{stayed, asked_nobody, asked_stays, asked_ended}
 use Rattle.trdp_engine.proofs.store.Store.ask.Goals as goal
 use Rattle.trdp_engine.proofs.store.Store.ask.Goals.{in-None, in-Some, in-None-get_mut, in-Some-get_mut}
@@ -13,7 +14,10 @@ invariant_of-self c = elim c.match-get_mut.branch [
   | in-Some-get_mut w ↦
       let r = reached c.self.inside.table c.args.s c.args.handle c.in-Some.key w.in-Some-get_mut.object.now c.sound.ensures.found c.in-Some.ensures w.in-Some-get_mut.ensures.value in
       rw w.self-inside-is
-      (indexed_reached c.self.inside.table c.self.inside.coms c.args.s c.args.handle c.in-Some.key w.in-Some-get_mut.object.now w.ask.new.object c.self.invariant c.sound.ensures.sound (rw (← c.self.view_is) at c.requires.slot) c.sound.ensures.exchanged r w.ask.ensures.sought)
+      (record {
+        by_com = indexed_reached c.self.inside.table c.self.inside.coms c.args.s c.args.handle c.in-Some.key w.in-Some-get_mut.object.now w.ask.new.object c.self.invariant.by_com c.sound.ensures.sound (rw (← c.self.view_is) at c.requires.slot) c.sound.ensures.exchanged r w.ask.ensures.sought;
+        by_session = session_reached c.self.inside.table c.self.inside.sessions c.args.s c.args.handle c.in-Some.key w.in-Some-get_mut.object.now w.ask.new.object c.self.invariant.by_session c.sound.ensures.sound (rw (← c.self.view_is) at c.requires.slot) c.sound.ensures.exchanged r w.ask.ensures.session;
+      })
 ]
 
 pub returns-in_default : goal.returns-in_default

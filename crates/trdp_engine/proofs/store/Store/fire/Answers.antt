@@ -8,6 +8,7 @@ use Rattle.trdp_engine.specs.Acting.{slot_at}
 use Rattle.trdp_engine.proofs.Tables.{reached, reached_entry, none_found, none_reached}
 use Rattle.trdp_engine.proofs.Turns.{reached_is, reached_handle, acts_reached, acts_removed, nobody_acts}
 use Rattle.trdp_engine.proofs.Stored.{indexed_reached}
+use Rattle.trdp_engine.proofs.InSession.{session_reached}
 use Rattle.trdp_engine.proofs.Asking.{stayed}
 use Rattle.trdp_engine.proofs.store.Store.fire.Goals as goal
 use Rattle.trdp_engine.proofs.store.Store.fire.Goals.{in-None, in-Some, in-None-get_mut, in-Some-get_mut}
@@ -30,7 +31,10 @@ invariant_of-self c = elim c.match-get_mut.branch [
   | in-Some-get_mut w ↦
       let r = reached c.self.inside.table c.args.s c.args.handle c.in-Some.key w.in-Some-get_mut.object.now c.sound.ensures.found c.in-Some.ensures w.in-Some-get_mut.ensures.value in
       rw w.self-inside-is
-      (indexed_reached c.self.inside.table c.self.inside.coms c.args.s c.args.handle c.in-Some.key w.in-Some-get_mut.object.now w.fire_object.new.object c.self.invariant c.sound.ensures.sound (rw (← c.self.view_is) at c.requires.slot) c.sound.ensures.exchanged r w.fire_object.ensures.sought)
+      (record {
+        by_com = indexed_reached c.self.inside.table c.self.inside.coms c.args.s c.args.handle c.in-Some.key w.in-Some-get_mut.object.now w.fire_object.new.object c.self.invariant.by_com c.sound.ensures.sound (rw (← c.self.view_is) at c.requires.slot) c.sound.ensures.exchanged r w.fire_object.ensures.sought;
+        by_session = session_reached c.self.inside.table c.self.inside.sessions c.args.s c.args.handle c.in-Some.key w.in-Some-get_mut.object.now w.fire_object.new.object c.self.invariant.by_session c.sound.ensures.sound (rw (← c.self.view_is) at c.requires.slot) c.sound.ensures.exchanged r w.fire_object.ensures.session;
+      })
 ]
 
 pub returns-in-Ended : goal.returns-in-Ended

@@ -4,18 +4,18 @@ use Rattle.trdp_engine.specs.Slots.{slots_of}
 use Rattle.trdp_engine.specs.Acting.{slot_at}
 use Rattle.trdp_engine.proofs.Tables.{slots_length, slot_there}
 use Rattle.trdp_engine.proofs.Noting.{notes_all_next, notes_all_end_items, notes_all_end_room}
-use Rattle.trdp_engine.proofs.addressees.note_slots.Goals as goal
+use Rattle.trdp_engine.proofs.addressees.note_parts.Goals as goal
 
 pub loop-s-preserved : goal.loop-s-preserved
 loop-s-preserved c =
     let there : c.loop-s.s < length c.args.store.now = omega (arith, c.loop-s-test.true, c.slots-s-end.ensures.count) in
     let lt : c.loop-s.s < length (slots_of c.args.store.now) = omega (arith, there, slots_length c.args.store.now) in
     record {
-      notes = rw c.plus-room.ensures (notes_all_next (telegram_model c.args.telegram.now) c.args.globals.now (slots_of c.args.store.now) (slot_at c.loop-s.s c.args.store.now) c.loop-s.noted.items c.note_in.new.noted.items c.loop-s.room c.note_in.result c.loop-s.s lt (slot_there c.args.store.now c.loop-s.s there) c.loop-s.invariant.notes c.note_in.ensures.noted c.note_in.ensures.room);
-      rows = rw c.plus-room.ensures (omega (arith, c.loop-s.invariant.rows, c.note_in.ensures.rows));
-      bytes = rw c.plus-room.ensures (omega (arith, c.loop-s.invariant.bytes, c.note_in.ensures.bytes));
-      capacity = c.note_in.ensures.capacity ∙ c.loop-s.invariant.capacity;
-      length = omega (arith, c.note_in.ensures.length, c.loop-s.invariant.length);
+      notes = rw c.plus-room.ensures (notes_all_next (telegram_model c.args.telegram.now) c.args.globals.now (slots_of c.args.store.now) (slot_at c.loop-s.s c.args.store.now) c.loop-s.noted.items c.note_part.new.noted.items c.loop-s.room c.note_part.result c.loop-s.s lt (slot_there c.args.store.now c.loop-s.s there) c.loop-s.invariant.notes c.note_part.ensures.noted c.note_part.ensures.room);
+      rows = rw c.plus-room.ensures (omega (arith, c.loop-s.invariant.rows, c.note_part.ensures.rows));
+      bytes = rw c.plus-room.ensures (omega (arith, c.loop-s.invariant.bytes, c.note_part.ensures.bytes));
+      capacity = c.note_part.ensures.capacity ∙ c.loop-s.invariant.capacity;
+      length = omega (arith, c.note_part.ensures.length, c.loop-s.invariant.length);
     }
 
 pub returns-clause-noted : goal.returns-clause-noted

@@ -1,17 +1,16 @@
 use Rattle.std.proofs.Common.{◌≡◌, ◌*◌, ◌≤◌}
 use Rattle.std.specs.Prelude.{vec_len, vec_capacity}
 use Rattle.trdp_filter.specs.Telegrams.{telegram_model}
-use Rattle.trdp_table.specs.TableLaws.{object_limit}
 use Rattle.trdp_engine.specs.Slots.{slots_of}
 use Rattle.trdp_engine.proofs.Noting.{NotesAll}
-use Rattle.trdp_engine.proofs.addressees.note_slots.Given as goal
+use Rattle.trdp_engine.proofs.addressees.note_parts.Given as goal
 
--- those of the slots before the number are noted, each with its room
+-- the objects of the slots before the number are noted, each with its room
 abbrev pub invariant-loop-s : goal.invariant-loop-s
 invariant-loop-s l = record {
   notes : NotesAll (telegram_model l.telegram) l.globals (slots_of l.store) l.noted.items l.room l.s;
-  rows : l.room.rows ≤ 2 * object_limit * l.s;
-  bytes : l.room.bytes ≤ 65388 * object_limit * l.s;
+  rows : l.room.rows ≤ 2 * l.s;
+  bytes : l.room.bytes ≤ 65388 * l.s;
   capacity : vec_capacity l.noted ≡ vec_capacity l.fn.noted;
-  length : vec_len l.noted ≤ object_limit * l.s;
+  length : vec_len l.noted ≤ l.s;
 }
