@@ -44,14 +44,6 @@ use Rattle.trdp_engine.proofs.Unheard.{acting_all}
 
 -- Which object a message of a session is for.
 
-and_left : (a b : Bool) → (a && b) ≡ true → a ≡ true
-and_left true b both = refl
-and_left false b both = absurd (false≢true both)
-
-and_right : (a b : Bool) → (a && b) ≡ true → b ≡ true
-and_right true b both = both
-and_right false b both = absurd (false≢true both)
-
 caller_session : (c : AnyCaller) (head : MdHead) → is_for_caller c head ≡ true → c.terms.session.0 ≡ head.session.0
 unfolding is_for_caller
 caller_session c head for = grind (arith, nat_tests)
@@ -118,10 +110,6 @@ meant (Replier r) (MdIs src dst t) globals own part for =
 unheard : (telegram : TelegramModel) (globals : Globals) (own : SessionId × Role) → part_of telegram ≡ Some own → (e : Entry) → (is_listening e && is_for_entry telegram globals e) ≡ false
 unheard telegram globals own part e = by_kind e.object
   where
-    no_part : (b : Bool) → (b && false) ≡ false
-    no_part true = refl
-    no_part false = refl
-
     by_kind : (object : AnyObject) → (is_listening (record e { object = object }) && is_addressed object telegram globals) ≡ false
     by_kind (Publisher p) = refl
     by_kind (Subscription s) = refl
