@@ -1,11 +1,10 @@
 -- The first listener of a slot that a message is for stands in the runs of its comId and of any.
-use Rattle.std.proofs.Common.{◌≡◌, ◌≢◌, ◌⊎◌, inl, inr, ℕ, zero, suc, ◌+◌, ◌<◌, ◌≤◌, min, List, [], ◌∷◌, ◌++◌, length, map, drop, find, Option, Some, None, Bool, true, false, refl, ◌∙◌, sym, ap, subst, arith}
-use Rattle.std.specs.Prelude.{slice_get, option_map, ◌==◌, ◌&&◌, ◌||◌, not, get_or, set, filter, if◌then◌else◌}
+use Rattle.std.proofs.Common.{◌≡◌, ◌≢◌, ◌⊎◌, inl, inr, ℕ, zero, suc, ◌+◌, ◌<◌, ◌≤◌, min, List, [], ◌∷◌, ◌++◌, length, map, drop, Option, Some, None, Bool, true, false, refl, ◌∙◌, sym, ap, subst, arith}
+use Rattle.std.specs.Prelude.{slice_get, ◌==◌, ◌&&◌, not, get_or, set, filter, if◌then◌else◌}
 use Rattle.std.proofs.lemmas.Bool.{false≢true}
 use Rattle.std.proofs.lemmas.Bool.Decides.{nat_tests}
-use Rattle.std.proofs.lemmas.List.{drop_all, length-append, get_or-set_same, get_or-set_other}
+use Rattle.std.proofs.lemmas.List.{drop_all, get_or-set_same, get_or-set_other}
 use Rattle.std.proofs.lemmas.Bool.{cases_eq}
-use Rattle.std.proofs.lemmas.List.Sums.{sum_by-cons}
 use Rattle.std.proofs.lemmas.Option.{same_Some, none-some}
 use Rattle.trdp_base.specs.declared.place.Place.{Place}
 use Rattle.trdp_base.specs.declared.topo.Topo.{Topo}
@@ -18,32 +17,30 @@ use Rattle.trdp_filter.specs.declared.md_filter.MdFilter.{MdFilter}
 use Rattle.trdp_filter.specs.Telegrams.{TelegramModel, PdIs, MdIs}
 use Rattle.trdp_filter.specs.MdFilters.{md_passes, is_com_id}
 use Rattle.trdp_md.specs.declared.listener.Listener.{Listener as ListenerState}
-use Rattle.trdp_md.specs.Listeners.{is_for, is_unasked}
+use Rattle.trdp_md.specs.Listeners.{is_for}
 use Rattle.trdp_md.specs.declared.caller.Caller.{Caller as AnyCaller}
 use Rattle.trdp_md.specs.declared.replier.Replier.{Replier as AnyReplier}
 use Rattle.trdp_md.specs.Callers.{is_answer, is_for_caller}
-use Rattle.trdp_md.specs.Repliers.{awaits_confirm, is_confirm, is_for_replier}
+use Rattle.trdp_md.specs.Repliers.{is_confirm, is_for_replier}
 use Rattle.trdp_table.specs.Kinds.{kind_of}
 use Rattle.trdp_table.specs.declared.any_object.AnyObject.{AnyObject}
 use Rattle.trdp_table.specs.declared.any_object.AnyObject.TheVariants.{Publisher, Subscription, Requester, Listener, Caller, Replier}
 use Rattle.trdp_table.specs.Objects.{is_addressed}
-use Rattle.trdp_table.specs.Tables.{Keyed, SlotTable, TableState, slot_in, all_objects, by_key}
+use Rattle.trdp_table.specs.Tables.{Keyed, TableState, slot_in, all_objects, by_key}
 use Rattle.trdp_table.specs.TableLaws.{AllAbove, IsRising}
 use Rattle.trdp_index.specs.declared.com_row.ComRow.{ComRow}
 use Rattle.trdp_index.specs.ComRows.{is_same_com}
-use Rattle.trdp_engine.specs.Slots.{Entry, entry_of_keyed, slot_of}
+use Rattle.trdp_engine.specs.Slots.{Entry, entry_of_keyed}
 use Rattle.trdp_engine.specs.Acting.{slot_at}
-use Rattle.trdp_engine.specs.declared.addressees.Addressee.{Addressee}
-use Rattle.trdp_engine.specs.declared.room.Room.{Room}
 use Rattle.trdp_engine.specs.Noted.{noted_as}
 use Rattle.trdp_engine.specs.Rooms.{kind_room, entries_room}
-use Rattle.trdp_engine.specs.Datagrams.{is_for_entry, is_listening, is_handle, hearing, acts_where, acting}
-use Rattle.trdp_engine.specs.Indexed.{com_of, is_com, is_listed, listed_as, rows_in, rows_from}
-use Rattle.trdp_engine.specs.Sought.{hit_by, hit, earlier, first_handle, hit_in, first_in, comes_unasked, part_as, part_of, noted_listener, listener_room}
+use Rattle.trdp_engine.specs.Datagrams.{is_for_entry, is_listening, hearing, acts_where, acting}
+use Rattle.trdp_engine.specs.Indexed.{com_of, is_com, is_listed, rows_in, rows_from}
+use Rattle.trdp_engine.specs.Sought.{hit, earlier, first_handle, hit_in, first_in, comes_unasked, part_as, part_of, noted_listener, listener_room}
 use Rattle.trdp_engine.specs.Sought.{is_unasked as is_unasked_kind}
 use Rattle.trdp_engine.proofs.Noting.{split}
 use Rattle.trdp_engine.proofs.Handles.{AllAbove as AllEntriesAbove, IsRising as AreEntriesRising}
-use Rattle.trdp_engine.proofs.Seeking.{AllKeyed, KeysTell, and_left, and_right, all_keyed, nobody_hears}
+use Rattle.trdp_engine.proofs.Seeking.{AllKeyed, KeysTell, and_left, and_right, all_keyed}
 
 -- The lesser of two handles.
 

@@ -1,8 +1,7 @@
-use Rattle.std.proofs.Common.{◌≡◌, ◌<◌, length, ◌∙◌, ap, arith}
+use Rattle.std.proofs.Common.{◌<◌, length, ◌∙◌, arith}
 use Rattle.trdp_filter.specs.Telegrams.{telegram_model}
 use Rattle.trdp_engine.specs.Slots.{slots_of}
 use Rattle.trdp_engine.specs.Acting.{slot_at}
-use Rattle.trdp_engine.specs.Sought.{noted_listener, listener_room}
 use Rattle.trdp_engine.proofs.Tables.{slots_length, slot_there, rising}
 use Rattle.trdp_engine.proofs.Noting.{notes_all_next, notes_all_end_items, notes_all_end_room}
 use Rattle.trdp_engine.proofs.Heard.{noted_heard, room_heard}

@@ -1,4 +1,3 @@
-use Rattle.std.proofs.Common.{◌≡◌}
 use Rattle.trdp_filter.specs.Telegrams.{telegram_model}
 use Rattle.trdp_engine.proofs.Heard.{heard_row}
 use Rattle.trdp_engine.proofs.first_listeners.hear_row.Goals as goal

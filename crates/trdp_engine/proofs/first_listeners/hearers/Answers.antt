@@ -1,4 +1,4 @@
-use Rattle.std.proofs.Common.{◌≡◌, ◌∙◌, sym}
+use Rattle.std.proofs.Common.{◌∙◌, sym}
 use Rattle.trdp_engine.specs.Acting.{slot_at}
 use Rattle.trdp_engine.proofs.Seeking.{KeysTell, nobody_hears}
 use Rattle.trdp_engine.proofs.Heard.{sixteen, none_of_sixteen, heard_by_both}
