@@ -1,13 +1,12 @@
 //! Calls at one object: it does what is asked, and stays or ends.
 
-ghost use Rattle.std.specs.Prelude.{◌≡◌, ◌<◌, ◌≤◌, ◌++◌, length};
+ghost use Rattle.std.specs.Prelude.{◌≡◌, ◌<◌, ◌≤◌, ◌++◌};
 ghost use Rattle.trdp_engine.specs.Configs.{setup_of};
 ghost use Rattle.trdp_engine.specs.Records.{labelled};
 ghost use Rattle.trdp_base.specs.Moments.{last_moment};
-ghost use Rattle.trdp_engine.specs.Calls.{ends, at_object};
+ghost use Rattle.trdp_engine.specs.Calls.{ends};
 ghost use Rattle.trdp_engine.specs.Replies.{aborts};
 ghost use Rattle.trdp_engine.specs.Rooms.{HasRoom, answer_room, asked_room};
-ghost use Rattle.trdp_engine.specs.Acting.{slot_at, Becomes};
 ghost use Rattle.trdp_engine.specs.Asked.{asked_act, left_of};
 ghost use Rattle.trdp_engine.specs.Indexed.{com_of};
 
@@ -18,7 +17,6 @@ use crate::publishers::put;
 use crate::repliers::{query, reply, reply_error};
 use crate::requesters::pull;
 use crate::row::PlainAnswer;
-use crate::store::Store;
 use crate::subscriptions::show;
 use trdp_base::Place;
 use trdp_dataset::NodeConfig;

@@ -1,24 +1,23 @@
 //! What a telegram does to the objects of the slots.
 
-ghost use Rattle.std.specs.Prelude.{◌≡◌, ℕ, ◌+◌, ◌*◌, ◌<◌, ◌≤◌, ◌++◌, ◌∷◌, [], length, IfSome};
-ghost use Rattle.std.specs.Prelude.{Some, true, slice_get, filter, vec_len, vec_capacity};
+ghost use Rattle.std.specs.Prelude.{◌≡◌, ℕ, ◌+◌, ◌*◌, ◌<◌, ◌≤◌, ◌++◌, ◌∷◌, [], length};
+ghost use Rattle.std.specs.Prelude.{Some, true, slice_get};
 ghost use Rattle.std.specs.List.{flat_map};
 ghost use Rattle.trdp_base.specs.Moments.{last_moment};
 ghost use Rattle.trdp_filter.specs.Telegrams.{telegram_model, IsWithinLimit};
 ghost use Rattle.trdp_table.specs.Kinds.{kind_of};
 ghost use Rattle.trdp_table.specs.Objects.{is_addressed, after_taking, taken};
-ghost use Rattle.trdp_table.specs.TableLaws.{object_limit};
 ghost use Rattle.trdp_engine.specs.Configs.{setup_of};
-ghost use Rattle.trdp_engine.specs.Slots.{SlotState, slots_of, entry_of};
+ghost use Rattle.trdp_engine.specs.Slots.{SlotState, slots_of};
 ghost use Rattle.trdp_engine.specs.Records.{labelled};
 ghost use Rattle.trdp_engine.specs.Datagrams.{is_valid_at, fits_object};
-ghost use Rattle.trdp_engine.specs.Datagrams.{is_for_entry, taken_records, left_taking};
-ghost use Rattle.trdp_engine.specs.Datagrams.{taking_act, acting, handed};
+ghost use Rattle.trdp_engine.specs.Datagrams.{taken_records, left_taking};
+ghost use Rattle.trdp_engine.specs.Datagrams.{acting, handed};
 ghost use Rattle.trdp_engine.specs.Asked.{left_of};
 ghost use Rattle.trdp_engine.specs.NodeStates.{HasOutcome, Appends};
 ghost use Rattle.trdp_engine.specs.Rooms.{HasRoom, kind_room, entries_room};
-ghost use Rattle.trdp_engine.specs.Acting.{slot_at, MayAct, TookWithin, ActsAt};
-ghost use Rattle.trdp_engine.specs.Noted.{noted_as, noted_from};
+ghost use Rattle.trdp_engine.specs.Acting.{TookWithin};
+ghost use Rattle.trdp_engine.specs.Noted.{noted_from};
 ghost use Rattle.trdp_engine.specs.Quiet.{IsQuiet};
 ghost use Rattle.trdp_engine.specs.Indexed.{com_of};
 

@@ -8,13 +8,12 @@ ghost use Rattle.trdp_pd.specs.Due.{is_due_by};
 ghost use Rattle.trdp_table.specs.Kinds.{kind_of};
 ghost use Rattle.trdp_table.specs.Objects.{due_of, after_firing, fired};
 ghost use Rattle.trdp_table.specs.TableLaws.{object_limit};
-ghost use Rattle.trdp_engine.specs.Slots.{entry_of};
 ghost use Rattle.trdp_engine.specs.Records.{labelled};
 ghost use Rattle.trdp_engine.specs.Moments.{is_due, sends_data, firing_records, left_firing};
-ghost use Rattle.trdp_engine.specs.Moments.{firing_act, moved_to};
+ghost use Rattle.trdp_engine.specs.Moments.{moved_to};
 ghost use Rattle.trdp_engine.specs.Asked.{left_of};
 ghost use Rattle.trdp_engine.specs.Rooms.{HasRoom, kind_room, entries_room};
-ghost use Rattle.trdp_engine.specs.Acting.{slot_at, MayAct, TookWithin, Becomes, ActsAt};
+ghost use Rattle.trdp_engine.specs.Acting.{slot_at, TookWithin, Becomes};
 ghost use Rattle.trdp_engine.specs.Firing.{due_time, sooner, IsFirst, IsNext};
 ghost use Rattle.trdp_engine.specs.Indexed.{com_of};
 
