@@ -1,0 +1,9 @@
+pub mod Ranks
+pub mod Steps
+pub mod Paths
+pub mod Admitting
+pub mod Weights
+pub mod DueSizes
+pub mod Rooms
+pub mod Totals
+pub mod Fewer

@@ -1,0 +1,190 @@
+//! A binary heap of keys, which knows the place of each key in it.
+//!
+//! The orders of the keys stand outside it and are passed in. What stands at a place acts no
+//! sooner than what stands at half of it, `(place - 1) / 2`.
+
+ghost use Rattle.std.specs.Prelude.{◌≡◌, ◌≢◌, ◌<◌, ◌≤◌, ◌+◌, ◌-◌, ◌*◌, ◌/◌, ◌^◌, ℕ, List, length};
+ghost use Rattle.std.specs.Prelude.{Option, slice_index, vec_capacity};
+ghost use Rattle.trdp_timers.specs.Orders.{goes_before, Leads};
+ghost use Rattle.trdp_timers.specs.Heap.{order_at, IsHeap, FitsAt, CanRise, CanSink};
+ghost use Rattle.trdp_timers.specs.Heap.{IsSwapped, IsPlaced};
+ghost use Rattle.trdp_timers.specs.Costs.{CanCountUp, CanCountDown};
+
+use crate::order::{Order, acts_before};
+
+/// Keys in the order of a heap, and the place of each.
+#[derive(Drop)]
+pub struct Heap {
+    /// The keys that have an order, by their places.
+    pub keys: Vec<usize>,
+    /// The place of each key that has an order; a number without meaning for any other key.
+    pub places: Vec<usize>,
+}
+
+impl Heap {
+    /// Exchanges the keys at two places.
+    fn exchange(&mut self, a: usize, b: usize)
+        requires a { a < length self.old.keys.items }
+        requires b { b < length self.old.keys.items }
+        requires apart { a ≢ b }
+        requires within { (i : ℕ) → i < length self.old.keys.items
+            → slice_index self.old.keys.items i < length self.old.places.items }
+        ensures count { length self.new.keys.items ≡ length self.old.keys.items }
+        ensures room { length self.new.places.items ≡ length self.old.places.items }
+        ensures swapped { (orders : List (Option Order))
+            → IsSwapped (order_at orders self.old.keys.items)
+            (order_at orders self.new.keys.items) a b }
+        ensures placed { (orders : List (Option Order))
+            → IsPlaced orders self.old.keys.items self.old.places.items
+            → IsPlaced orders self.new.keys.items self.new.places.items }
+        ensures capacity { vec_capacity self.new.keys ≡ vec_capacity self.old.keys }
+    {
+        let first = self.keys[a];
+        let second = self.keys[b];
+        self.keys[a] = second;
+        self.keys[b] = first;
+        self.places[first] = b;
+        self.places[second] = a;
+    }
+
+    /// The order of the key at a place.
+    pub fn order_of(&self, orders: &Vec<Option<Order>>, place: usize) -> Option<Order>
+        requires placed { IsPlaced orders.now.items self.now.keys.items self.now.places.items }
+        requires place { place < length self.now.keys.items }
+        ensures { result ≡ order_at orders.now.items self.now.keys.items place }
+    {
+        orders[self.keys[place]]
+    }
+
+    /// Whether the key at the first place acts before that at the second.
+    fn is_ahead(
+        &self,
+        orders: &Vec<Option<Order>>,
+        first: usize,
+        second: usize,
+        probes: &mut u64,
+    ) -> bool
+        requires placed { IsPlaced orders.now.items self.now.keys.items self.now.places.items }
+        requires first { first < length self.now.keys.items }
+        requires second { second < length self.now.keys.items }
+        requires probes { probes.old + 1 < 2 ^ 64 }
+        ensures answer { result
+            ≡ goes_before (order_at orders.now.items self.now.keys.items first)
+            (order_at orders.now.items self.now.keys.items second) }
+        ensures counted { probes.new ≡ probes.old + 1 }
+    {
+        acts_before(
+            self.order_of(orders, first),
+            self.order_of(orders, second),
+            probes,
+        )
+    }
+
+    /// Exchanges the key at a place with the one above it, as long as it acts before that.
+    fn rise(&mut self, orders: &Vec<Option<Order>>, place: usize, probes: &mut u64)
+        requires place { place < length self.old.keys.items }
+        requires placed { IsPlaced orders.now.items self.old.keys.items self.old.places.items }
+        requires order { CanRise (length self.old.keys.items)
+            (order_at orders.now.items self.old.keys.items) place }
+        requires probes { CanCountUp place probes.old }
+        ensures placed { IsPlaced orders.now.items self.new.keys.items self.new.places.items }
+        ensures order { IsHeap (length self.new.keys.items)
+            (order_at orders.now.items self.new.keys.items) }
+        ensures count { length self.new.keys.items ≡ length self.old.keys.items }
+        ensures places { length self.new.places.items ≡ length self.old.places.items }
+        ensures capacity { vec_capacity self.new.keys ≡ vec_capacity self.old.keys }
+        ensures cost { (b : ℕ) → place + 1 < 2 ^ b → probes.new ≤ probes.old + b }
+        ensures least { probes.old ≤ probes.new }
+    {
+        let mut place = place;
+        while place > 0 {
+            let above = (place - 1) / 2;
+            if !self.is_ahead(orders, place, above, probes) {
+                return;
+            }
+            self.exchange(place, above);
+            place = above;
+        }
+    }
+
+    /// That one of the two places below a place whose key acts first.
+    fn first_below(&self, orders: &Vec<Option<Order>>, place: usize, probes: &mut u64) -> usize
+        requires placed { IsPlaced orders.now.items self.now.keys.items self.now.places.items }
+        requires place { 2 * place + 1 < length self.now.keys.items }
+        requires probes { probes.old + 1 < 2 ^ 64 }
+        ensures within { result < length self.now.keys.items }
+        ensures below { 2 * place + 1 ≤ result }
+        ensures child { result ≤ 2 * place + 2 }
+        ensures first { (i : ℕ) → 0 < i → i < length self.now.keys.items → (i - 1) / 2 ≡ place
+            → Leads (order_at orders.now.items self.now.keys.items result)
+            (order_at orders.now.items self.now.keys.items i) }
+        ensures cost { probes.new ≤ probes.old + 1 }
+        ensures least { probes.old ≤ probes.new }
+    {
+        let left = 2 * place + 1;
+        let right = left + 1;
+        if right < self.keys.len() && self.is_ahead(orders, right, left, probes) {
+            return right;
+        }
+        left
+    }
+
+    /// Exchanges the key at a place with the first of those below it, as long as that acts before
+    /// it.
+    fn sink(&mut self, orders: &Vec<Option<Order>>, place: usize, probes: &mut u64)
+        requires place { place < length self.old.keys.items }
+        requires placed { IsPlaced orders.now.items self.old.keys.items self.old.places.items }
+        requires order { CanSink (length self.old.keys.items)
+            (order_at orders.now.items self.old.keys.items) place }
+        requires probes { CanCountDown (length self.old.keys.items) place probes.old }
+        ensures placed { IsPlaced orders.now.items self.new.keys.items self.new.places.items }
+        ensures order { IsHeap (length self.new.keys.items)
+            (order_at orders.now.items self.new.keys.items) }
+        ensures count { length self.new.keys.items ≡ length self.old.keys.items }
+        ensures places { length self.new.places.items ≡ length self.old.places.items }
+        ensures capacity { vec_capacity self.new.keys ≡ vec_capacity self.old.keys }
+        ensures cost { (b : ℕ) → length self.old.keys.items < (place + 1) * 2 ^ b
+            → probes.new ≤ probes.old + 2 * b }
+        ensures least { probes.old ≤ probes.new }
+    {
+        if place >= self.keys.len() / 2 {
+            return;
+        }
+        let below = self.first_below(orders, place, probes);
+        if !self.is_ahead(orders, below, place, probes) {
+            return;
+        }
+        self.exchange(place, below);
+        self.sink(orders, below, probes);
+    }
+
+    /// Makes it a heap again once the key at a place has another order than `was`, which fitted
+    /// there.
+    pub fn settle(
+        &mut self,
+        orders: &Vec<Option<Order>>,
+        place: usize,
+        was: Option<Order>,
+        probes: &mut u64,
+    )
+        requires place { place < length self.old.keys.items }
+        requires placed { IsPlaced orders.now.items self.old.keys.items self.old.places.items }
+        requires order { FitsAt (length self.old.keys.items)
+            (order_at orders.now.items self.old.keys.items) place was }
+        requires probes { probes.old ≡ 0 }
+        ensures placed { IsPlaced orders.now.items self.new.keys.items self.new.places.items }
+        ensures order { IsHeap (length self.new.keys.items)
+            (order_at orders.now.items self.new.keys.items) }
+        ensures count { length self.new.keys.items ≡ length self.old.keys.items }
+        ensures places { length self.new.places.items ≡ length self.old.places.items }
+        ensures capacity { vec_capacity self.new.keys ≡ vec_capacity self.old.keys }
+        ensures cost { (b : ℕ) → length self.old.keys.items < 2 ^ b → probes.new ≤ 2 * b + 1 }
+        ensures least { 1 ≤ probes.new }
+    {
+        if acts_before(self.order_of(orders, place), was, probes) {
+            self.rise(orders, place, probes);
+        } else {
+            self.sink(orders, place, probes);
+        }
+    }
+}

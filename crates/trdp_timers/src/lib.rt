@@ -1,0 +1,21 @@
+//! The due moments of a node's objects, of all slots in one heap.
+//!
+//! Each object has a key, a number below the room, under which its order is set and cleared. The
+//! order of a key says when its object acts: by the due moment, then by the slot, then by the
+//! handle. What a key has is a finite map, `specs/Contents.antt`. The heap below it keeps a place
+//! for each key, so that an order in the middle is set anew or cleared as cheaply as the first is
+//! taken; each comparison is counted.
+#![tactic(auto)]
+
+mod due;
+mod entries;
+mod heap;
+mod laws;
+mod order;
+#[cfg(test)]
+mod tests;
+mod timers;
+
+pub use laws::{first_is_due_first, one_fewer_is_due};
+pub use order::Order;
+pub use timers::Timers;

@@ -1,0 +1,127 @@
+//! Worked examples: which key acts first, what is due, and the comparisons of each call.
+
+use crate::{Order, Timers};
+use std::process::Abort;
+use std::test::Fail;
+
+/// An order as its due moment, slot and handle.
+type Parts = (u64, u16, u32);
+
+/// A call, with what it answers.
+#[derive(Clone, Copy)]
+enum Does {
+    /// The key gets this order.
+    Set(usize, Parts),
+    /// The key has no order from now on.
+    Clear(usize),
+    /// This key is shown as the first, with its order.
+    First(Option<(usize, Parts)>),
+    /// This key is taken as the first, with its order.
+    Pop(Option<(usize, Parts)>),
+    /// By this moment keys of so large a size, together, are due.
+    DueTotal(u64, u64),
+}
+
+/// Calls with their comparisons, on timers with room for eight keys: one with the order that stood
+/// at the place before, and those on the way up or down the heap.
+static ROWS: [(Does, u64); 20] = [
+    (Does::Set(0, (60, 0, 1)), 1),
+    (Does::Set(1, (50, 0, 2)), 2),
+    (Does::Set(2, (40, 1, 1)), 2),
+    (Does::Set(3, (30, 1, 2)), 3),
+    (Does::Set(4, (20, 2, 1)), 3),
+    (Does::Set(5, (20, 1, 3)), 3),
+    (Does::Set(4, (70, 2, 1)), 2),
+    (Does::Set(2, (10, 1, 1)), 3),
+    (Does::Clear(5), 3),
+    (Does::Clear(5), 0),
+    (Does::Clear(8), 0),
+    (Does::First(Some((2, (10, 1, 1)))), 0),
+    (Does::Pop(Some((2, (10, 1, 1)))), 4),
+    (Does::Pop(Some((3, (30, 1, 2)))), 3),
+    (Does::DueTotal(50, 2), 3),
+    (Does::DueTotal(29, 0), 1),
+    (Does::Pop(Some((1, (50, 0, 2)))), 2),
+    (Does::Pop(Some((0, (60, 0, 1)))), 1),
+    (Does::Pop(Some((4, (70, 2, 1)))), 0),
+    (Does::Pop(None), 0),
+];
+
+/// The order of these parts.
+fn order(parts: Parts) -> Order {
+    Order {
+        due: parts.0,
+        slot: parts.1,
+        handle: parts.2,
+    }
+}
+
+/// The key with the order of its parts.
+fn found(wanted: Option<(usize, Parts)>) -> Option<(usize, Order)> {
+    match wanted {
+        Some((key, parts)) => Some((key, order(parts))),
+        None => None,
+    }
+}
+
+/// Makes the call, which answers as it should.
+fn act(rt: &impl Abort, timers: &mut Timers, does: Does) {
+    match does {
+        Does::Set(key, parts) => {
+            assert!(rt; key < timers.room());
+            timers.set(key, order(parts));
+        }
+        Does::Clear(key) => timers.clear(key),
+        Does::First(wanted) => {
+            assert_eq!(rt; timers.first(), found(wanted));
+        }
+        Does::Pop(wanted) => {
+            assert_eq!(rt; timers.pop(), found(wanted));
+        }
+        Does::DueTotal(t, wanted) => {
+            assert!(rt; timers.room() <= 8);
+            assert_eq!(rt; timers.due_total(t, &[1, 2, 4, 8, 16, 32, 64, 128]), wanted);
+        }
+    }
+}
+
+#[test]
+fn calls_have_their_comparisons(rt: HostRuntime) -> Result<(), Fail> {
+    let mut timers = Timers::with_room(rt.alloc(), 8)?;
+    for (does, probes) in &ROWS {
+        act(&rt, &mut timers, *does);
+        assert_eq!(rt; timers.probes(), *probes);
+    }
+    Ok(())
+}
+
+#[test]
+fn keys_come_by_due_moment_slot_and_handle(rt: HostRuntime) -> Result<(), Fail> {
+    let mut timers = Timers::with_room(rt.alloc(), 3)?;
+    timers.set(0, order((5, 1, 1)));
+    timers.set(1, order((5, 0, 2)));
+    timers.set(2, order((4, 1, 9)));
+    assert_eq!(rt; timers.due_total(5, &[1, 10, 100]), 111);
+    assert_eq!(rt; timers.due_total(4, &[1, 10, 100]), 100);
+    assert_eq!(rt; timers.pop(), Some((2, order((4, 1, 9)))));
+    assert_eq!(rt; timers.pop(), Some((1, order((5, 0, 2)))));
+    assert_eq!(rt; timers.pop(), Some((0, order((5, 1, 1)))));
+    assert_eq!(rt; timers.pop(), None);
+    timers.grow(5)?;
+    timers.set(4, order((1, 1, 1)));
+    timers.clear(3);
+    assert_eq!(rt; timers.first(), Some((4, order((1, 1, 1)))));
+    assert_eq!(rt; timers.room(), 5);
+    Ok(())
+}
+
+// No memory is enough for so many keys.
+#[test]
+fn refused_growth_changes_nothing(rt: HostRuntime) -> Result<(), Fail> {
+    let mut timers = Timers::with_room(rt.alloc(), 2)?;
+    timers.set(1, order((7, 0, 1)));
+    assert!(rt; timers.grow(usize::MAX / 64).is_err());
+    assert_eq!(rt; timers.room(), 2);
+    assert_eq!(rt; timers.pop(), Some((1, order((7, 0, 1)))));
+    Ok(())
+}
