@@ -2,7 +2,7 @@
 use Rattle.std.proofs.Common.{◌≡◌, ℕ, List, [], Option, refl, sym, ◌∙◌, ap, subst, true, if◌then◌else◌, length, suc, zero, append-nil}
 use Rattle.trdp_base.specs.declared.place.Place.{Place}
 use Rattle.trdp_engine.specs.Events.{EventModel, MomentIs, TopologyIs, RoleIs, DatagramIs, CallIs}
-use Rattle.trdp_engine.specs.NodeStates.{NodeState, MayTakeMemory, due_in}
+use Rattle.trdp_engine.specs.NodeStates.{NodeState, MayTakeMemory, due_in, uncounted}
 use Rattle.std.proofs.lemmas.Bool.{lt-ltb, ltb-true}
 use Rattle.trdp_engine.specs.Records.{RecordModel}
 use Rattle.trdp_engine.specs.Alone.{refused_as}
@@ -27,18 +27,18 @@ no_records (suc n) records none = by_slot_suc n records ∙ rw none (append-nil 
 
 -- an event was taken, or refused, and its records were told but for these texts
 pub comes_event : {W : Type 0} {takings_in : W → Option (List Taking)} {gives_in : W → Option (List Give)} {a b : Link W} (old new : Service) (event : EventModel) (places : List (Option Place)) (records : List RecordModel)
-    → new.node ≡ node_after old.node event → new.places.items ≡ old.places.items → places ≡ old.places.items → records ≡ event_records old.node event
+    → uncounted new.node ≡ node_after (uncounted old.node) event → new.places.items ≡ old.places.items → places ≡ old.places.items → records ≡ event_records (uncounted old.node) event
     → (told : Tells takings_in gives_in places a b records) → Comes takings_in gives_in old new a b [] (event_effect (service_state old) event (TextsLost told.marks))
 unfolding event_effect
 comes_event {W} {takings_in} {gives_in} {a} {b} old new event places records node kept same all told = record {
-  service_is = ap (λ n. let s : ServiceState = record { node = n; places = new.places.items } in s) node ∙ ap (λ l. let s : ServiceState = record { node = node_after old.node event; places = l } in s) kept;
+  service_is = ap (λ n. let s : ServiceState = record { node = n; places = new.places.items } in s) node ∙ ap (λ l. let s : ServiceState = record { node = node_after (uncounted old.node) event; places = l } in s) kept;
   carried = subst (λ (l : List RecordModel). Carries takings_in gives_in a b [] (records_telling old.places.items told.marks l)) all
       (subst (λ (l : List (Option Place)). Carries takings_in gives_in a b [] (records_telling l told.marks records)) same told.carried);
 }
 
 -- an event was taken, or refused, and its records were told
 pub comes_told : {W : Type 0} {takings_in : W → Option (List Taking)} {gives_in : W → Option (List Give)} {a b : Link W} (old new : Service) (event : EventModel) (places : List (Option Place)) (records : List RecordModel)
-    → new.node ≡ node_after old.node event → new.places.items ≡ old.places.items → places ≡ old.places.items → records ≡ event_records old.node event
+    → uncounted new.node ≡ node_after (uncounted old.node) event → new.places.items ≡ old.places.items → places ≡ old.places.items → records ≡ event_records (uncounted old.node) event
     → Tells takings_in gives_in places a b records → ComesWith takings_in gives_in old new a b (event_effect (service_state old) event)
 comes_told old new event places records node kept same all told =
     record { loss = TextsLost told.marks; comes = comes_event old new event places records node kept same all told }
@@ -60,6 +60,14 @@ is_wanting node (RoleIs group leader) may = absurd (cc)
 is_wanting node (DatagramIs protocol src dst bytes) may = may
 is_wanting node (CallIs s call) may = tt
 
+-- what an event cost decides nothing
+may_uncounted : (node : NodeState) (event : EventModel) → MayTakeMemory node event → MayTakeMemory (uncounted node) event
+may_uncounted node (MomentIs t) may = may
+may_uncounted node (TopologyIs topo) may = may
+may_uncounted node (RoleIs group leader) may = may
+may_uncounted node (DatagramIs protocol src dst bytes) may = may
+may_uncounted node (CallIs s call) may = may
+
 -- an event is lost there
 lost_there : (s : ServiceState) (event : EventModel) (effect : Effect) → MayTakeMemory s.node event → telling_only s missing ≡ lost_or s event effect
 lost_there s event effect may = ap (λ b. if b then telling_only s missing else effect) (sym (wanting s.node event may))
@@ -67,7 +75,7 @@ lost_there s event effect may = ap (λ b. if b then telling_only s missing else 
 missed : {W : Type 0} {takings_in : W → Option (List Taking)} {gives_in : W → Option (List Give)} {a b : Link W} (old new : Service) → new.node ≡ old.node → new.places.items ≡ old.places.items
     → Carries takings_in gives_in a b [] missing → Comes takings_in gives_in old new a b [] (telling_only (service_state old) missing)
 missed old new node kept carried = record {
-  service_is = ap (λ n. let s : ServiceState = record { node = n; places = new.places.items } in s) node ∙ ap (λ l. let s : ServiceState = record { node = old.node; places = l } in s) kept;
+  service_is = ap (λ n. let s : ServiceState = record { node = uncounted n; places = new.places.items } in s) node ∙ ap (λ l. let s : ServiceState = record { node = uncounted old.node; places = l } in s) kept;
   carried = carried;
 }
 
@@ -77,12 +85,12 @@ pub comes_lost : {W : Type 0} {takings_in : W → Option (List Taking)} {gives_i
 unfolding event_effect
 comes_lost {W} {takings_in} {gives_in} {a} {b} old new event node kept may carried = record {
   loss = EventLost;
-  comes = subst (λ (e : Effect). Comes takings_in gives_in old new a b [] e) (lost_there (service_state old) event (event_taken (service_state old) event []) may) (missed old new node kept carried);
+  comes = subst (λ (e : Effect). Comes takings_in gives_in old new a b [] e) (lost_there (service_state old) event (event_taken (service_state old) event []) (may_uncounted old.node event may)) (missed old new node kept carried);
 }
 
 -- an event of the operator was taken, or refused, its records were told and it was answered
 pub comes_answered : {W : Type 0} {takings_in : W → Option (List Taking)} {gives_in : W → Option (List Give)} {a b c : Link W} (old new : Service) (event : EventModel) (from : Place) (places : List (Option Place)) (records : List RecordModel) (text : List ℕ)
-    → new.node ≡ node_after old.node event → new.places.items ≡ old.places.items → places ≡ old.places.items → records ≡ event_records old.node event
+    → uncounted new.node ≡ node_after (uncounted old.node) event → new.places.items ≡ old.places.items → places ≡ old.places.items → records ≡ event_records (uncounted old.node) event
     → text ≡ operator_text (refused_as (length old.node.slots) old.node.globals event)
     → Tells takings_in gives_in places a b records → Carries takings_in gives_in b c [] (offering Operator from text)
     → ComesWith takings_in gives_in old new a c (operator_event (service_state old) from event)
@@ -103,5 +111,5 @@ pub comes_unanswered : {W : Type 0} {takings_in : W → Option (List Taking)} {g
 unfolding operator_event
 comes_unanswered {W} {takings_in} {gives_in} {a} {b} old new event from node kept may carried = record {
   loss = EventLost;
-  comes = subst (λ (e : Effect). Comes takings_in gives_in old new a b [] e) (lost_there (service_state old) event (operator_taken (service_state old) from event []) may) (missed old new node kept carried);
+  comes = subst (λ (e : Effect). Comes takings_in gives_in old new a b [] e) (lost_there (service_state old) event (operator_taken (service_state old) from event []) (may_uncounted old.node event may)) (missed old new node kept carried);
 }

@@ -9,7 +9,7 @@ use Rattle.trdp_engine.specs.Events.{EventModel}
 use Rattle.trdp_engine.specs.Records.{RecordModel, labelled, records_of}
 use Rattle.trdp_engine.specs.Slots.{SlotState}
 use Rattle.trdp_engine.specs.Alone.{FaultIs, refused_as, records_after}
-use Rattle.trdp_engine.specs.NodeStates.{NodeState, StepsAsAlone, Appends}
+use Rattle.trdp_engine.specs.NodeStates.{NodeState, StepsAsAlone, Appends, uncounted}
 use Rattle.trdp_script.specs.SlotOrder.{by_slot}
 use Rattle.trdp_script.proofs.Orders.{slots_own, by_slot_suc, by_slot_zero}
 use Rattle.trdp_script.proofs.Playing.{own_labelled, by_slot_past, no_fault}
@@ -37,7 +37,7 @@ pub records_played : (n : ℕ) (old new : NodeState) (records records_then : Lis
     → length old.slots ≤ n → records ≡ []
     → ((s : ℕ) (slot : SlotState) → slice_get old.slots s ≡ Some slot → StepsAsAlone old new records records_then event s slot)
     → Appends old.slots records records_then
-    → by_slot n records_then ≡ event_records old event
+    → by_slot n records_then ≡ event_records (uncounted old) event
 records_played n old new records records_then event taken fits empty steps appends =
     let room : n ≡ length old.slots + (n - length old.slots) = omega (arith, fits) in
     let none : (s : ℕ) → slice_get old.slots s ≡ None → records_of s records_then ≡ [] = λ s past. appends.none_else s past ∙ ap (records_of s) empty in
@@ -47,12 +47,12 @@ records_played n old new records records_then event taken fits empty steps appen
     by_slot_past old.slots records_then none (n - length old.slots) n room
     ∙ sym (ap (λ l. l ++ slots_records (setup_of old.config) old.globals event 0 old.slots) (sym (by_slot_zero records_then))
     ∙ slots_records_after (setup_of old.config) old.globals event records_then old.slots 0 (length old.slots) (sym whole) each)
-    ∙ ap (λ fault. records_unless fault old event) (sym (no_fault (refused_as (length old.slots) old.globals event) taken))
+    ∙ ap (λ fault. records_unless fault (uncounted old) event) (sym (no_fault (refused_as (length old.slots) old.globals event) taken))
 
 -- an event that the node takes no notice of has no records
 unless_refused : (fault : Option NodeFault) (refused : NodeFault) (node : NodeState) (event : EventModel) → FaultIs fault (Err refused) → (refused ≡ OutOfMemory → ⊥) → records_unless fault node event ≡ []
 unless_refused None refused node event is own = absurd (own is)
 unless_refused (Some fault) refused node event is own = refl
 
-pub records_refused : (refused : NodeFault) (node : NodeState) (event : EventModel) → FaultIs (refused_as (length node.slots) node.globals event) (Err refused) → (refused ≡ OutOfMemory → ⊥) → event_records node event ≡ []
-records_refused refused node event is own = unless_refused (refused_as (length node.slots) node.globals event) refused node event is own
+pub records_refused : (refused : NodeFault) (node : NodeState) (event : EventModel) → FaultIs (refused_as (length node.slots) node.globals event) (Err refused) → (refused ≡ OutOfMemory → ⊥) → event_records (uncounted node) event ≡ []
+records_refused refused node event is own = unless_refused (refused_as (length node.slots) node.globals event) refused (uncounted node) event is own

@@ -3,6 +3,7 @@ use Rattle.std.proofs.Common.{◌≡◌, ℕ, List, [], ◌∷◌, Option, Some,
 use Rattle.std.specs.Prelude.{slice_set}
 use Rattle.trdp_base.specs.declared.place.Place.{Place}
 use Rattle.trdp_engine.specs.Events.{EventModel, DatagramIs}
+use Rattle.trdp_engine.specs.NodeStates.{uncounted}
 use Rattle.trdp_engine.specs.declared.record.Protocol.TheVariants.{Pd as PdData, Md as MdData}
 use Rattle.trdp_script.specs.declared.fault.LineFault.{LineFault}
 use Rattle.trdp_script.specs.declared.fault.LineFault.TheVariants.{OutOfMemory}
@@ -143,5 +144,5 @@ visited_datagram {W} {takings_in} {gives_in} {a} {b} {c} old new port found from
 -- the control place of a slot was set
 pub placed : (old new : Service) (slot : ℕ) (from : Place) → new.node ≡ old.node → new.places.items ≡ slice_set old.places.items slot (Some from) → service_state new ≡ with_place (service_state old) slot from
 placed old new slot from node places =
-    ap (λ n. let s : ServiceState = record { node = n; places = new.places.items } in s) node
-    ∙ ap (λ l. let s : ServiceState = record { node = old.node; places = l } in s) places
+    ap (λ n. let s : ServiceState = record { node = uncounted n; places = new.places.items } in s) node
+    ∙ ap (λ l. let s : ServiceState = record { node = uncounted old.node; places = l } in s) places

@@ -1,6 +1,7 @@
 -- A service on its way.
 use Rattle.std.specs.Prelude.{◌≡◌, ℕ, ◌≤◌, List, Option, [], length, map}
 use Rattle.trdp_dataset.specs.Configs.{ConfigModel}
+use Rattle.trdp_engine.specs.NodeStates.{uncounted}
 use Rattle.trdp_daemon.specs.declared.port.Port.{Port}
 use Rattle.trdp_daemon.specs.declared.visit.Home.{Home}
 use Rattle.trdp_daemon.specs.declared.link.Link.{Link}
@@ -11,9 +12,9 @@ use Rattle.trdp_daemon.specs.Links.{Carries}
 use Rattle.trdp_daemon.specs.Turns.{Visit, visits_effect, Turn, TakesAt, takings_of, turn_effect}
 use Rattle.trdp_daemon.specs.Visits.{own_place}
 
--- the node and the control places
+-- the node, of which nothing tells what an event cost, and the control places
 abbrev pub service_state : Service → ServiceState
-service_state s = record { node = s.node; places = s.places.items }
+service_state s = record { node = uncounted s.node; places = s.places.items }
 
 -- a service and its link after so many takes and this effect
 pub record Comes {W : Type 0} (takings_in : W → Option (List Taking))

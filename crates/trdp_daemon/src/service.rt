@@ -5,7 +5,7 @@ ghost use Rattle.std.specs.Prelude.{IfErr};
 ghost use Rattle.std.specs.Prelude.{OnOk, OnErr, Some};
 ghost use Rattle.trdp_engine.specs.Alone.{refused_as};
 ghost use Rattle.trdp_engine.specs.Events.{event_model};
-ghost use Rattle.trdp_engine.specs.NodeStates.{MayTakeMemory};
+ghost use Rattle.trdp_engine.specs.NodeStates.{MayTakeMemory, uncounted};
 ghost use Rattle.trdp_script.specs.ScriptText.{node_after};
 ghost use Rattle.trdp_script.specs.SlotOrder.{by_slot};
 ghost use Rattle.trdp_daemon.specs.Effects.{event_records, event_effect};
@@ -150,9 +150,10 @@ fn step(
     requires slots { length node.old.slots ≤ 16 }
     ensures fault { IfOk result (λ fault. fault
         ≡ refused_as (length node.old.slots) node.old.globals (event_model event.now)) }
-    ensures node { OnOk result (node.new ≡ node_after node.old (event_model event.now)) }
+    ensures node { OnOk result
+        (uncounted node.new ≡ node_after (uncounted node.old) (event_model event.now)) }
     ensures records { OnOk result (by_slot 16 records.new.records
-        ≡ event_records node.old (event_model event.now)) }
+        ≡ event_records (uncounted node.old) (event_model event.now)) }
     ensures kept { OnErr result (node.new ≡ node.old) }
     ensures memory { OnErr result (MayTakeMemory node.old (event_model event.now)) }
     ensures count { length node.new.slots ≡ length node.old.slots }

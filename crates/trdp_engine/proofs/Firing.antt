@@ -1,5 +1,5 @@
 -- One object fires, and the rest of the moment is left.
-use Rattle.std.proofs.Common.{◌≡◌, ℕ, ◌+◌, List, [], ◌∷◌, ◌++◌, filter, Option, Some, None, Bool, true, false, not, All, refl, ◌∙◌, ap, sym, subst, arith}
+use Rattle.std.proofs.Common.{◌≡◌, ℕ, ◌+◌, List, [], ◌∷◌, ◌++◌, filter, Option, Some, Bool, true, false, not, All, refl, ◌∙◌, ap, sym, subst, arith}
 use Rattle.std.specs.Prelude.{slice_get, option_map, ◌==◌, ◌||◌}
 use Rattle.std.specs.List.{flat_map, sum_by}
 use Rattle.std.proofs.lemmas.List.{append-nil}
@@ -19,8 +19,8 @@ use Rattle.trdp_engine.specs.Acts.{entry_left, left_at, acted}
 use Rattle.trdp_engine.specs.Acting.{act_of}
 use Rattle.trdp_engine.proofs.Handles.{IsRising}
 use Rattle.trdp_engine.specs.Moments.{is_due, is_before, inserted, in_order, left_firing, firing_records, firing_act, after_moment, moved_to}
-use Rattle.trdp_engine.specs.Firing.{FiresFirst, IsNext}
-use Rattle.trdp_engine.proofs.Orders.{first_in_order, first_stands, in_order-filter, sum-in_order}
+use Rattle.trdp_engine.specs.Firing.{IsNext}
+use Rattle.trdp_engine.proofs.Orders.{in_order-filter, sum-in_order}
 use Rattle.trdp_engine.proofs.Turns.{followed_by, has_handle, AllFound, AreApart, AllOnly, AllSame, AreThose, those-filter, only_found, flat_map-same, flat_map-flat_map, same_number, differ_either_way, or_left, or_right}
 
 -- What fired isn't due by now.
@@ -61,17 +61,6 @@ none_fires globals (x ∷ objects) none = either (is_due globals.now x) refl non
     either : (b : Bool) → is_due globals.now x ≡ b → filter (is_due globals.now) (x ∷ objects) ≡ [] → (filter (is_due globals.now) objects ≡ [] → flat_map (after_moment globals) objects ≡ objects) → flat_map (after_moment globals) (x ∷ objects) ≡ x ∷ objects
     either true is none rest = let h = rw is at none in absurd (cc)
     either false is none rest = let h = rw is at none in rw is (ap (λ (es : List Entry). x ∷ es) (rest h))
-
-none_in_order : (xs : List Entry) → in_order xs ≡ [] → xs ≡ []
-none_in_order [] none = refl
-none_in_order (x ∷ xs) none = elim (in_order xs) as (λ ys. inserted x ys ≡ [] → x ∷ xs ≡ []) [
-  | [] ↦ λ h. absurd (cc)
-  | y ∷ ys ↦ λ h. either y ys (is_before y x) refl h
-] none
-  where
-    either : (y : Entry) (ys : List Entry) (b : Bool) → is_before y x ≡ b → inserted x (y ∷ ys) ≡ [] → x ∷ xs ≡ []
-    either y ys true way h = let g = rw way at h in absurd (cc)
-    either y ys false way h = let g = rw way at h in absurd (cc)
 
 -- The objects in order are those that the test passes.
 
@@ -156,7 +145,7 @@ pub record HasNext (t : ℕ) (objects : List Entry) (handle : ℕ) : Type 0 wher
   pub next : IsNextOf t objects rest entry
   pub handle_is : entry.handle ≡ handle
 
-pub next_is : (t : ℕ) (objects : List Entry) (handle : ℕ) → IsRising objects → IsNext t objects (Some handle) → HasNext t objects handle
+pub next_is : (t : ℕ) (objects : List Entry) (handle : ℕ) → IsRising objects → IsNext t objects handle → HasNext t objects handle
 next_is t objects handle rising is = elim (in_order (filter (is_due t) objects)) as (λ es. in_order (filter (is_due t) objects) ≡ es → Some handle ≡ option_map (λ entry. entry.handle) (slice_get es 0) → HasNext t objects handle) [
   | [] ↦ λ order of. absurd (cc)
   | entry ∷ rest ↦ λ order of. record {
@@ -165,12 +154,6 @@ next_is t objects handle rising is = elim (in_order (filter (is_due t) objects))
     next = is_next t objects rest entry rising order;
     handle_is = sym (same_Some handle entry.handle of);
   }
-] refl is
-
-pub none_next : (t : ℕ) (objects : List Entry) → IsNext t objects None → filter (is_due t) objects ≡ []
-none_next t objects is = elim (in_order (filter (is_due t) objects)) as (λ es. in_order (filter (is_due t) objects) ≡ es → None ≡ option_map (λ entry. entry.handle) (slice_get es 0) → filter (is_due t) objects ≡ []) [
-  | [] ↦ λ order of. none_in_order (filter (is_due t) objects) order
-  | entry ∷ rest ↦ λ order of. absurd (cc)
 ] refl is
 
 -- The next object fires.
@@ -245,10 +228,3 @@ sum_then f globals objects rest entry next =
     ∙ (ap (λ (es : List Entry). sum_by f es) next.order
     ∙ (sum_by-cons f entry rest
     ∙ ap (λ (n : ℕ). f entry + n) (ap (λ (es : List Entry). sum_by f es) (sym (rest_left globals objects rest entry next)) ∙ sum-in_order f (filter (is_due globals.now) (once_fired globals entry objects)))))
-
--- the handle that comes first of all that are due comes next
-pub first_comes : (t : ℕ) (objects : List Entry) (at : ℕ) (next : Option ℕ) → FiresFirst t objects at → next ≡ option_map (λ entry. entry.handle) (slice_get objects at) → IsNext t objects next
-first_comes t objects at next first is =
-    is
-    ∙ (ap (option_map (λ entry. entry.handle)) (first_stands t objects at first)
-    ∙ sym (ap (λ (es : List Entry). option_map (λ entry. entry.handle) (slice_get es 0)) (first_in_order t objects at first)))

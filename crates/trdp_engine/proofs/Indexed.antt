@@ -1,12 +1,9 @@
 -- The index by comId stays the image of the slots' objects, as they come, change and go.
-use Rattle.std.proofs.Common.{◌≡◌, ◌≢◌, ℕ, zero, suc, ◌+◌, ◌<◌, ◌≤◌, List, [], ◌∷◌, ◌++◌, length, map, set, get_or, filter, not, cond, Option, Some, None, Bool, true, false, is_some, sum_by, count_by, refl, ◌∙◌, sym, ap, subst, arith, append_assoc, append-nil}
-use Rattle.std.specs.Prelude.{◌==◌, nat_lt, ◌&&◌, ◌||◌, find}
-use Rattle.std.specs.List.{flat_map}
+use Rattle.std.proofs.Common.{◌≡◌, ◌≢◌, ℕ, zero, suc, ◌+◌, ◌<◌, List, [], ◌∷◌, ◌++◌, length, map, set, filter, not, Option, Some, None, Bool, true, false, refl, ◌∙◌, sym, ap, subst, arith, append_assoc, append-nil}
+use Rattle.std.specs.Prelude.{◌==◌}
 use Rattle.std.proofs.lemmas.Bool.{false≢true}
 use Rattle.std.proofs.lemmas.Bool.Decides.{nat_tests}
-use Rattle.std.proofs.lemmas.List.Sums.{sum_by-cons, sum_by-set}
 use Rattle.std.proofs.lemmas.List.Elements.{filter-append}
-use Rattle.std.proofs.lemmas.Option.{same_Some, none-some}
 use Rattle.trdp_filter.specs.declared.globals.Globals.{Globals}
 use Rattle.trdp_filter.specs.Telegrams.{TelegramModel, PdIs, MdIs}
 use Rattle.trdp_pd.specs.Publishers.{is_answered, may_send}
@@ -14,14 +11,15 @@ use Rattle.trdp_pd.specs.Subscriptions.{is_accepted}
 use Rattle.trdp_table.specs.declared.any_object.AnyObject.{AnyObject}
 use Rattle.trdp_table.specs.declared.any_object.AnyObject.TheVariants.{Publisher, Subscription, Requester, Listener, Caller, Replier}
 use Rattle.trdp_table.specs.Objects.{after_taking, after_firing}
-use Rattle.trdp_table.specs.Tables.{Keyed, SlotTable, TableState, opened_slot, slot_in, by_handle, new_object, with_object, without as without_keyed, other_by_handle, with_other_by_handle}
-use Rattle.trdp_table.specs.TableLaws.{AllAbove, AllBelow, IsRising}
+use Rattle.trdp_table.specs.Tables.{Keyed, TableState, slot_in, by_handle, new_object, with_object, without as without_keyed, other_by_handle, with_other_by_handle}
+use Rattle.trdp_table.specs.TableLaws.{AllBelow, IsRising}
 use Rattle.trdp_index.specs.declared.rank.Rank.{Rank}
 use Rattle.trdp_index.specs.declared.com_row.ComRow.{ComRow}
 use Rattle.trdp_index.specs.Ranks.{is_before, is_same}
-use Rattle.trdp_index.specs.Rows.{AllBefore, NoneBefore, with_row, without, has_row, row_of}
-use Rattle.trdp_index.specs.ComRows.{com_number, com_rank, com_row_rank, is_same_com, run_of, has_com_row}
-use Rattle.trdp_engine.specs.Indexed.{com_of, com_found, is_com, is_listed, listed_as, rows_in, rows_from, listed_in, run_with, run_without, one_if_some}
+use Rattle.trdp_index.specs.Rows.{AllBefore, NoneBefore, with_row, without}
+use Rattle.trdp_index.specs.ComRows.{com_number, com_rank, com_row_rank, is_same_com}
+use Rattle.trdp_engine.proofs.Counted.{AreAs, are_as}
+use Rattle.trdp_engine.specs.Indexed.{com_of, is_com, is_listed, listed_as, rows_in, rows_from, run_with, run_without}
 
 -- An object keeps the comId that telegrams look for it under.
 
@@ -206,26 +204,10 @@ runs_added s key object table com_id lt below = either (com_of object) refl
 
 -- those of a handle are looked for so
 abbrev pub AreOf : ℕ → Option (Option ℕ) → List Keyed → Type 0
-AreOf h com_id [] = Unit {0}
-AreOf h com_id (e ∷ es) = (e.handle ≡ h → com_of e.object ≡ com_id) × AreOf h com_id es
-
-above_apart : (h : ℕ) (com_id : Option (Option ℕ)) (es : List Keyed) → AllAbove h es → AreOf h com_id es
-above_apart h com_id [] above = tt
-above_apart h com_id (e ∷ es) above = (λ same. absurd (omega (arith, same, above.0)), above_apart h com_id es above.1)
+AreOf h com_id es = AreAs com_of h com_id es
 
 pub are_of : (h : ℕ) (es : List Keyed) (keyed : Keyed) → IsRising es → by_handle h es ≡ Some keyed → AreOf h (com_of keyed.object) es
-are_of h [] keyed rising found = tt
-are_of h (e ∷ es) keyed rising found = either (e.handle == h) refl found (are_of h es keyed rising.1)
-  where
-    either : (b : Bool) → (e.handle == h) ≡ b → by_handle h (e ∷ es) ≡ Some keyed → (by_handle h es ≡ Some keyed → AreOf h (com_of keyed.object) es) → AreOf h (com_of keyed.object) (e ∷ es)
-    either true is found rest =
-        let same : e ≡ keyed = same_Some e keyed (rw is at found) in
-        let of : e.handle ≡ h = grind (arith, nat_tests) in
-        let above : AllAbove h es = subst (λ (n : ℕ). AllAbove n es) of rising.0 in
-        (λ _. ap (λ (k : Keyed). com_of k.object) same, above_apart h (com_of keyed.object) es above)
-    either false is found rest =
-        let apart : e.handle ≢ h = grind (arith, nat_tests) in
-        (λ same. absurd (apart same), rest (rw is at found))
+are_of h es keyed rising found = are_as com_of h es keyed rising found
 
 without_one : (t s h : ℕ) (com_id own : Option ℕ) (es : List Keyed) → t ≡ s → AreOf h (Some own) es → rows_in t com_id (filter (λ keyed. not (keyed.handle == h)) es) ≡ without com_row_rank (com_rank own s h) (rows_in t com_id es)
 without_one t s h com_id own [] same are = refl

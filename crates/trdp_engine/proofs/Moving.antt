@@ -1,31 +1,31 @@
--- The objects of a slot of the table fire, one after the other, and so do the slots.
-use Rattle.std.proofs.Common.{◌≡◌, ℕ, ◌+◌, ◌<◌, ◌≤◌, List, [], ◌∷◌, ◌++◌, length, drop, filter, zero, suc, Some, refl, ◌∙◌, ap, sym, subst, arith, append_assoc, true}
-use Rattle.std.specs.Prelude.{slice_set, IfSome}
-use Rattle.std.specs.List.{flat_map}
-use Rattle.std.proofs.lemmas.List.{append-nil, map-append}
+-- The objects of all slots fire, one after the other, and slots come to their outcomes.
+use Rattle.std.proofs.Common.{◌≡◌, ◌≢◌, ℕ, zero, suc, ◌+◌, ◌<◌, ◌≤◌, List, [], ◌∷◌, ◌++◌, length, drop, filter, Option, Some, None, true, false, refl, ◌∙◌, ap, sym, subst, arith, append_assoc}
+use Rattle.std.specs.Prelude.{◌==◌, slice_get, slice_set, IfSome}
+use Rattle.std.specs.List.{flat_map, sum_by}
+use Rattle.std.proofs.lemmas.Bool.Decides.{nat_tests}
+use Rattle.std.proofs.lemmas.List.{append-nil, length-set}
+use Rattle.std.proofs.lemmas.List.Sums.{sum_by-cons, sum_by-append}
+use Rattle.std.proofs.lemmas.Option.{same_Some, none-some}
 use Rattle.trdp_filter.specs.declared.globals.Globals.{Globals}
 use Rattle.trdp_table.specs.Tables.{TableState}
+use Rattle.trdp_table.specs.TableLaws.{IsTable}
+use Rattle.trdp_timers.specs.declared.order.Order.{Order}
 use Rattle.trdp_engine.specs.declared.room.Room.{Room}
-use Rattle.trdp_engine.specs.Records.{Content, RecordModel, labelled}
+use Rattle.trdp_engine.specs.Records.{Content, RecordModel, labelled, records_of}
 use Rattle.trdp_engine.specs.Slots.{Entry, SlotState, Outcome, unchanged, entry_of, slots_of}
 use Rattle.trdp_engine.specs.Acting.{slot_at, MayAct, TookWithin, Becomes, ActsAt, act_of}
-use Rattle.trdp_engine.proofs.Handles.{IsRising}
+use Rattle.trdp_engine.specs.NodeStates.{HasOutcome, Appends}
 use Rattle.trdp_engine.specs.Moments.{is_due, in_order, firing_act, moved_to}
+use Rattle.trdp_engine.specs.Firing.{ComesNext}
 use Rattle.trdp_engine.specs.Outboxes.{OutboxState}
 use Rattle.trdp_engine.specs.Rooms.{HasRoom, entries_room, moment_room}
+use Rattle.trdp_engine.proofs.Handles.{IsRising}
 use Rattle.trdp_engine.proofs.Rooms.{entry_rows, entry_bytes, rooms_dropped}
-use Rattle.trdp_engine.proofs.Tables.{slots_length, slots_kept, slot_there, slot_is}
-use Rattle.trdp_engine.proofs.Sweeps.{HaveMoved, not_yet, moved_next}
+use Rattle.trdp_engine.proofs.Tables.{slots_length, slot_there, slot_within, slot_is, rising}
+use Rattle.trdp_engine.proofs.Found.{at_each}
+use Rattle.trdp_engine.proofs.Sweeps.{HaveMoved, not_yet, moved_next, get-set_other, appends_next, records_of-append, records_of-labelled, records_of-other}
 use Rattle.trdp_engine.proofs.Turns.{IsRising-acted, is_acted}
-use Rattle.trdp_engine.proofs.Firing.{HasNext, none_fires, rest_left, fires_then, sum_then}
-
--- the slots at the end of the moment of slot s
-abbrev pub moment_slots : Globals → ℕ → TableState → List SlotState
-moment_slots globals s table = slice_set (slots_of table) s (moved_to (slot_at s table) globals).slot
-
--- and the records
-abbrev pub moment_records : Globals → ℕ → TableState → List RecordModel → List RecordModel
-moment_records globals s table records = records ++ labelled s (moved_to (slot_at s table) globals).records
+use Rattle.trdp_engine.proofs.Firing.{HasNext, next_is, none_fires, rest_left, fires_then, sum_then}
 
 -- what is due in slot s
 abbrev pub due_at : Globals → ℕ → TableState → List Entry
@@ -39,7 +39,7 @@ next_found t objects handle n = subst (λ (h : ℕ). entry_of h objects ≡ Some
 pub next_is_due : (t : ℕ) (objects : List Entry) (handle : ℕ) → HasNext t objects handle → IfSome (entry_of handle objects) (λ entry. is_due t entry ≡ true)
 next_is_due t objects handle n = rw (next_found t objects handle n) n.next.due
 
--- and may act
+-- it may act
 pub next_may : (globals : Globals) (slot : SlotState) (handle : ℕ) (out : OutboxState) → HasNext globals.now slot.objects handle → HasRoom out (entries_room (filter (is_due globals.now) slot.objects)) → MayAct slot handle out
 next_may globals slot handle out n room = record {
   entry = n.entry;
@@ -50,72 +50,211 @@ next_may globals slot handle out n room = record {
   };
 }
 
--- one object fired, and the rest of the moment is left
-pub record Fires (globals : Globals) (s : ℕ) (table table_then : TableState) (out out_then : OutboxState) : Type 0 where
-  pub slot : s < length table_then
-  pub rising : IsRising (slot_at s table_then).objects
-  pub slots : moment_slots globals s table_then ≡ moment_slots globals s table
-  pub told : moment_records globals s table_then out_then.records ≡ moment_records globals s table out.records
-  pub fewer : length (in_order (due_at globals s table_then)) < length (in_order (due_at globals s table))
-  pub row_room : out.row_room + (entries_room (due_at globals s table_then)).rows ≤ out_then.row_room + (entries_room (due_at globals s table)).rows
-  pub byte_room : out.byte_room + (entries_room (due_at globals s table_then)).bytes ≤ out_then.byte_room + (entries_room (due_at globals s table)).bytes
+-- one object of slot s fired, and the rest of the moment is left
+record Fires (globals : Globals) (s : ℕ) (table table_then : TableState) (out out_then : OutboxState) : Type 0 where
+  rising : IsRising (slot_at s table_then).objects
+  slots : slots_of table_then ≡ slice_set (slots_of table) s (slot_at s table_then)
+  left : (moved_to (slot_at s table_then) globals).slot ≡ (moved_to (slot_at s table) globals).slot
+  told : List Content
+  records : out_then.records ≡ out.records ++ labelled s told
+  all_told : told ++ (moved_to (slot_at s table_then) globals).records ≡ (moved_to (slot_at s table) globals).records
+  fewer : length (in_order (due_at globals s table_then)) < length (in_order (due_at globals s table))
+  row_room : out.row_room + (entries_room (due_at globals s table_then)).rows ≤ out_then.row_room + (entries_room (due_at globals s table)).rows
+  byte_room : out.byte_room + (entries_room (due_at globals s table_then)).bytes ≤ out_then.byte_room + (entries_room (due_at globals s table)).bytes
 
-set-set : {A : Type 0} (xs : List A) (i : ℕ) (x y : A) → slice_set (slice_set xs i x) i y ≡ slice_set xs i y
-set-set [] i x y = refl
-set-set (z ∷ xs) zero x y = refl
-set-set (z ∷ xs) (suc i) x y = ap (λ (es : List _). z ∷ es) (set-set xs i x y)
-
-labelled-append : (s : ℕ) (records : List RecordModel) (cs ds : List Content) → (records ++ labelled s cs) ++ labelled s ds ≡ records ++ labelled s (cs ++ ds)
-labelled-append s records cs ds =
-    append_assoc records (labelled s cs) (labelled s ds) ∙ ap (λ (rs : List RecordModel). records ++ rs) (sym (map-append _ cs ds))
-
-pub fires_one : (globals : Globals) (s handle : ℕ) (table table_then : TableState) (out out_then : OutboxState) → s < length table → IsRising (slot_at s table).objects → HasNext globals.now (slot_at s table).objects handle → ActsAt s handle (firing_act globals) table table_then out out_then → Fires globals s table table_then out out_then
+fires_one : (globals : Globals) (s handle : ℕ) (table table_then : TableState) (out out_then : OutboxState) → s < length table → IsRising (slot_at s table).objects → HasNext globals.now (slot_at s table).objects handle → ActsAt s handle (firing_act globals) table table_then out out_then → Fires globals s table table_then out out_then
 fires_one globals s handle table table_then out out_then lt rising n acts =
     let slot = slot_at s table in
     let act = firing_act globals in
     let a = is_acted s handle act table table_then out out_then n.entry lt (next_found globals.now slot.objects handle n) acts in
     let left : SlotState = (act_of n.entry act slot).slot in
     let all = fires_then globals slot n.rest n.entry rising n.next in
-    let ends : (moved_to (slot_at s table_then) globals).slot ≡ (moved_to slot globals).slot =
-    ap (λ (x : SlotState). (moved_to x globals).slot) a.slot ∙ ap (λ (o : Outcome). o.slot) all in
     let due_then : due_at globals s table_then ≡ filter (is_due globals.now) left.objects =
     ap (λ (x : SlotState). filter (is_due globals.now) x.objects) a.slot in
     let order_then = ap in_order due_then ∙ rest_left globals slot.objects n.rest n.entry n.next in
     let rows = sum_then entry_rows globals slot.objects n.rest n.entry n.next in
     let bytes = sum_then entry_bytes globals slot.objects n.rest n.entry n.next in
     record {
-      slot = a.there;
       rising = subst (λ (x : SlotState). IsRising x.objects) (sym a.slot) (IsRising-acted n.entry.handle (act n.entry).left slot.objects rising);
-      slots =
-          ap (λ (xs : List SlotState). slice_set xs s (moved_to (slot_at s table_then) globals).slot) a.slots
-          ∙ (set-set (slots_of table) s (slot_at s table_then) (moved_to (slot_at s table_then) globals).slot
-          ∙ ap (slice_set (slots_of table) s) ends);
-      told =
-          ap (λ (x : SlotState). out_then.records ++ labelled s (moved_to x globals).records) a.slot
-          ∙ (ap (λ (rs : List RecordModel). rs ++ labelled s (moved_to left globals).records) a.records
-          ∙ (labelled-append s out.records (act n.entry).records (moved_to left globals).records
-          ∙ ap (λ (o : Outcome). out.records ++ labelled s o.records) all));
+      slots = a.slots;
+      left = ap (λ (x : SlotState). (moved_to x globals).slot) a.slot ∙ ap (λ (o : Outcome). o.slot) all;
+      told = (act n.entry).records;
+      records = a.records;
+      all_told =
+          ap (λ (x : SlotState). (act n.entry).records ++ (moved_to x globals).records) a.slot
+          ∙ ap (λ (o : Outcome). o.records) all;
       fewer = rw (order_then, n.next.order) (omega arith);
       row_room = rw due_then (omega (arith, rows, a.within.rows));
       byte_room = rw due_then (omega (arith, bytes, a.within.bytes));
     }
 
 -- nothing is due any more
-
 none_moves : (globals : Globals) (slot : SlotState) → filter (is_due globals.now) slot.objects ≡ [] → moved_to slot globals ≡ unchanged slot
 none_moves globals slot none = rw (none_fires globals slot.objects none, none) refl
 
-pub moment_ends : (globals : Globals) (s : ℕ) (start table : TableState) (out_start out : OutboxState) → s < length table → filter (is_due globals.now) (slot_at s table).objects ≡ [] → moment_slots globals s table ≡ moment_slots globals s start → moment_records globals s table out.records ≡ moment_records globals s start out_start.records → Becomes s (moved_to (slot_at s start) globals) start table out_start out
-moment_ends globals s start table out_start out lt none slots told =
-    let same = none_moves globals (slot_at s table) none in
+-- What all slots weigh.
+
+-- what is due in a slot
+abbrev due_of_slot : Globals → SlotState → List Entry
+due_of_slot globals slot = filter (is_due globals.now) slot.objects
+
+weigh_set : (f : Entry → ℕ) (g : SlotState → List Entry) (slots : List SlotState) (s : ℕ) (x y : SlotState) → slice_get slots s ≡ Some x → sum_by f (flat_map g (slice_set slots s y)) + sum_by f (g x) ≡ sum_by f (flat_map g slots) + sum_by f (g y)
+weigh_set f g [] s x y at = absurd (none-some x at)
+weigh_set f g (z ∷ slots) zero x y at =
+    let same : z ≡ x = same_Some z x at in
+    let own = ap (λ (w : SlotState). sum_by f (g w)) same in
+    omega (arith, own, sum_by-append f (g y) (flat_map g slots), sum_by-append f (g z) (flat_map g slots))
+weigh_set f g (z ∷ slots) (suc s) x y at =
+    omega (arith, weigh_set f g slots s x y at, sum_by-append f (g z) (flat_map g (slice_set slots s y)), sum_by-append f (g z) (flat_map g slots))
+
+-- how many are due in all slots, each slot's in their order
+abbrev pub due_left : Globals → TableState → ℕ
+due_left globals table = sum_by (λ (slot : SlotState). length (in_order (due_of_slot globals slot))) (slots_of table)
+
+pub count_set : (f : SlotState → ℕ) (slots : List SlotState) (s : ℕ) (x y : SlotState) → slice_get slots s ≡ Some x → sum_by f (slice_set slots s y) + f x ≡ sum_by f slots + f y
+count_set f [] s x y at = absurd (none-some x at)
+count_set f (z ∷ slots) zero x y at =
+    let own = ap f (same_Some z x at) in
+    omega (arith, own, sum_by-cons f y slots, sum_by-cons f z slots)
+count_set f (z ∷ slots) (suc s) x y at =
+    omega (arith, count_set f slots s x y at, sum_by-cons f z (slice_set slots s y), sum_by-cons f z slots)
+
+-- The moment of all slots.
+
+-- the table has the number of slots that it had at the start; what is left of each slot's moment
+-- gives, after what was recorded, the slot's whole moment; and there is room for it
+pub record IsMoving (globals : Globals) (start : TableState) (records : List RecordModel) (table : TableState) (out : OutboxState) : Type 0 where
+  pub count : length table ≡ length start
+  pub rising : (s : ℕ) → s < length start → IsRising (slot_at s table).objects
+  pub left : (s : ℕ) → s < length start → (moved_to (slot_at s table) globals).slot ≡ (moved_to (slot_at s start) globals).slot
+  pub told : (s : ℕ) → s < length start → records_of s out.records ++ (moved_to (slot_at s table) globals).records ≡ records_of s records ++ (moved_to (slot_at s start) globals).records
+  pub appends : Appends (slots_of start) records out.records
+  pub room : HasRoom out (moment_room globals.now (slots_of table))
+
+pub moving_first : (globals : Globals) (table : TableState) (out : OutboxState) → IsTable table → HasRoom out (moment_room globals.now (slots_of table)) → IsMoving globals table out.records table out
+moving_first globals table out sound room = record {
+  count = refl;
+  rising = λ s lt. rising table s sound;
+  left = λ s lt. refl;
+  told = λ s lt. refl;
+  appends = record { more = []; front = sym (append-nil out.records); none_else = λ s none. refl };
+  room = room;
+}
+
+-- what comes next
+abbrev pub Nexts : Globals → TableState → Order → Type 0
+Nexts globals table order = (order.slot < length table) × HasNext globals.now (slot_at order.slot table).objects order.handle
+
+pub nexts : (globals : Globals) (start table : TableState) (records : List RecordModel) (out : OutboxState) (order : Order) → IsMoving globals start records table out → ComesNext globals.now table (Some order) → Nexts globals table order
+nexts globals start table records out order moving next =
+    let lt : order.slot < length start = omega (arith, next.0, moving.count) in
+    (next.0, next_is globals.now (slot_at order.slot table).objects order.handle (moving.rising order.slot lt) next.1)
+
+-- there is room for what one slot gives
+one_of_all : (f : Entry → ℕ) (g : SlotState → List Entry) (slots : List SlotState) (s : ℕ) (x : SlotState) → slice_get slots s ≡ Some x → sum_by f (g x) ≤ sum_by f (flat_map g slots)
+one_of_all f g [] s x at = absurd (none-some x at)
+one_of_all f g (z ∷ slots) zero x at =
+    let own = ap (λ (w : SlotState). sum_by f (g w)) (same_Some z x at) in
+    omega (arith, own, sum_by-append f (g z) (flat_map g slots))
+one_of_all f g (z ∷ slots) (suc s) x at =
+    omega (arith, one_of_all f g slots s x at, sum_by-append f (g z) (flat_map g slots))
+
+pub moving_may : (globals : Globals) (start table : TableState) (records : List RecordModel) (out : OutboxState) (order : Order) → IsMoving globals start records table out → Nexts globals table order → MayAct (slot_at order.slot table) order.handle out
+moving_may globals start table records out order moving next =
+    let there = slot_there table order.slot next.0 in
+    let rows = one_of_all entry_rows (due_of_slot globals) (slots_of table) order.slot (slot_at order.slot table) there in
+    let bytes = one_of_all entry_bytes (due_of_slot globals) (slots_of table) order.slot (slot_at order.slot table) there in
+    next_may globals (slot_at order.slot table) order.handle out next.1
+    (record { rows = omega (arith, rows, moving.room.rows); bytes = omega (arith, bytes, moving.room.bytes) })
+
+-- one more has fired
+pub record MovesOn (globals : Globals) (start : TableState) (records : List RecordModel) (table table_then : TableState) (out_then : OutboxState) : Type 0 where
+  pub moving : IsMoving globals start records table_then out_then
+  pub fewer : due_left globals table_then < due_left globals table
+
+pub moves_on : (globals : Globals) (start table table_then : TableState) (records : List RecordModel) (out out_then : OutboxState) (order : Order) → IsMoving globals start records table out → Nexts globals table order → ActsAt order.slot order.handle (firing_act globals) table table_then out out_then → MovesOn globals start records table table_then out_then
+moves_on globals start table table_then records out out_then order moving next acts =
     record {
-      slots =
-          sym (slots_kept table s lt)
-          ∙ (ap (λ (o : Outcome). slice_set (slots_of table) s o.slot) (sym same) ∙ slots);
-      records =
-          sym (append-nil out.records)
-          ∙ (ap (λ (o : Outcome). out.records ++ labelled s o.records) (sym same) ∙ told);
+      moving = record {
+        count = count;
+        rising = λ r lt. at_each (λ n. n < length start → IsRising (slot_at n table_then).objects) s (λ _. f.rising) (λ n apart within. subst (λ (x : SlotState). IsRising x.objects) (sym (same n apart within)) (moving.rising n within)) r lt;
+        left = λ r lt. at_each (λ n. n < length start → (moved_to (slot_at n table_then) globals).slot ≡ (moved_to (slot_at n start) globals).slot) s (λ within. f.left ∙ moving.left s within) (λ n apart within. ap (λ (x : SlotState). (moved_to x globals).slot) (same n apart within) ∙ moving.left n within) r lt;
+        told = λ r lt. at_each (λ n. n < length start → records_of n out_then.records ++ (moved_to (slot_at n table_then) globals).records ≡ records_of n records ++ (moved_to (slot_at n start) globals).records) s told_here told_else r lt;
+        appends = rw f.records (appends_next (slots_of start) records out.records s (slot_at s start) f.told (slot_there start s here) moving.appends);
+        room = record {
+          rows =
+              let weigh = weigh_set entry_rows (due_of_slot globals) (slots_of table) s (slot_at s table) (slot_at s table_then) there in
+              rw f.slots (omega (arith, weigh, f.row_room, moving.room.rows));
+          bytes =
+              let weigh = weigh_set entry_bytes (due_of_slot globals) (slots_of table) s (slot_at s table) (slot_at s table_then) there in
+              rw f.slots (omega (arith, weigh, f.byte_room, moving.room.bytes));
+        };
+      };
+      fewer =
+          let counts = count_set (λ (slot : SlotState). length (in_order (due_of_slot globals slot))) (slots_of table) s (slot_at s table) (slot_at s table_then) there in
+          rw f.slots (omega (arith, counts, f.fewer));
     }
+  where
+    s : ℕ
+    s = order.slot
+
+    here : s < length start
+    here = omega (arith, next.0, moving.count)
+
+    there : slice_get (slots_of table) s ≡ Some (slot_at s table)
+    there = slot_there table s next.0
+
+    f : Fires globals s table table_then out out_then
+    f = fires_one globals s order.handle table table_then out out_then next.0 (moving.rising s here) next.1 acts
+
+    count : length table_then ≡ length start
+    count =
+        sym (slots_length table_then)
+        ∙ (ap length f.slots ∙ (length-set (slots_of table) s (slot_at s table_then) ∙ (slots_length table ∙ moving.count)))
+
+    -- another slot is as it was
+    same : (n : ℕ) → n ≢ s → n < length start → slot_at n table_then ≡ slot_at n table
+    same n apart lt =
+        let within : n < length table = omega (arith, lt, moving.count) in
+        let within_then : n < length table_then = omega (arith, lt, count) in
+        let differ : (s == n) ≡ false = grind (arith, nat_tests) in
+        same_Some (slot_at n table_then) (slot_at n table)
+        (sym (slot_there table_then n within_then)
+        ∙ (ap (λ (xs : List SlotState). slice_get xs n) f.slots
+        ∙ (get-set_other (slots_of table) s n (slot_at s table_then) differ ∙ slot_there table n within)))
+
+    told_here : s < length start → records_of s out_then.records ++ (moved_to (slot_at s table_then) globals).records ≡ records_of s records ++ (moved_to (slot_at s start) globals).records
+    told_here within =
+        ap (λ (rs : List RecordModel). records_of s rs ++ (moved_to (slot_at s table_then) globals).records) f.records
+        ∙ (ap (λ (cs : List Content). cs ++ (moved_to (slot_at s table_then) globals).records) (records_of-append s out.records (labelled s f.told) ∙ ap (λ (cs : List Content). records_of s out.records ++ cs) (records_of-labelled s f.told))
+        ∙ (append_assoc (records_of s out.records) f.told (moved_to (slot_at s table_then) globals).records
+        ∙ (ap (λ (cs : List Content). records_of s out.records ++ cs) f.all_told ∙ moving.told s within)))
+
+    told_else : (n : ℕ) → n ≢ s → n < length start → records_of n out_then.records ++ (moved_to (slot_at n table_then) globals).records ≡ records_of n records ++ (moved_to (slot_at n start) globals).records
+    told_else n apart within =
+        let differ : (s == n) ≡ false = grind (arith, nat_tests) in
+        let none : records_of n out_then.records ≡ records_of n out.records =
+        ap (records_of n) f.records
+        ∙ (records_of-append n out.records (labelled s f.told)
+        ∙ (ap (λ (cs : List Content). records_of n out.records ++ cs) (records_of-other n s f.told differ) ∙ append-nil (records_of n out.records))) in
+        ap (λ (cs : List Content). cs ++ (moved_to (slot_at n table_then) globals).records) none
+        ∙ (ap (λ (x : SlotState). records_of n out.records ++ (moved_to x globals).records) (same n apart within) ∙ moving.told n within)
+
+-- all have fired
+pub moment_ends : (globals : Globals) (start table : TableState) (records : List RecordModel) (out : OutboxState) → IsMoving globals start records table out → ComesNext globals.now table None → (s : ℕ) (slot : SlotState) → slice_get (slots_of start) s ≡ Some slot → HasOutcome (slots_of table) records out.records s (moved_to slot globals)
+moment_ends globals start table records out moving none s slot at =
+    let lt : s < length start = slot_within start s slot at in
+    let own : slot ≡ slot_at s start = slot_is start s slot at in
+    let still = none_moves globals (slot_at s table) (none s) in
+    subst (λ (x : SlotState). HasOutcome (slots_of table) records out.records s (moved_to x globals)) (sym own)
+    (record {
+      slot_is =
+          slot_there table s (omega (arith, lt, moving.count))
+          ∙ ap (λ (x : SlotState). let some : Option SlotState = Some x in some) (sym (ap (λ (o : Outcome). o.slot) still) ∙ moving.left s lt);
+      records_are =
+          sym (append-nil (records_of s out.records))
+          ∙ (ap (λ (o : Outcome). records_of s out.records ++ o.records) (sym still) ∙ moving.told s lt);
+    })
 
 -- One slot comes to its outcome after the other; these of its objects may give something.
 
@@ -157,15 +296,3 @@ slot_moves f g s start table table_then records out out_then lt moved room becom
         bytes = omega (arith, bytes, room.bytes, took.bytes);
       };
     }
-
--- those that fire
-abbrev pub due_of_slot : Globals → SlotState → List Entry
-due_of_slot globals slot = filter (is_due globals.now) slot.objects
-
--- a slot of which nothing is due is passed over
-pub slot_passes : (globals : Globals) (s : ℕ) (start table : TableState) (records : List RecordModel) (out : OutboxState) → s < length start → HaveMoved (λ slot. moved_to slot globals) s (slots_of start) (slots_of table) records out.records → HasRoom out (moment_room globals.now (drop s (slots_of start))) → filter (is_due globals.now) (slot_at s table).objects ≡ [] → SlotMoves (λ slot. moved_to slot globals) (due_of_slot globals) s start table records out
-slot_passes globals s start table records out lt moved room none =
-    let there : s < length table = omega (arith, lt, moved.count, slots_length start, slots_length table) in
-    slot_moves (λ slot. moved_to slot globals) (due_of_slot globals) s start table table records out out lt moved room
-    (moment_ends globals s table table out out there none refl refl)
-    (record { rows = omega arith; bytes = omega arith })

@@ -1,9 +1,8 @@
 -- The objects that act at a telegram are noted, slot by slot, with the room for what they may give.
-use Rattle.std.proofs.Common.{Bool, zero, suc, ◌≡◌, ℕ, ◌+◌, ◌<◌, ◌≤◌, List, [], ◌∷◌, ◌++◌, length, drop, filter, add-one, Some, refl, ◌∙◌, sym, ap, arith, append_assoc}
-use Rattle.std.specs.Prelude.{slice_get, IfSome}
+use Rattle.std.proofs.Common.{zero, suc, ◌≡◌, ℕ, ◌+◌, ◌<◌, ◌≤◌, List, [], ◌∷◌, ◌++◌, length, drop, add-one, Some, refl, ◌∙◌, sym, ap, arith, append_assoc}
+use Rattle.std.specs.Prelude.{slice_get}
 use Rattle.std.specs.List.{flat_map}
-use Rattle.std.proofs.lemmas.List.{map-append, append-nil, drop_all}
-use Rattle.std.proofs.lemmas.List.Elements.{filter-append}
+use Rattle.std.proofs.lemmas.List.{append-nil, drop_all}
 use Rattle.std.proofs.lemmas.List.Sums.{sum_by-append}
 use Rattle.std.proofs.lemmas.Option.{same_Some}
 use Rattle.trdp_filter.specs.declared.globals.Globals.{Globals}
@@ -50,44 +49,6 @@ pub record Notes (before noted : List Addressee) (room : Room) (next : List Addr
   pub items : noted ++ next ≡ before ++ last
   pub rows : room.rows + later.rows ≡ all.rows
   pub bytes : room.bytes + later.bytes ≡ all.bytes
-
--- those of a slot's objects from an index on that pass the test are still to come
-abbrev pub NotesIn : (Entry → Bool) → ℕ → List Entry → List Addressee → List Addressee → Room → ℕ → Type 0
-NotesIn test s objects before noted room i =
-    Notes before noted room (noted_as s (filter test (drop i objects))) (entries_room (filter test (drop i objects))) (noted_as s (filter test objects)) (entries_room (filter test objects))
-
-pub notes_first : (test : Entry → Bool) (s : ℕ) (objects : List Entry) (before : List Addressee) → NotesIn test s objects before before (record { rows = 0; bytes = 0 }) 0
-notes_first test s objects before = record { items = refl; rows = omega arith; bytes = omega arith }
-
--- one turn within a slot
-pub notes_next : (test : Entry → Bool) (s : ℕ) (objects : List Entry) (before noted noted_then : List Addressee) (room more : Room) (i : ℕ) → i < length objects → NotesIn test s objects before noted room i → IfSome (slice_get objects i) (λ entry. noted_then ≡ noted ++ noted_as s (filter test (entry ∷ []))) → IfSome (slice_get objects i) (λ entry. more ≡ entries_room (filter test (entry ∷ []))) → NotesIn test s objects before noted_then (both_rooms room more) (i + 1)
-notes_next test s objects before noted noted_then room more i lt notes told within =
-    let one = split objects i lt in
-    let own : List Entry = filter test (one.item ∷ []) in
-    let others : List Entry = filter test (drop (i + 1) objects) in
-    let left : filter test (drop i objects) ≡ own ++ others =
-    ap (filter test) one.rest ∙ filter-append test (one.item ∷ []) (drop (i + 1) objects) in
-    let told_one : noted_then ≡ noted ++ noted_as s own = rw one.at at told in
-    let within_one : more ≡ entries_room own = rw one.at at within in
-    let items = rw left at notes.items in
-    let rows = rw left at notes.rows in
-    let bytes = rw left at notes.bytes in
-    record {
-      items = rw told_one (append_assoc noted (noted_as s own) (noted_as s others) ∙ (ap (λ (xs : List Addressee). noted ++ xs) (sym (map-append _ own others)) ∙ items));
-      rows = omega (arith, rows, rows_of-append own others, ap (λ (r : Room). r.rows) within_one);
-      bytes = omega (arith, bytes, bytes_of-append own others, ap (λ (r : Room). r.bytes) within_one);
-    }
-
-pub notes_end_items : (test : Entry → Bool) (s : ℕ) (objects : List Entry) (before noted : List Addressee) (room : Room) (i : ℕ) → length objects ≤ i → NotesIn test s objects before noted room i → noted ≡ before ++ noted_as s (filter test objects)
-notes_end_items test s objects before noted room i past notes =
-    let items = rw (drop_all i objects past) at notes.items in
-    sym (append-nil noted) ∙ items
-
-pub notes_end_room : (test : Entry → Bool) (s : ℕ) (objects : List Entry) (before noted : List Addressee) (room : Room) (i : ℕ) → length objects ≤ i → NotesIn test s objects before noted room i → room ≡ entries_room (filter test objects)
-notes_end_room test s objects before noted room i past notes =
-    let rows = rw (drop_all i objects past) at notes.rows in
-    let bytes = rw (drop_all i objects past) at notes.bytes in
-    same_room room (entries_room (filter test objects)) (omega (arith, rows)) (omega (arith, bytes))
 
 -- those that act in these slots
 abbrev pub acting_in : TelegramModel → Globals → List SlotState → List Entry

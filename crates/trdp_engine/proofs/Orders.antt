@@ -1,155 +1,68 @@
 -- The object that fires first, and what is left to fire.
-use Rattle.std.proofs.Common.{◌≡◌, ℕ, ◌+◌, ◌<◌, ◌≤◌, List, [], ◌∷◌, ◌++◌, length, drop, filter, Option, Some, None, Bool, true, false, refl, ◌∙◌, sym, ap, arith}
-use Rattle.std.specs.Prelude.{nat_le, if◌then◌else◌, unwrap_or, option_map, slice_get, IfSome}
+use Rattle.std.proofs.Common.{◌≡◌, ◌≢◌, ℕ, ◌+◌, List, [], ◌∷◌, ◌++◌, filter, Some, Bool, true, false, refl, ◌∙◌, sym, ap, subst, arith}
+use Rattle.std.specs.Prelude.{◌==◌, option_map, slice_get}
 use Rattle.std.specs.List.{sum_by}
 use Rattle.std.proofs.lemmas.List.Sums.{sum_by-cons}
 use Rattle.std.proofs.lemmas.Bool.Decides.{nat_tests}
+use Rattle.std.proofs.lemmas.Option.{same_Some, none-some}
 use Rattle.std.proofs.lemmas.List.Elements.{filter-append}
-use Rattle.trdp_table.specs.Objects.{due_of}
-use Rattle.trdp_engine.specs.Slots.{Entry}
+use Rattle.trdp_engine.specs.Slots.{Entry, entry_of}
 use Rattle.trdp_engine.proofs.Handles.{AllAbove, IsRising}
 use Rattle.trdp_engine.specs.Moments.{is_due, is_before, inserted, in_order}
-use Rattle.trdp_engine.specs.Firing.{sooner, due_time, first_from, AllAfter, FiresFirst, IsFirst}
-use Rattle.trdp_engine.proofs.Each.{reads, dropped}
+use Rattle.trdp_engine.specs.Firing.{AllAfter, FiresFirst, IsNext}
 
--- these are due no earlier
-abbrev AllFrom : ℕ → List Entry → Type 0
-AllFrom due [] = Unit {0}
-AllFrom due (entry ∷ entries) = (due ≤ unwrap_or (due_of entry.object) 0) × AllFrom due entries
+-- each of these that is due, and has another handle, fires after it
+abbrev pub AllCome : ℕ → Entry → List Entry → Type 0
+AllCome t e [] = Unit {0}
+AllCome t e (x ∷ xs) = (is_due t x ≡ true → x.handle ≢ e.handle → is_before e x ≡ true) × AllCome t e xs
 
-record Least (t at : ℕ) (objects : List Entry) (first : ℕ × ℕ) : Type 0 where
-  before : List Entry
-  entry : Entry
-  after : List Entry
-  split : objects ≡ before ++ entry ∷ after
-  index : first.0 ≡ at + length before
-  due : is_due t entry ≡ true
-  time : due_of entry.object ≡ Some first.1
-  first_before : AllAfter entry (filter (is_due t) before)
-  first_after : AllAfter entry (filter (is_due t) after)
-  least : AllFrom first.1 (filter (is_due t) objects)
+-- none of these has the handle
+abbrev AllOthers : ℕ → List Entry → Type 0
+AllOthers h [] = Unit {0}
+AllOthers h (x ∷ xs) = (x.handle ≢ h) × AllOthers h xs
 
-abbrev IsLeast : ℕ → ℕ → List Entry → Option (ℕ × ℕ) → Type 0
-IsLeast t at objects None = filter (is_due t) objects ≡ []
-IsLeast t at objects (Some first) = Least t at objects first
-
-before_by : (x y : Entry) (d : ℕ) → due_of x.object ≡ Some d → d ≤ unwrap_or (due_of y.object) 0 → x.handle < y.handle → is_before x y ≡ true
-before_by x y d time le lt = rw time (grind (arith, nat_tests))
-
-before_at : (x y : Entry) (d e : ℕ) → due_of x.object ≡ Some d → due_of y.object ≡ Some e → d < e → is_before x y ≡ true
-before_at x y d e time other lt = rw (time, other) (grind (arith, nat_tests))
-
-AllFrom-head : (t due : ℕ) (y : Entry) (ys : List Entry) → is_due t y ≡ true → AllFrom due (filter (is_due t) (y ∷ ys)) → due ≤ unwrap_or (due_of y.object) 0
-AllFrom-head t due y ys is from = let h = rw is at from in h.0
-
-AllFrom-tail : (t due : ℕ) (y : Entry) (ys : List Entry) (b : Bool) → is_due t y ≡ b → AllFrom due (filter (is_due t) (y ∷ ys)) → AllFrom due (filter (is_due t) ys)
-AllFrom-tail t due y ys true is from = let h = rw is at from in h.1
-AllFrom-tail t due y ys false is from = rw is at from
-
-AllFrom-less : (d e : ℕ) (xs : List Entry) → d ≤ e → AllFrom e xs → AllFrom d xs
-AllFrom-less d e [] le from = tt
-AllFrom-less d e (x ∷ xs) le from = (omega (arith, from.0), AllFrom-less d e xs le from.1)
+above_others : (h : ℕ) (xs : List Entry) → AllAbove h xs → AllOthers h xs
+above_others h [] above = tt
+above_others h (x ∷ xs) above = (λ same. absurd (omega (arith, same, above.0)), above_others h xs above.1)
 
 AllAfter-cons : (t : ℕ) (x y : Entry) (ys : List Entry) (b : Bool) → is_due t y ≡ b → (b ≡ true → is_before x y ≡ true) → AllAfter x (filter (is_due t) ys) → AllAfter x (filter (is_due t) (y ∷ ys))
 AllAfter-cons t x y ys true is head rest = rw is (head refl, rest)
 AllAfter-cons t x y ys false is head rest = rw is rest
 
--- an object with a lower handle that is due no later than all fires before them
-AllAfter-from : (t due : ℕ) (x : Entry) (xs : List Entry) → due_of x.object ≡ Some due → AllAbove x.handle xs → AllFrom due (filter (is_due t) xs) → AllAfter x (filter (is_due t) xs)
-AllAfter-from t due x [] time above from = tt
-AllAfter-from t due x (y ∷ ys) time above from =
-    AllAfter-cons t x y ys (is_due t y) refl
-    (λ yes. before_by x y due time (AllFrom-head t due y ys yes from) above.0)
-    (AllAfter-from t due x ys time above.1 (AllFrom-tail t due y ys (is_due t y) refl from))
+all_after : (t : ℕ) (e : Entry) (xs : List Entry) → AllCome t e xs → AllOthers e.handle xs → AllAfter e (filter (is_due t) xs)
+all_after t e [] come others = tt
+all_after t e (x ∷ xs) come others =
+    AllAfter-cons t e x xs (is_due t x) refl (λ due. come.0 due others.0) (all_after t e xs come.1 others.1)
 
-skip : (t at : ℕ) (x : Entry) (xs : List Entry) (first : Option (ℕ × ℕ)) → is_due t x ≡ false → IsLeast t (at + 1) xs first → IsLeast t at (x ∷ xs) first
-skip t at x xs None not none = rw not none
-skip t at x xs (Some first) not l =
-    record {
-      before = x ∷ l.before;
-      entry = l.entry;
-      after = l.after;
-      split = ap (λ (es : List Entry). x ∷ es) l.split;
-      index = omega (arith, l.index);
-      due = l.due;
-      time = l.time;
-      first_before = rw not l.first_before;
-      first_after = l.first_after;
-      least = rw not l.least;
-    }
-
-take : (t at d : ℕ) (x : Entry) (xs : List Entry) → is_due t x ≡ true → due_of x.object ≡ Some d → AllAbove x.handle xs → AllFrom d (filter (is_due t) xs) → Least t at (x ∷ xs) (at, d)
-take t at d x xs is time above from =
-    record {
-      before = [];
-      entry = x;
-      after = xs;
-      split = refl;
-      index = omega arith;
-      due = is;
-      time = time;
-      first_before = tt;
-      first_after = AllAfter-from t d x xs time above from;
-      least = rw is (rw time (omega arith), from);
-    }
-
-keep : (t at d : ℕ) (x : Entry) (xs : List Entry) (first : ℕ × ℕ) → is_due t x ≡ true → due_of x.object ≡ Some d → first.1 < d → Least t (at + 1) xs first → Least t at (x ∷ xs) first
-keep t at d x xs first is time lt l =
-    record {
-      before = x ∷ l.before;
-      entry = l.entry;
-      after = l.after;
-      split = ap (λ (es : List Entry). x ∷ es) l.split;
-      index = omega (arith, l.index);
-      due = l.due;
-      time = l.time;
-      first_before = rw is (before_at l.entry x first.1 d l.time time lt, l.first_before);
-      first_after = l.first_after;
-      least = rw is (rw time (omega arith), l.least);
-    }
-
-le_yes : (d e : ℕ) → nat_le d e ≡ true → d ≤ e
-le_yes d e is = grind (arith, nat_tests)
-
-le_no : (d e : ℕ) → nat_le d e ≡ false → e < d
-le_no d e is = grind (arith, nat_tests)
-
-earlier : (t at d : ℕ) (x : Entry) (xs : List Entry) (first : ℕ × ℕ) (le : Bool) → nat_le d first.1 ≡ le → is_due t x ≡ true → due_of x.object ≡ Some d → AllAbove x.handle xs → Least t (at + 1) xs first → IsLeast t at (x ∷ xs) (if le then Some (at, d) else Some first)
-earlier t at d x xs first true le is time above l = take t at d x xs is time above (AllFrom-less d first.1 _ (le_yes d first.1 le) l.least)
-earlier t at d x xs first false le is time above l = keep t at d x xs first is time (le_no d first.1 le) l
-
-come : (t at d : ℕ) (x : Entry) (xs : List Entry) (first : Option (ℕ × ℕ)) → is_due t x ≡ true → due_of x.object ≡ Some d → AllAbove x.handle xs → IsLeast t (at + 1) xs first → IsLeast t at (x ∷ xs) (sooner first at (Some d))
-come t at d x xs None is time above none = take t at d x xs is time above (rw none tt)
-come t at d x xs (Some first) is time above l = earlier t at d x xs first (nat_le d first.1) refl is time above l
-
-come_or_not : (t at d : ℕ) (x : Entry) (xs : List Entry) (first : Option (ℕ × ℕ)) (b : Bool) → nat_le d t ≡ b → due_of x.object ≡ Some d → AllAbove x.handle xs → IsLeast t (at + 1) xs first → IsLeast t at (x ∷ xs) (sooner first at (if b then Some d else None))
-come_or_not t at d x xs first true le time above l = come t at d x xs first (rw time le) time above l
-come_or_not t at d x xs first false le time above l = skip t at x xs first (rw time le) l
-
-next : (t at : ℕ) (x : Entry) (xs : List Entry) (first : Option (ℕ × ℕ)) (due : Option ℕ) → due_of x.object ≡ due → AllAbove x.handle xs → IsLeast t (at + 1) xs first → IsLeast t at (x ∷ xs) (sooner first at (due_time t due))
-next t at x xs first None time above l = skip t at x xs first (rw time refl) l
-next t at x xs first (Some d) time above l = come_or_not t at d x xs first (nat_le d t) refl time above l
-
-least_is : (t at : ℕ) (xs : List Entry) → IsRising xs → IsLeast t at xs (first_from t at xs)
-least_is t at [] rising = refl
-least_is t at (x ∷ xs) rising = next t at x xs (first_from t (at + 1) xs) (due_of x.object) refl rising.0 (least_is t (at + 1) xs rising.1)
-
-found : (t : ℕ) (xs : List Entry) (first : Option (ℕ × ℕ)) → IsLeast t 0 xs first → IsFirst t xs (option_map (λ f. f.0) first)
-found t xs None none = none
-found t xs (Some first) l =
-    record {
-      before = l.before;
-      entry = l.entry;
-      after = l.after;
-      split = l.split;
-      index = omega (arith, l.index);
-      due = l.due;
-      first_before = l.first_before;
-      first_after = l.first_after;
-    }
-
-pub first_is : (t : ℕ) (xs : List Entry) → IsRising xs → IsFirst t xs (option_map (λ f. f.0) (first_from t 0 xs))
-first_is t xs rising = found t xs (first_from t 0 xs) (least_is t 0 xs rising)
+-- it fires first of all that are due
+pub fires_first : (t : ℕ) (e : Entry) (xs : List Entry) → IsRising xs → AllCome t e xs → entry_of e.handle xs ≡ Some e → is_due t e ≡ true → FiresFirst t xs e
+fires_first t e [] rising come found due = absurd (none-some e found)
+fires_first t e (x ∷ xs) rising come found due =
+    either (x.handle == e.handle) refl found (λ later. fires_first t e xs rising.1 come.1 later due)
+  where
+    either : (b : Bool) → (x.handle == e.handle) ≡ b → entry_of e.handle (x ∷ xs) ≡ Some e → (entry_of e.handle xs ≡ Some e → FiresFirst t xs e) → FiresFirst t (x ∷ xs) e
+    either true is found rest =
+        let same : x ≡ e = same_Some x e (rw is at found) in
+        let above : AllAbove e.handle xs = subst (λ (y : Entry). AllAbove y.handle xs) same rising.0 in
+        record {
+          before = [];
+          after = xs;
+          split = ap (λ (y : Entry). y ∷ xs) same;
+          due = due;
+          first_before = tt;
+          first_after = all_after t e xs come.1 (above_others e.handle xs above);
+        }
+    either false is found rest =
+        let f = rest (rw is at found) in
+        let apart : x.handle ≢ e.handle = grind (arith, nat_tests) in
+        record {
+          before = x ∷ f.before;
+          after = f.after;
+          split = ap (λ (es : List Entry). x ∷ es) f.split;
+          due = due;
+          first_before = AllAfter-cons t e x f.before (is_due t x) refl (λ yes. come.0 yes apart) f.first_before;
+          first_after = f.first_after;
+        }
 
 not_after : (x y : Entry) → is_before x y ≡ true → is_before y x ≡ false
 not_after x y is = grind (arith, nat_tests)
@@ -178,19 +91,16 @@ filter-in : (t : ℕ) (x : Entry) (before after : List Entry) → is_due t x ≡
 filter-in t x before after is = filter-append (is_due t) before (x ∷ after) ∙ rw is refl
 
 -- the first of all in order
-pub first_in_order : (t : ℕ) (objects : List Entry) (at : ℕ) (f : FiresFirst t objects at) → in_order (filter (is_due t) objects) ≡ f.entry ∷ in_order (filter (is_due t) f.before ++ filter (is_due t) f.after)
-first_in_order t objects at f =
+pub first_in_order : (t : ℕ) (objects : List Entry) (entry : Entry) (f : FiresFirst t objects entry) → in_order (filter (is_due t) objects) ≡ entry ∷ in_order (filter (is_due t) f.before ++ filter (is_due t) f.after)
+first_in_order t objects entry f =
     ap (λ (es : List Entry). in_order (filter (is_due t) es)) f.split
-    ∙ (ap in_order (filter-in t f.entry f.before f.after f.due)
-    ∙ in_order-first f.entry (filter (is_due t) f.before) (filter (is_due t) f.after) f.first_before f.first_after)
+    ∙ (ap in_order (filter-in t entry f.before f.after f.due)
+    ∙ in_order-first entry (filter (is_due t) f.before) (filter (is_due t) f.after) f.first_before f.first_after)
 
--- and where it stands
-pub first_stands : (t : ℕ) (objects : List Entry) (at : ℕ) (f : FiresFirst t objects at) → slice_get objects at ≡ Some f.entry
-first_stands t objects at f = rw (f.split, f.index) (got_at f.before f.entry f.after)
-  where
-    got_at : (before : List Entry) (entry : Entry) (after : List Entry) → slice_get (before ++ entry ∷ after) (length before) ≡ Some entry
-    got_at [] entry after = refl
-    got_at (x ∷ before) entry after = got_at before entry after
+-- it comes next
+pub comes_next : (t : ℕ) (objects : List Entry) (entry : Entry) → FiresFirst t objects entry → IsNext t objects entry.handle
+comes_next t objects entry f =
+    ap (λ (es : List Entry). option_map (λ e. e.handle) (slice_get es 0)) (sym (first_in_order t objects entry f))
 
 -- Some of the objects in order are those objects in order.
 
@@ -294,9 +204,3 @@ sum-inserted f x (y ∷ ys) = either (is_before y x) refl (sum-inserted f x ys)
 pub sum-in_order : (f : Entry → ℕ) (xs : List Entry) → sum_by f (in_order xs) ≡ sum_by f xs
 sum-in_order f [] = refl
 sum-in_order f (x ∷ xs) = sum-inserted f x (in_order xs) ∙ (ap (λ (n : ℕ). f x + n) (sum-in_order f xs) ∙ sym (sum_by-cons f x xs))
-
--- one more object, which stands before those that were looked at
-pub first_before : (t : ℕ) (objects : List Entry) (i n : ℕ) (due : Option ℕ) → n ≡ i + 1 → i < length objects → IfSome (slice_get objects i) (λ entry. due ≡ due_time t (due_of entry.object)) → sooner (first_from t n (drop n objects)) i due ≡ first_from t i (drop i objects)
-first_before t objects i n due after lt is =
-    let r = reads objects i (λ entry. due ≡ due_time t (due_of entry.object)) lt is in
-    rw (after, r.holds, dropped objects i r.item r.at) refl

@@ -1,10 +1,9 @@
 -- Requests: one that a slot sends, and what a slot makes of one that its listener hears.
-use Rattle.std.proofs.Common.{◌≡◌, ℕ, ◌+◌, ◌<◌, ◌≤◌, List, [], ◌∷◌, ◌++◌, length, drop, filter, Option, Some, None, Bool, true, false, refl, ◌∙◌, sym, ap, subst, arith, append_assoc}
-use Rattle.std.specs.Prelude.{slice_get, slice_set, IfSome, ◌&&◌, not, nat_lt, if◌then◌else◌}
-use Rattle.std.proofs.lemmas.List.{append-nil, drop_all}
+use Rattle.std.proofs.Common.{◌≡◌, ℕ, ◌<◌, ◌≤◌, List, [], ◌∷◌, ◌++◌, length, filter, Option, Some, None, Bool, true, false, refl, ◌∙◌, sym, ap, subst, arith, append_assoc}
+use Rattle.std.specs.Prelude.{slice_set, ◌&&◌, not, nat_lt, if◌then◌else◌}
+use Rattle.std.proofs.lemmas.List.{append-nil}
 use Rattle.std.proofs.lemmas.List.Sums.{sum_by-cons}
 use Rattle.trdp_base.specs.declared.place.Place.{Place}
-use Rattle.trdp_base.specs.declared.session.SessionId.{SessionId}
 use Rattle.trdp_head.specs.declared.md.MdHead.{MdHead}
 use Rattle.trdp_head.specs.MdTelegrams.{MdTelegram}
 use Rattle.trdp_head.specs.MdBytes.{md_bytes}
@@ -28,14 +27,13 @@ use Rattle.trdp_engine.specs.declared.record.Protocol.TheVariants.{Md}
 use Rattle.trdp_engine.specs.Records.{RecordModel, AnswerModel, HandleIs, Answers, Sends, labelled}
 use Rattle.trdp_engine.specs.Slots.{Entry, SlotState, Outcome, unchanged, with_object, slots_of}
 use Rattle.trdp_engine.specs.Openings.{answered, opening_refusal, opened_unless, opened_with}
-use Rattle.trdp_engine.specs.Requests.{is_of_session, has_session, request_refusal, request_sent, asked}
+use Rattle.trdp_engine.specs.Requests.{has_session, request_refusal, request_sent, asked}
 use Rattle.trdp_engine.specs.Datagrams.{is_for_entry, is_listening, hearing, acts_where, acting, requested}
 use Rattle.trdp_engine.specs.Outboxes.{OutboxState}
 use Rattle.trdp_engine.specs.Rooms.{kind_room, entries_room}
 use Rattle.trdp_engine.specs.Acting.{slot_at, Becomes}
 use Rattle.trdp_engine.proofs.Rooms.{entry_rows, entry_bytes}
 use Rattle.trdp_engine.proofs.Tables.{slots_kept}
-use Rattle.trdp_engine.proofs.Noting.{split}
 use Rattle.trdp_engine.proofs.Turns.{same_number}
 
 -- A new object and its answer.
@@ -93,31 +91,6 @@ unasked table s src dst telegram globals out lt = stays table s out lt
 pub unheard : (table : TableState) (s : ℕ) (telegram : TelegramModel) (globals : Globals) (out : OutboxState) → s < length table → hearing telegram globals (slot_at s table).objects ≡ None → Becomes s (requested (slot_at s table) globals telegram) table table out out
 unheard table s (PdIs src dst telegram) globals out lt none = stays table s out lt
 unheard table s (MdIs src dst telegram) globals out lt none = rw none (stays table s out lt)
-
--- Whether a session is open, looked for from the first object on.
-
--- the object of an index is one of the kind in the session, or isn't
-abbrev pub IsSessionAt : Kind → SessionId → List Entry → ℕ → Bool → Type 0
-IsSessionAt k session objects i answer =
-    IfSome (slice_get objects i) (λ entry. answer ≡ (is_same_kind (kind_of entry.object) k && is_of_session session entry.object))
-
--- one that isn't is passed over
-pub session_later : (k : Kind) (session : SessionId) (objects : List Entry) (i : ℕ) → i < length objects → IsSessionAt k session objects i false → has_session k session (drop i objects) ≡ has_session k session (drop (i + 1) objects)
-session_later k session objects i lt not =
-    let one = split objects i lt in
-    let none : false ≡ (is_same_kind (kind_of one.item.object) k && is_of_session session one.item.object) = rw one.at at not in
-    rw one.rest (rw (sym none) refl)
-
--- the first that is settles it
-pub session_here : (k : Kind) (session : SessionId) (objects : List Entry) (i : ℕ) → i < length objects → IsSessionAt k session objects i true → has_session k session (drop i objects) ≡ true
-session_here k session objects i lt is =
-    let one = split objects i lt in
-    let some : true ≡ (is_same_kind (kind_of one.item.object) k && is_of_session session one.item.object) = rw one.at at is in
-    rw one.rest (rw (sym some) refl)
-
--- behind the last there is none
-pub session_none : (k : Kind) (session : SessionId) (objects : List Entry) (i : ℕ) → length objects ≤ i → has_session k session (drop i objects) ≡ false
-session_none k session objects i past = rw (drop_all i objects past) refl
 
 -- Room for what is told of it.
 

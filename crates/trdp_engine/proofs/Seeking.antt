@@ -1,21 +1,20 @@
 -- The objects that process data is for stand in the run of one comId.
-use Rattle.std.proofs.Common.{◌≡◌, ◌≢◌, ℕ, zero, suc, ◌+◌, ◌<◌, ◌≤◌, List, [], ◌∷◌, ◌++◌, length, map, drop, filter, not, Option, Some, None, Bool, true, false, refl, ◌∙◌, sym, ap, subst, arith, append_assoc, append-nil}
-use Rattle.std.specs.Prelude.{slice_get, option_map, find, ◌==◌, ◌&&◌, ◌||◌}
-use Rattle.std.specs.List.{flat_map}
+use Rattle.std.proofs.Common.{◌≡◌, ℕ, suc, ◌+◌, ◌<◌, ◌≤◌, List, [], ◌∷◌, ◌++◌, length, map, drop, filter, not, Some, Bool, true, false, refl, ◌∙◌, sym, ap, arith, append_assoc, append-nil, None}
+use Rattle.std.specs.Prelude.{slice_get, ◌==◌, ◌&&◌}
 use Rattle.std.proofs.lemmas.Bool.{false≢true}
 use Rattle.std.proofs.lemmas.Bool.Decides.{nat_tests}
 use Rattle.std.proofs.lemmas.List.{map-append, drop_all}
 use Rattle.std.proofs.lemmas.List.Concat.{flat_map-cons}
 use Rattle.std.proofs.lemmas.Grind.{flat_map-append}
 use Rattle.std.proofs.lemmas.List.Sums.{sum_by-append}
-use Rattle.std.proofs.lemmas.Option.{same_Some, none-some}
+use Rattle.std.proofs.lemmas.Option.{same_Some}
 use Rattle.trdp_base.specs.declared.place.Place.{Place}
 use Rattle.trdp_head.specs.declared.pd.PdHead.{PdHead}
 use Rattle.trdp_head.specs.declared.pd.PdKind.{PdKind}
 use Rattle.trdp_head.specs.declared.pd.PdKind.TheVariants.{Data, PullReply, PullRequest, Error as PdError}
 use Rattle.trdp_head.specs.PdTelegrams.{PdTelegram}
 use Rattle.trdp_filter.specs.declared.globals.Globals.{Globals}
-use Rattle.trdp_filter.specs.Telegrams.{TelegramModel, PdIs, MdIs}
+use Rattle.trdp_filter.specs.Telegrams.{TelegramModel, PdIs}
 use Rattle.trdp_filter.specs.PdFilters.{pd_passes}
 use Rattle.trdp_pd.specs.Publishers.{PublisherState, is_asked, asks_for_value, asked_com_id}
 use Rattle.trdp_pd.specs.Subscriptions.{SubscriptionState, is_for, carries_value}
@@ -23,25 +22,26 @@ use Rattle.trdp_table.specs.declared.any_object.AnyObject.{AnyObject}
 use Rattle.trdp_table.specs.declared.any_object.AnyObject.TheVariants.{Publisher, Subscription, Requester, Listener, Caller, Replier}
 use Rattle.trdp_table.specs.Objects.{is_addressed}
 use Rattle.trdp_table.specs.Kinds.{kind_of}
-use Rattle.trdp_table.specs.Tables.{Keyed, SlotTable, TableState, slot_in, all_objects, by_handle, by_key}
+use Rattle.trdp_table.specs.Tables.{Keyed, TableState, slot_in, all_objects, by_handle, by_key}
 use Rattle.trdp_index.specs.declared.com_row.ComRow.{ComRow}
 use Rattle.trdp_engine.specs.declared.addressees.Addressee.{Addressee}
 use Rattle.trdp_engine.specs.declared.room.Room.{Room}
-use Rattle.trdp_engine.specs.Slots.{Entry, SlotState, entry_of_keyed, slot_of, slots_of}
+use Rattle.trdp_engine.specs.Slots.{Entry, entry_of_keyed, slot_of, slots_of}
 use Rattle.trdp_engine.specs.Rooms.{kind_room, entries_room}
-use Rattle.trdp_engine.specs.Datagrams.{is_for_entry, is_listening, hearing, is_handle, acts_where, acting}
+use Rattle.trdp_engine.specs.Datagrams.{is_for_entry, is_listening, acting, hearing}
 use Rattle.trdp_engine.specs.Noted.{noted_as, noted_from}
 use Rattle.trdp_engine.specs.Indexed.{com_of, is_com, is_listed, listed_as, rows_in, rows_from}
-use Rattle.trdp_engine.specs.Sought.{sought_as, sought_by, hit_by, hit, hits, noted_rows}
-use Rattle.trdp_engine.proofs.Noting.{Split, split, Notes, both_rooms, same_room, acting_in}
+use Rattle.trdp_engine.specs.Sought.{sought_as, sought_by, hit, hits, noted_rows}
+use Rattle.trdp_engine.proofs.Unheard.{acting_all}
+use Rattle.trdp_engine.proofs.Noting.{split, Notes, both_rooms, same_room, acting_in}
 
 -- Which objects process data is for.
 
-and_left : (a b : Bool) → (a && b) ≡ true → a ≡ true
+pub and_left : (a b : Bool) → (a && b) ≡ true → a ≡ true
 and_left true b both = refl
 and_left false b both = absurd (false≢true both)
 
-and_right : (a b : Bool) → (a && b) ≡ true → b ≡ true
+pub and_right : (a b : Bool) → (a && b) ≡ true → b ≡ true
 and_right true b both = both
 and_right false b both = absurd (false≢true both)
 
@@ -104,27 +104,12 @@ no_listener e src dst t globals = by_kind e.object
     by_kind (Caller c) = refl
     by_kind (Replier r) = refl
 
-nobody_hears : (src dst : Place) (t : PdTelegram) (globals : Globals) (es : List Entry) → hearing (PdIs src dst t) globals es ≡ None
+pub nobody_hears : (src dst : Place) (t : PdTelegram) (globals : Globals) (es : List Entry) → hearing (PdIs src dst t) globals es ≡ None
 nobody_hears src dst t globals [] = refl
 nobody_hears src dst t globals (e ∷ es) = rw (no_listener e src dst t globals) (nobody_hears src dst t globals es)
 
-acts_is : (e : Entry) (src dst : Place) (t : PdTelegram) (globals : Globals) → acts_where None (PdIs src dst t) globals e ≡ is_for_entry (PdIs src dst t) globals e
-acts_is e src dst t globals = either (is_listening e) (is_for_entry (PdIs src dst t) globals e) (no_listener e src dst t globals)
-  where
-    either : (l a : Bool) → (l && a) ≡ false → (a && (not l || false)) ≡ a
-    either true true none = absurd (false≢true (sym none))
-    either true false none = refl
-    either false true none = refl
-    either false false none = refl
-
-filter_same : (p q : Entry → Bool) (es : List Entry) → ((e : Entry) → p e ≡ q e) → filter p es ≡ filter q es
-filter_same p q [] same = refl
-filter_same p q (e ∷ es) same = rw (same e, filter_same p q es same) refl
-
 acting_is : (src dst : Place) (t : PdTelegram) (globals : Globals) (es : List Entry) → acting (PdIs src dst t) globals es ≡ filter (is_for_entry (PdIs src dst t) globals) es
-acting_is src dst t globals es =
-    ap (λ (l : Option ℕ). filter (acts_where l (PdIs src dst t) globals) es) (nobody_hears src dst t globals es)
-    ∙ filter_same (acts_where None (PdIs src dst t) globals) (is_for_entry (PdIs src dst t) globals) es (λ e. acts_is e src dst t globals)
+acting_is src dst t globals es = acting_all (PdIs src dst t) globals (λ e. no_listener e src dst t globals) es
 
 -- The rows of a slot.
 
@@ -133,7 +118,7 @@ abbrev pub AllKeyed : TableState → List Keyed → Type 0
 AllKeyed table [] = Unit {0}
 AllKeyed table (k ∷ ks) = (by_key k.key (all_objects table) ≡ Some k) × AllKeyed table ks
 
-all_keyed : (table : TableState) (ks : List Keyed) → ((i : ℕ) (k : Keyed) → slice_get ks i ≡ Some k → by_key k.key (all_objects table) ≡ Some k) → AllKeyed table ks
+pub all_keyed : (table : TableState) (ks : List Keyed) → ((i : ℕ) (k : Keyed) → slice_get ks i ≡ Some k → by_key k.key (all_objects table) ≡ Some k) → AllKeyed table ks
 all_keyed table [] each = tt
 all_keyed table (k ∷ ks) each = (each 0 k refl, all_keyed table ks (λ i x at. each (suc i) x at))
 

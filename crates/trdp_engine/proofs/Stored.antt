@@ -1,90 +1,24 @@
 -- A store's index stays that of its table.
-use Rattle.std.proofs.Common.{◌≡◌, ◌≢◌, ℕ, zero, suc, ◌+◌, ◌*◌, ◌<◌, ◌≤◌, List, [], ◌∷◌, ◌++◌, length, map, set, get_or, filter, not, cond, Option, Some, None, Bool, true, false, is_some, IfSome, OnSome, sum_by, count_by, refl, ◌∙◌, sym, ap, subst, arith}
+use Rattle.std.proofs.Common.{◌≡◌, ◌≢◌, ℕ, zero, suc, ◌+◌, ◌*◌, ◌<◌, ◌≤◌, List, [], ◌∷◌, ◌++◌, length, map, set, Option, Some, None, Bool, true, false, is_some, IfSome, OnSome, refl, ◌∙◌, sym, ap, subst, arith}
 use Rattle.std.specs.Prelude.{◌==◌, option_map}
 use Rattle.std.proofs.lemmas.Bool.{false≢true}
 use Rattle.std.proofs.lemmas.Bool.Decides.{nat_tests}
 use Rattle.std.proofs.lemmas.List.{length-append, get_or-set_same}
-use Rattle.std.proofs.lemmas.List.Sums.{sum_by-cons, sum_by-set, count_by-le-length}
 use Rattle.std.proofs.lemmas.Option.{same_Some, none-some}
 use Rattle.trdp_table.specs.declared.any_object.AnyObject.{AnyObject}
-use Rattle.trdp_table.specs.declared.kind.Kind.{Kind}
-use Rattle.trdp_table.specs.Tables.{Keyed, SlotTable, TableState, opened_slot, slot_in, all_objects, all_quotas, room_of, by_handle, by_key, refusal, new_object, with_object, without as without_keyed, changed_at, exchanged, other_by_handle, with_other_by_handle, Adds}
-use Rattle.trdp_table.specs.TableLaws.{AllAbove, AllBelow, IsRising, IsTable}
+use Rattle.trdp_table.specs.Tables.{Keyed, SlotTable, TableState, opened_slot, slot_in, all_objects, room_of, by_handle, new_object, with_object, without as without_keyed, changed_at, exchanged, with_other_by_handle, Adds}
+use Rattle.trdp_table.specs.TableLaws.{AllBelow, IsTable}
 use Rattle.trdp_index.specs.declared.rank.Rank.{Rank}
 use Rattle.trdp_index.specs.declared.com_row.ComRow.{ComRow}
 use Rattle.trdp_index.specs.Ranks.{is_same}
 use Rattle.trdp_index.specs.Rows.{row_of, has_row}
 use Rattle.trdp_index.specs.ComRows.{com_number, com_rank, com_row_rank, is_same_com, run_of, has_com_row}
 use Rattle.trdp_index.specs.ComIndexes.{ComIndexState, empty_com_index}
-use Rattle.trdp_engine.specs.Indexed.{com_of, com_found, com_in, is_com, is_listed, listed_as, rows_in, rows_from, listed_in, IsIndexed, run_with, run_without, one_if_some}
+use Rattle.trdp_engine.specs.Indexed.{com_of, com_found, com_in, is_com, is_listed, rows_in, rows_from, listed_in, IsIndexed, run_with, run_without, one_if_some}
 use Rattle.trdp_engine.proofs.Tables.{ExchangesAlone, IsReached}
-use Rattle.trdp_engine.proofs.Indexed.{AreOf, are_of, runs_added, runs_removed, runs_exchanged, same_com, same_com-self, same_number, same_first, same_self, other_slot, other_handle}
-
--- How many objects telegrams look for.
-
-listed_in-cons : (e : Keyed) (es : List Keyed) → listed_in (e ∷ es) ≡ one_if_some (com_of e.object) + listed_in es
-listed_in-cons e es = sum_by-cons (λ (k : Keyed). cond {A = ℕ} (is_some (com_of k.object)) 1 0) e es ∙ ap (λ n. n + listed_in es) (one (com_of e.object))
-  where
-    one : (o : Option (Option ℕ)) → cond {A = ℕ} (is_some o) 1 0 ≡ one_if_some o
-    one None = refl
-    one (Some c) = refl
-
-listed_in-push : (es : List Keyed) (e : Keyed) → listed_in (es ++ e ∷ []) ≡ listed_in es + one_if_some (com_of e.object)
-listed_in-push [] e = omega (arith, listed_in-cons e [])
-listed_in-push (x ∷ es) e = omega (arith, listed_in-cons x (es ++ e ∷ []), listed_in-cons x es, listed_in-push es e)
-
-filter_above : (a h : ℕ) (es : List Keyed) → h ≤ a → AllAbove a es → filter (λ keyed. not (keyed.handle == h)) es ≡ es
-filter_above a h [] le above = refl
-filter_above a h (x ∷ es) le above =
-    let lt : a < x.handle = above.0 in
-    let other : (x.handle == h) ≡ false = grind (arith, nat_tests) in
-    rw (other, filter_above a h es le above.1) refl
-
-listed_in-without : (h : ℕ) (es : List Keyed) (keyed : Keyed) → IsRising es → by_handle h es ≡ Some keyed → listed_in es ≡ listed_in (filter (λ keyed. not (keyed.handle == h)) es) + one_if_some (com_of keyed.object)
-listed_in-without h [] keyed rising found = absurd (none-some keyed found)
-listed_in-without h (e ∷ es) keyed rising found = either (e.handle == h) refl found (listed_in-without h es keyed rising.1)
-  where
-    either : (b : Bool) → (e.handle == h) ≡ b → by_handle h (e ∷ es) ≡ Some keyed → (by_handle h es ≡ Some keyed → listed_in es ≡ listed_in (filter (λ keyed. not (keyed.handle == h)) es) + one_if_some (com_of keyed.object)) → listed_in (e ∷ es) ≡ listed_in (filter (λ keyed. not (keyed.handle == h)) (e ∷ es)) + one_if_some (com_of keyed.object)
-    either true is found rest =
-        let same : e ≡ keyed = same_Some e keyed (rw is at found) in
-        let of : e.handle ≡ h = grind (arith, nat_tests) in
-        let one : one_if_some (com_of e.object) ≡ one_if_some (com_of keyed.object) = ap (λ (k : Keyed). one_if_some (com_of k.object)) same in
-        rw (is, filter_above e.handle h es (omega (arith, of)) rising.0) (omega (arith, listed_in-cons e es, one))
-    either false is found rest =
-        let rec = rest (rw is at found) in
-        rw is (omega (arith, rec, listed_in-cons e es, listed_in-cons e (filter (λ keyed. not (keyed.handle == h)) es)))
-
-listed_in-other : (h : ℕ) (w : AnyObject) (es : List Keyed) → AreOf h (com_of w) es → listed_in (map (other_by_handle h w) es) ≡ listed_in es
-listed_in-other h w [] are = refl
-listed_in-other h w (e ∷ es) are = either (e.handle == h) refl (listed_in-other h w es are.1)
-  where
-    either : (b : Bool) → (e.handle == h) ≡ b → listed_in (map (other_by_handle h w) es) ≡ listed_in es → listed_in (map (other_by_handle h w) (e ∷ es)) ≡ listed_in (e ∷ es)
-    either true is rest =
-        let of : e.handle ≡ h = grind (arith, nat_tests) in
-        let one : one_if_some (com_of e.object) ≡ one_if_some (com_of w) = ap one_if_some (are.0 of) in
-        let k : Keyed = record e { object = w } in
-        rw is (omega (arith, rest, one, listed_in-cons e es, listed_in-cons k (map (other_by_handle h w) es)))
-    either false is rest = rw is (omega (arith, rest, listed_in-cons e es, listed_in-cons e (map (other_by_handle h w) es)))
-
-abbrev listed_all : TableState → ℕ
-listed_all table = sum_by (λ slot. listed_in slot.objects) table
-
--- the totals once a slot changed
-listed-set : (table : TableState) (s : ℕ) (x : SlotTable) → s < length table → listed_all (set table s x) + listed_in (slot_in s table).objects ≡ listed_all table + listed_in x.objects
-listed-set table s x lt = sum_by-set (λ (slot : SlotTable). listed_in slot.objects) table s x (opened_slot []) lt
-
-room-set : (table : TableState) (s : ℕ) (x : SlotTable) → s < length table → x.quotas ≡ (slot_in s table).quotas → room_of (set table s x) ≡ room_of table
-room-set table s x lt same =
-    let sums = sum_by-set (λ (slot : SlotTable). all_quotas slot.quotas) table s x (opened_slot []) lt in
-    let equal : all_quotas x.quotas ≡ all_quotas (slot_in s table).quotas = ap all_quotas same in
-    omega (arith, sums, equal)
-
--- there are no more of them than objects
-listed_few : (table : TableState) → listed_all table ≤ length (all_objects table)
-listed_few [] = omega arith
-listed_few (x ∷ xs) =
-    let here : listed_in x.objects ≤ length x.objects = count_by-le-length (λ (k : Keyed). is_some (com_of k.object)) x.objects in
-    omega (arith, here, listed_few xs, sum_by-cons (λ (slot : SlotTable). listed_in slot.objects) x xs, length-append x.objects (all_objects xs))
+use Rattle.trdp_engine.proofs.Counted.{counted_all, room-set, without_none, counted-push, counted-without, counted-other, counted-set, counted_few, counted_none}
+use Rattle.trdp_engine.proofs.Found.{found_last}
+use Rattle.trdp_engine.proofs.Indexed.{AreOf, are_of, runs_added, runs_removed, runs_exchanged, same_com-self, same_number, same_first, same_self, other_slot, other_handle}
 
 -- The row of one object.
 
@@ -189,7 +123,7 @@ some_from b (suc i) s h com_id (x ∷ xs) keyed of found listed =
 
 pub has_spare : (table : TableState) (index : ComIndexState) (com_id : Option (Option ℕ)) → IsIndexed table index → length (all_objects table) < room_of table → OnSome com_id (length index.rows < index.room)
 has_spare table index None is lt = tt
-has_spare table index (Some own) is lt = omega (arith, lt, listed_few table, is.count, is.room)
+has_spare table index (Some own) is lt = omega (arith, lt, counted_few com_of table, is.count, is.room)
 
 pub is_fresh : (table : TableState) (index : ComIndexState) (com_id : Option (Option ℕ)) (s : ℕ) → IsIndexed table index → IsTable table → IfSome com_id (λ own. has_com_row own s (slot_in s table).next index.rows ≡ false)
 is_fresh table index None s is sound = tt
@@ -215,7 +149,7 @@ is_there table index s h is = found (by_handle h (slot_in s table).objects) refl
 pub indexed_new : (quotas : List (List ℕ)) (room : ℕ) → room_of (map opened_slot quotas) ≤ room → IsIndexed (map opened_slot quotas) (empty_com_index room)
 indexed_new quotas room le = record {
   runs = λ com_id. sym (no_rows 0 com_id quotas);
-  count = sym (none quotas);
+  count = sym (counted_none com_of quotas);
   room = le;
 }
   where
@@ -223,16 +157,12 @@ indexed_new quotas room le = record {
     no_rows b com_id [] = refl
     no_rows b com_id (q ∷ qs) = no_rows (b + 1) com_id qs
 
-    none : (qs : List (List ℕ)) → listed_all (map opened_slot qs) ≡ 0
-    none [] = refl
-    none (q ∷ qs) = omega (arith, sum_by-cons (λ (slot : SlotTable). listed_in slot.objects) (opened_slot q) (map opened_slot qs), none qs)
-
 pub indexed_added : (table : TableState) (index index_then : ComIndexState) (s key : ℕ) (object : AnyObject) → IsIndexed table index → IsTable table → s < length table → ((com_id : Option ℕ) → run_of com_id index_then.rows ≡ run_with (com_of object) s (slot_in s table).next key com_id (run_of com_id index.rows)) → length index_then.rows ≡ length index.rows + one_if_some (com_of object) → index_then.room ≡ index.room → IsIndexed (changed_at s (with_object key object) table) index_then
 indexed_added table index index_then s key object is sound lt runs count room =
     let x = with_object key object (slot_in s table) in
     record {
       runs = λ com_id. runs com_id ∙ (ap (run_with (com_of object) s (slot_in s table).next key com_id) (is.runs com_id) ∙ runs_added s key object table com_id lt (sound.slots s).below);
-      count = omega (arith, count, is.count, listed-set table s x lt, listed_in-push (slot_in s table).objects (new_object (slot_in s table).next key object));
+      count = omega (arith, count, is.count, counted-set com_of table s x lt, counted-push com_of (slot_in s table).objects (new_object (slot_in s table).next key object));
       room = omega (arith, room, is.room, room-set table s x lt refl);
     }
 
@@ -241,18 +171,10 @@ indexed_removed table index index_then s h is sound lt runs count room =
     let x = without_keyed h (slot_in s table) in
     record {
       runs = λ com_id. runs com_id ∙ (ap (run_without (com_in s h table) s h) (is.runs com_id) ∙ gone com_id (by_handle h (slot_in s table).objects) refl);
-      count = counted (by_handle h (slot_in s table).objects) refl count (listed-set table s x lt);
+      count = counted (by_handle h (slot_in s table).objects) refl count (counted-set com_of table s x lt);
       room = omega (arith, room, is.room, room-set table s x lt refl);
     }
   where
-    without_none : (es : List Keyed) → by_handle h es ≡ None → filter (λ keyed. not (keyed.handle == h)) es ≡ es
-    without_none [] none = refl
-    without_none (e ∷ es) none = either (e.handle == h) refl none (without_none es)
-      where
-        either : (b : Bool) → (e.handle == h) ≡ b → by_handle h (e ∷ es) ≡ None → (by_handle h es ≡ None → filter (λ keyed. not (keyed.handle == h)) es ≡ es) → filter (λ keyed. not (keyed.handle == h)) (e ∷ es) ≡ e ∷ es
-        either true at none rest = absurd (none-some e (sym (rw at at none)))
-        either false at none rest = rw at (ap (λ (r : List Keyed). e ∷ r) (rest (rw at at none)))
-
     none_of : (es : List Keyed) → by_handle h es ≡ None → AreOf h None es
     none_of [] none = tt
     none_of (e ∷ es) none = either (e.handle == h) refl none (none_of es)
@@ -267,12 +189,12 @@ indexed_removed table index index_then s h is sound lt runs count room =
     gone com_id None at = runs_removed s h None table com_id (none_of (slot_in s table).objects at)
     gone com_id (Some keyed) at = runs_removed s h (com_of keyed.object) table com_id (are_of h (slot_in s table).objects keyed (sound.slots s).rising at)
 
-    counted : (o : Option Keyed) → by_handle h (slot_in s table).objects ≡ o → length index.rows ≡ length index_then.rows + one_if_some (com_found o) → listed_all (set table s (without_keyed h (slot_in s table))) + listed_in (slot_in s table).objects ≡ listed_all table + listed_in (without_keyed h (slot_in s table)).objects → length index_then.rows ≡ listed_all (changed_at s (without_keyed h) table)
+    counted : (o : Option Keyed) → by_handle h (slot_in s table).objects ≡ o → length index.rows ≡ length index_then.rows + one_if_some (com_found o) → counted_all com_of (set table s (without_keyed h (slot_in s table))) + listed_in (slot_in s table).objects ≡ counted_all com_of table + listed_in (without_keyed h (slot_in s table)).objects → length index_then.rows ≡ counted_all com_of (changed_at s (without_keyed h) table)
     counted None at count sums =
-        let same : listed_in (without_keyed h (slot_in s table)).objects ≡ listed_in (slot_in s table).objects = ap listed_in (without_none (slot_in s table).objects at) in
+        let same : listed_in (without_keyed h (slot_in s table)).objects ≡ listed_in (slot_in s table).objects = ap listed_in (without_none h (slot_in s table).objects at) in
         omega (arith, count, sums, same, is.count)
     counted (Some keyed) at count sums =
-        omega (arith, count, sums, is.count, listed_in-without h (slot_in s table).objects keyed (sound.slots s).rising at)
+        omega (arith, count, sums, is.count, counted-without com_of h (slot_in s table).objects keyed (sound.slots s).rising at)
 
 pub indexed_exchanged : (table : TableState) (index : ComIndexState) (s h : ℕ) (keyed : Keyed) (w : AnyObject) → IsIndexed table index → IsTable table → s < length table → by_handle h (slot_in s table).objects ≡ Some keyed → com_of w ≡ com_of keyed.object → IsIndexed (changed_at s (with_other_by_handle h w) table) index
 indexed_exchanged table index s h keyed w is sound lt found same =
@@ -280,20 +202,11 @@ indexed_exchanged table index s h keyed w is sound lt found same =
     let are : AreOf h (com_of w) (slot_in s table).objects = subst (λ (c : Option (Option ℕ)). AreOf h c (slot_in s table).objects) (sym same) (are_of h (slot_in s table).objects keyed (sound.slots s).rising found) in
     record {
       runs = λ com_id. is.runs com_id ∙ sym (runs_exchanged s h w table com_id are);
-      count = omega (arith, is.count, listed-set table s x lt, listed_in-other h w (slot_in s table).objects are);
+      count = omega (arith, is.count, counted-set com_of table s x lt, counted-other com_of h w (slot_in s table).objects are);
       room = omega (arith, is.room, room-set table s x lt refl);
     }
 
 -- An object that was added is found under its handle.
-
-found_last : (n : ℕ) (es : List Keyed) (e : Keyed) → AllBelow n es → e.handle ≡ n → by_handle n (es ++ e ∷ []) ≡ Some e
-found_last n [] e below is =
-    let same : (e.handle == n) ≡ true = grind (arith, nat_tests) in
-    rw same refl
-found_last n (x ∷ es) e below is =
-    let lt : x.handle < n = below.0 in
-    let other : (x.handle == n) ≡ false = grind (arith, nat_tests) in
-    rw other (found_last n es e below.1 is)
 
 pub added_found : (table table_then : TableState) (s : ℕ) (object : AnyObject) → IsTable table → s < length table → (a : Adds s object table table_then) → by_handle (slot_in s table).next (slot_in s table_then).objects ≡ Some (new_object (slot_in s table).next a.key object)
 added_found table table_then s object sound lt a =
@@ -329,7 +242,7 @@ indexed_reached table index s h key object object_then is sound lt exchanges r s
 -- How many rows there are.
 
 pub rows_few : (table : TableState) (index : ComIndexState) → IsIndexed table index → length (all_objects table) ≤ room_of table → length index.rows ≤ room_of table
-rows_few table index is le = omega (arith, le, listed_few table, is.count)
+rows_few table index is le = omega (arith, le, counted_few com_of table, is.count)
 
 rows_in-few : (s : ℕ) (com_id : Option ℕ) (es : List Keyed) → length (rows_in s com_id es) ≤ length es
 rows_in-few s com_id [] = omega arith

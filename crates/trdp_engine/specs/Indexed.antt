@@ -81,6 +81,6 @@ run_without None slot handle rows = rows
 run_without (Some own) slot handle rows = without com_row_rank (com_rank own slot handle) rows
 
 -- one, where there is one
-abbrev pub one_if_some : Option (Option ℕ) → ℕ
+abbrev pub one_if_some : {X : Type 0} → Option X → ℕ
 one_if_some None = 0
-one_if_some (Some com_id) = 1
+one_if_some (Some x) = 1

@@ -18,7 +18,6 @@ pub mod Values
 pub mod Fitting
 pub mod ShownItems
 pub mod NodeStates
-pub mod Quiet
 pub mod Firing
 pub mod Outboxes
 pub mod Rooms
@@ -27,4 +26,7 @@ pub mod Acting
 pub mod Noted
 pub mod Asked
 pub mod Indexed
+pub mod InSession
+pub mod Timed
 pub mod Sought
+pub mod Costs

@@ -1,11 +1,40 @@
 -- All that a run says of a node.
-use Rattle.std.specs.Prelude.{◌≡◌, ℕ, ◌≤◌, List, length, slice_get, Some, map, take, IfSome}
+use Rattle.std.specs.Prelude.{◌≡◌, ℕ, ◌≤◌, List, [], ◌∷◌, ◌++◌, length, slice_get, Some, map, take}
+use Rattle.std.specs.Prelude.{IfSome, is_some, true}
+use Rattle.trdp_filter.specs.declared.globals.Globals.{Globals}
 use Rattle.trdp_engine.specs.declared.event.Event.{Event}
-use Rattle.trdp_engine.specs.Events.{event_model}
+use Rattle.trdp_engine.specs.Configs.{setup_of}
+use Rattle.trdp_engine.specs.Events.{EventModel, event_model}
 use Rattle.trdp_engine.specs.Slots.{SlotState}
 use Rattle.trdp_engine.specs.Outboxes.{OutboxState}
+use Rattle.trdp_engine.specs.Alone.{refused_as, alone_in_view}
 use Rattle.trdp_engine.specs.NodeStates.{NodeState, RunsAsAlone, Appends, MayTakeMemory}
 use Rattle.trdp_engine.specs.Rooms.{MayLackMemory}
+use Rattle.trdp_engine.specs.Costs.{IsBounded}
+
+-- these are a node's slots after the events
+pub record HasCome (old : NodeState) (events : List EventModel)
+    (slots : List SlotState) : Type 0 where
+  pub count : length slots ≡ length old.slots
+  pub is_alone : (s : ℕ) (slot : SlotState) → slice_get old.slots s ≡ Some slot
+      → slice_get slots s
+      ≡ Some (alone_in_view (setup_of old.config) s slot old.globals events).slot
+
+-- a node of so many slots refuses each of these events
+abbrev pub AreRefused : ℕ → Globals → List EventModel → Type 0
+AreRefused n globals [] = Unit {0}
+AreRefused n globals (event ∷ events) =
+    (is_some (refused_as n globals event) ≡ true) × AreRefused n globals events
+
+-- what a node has counted after these events is as before, where none was taken; else it is within
+-- the bounds of the latest that was taken, with the slots to which those before it led
+pub data CountsLatest (old new : NodeState) (events : List EventModel) : Type 0 where
+  NoneTaken : AreRefused (length new.slots) new.globals events → new.counts ≡ old.counts
+      → CountsLatest old new events
+  Latest : (earlier : List EventModel) (latest : EventModel) (later : List EventModel)
+      (slots : List SlotState) → events ≡ earlier ++ latest ∷ later
+      → AreRefused (length new.slots) new.globals later → HasCome old earlier slots
+      → IsBounded slots latest new.counts → CountsLatest old new events
 
 -- so many of the events were taken, and before the next memory may be wanting; each slot ran as by
 -- itself, and the records are added behind those of before
@@ -21,3 +50,4 @@ pub record HasRun (old new : NodeState) (out out_then : OutboxState) (events : L
       → RunsAsAlone old new out.records out_then.records
       (map event_model (take taken events)) s slot
   pub appends : Appends old.slots out.records out_then.records
+  pub counted : CountsLatest old new (map event_model (take taken events))

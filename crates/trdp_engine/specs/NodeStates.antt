@@ -5,6 +5,7 @@ use Rattle.std.specs.List.{sum_by, list_any}
 use Rattle.trdp_filter.specs.declared.globals.Globals.{Globals}
 use Rattle.trdp_dataset.specs.Configs.{ConfigModel}
 use Rattle.trdp_filter.specs.Globals.{first_globals}
+use Rattle.trdp_engine.specs.declared.counts.Counts.{Counts}
 use Rattle.trdp_engine.specs.Records.{Content, RecordModel, records_of}
 use Rattle.trdp_engine.specs.Events.{EventModel, MomentIs, TopologyIs, RoleIs}
 use Rattle.trdp_engine.specs.Events.{DatagramIs, CallIs}
@@ -14,11 +15,20 @@ use Rattle.trdp_engine.specs.Datagrams.{telegram_of, concerns}
 use Rattle.trdp_engine.specs.Moments.{is_due}
 use Rattle.trdp_engine.specs.Alone.{slot_after, records_after, alone_in_view}
 
--- a node: its configuration, its globals, and its slots
+-- a node: its configuration, its globals, its slots, and what the latest event that it took cost
 pub record NodeState : Type 0 where
   pub config : ConfigModel
   pub globals : Globals
   pub slots : List SlotState
+  pub counts : Counts
+
+-- nothing was counted
+abbrev pub no_counts : Counts
+no_counts = record { comparisons = 0; tests = 0; look_ups = 0 }
+
+-- a node, apart from what its latest event cost
+abbrev pub uncounted : NodeState → NodeState
+uncounted node = record node { counts = no_counts }
 
 -- one event, as slot s sees it
 pub record StepsAsAlone (old new : NodeState) (records records_then : List RecordModel)
@@ -69,6 +79,7 @@ opened_node config =
       config = config;
       globals = first_globals;
       slots = map (λ slot. opened_slot slot.quotas) config.slots;
+      counts = no_counts;
     }
 
 -- slot s is the same in two nodes, and has got the same records since

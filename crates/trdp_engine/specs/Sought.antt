@@ -1,16 +1,25 @@
--- The objects that process data is for, found by its comId.
-use Rattle.std.specs.Prelude.{ℕ, List, [], ◌∷◌, Option, Some, None, ◌==◌, if◌then◌else◌}
+-- The objects that telegrams are for: of process data, and listeners, by the comId, callers and
+-- repliers by their session.
+use Rattle.std.specs.Prelude.{ℕ, min, List, [], ◌∷◌, Option, Some, None, Bool, true, false, ◌==◌}
+use Rattle.std.specs.Prelude.{◌+◌, length, if◌then◌else◌}
 use Rattle.std.specs.List.{flat_map}
+use Rattle.trdp_base.specs.declared.session.SessionId.{SessionId}
+use Rattle.trdp_head.specs.declared.md.MdKind.{MdKind}
+use Rattle.trdp_head.specs.declared.md.MdKind.TheVariants as message
 use Rattle.trdp_head.specs.declared.pd.PdHead.{PdHead}
 use Rattle.trdp_head.specs.declared.pd.PdKind.{PdKind}
 use Rattle.trdp_head.specs.declared.pd.PdKind.TheVariants.{PullRequest}
 use Rattle.trdp_filter.specs.declared.globals.Globals.{Globals}
-use Rattle.trdp_filter.specs.Telegrams.{TelegramModel}
+use Rattle.trdp_filter.specs.Telegrams.{TelegramModel, PdIs, MdIs}
 use Rattle.trdp_table.specs.Objects.{is_addressed}
 use Rattle.trdp_table.specs.Tables.{Keyed, TableState, all_objects, by_key}
 use Rattle.trdp_index.specs.declared.com_row.ComRow.{ComRow}
+use Rattle.trdp_index.specs.declared.session_row.Role.{Role}
+use Rattle.trdp_index.specs.declared.session_row.Role.TheVariants.{Caller, Replier}
 use Rattle.trdp_engine.specs.declared.addressees.Addressee.{Addressee}
+use Rattle.trdp_engine.specs.declared.room.Room.{Room}
 use Rattle.trdp_engine.specs.Slots.{Entry}
+use Rattle.trdp_engine.specs.Indexed.{rows_from}
 use Rattle.trdp_engine.specs.Noted.{noted_as}
 
 -- the comId of the objects that a header of this type may be for
@@ -44,3 +53,67 @@ hits telegram globals table rows = flat_map (hit telegram globals table) rows
 abbrev pub noted_rows : TelegramModel → Globals → TableState → List ComRow → List Addressee
 noted_rows telegram globals table rows =
     flat_map (λ row. noted_as row.slot (hit telegram globals table row)) rows
+
+-- the lesser of two handles that there may be
+abbrev pub earlier : Option ℕ → Option ℕ → Option ℕ
+earlier None b = b
+earlier (Some a) None = Some a
+earlier (Some a) (Some b) = Some (min a b)
+
+-- the handle of the first of these
+abbrev pub first_handle : List Entry → Option ℕ
+first_handle [] = None
+first_handle (entry ∷ entries) = Some entry.handle
+
+-- the handle of a row's object, if it is of slot s and a telegram is for it
+abbrev pub hit_in : TelegramModel → Globals → TableState → ℕ → ComRow → Option ℕ
+hit_in telegram globals table s row =
+    if row.slot == s then first_handle (hit telegram globals table row) else None
+
+-- the least handle of those rows of slot s that a telegram is for
+abbrev pub first_in : TelegramModel → Globals → TableState → ℕ → List ComRow → Option ℕ
+first_in telegram globals table s [] = None
+first_in telegram globals table s (row ∷ rows) =
+    earlier (hit_in telegram globals table s row) (first_in telegram globals table s rows)
+
+-- how many rows are looked at for those that hear a message
+abbrev pub rows_heard : TelegramModel → TableState → ℕ
+rows_heard (PdIs src dst telegram) table = 0
+rows_heard (MdIs src dst telegram) table =
+    length (rows_from 0 (Some telegram.head.com_id) table) + length (rows_from 0 None table)
+
+-- the listener of slot s that hears, if one does
+abbrev pub noted_listener : ℕ → Option ℕ → List Addressee
+noted_listener s None = []
+noted_listener s (Some handle) = record { slot = s; handle = handle } ∷ []
+
+-- room for what it may give
+abbrev pub listener_room : Option ℕ → Room
+listener_room None = record { rows = 0; bytes = 0 }
+listener_room (Some handle) = record { rows = 1; bytes = 65388 }
+
+-- the session of a message of this type, and what an object that it is for is there; those that
+-- come unasked are for listeners
+abbrev pub part_as : MdKind → SessionId → Option (SessionId × Role)
+part_as message.Notify session = None
+part_as message.Request session = None
+part_as message.Reply session = Some (session, Caller)
+part_as message.Query session = Some (session, Caller)
+part_as message.Confirm session = Some (session, Replier)
+part_as message.Error session = Some (session, Caller)
+
+-- the same of a telegram; no object is in a session of process data
+abbrev pub part_of : TelegramModel → Option (SessionId × Role)
+part_of (PdIs src dst telegram) = None
+part_of (MdIs src dst telegram) = part_as telegram.head.kind telegram.head.session
+
+-- the message types that come unasked: these are for listeners alone
+abbrev pub is_unasked : MdKind → Bool
+is_unasked message.Notify = true
+is_unasked message.Request = true
+is_unasked kind = false
+
+-- the telegram is a notification or a request
+abbrev pub comes_unasked : TelegramModel → Bool
+comes_unasked (PdIs src dst telegram) = false
+comes_unasked (MdIs src dst telegram) = is_unasked telegram.head.kind

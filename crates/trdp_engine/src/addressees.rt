@@ -2,12 +2,14 @@
 //! first alone.
 
 ghost use Rattle.std.specs.Prelude.{◌≡◌, ◌+◌, ◌*◌, ◌<◌, ◌≤◌, ◌++◌, ◌∷◌, [], length, IfSome};
-ghost use Rattle.std.specs.Prelude.{slice_get, filter, ◌&&◌, vec_len, vec_capacity, Some};
+ghost use Rattle.std.specs.Prelude.{slice_get, filter, ◌&&◌, vec_len, vec_capacity, Some, true};
+ghost use Rattle.std.specs.Prelude.{ℕ, ◌^◌};
 ghost use Rattle.std.specs.List.{flat_map};
 ghost use Rattle.trdp_filter.specs.Telegrams.{telegram_model};
 ghost use Rattle.trdp_table.specs.declared.kind.Kind.TheVariants.{Listener as Listening};
 ghost use Rattle.trdp_table.specs.Kinds.{kind_of, is_same_kind};
 ghost use Rattle.trdp_table.specs.TableLaws.{object_limit};
+ghost use Rattle.trdp_table.specs.Tables.{room_of};
 ghost use Rattle.trdp_engine.specs.Slots.{slots_of};
 ghost use Rattle.trdp_engine.specs.Datagrams.{is_for_entry, is_listening, hearing, acts_where};
 ghost use Rattle.trdp_engine.specs.Datagrams.{acting};
@@ -15,16 +17,23 @@ ghost use Rattle.trdp_engine.specs.Rooms.{entries_room};
 ghost use Rattle.trdp_engine.specs.Acting.{slot_at};
 ghost use Rattle.trdp_engine.specs.Noted.{noted_as, noted_from};
 ghost use Rattle.trdp_engine.specs.Indexed.{rows_from};
-ghost use Rattle.trdp_engine.specs.Sought.{sought_by, hit, hits, noted_rows};
+ghost use Rattle.trdp_base.specs.declared.session.SessionId.{SessionId};
+ghost use Rattle.trdp_index.specs.declared.session_row.Role.{Role};
+ghost use Rattle.trdp_engine.specs.Sought.{sought_by, hit, hits, noted_rows, part_of};
+ghost use Rattle.trdp_engine.specs.Sought.{comes_unasked, noted_listener, listener_room};
+ghost use Rattle.trdp_engine.specs.Sought.{rows_heard};
+ghost use Rattle.trdp_engine.specs.Costs.{meant_in, meant_of};
 
-use crate::objects::{handle_at, object_at};
+use crate::counts::Counts;
+use crate::filter_test::is_for;
+use crate::first_listeners::hearers;
+use crate::objects::object_of;
 use crate::room::Room;
 use crate::store::Store;
+use trdp_base::SessionId;
 use trdp_filter::{Globals, Telegram};
-use trdp_head::{PdHead, PdKind};
-use trdp_index::ComRow;
-use trdp_pd::Object;
-use trdp_table::{AnyObject, Kind};
+use trdp_head::{MD_PAYLOAD_MAX, MdKind, PdHead, PdKind};
+use trdp_index::{ComRow, Role};
 
 /// An object that is to act.
 #[derive(Clone, Copy)]
@@ -35,113 +44,66 @@ pub struct Addressee {
     pub handle: u32,
 }
 
-/// Whether the object is a listener.
-fn is_listener(object: &AnyObject) -> bool
-    ensures { result ≡ is_same_kind (kind_of object.now) Listening }
+/// The session of the telegram, if it is a message that one of its objects awaits, and what that
+/// object is there.
+fn part_of(telegram: &Telegram<'_>) -> Option<(SessionId, Role)>
+    ensures { result ≡ part_of (telegram_model telegram.now) }
 {
-    Kind::of(object) == Kind::Listener
-}
-
-/// Whether the object of that index in slot `s` is a listener that the telegram is for.
-fn may_hear(store: &Store, s: u16, index: usize, telegram: &Telegram<'_>, globals: &Globals) -> bool
-    requires { s < length store.now }
-    ensures { IfSome (slice_get (slot_at s store.now).objects index)
-        (λ entry. result ≡ (is_listening entry
-        && is_for_entry (telegram_model telegram.now) globals.entry.now entry)) }
-{
-    match object_at(store, s, index) {
-        None => false,
-        Some(object) => is_listener(object) && object.addressed(telegram, globals),
+    match telegram {
+        Telegram::Pd { .. } => None,
+        Telegram::Md { view, .. } => match view.head.kind {
+            MdKind::Notify | MdKind::Request => None,
+            MdKind::Reply | MdKind::Query | MdKind::Error => {
+                Some((view.head.session, Role::Caller))
+            }
+            MdKind::Confirm => Some((view.head.session, Role::Replier)),
+        },
     }
 }
 
-/// The handle of the listener of slot `s` that hears the telegram, the first that it is for; None
-/// where it is for none.
-pub fn hearing(store: &Store, s: u16, telegram: &Telegram<'_>, globals: &Globals) -> Option<u32>
-    requires { s < length store.now }
-    ensures { result
-        ≡ hearing (telegram_model telegram.now) globals.entry.now (slot_at s store.now).objects }
-{
-    if let Telegram::Pd { .. } = telegram {
-        // No listener hears process data.
-        return None;
-    }
-    for index in 0..store.count(s) {
-        if may_hear(store, s, index, telegram, globals) {
-            return handle_at(store, s, index);
-        }
-    }
-    None
-}
-
-/// Notes the object of that index in slot `s` if it acts at the telegram, of whose listeners the
-/// one of that handle hears it, and answers the room for what it may give.
-fn note_at(
+/// Notes the object of slot `s` that is in the telegram's session in that role, if the telegram is
+/// for it, behind what is noted, and answers the room for what it may give.
+fn note_part(
     store: &Store,
     s: u16,
-    index: usize,
-    listener: Option<u32>,
+    session: SessionId,
+    role: Role,
     telegram: &Telegram<'_>,
     globals: &Globals,
     noted: &mut Vec<Addressee>,
+    counts: &mut Counts,
 ) -> Room
     requires slot { s < length store.now }
+    requires part { part_of (telegram_model telegram.now) ≡ Some (session, role) }
     requires capacity { vec_len noted.old < vec_capacity noted.old }
-    ensures noted { IfSome (slice_get (slot_at s store.now).objects index)
-        (λ entry. noted.new.items ≡ noted.old.items ++ noted_as s
-        (filter (acts_where listener (telegram_model telegram.now) globals.entry.now)
-        (entry ∷ []))) }
-    ensures room { IfSome (slice_get (slot_at s store.now).objects index)
-        (λ entry. result ≡ entries_room
-        (filter (acts_where listener (telegram_model telegram.now) globals.entry.now)
-        (entry ∷ []))) }
-    ensures rows { result.rows ≤ 2 }
-    ensures bytes { result.bytes ≤ 65388 }
-    ensures capacity { vec_capacity noted.new ≡ vec_capacity noted.old }
-    ensures length { vec_len noted.new ≤ vec_len noted.old + 1 }
-{
-    let Some(object) = object_at(store, s, index) else {
-        return Room::none();
-    };
-    if !object.addressed(telegram, globals) {
-        return Room::none();
-    }
-    let Some(handle) = handle_at(store, s, index) else {
-        return Room::none();
-    };
-    if is_listener(object) && listener != Some(handle) {
-        return Room::none();
-    }
-    noted.push_reserved(Addressee { slot: s, handle });
-    Room::of(object)
-}
-
-/// Notes the objects of slot `s` that act at the telegram, behind what is noted, and answers the
-/// room for what they may give.
-fn note_in(
-    store: &Store,
-    s: u16,
-    telegram: &Telegram<'_>,
-    globals: &Globals,
-    noted: &mut Vec<Addressee>,
-) -> Room
-    requires slot { s < length store.now }
-    requires capacity { vec_len noted.old + object_limit ≤ vec_capacity noted.old }
     ensures noted { noted.new.items ≡ noted.old.items ++ noted_as s
         (acting (telegram_model telegram.now) globals.entry.now (slot_at s store.now).objects) }
     ensures room { result ≡ entries_room
         (acting (telegram_model telegram.now) globals.entry.now (slot_at s store.now).objects) }
-    ensures rows { result.rows ≤ 2 * object_limit }
-    ensures bytes { result.bytes ≤ 65388 * object_limit }
+    ensures rows { result.rows ≤ 2 }
+    ensures bytes { result.bytes ≤ 65388 }
     ensures capacity { vec_capacity noted.new ≡ vec_capacity noted.old }
-    ensures length { vec_len noted.new ≤ vec_len noted.old + object_limit }
+    ensures length { vec_len noted.new ≤ vec_len noted.old + 1 }
+    ensures few { vec_len noted.new ≤ vec_len noted.old
+        + meant_in (telegram_model telegram.now) (slot_at s store.now).objects }
+    ensures comparisons { counts.new.comparisons ≡ counts.old.comparisons }
+    ensures tests { counts.new.tests ≤ counts.old.tests
+        + meant_in (telegram_model telegram.now) (slot_at s store.now).objects }
+    ensures look_ups { counts.new.look_ups ≤ counts.old.look_ups + 1 }
 {
-    let listener = hearing(store, s, telegram, globals);
-    let mut room = Room::none();
-    for index in 0..store.count(s) {
-        room = room.plus(note_at(store, s, index, listener, telegram, globals, noted));
+    store.sound();
+    counts.looked_up();
+    let Some(handle) = store.handle_in(s, session, role) else {
+        return Room::none();
+    };
+    let Some(object) = object_of(store, s, handle) else {
+        return Room::none();
+    };
+    if !is_for(object, telegram, globals, counts) {
+        return Room::none();
     }
-    room
+    noted.push_reserved(Addressee { slot: s, handle });
+    Room::of(object)
 }
 
 /// The comId of the objects that process data may be for: a pull request is for the publishers of
@@ -168,6 +130,7 @@ fn note_row(
     telegram: &Telegram<'_>,
     globals: &Globals,
     noted: &mut Vec<Addressee>,
+    counts: &mut Counts,
 ) -> Room
     requires { vec_len noted.old < vec_capacity noted.old }
     ensures noted { noted.new.items ≡ noted.old.items ++ noted_as row.now.slot
@@ -178,11 +141,14 @@ fn note_row(
     ensures bytes { result.bytes ≤ 65388 }
     ensures capacity { vec_capacity noted.new ≡ vec_capacity noted.old }
     ensures length { vec_len noted.new ≤ vec_len noted.old + 1 }
+    ensures comparisons { counts.new.comparisons ≡ counts.old.comparisons }
+    ensures tests { counts.new.tests ≤ counts.old.tests + 1 }
+    ensures look_ups { counts.new.look_ups ≡ counts.old.look_ups }
 {
     let Some(object) = store.get(row.key) else {
         return Room::none();
     };
-    if !object.addressed(telegram, globals) {
+    if !is_for(object, telegram, globals, counts) {
         return Room::none();
     }
     noted.push_reserved(Addressee {
@@ -200,6 +166,7 @@ fn note_run(
     telegram: &Telegram<'_>,
     globals: &Globals,
     noted: &mut Vec<Addressee>,
+    counts: &mut Counts,
 ) -> Room
     requires capacity { vec_len noted.old + 16 * object_limit ≤ vec_capacity noted.old }
     ensures noted { noted.new.items ≡ noted.old.items
@@ -208,47 +175,127 @@ fn note_run(
     ensures room { result ≡ entries_room (hits (telegram_model telegram.now) globals.entry.now
         store.now (rows_from 0 (Some com_id) store.now)) }
     ensures capacity { vec_capacity noted.new ≡ vec_capacity noted.old }
+    ensures few { vec_len noted.new
+        ≤ vec_len noted.old + length (rows_from 0 (Some com_id) store.now) }
+    ensures comparisons { (b : ℕ) → room_of store.now < 2 ^ b
+        → counts.new.comparisons ≤ counts.old.comparisons + 2 * b }
+    ensures tests { counts.new.tests
+        ≤ counts.old.tests + length (rows_from 0 (Some com_id) store.now) }
+    ensures look_ups { counts.new.look_ups ≡ counts.old.look_ups }
 {
     let mut comparisons = 0;
     let rows = store.run(Some(com_id), &mut comparisons);
     let mut room = Room::none();
     for row in rows {
-        room = room.plus(note_row(store, row, telegram, globals, noted));
+        room = room.plus(note_row(store, row, telegram, globals, noted, counts));
     }
+    counts.compared(comparisons);
     room
 }
 
-/// Notes the objects that act at the telegram, slot by slot, and answers the room for what they
-/// may give.
-fn note_slots(
+/// Notes in each slot the object that is in the telegram's session in that role, if the telegram
+/// is for it, and answers the room for what they may give.
+fn note_parts(
     store: &Store,
+    session: SessionId,
+    role: Role,
     telegram: &Telegram<'_>,
     globals: &Globals,
     noted: &mut Vec<Addressee>,
+    counts: &mut Counts,
 ) -> Room
     requires capacity { 16 * object_limit ≤ vec_capacity noted.old }
+    requires part { part_of (telegram_model telegram.now) ≡ Some (session, role) }
     ensures noted { noted.new.items
         ≡ noted_from 0 (telegram_model telegram.now) globals.entry.now (slots_of store.now) }
     ensures room { result ≡ entries_room
         (flat_map (λ slot. acting (telegram_model telegram.now) globals.entry.now slot.objects)
         (slots_of store.now)) }
     ensures capacity { vec_capacity noted.new ≡ vec_capacity noted.old }
+    ensures few { vec_len noted.new
+        ≤ meant_of (telegram_model telegram.now) (slots_of store.now) }
+    ensures comparisons { counts.new.comparisons ≡ counts.old.comparisons }
+    ensures tests { counts.new.tests
+        ≤ counts.old.tests + meant_of (telegram_model telegram.now) (slots_of store.now) }
+    ensures look_ups { counts.new.look_ups ≤ counts.old.look_ups + length store.now }
 {
     noted.clear();
     let mut room = Room::none();
     for s in 0..store.slots() {
-        room = room.plus(note_in(store, s as u16, telegram, globals, noted));
+        let slot = s as u16;
+        let own = note_part(store, slot, session, role, telegram, globals, noted, counts);
+        room = room.plus(own);
+    }
+    room
+}
+
+/// Notes the listener of slot `s` that hears a message, if one does, and answers the room for what
+/// it may give.
+fn note_listener(s: u16, listener: Option<u32>, noted: &mut Vec<Addressee>) -> Room
+    requires { vec_len noted.old < vec_capacity noted.old }
+    ensures noted { noted.new.items ≡ noted.old.items ++ noted_listener s listener }
+    ensures room { result ≡ listener_room listener }
+    ensures rows { result.rows ≤ 1 }
+    ensures bytes { result.bytes ≤ 65388 }
+    ensures capacity { vec_capacity noted.new ≡ vec_capacity noted.old }
+    ensures length { vec_len noted.new ≤ vec_len noted.old + 1 }
+{
+    match listener {
+        None => Room::none(),
+        Some(handle) => {
+            noted.push_reserved(Addressee { slot: s, handle });
+            Room {
+                rows: 1,
+                bytes: MD_PAYLOAD_MAX,
+            }
+        }
+    }
+}
+
+/// Notes in each slot the listener that hears a message which comes unasked, and answers the room
+/// for what they may give.
+fn note_hearers(
+    store: &Store,
+    telegram: &Telegram<'_>,
+    globals: &Globals,
+    noted: &mut Vec<Addressee>,
+    counts: &mut Counts,
+) -> Room
+    requires capacity { 16 * object_limit ≤ vec_capacity noted.old }
+    requires unasked { comes_unasked (telegram_model telegram.now) ≡ true }
+    ensures noted { noted.new.items
+        ≡ noted_from 0 (telegram_model telegram.now) globals.entry.now (slots_of store.now) }
+    ensures room { result ≡ entries_room
+        (flat_map (λ slot. acting (telegram_model telegram.now) globals.entry.now slot.objects)
+        (slots_of store.now)) }
+    ensures capacity { vec_capacity noted.new ≡ vec_capacity noted.old }
+    ensures few { vec_len noted.new
+        ≤ meant_of (telegram_model telegram.now) (slots_of store.now) }
+    ensures comparisons { (b : ℕ) → room_of store.now < 2 ^ b
+        → counts.new.comparisons ≤ counts.old.comparisons + 4 * b }
+    ensures tests { counts.new.tests
+        ≤ counts.old.tests + rows_heard (telegram_model telegram.now) store.now }
+    ensures look_ups { counts.new.look_ups ≡ counts.old.look_ups }
+{
+    store.sound();
+    let heard = hearers(store, telegram, globals, counts);
+    noted.clear();
+    let mut room = Room::none();
+    for s in 0..store.slots() {
+        room = room.plus(note_listener(s as u16, heard[s], noted));
     }
     room
 }
 
 /// Notes the objects that act at the telegram, by slot and handle, and answers the room for what
-/// they may give. Those that process data is for are found by its comId.
+/// they may give. Those of process data, and listeners, are found by the comId, callers and
+/// repliers by the session.
 pub fn note_all(
     store: &Store,
     telegram: &Telegram<'_>,
     globals: &Globals,
     noted: &mut Vec<Addressee>,
+    counts: &mut Counts,
 ) -> Room
     requires capacity { 16 * object_limit ≤ vec_capacity noted.old }
     ensures noted { noted.new.items
@@ -257,13 +304,28 @@ pub fn note_all(
         (flat_map (λ slot. acting (telegram_model telegram.now) globals.entry.now slot.objects)
         (slots_of store.now)) }
     ensures capacity { vec_capacity noted.new ≡ vec_capacity noted.old }
+    ensures few { vec_len noted.new
+        ≤ meant_of (telegram_model telegram.now) (slots_of store.now) }
+    ensures comparisons { (b : ℕ) → room_of store.now < 2 ^ b
+        → counts.new.comparisons ≤ counts.old.comparisons + 4 * b }
+    ensures tests { counts.new.tests
+        ≤ counts.old.tests + meant_of (telegram_model telegram.now) (slots_of store.now) }
+    ensures look_ups { counts.new.look_ups ≤ counts.old.look_ups + length store.now }
+    ensures unasked { comes_unasked (telegram_model telegram.now) ≡ true
+        → counts.new.look_ups ≡ counts.old.look_ups }
 {
     store.sound();
     match telegram {
         Telegram::Pd { view, .. } => {
             noted.clear();
-            note_run(store, sought_by(&view.head), telegram, globals, noted)
+            let com_id = sought_by(&view.head);
+            note_run(store, com_id, telegram, globals, noted, counts)
         }
-        Telegram::Md { .. } => note_slots(store, telegram, globals, noted),
+        Telegram::Md { .. } => match part_of(telegram) {
+            None => note_hearers(store, telegram, globals, noted, counts),
+            Some((session, role)) => {
+                note_parts(store, session, role, telegram, globals, noted, counts)
+            }
+        },
     }
 }

@@ -1,6 +1,7 @@
 //! Calls at one object: it does what is asked, and stays or ends.
 
 ghost use Rattle.std.specs.Prelude.{◌≡◌, ◌<◌, ◌≤◌, ◌++◌};
+ghost use Rattle.trdp_table.specs.Kinds.{kind_of};
 ghost use Rattle.trdp_engine.specs.Configs.{setup_of};
 ghost use Rattle.trdp_engine.specs.Records.{labelled};
 ghost use Rattle.trdp_base.specs.Moments.{last_moment};
@@ -9,6 +10,7 @@ ghost use Rattle.trdp_engine.specs.Replies.{aborts};
 ghost use Rattle.trdp_engine.specs.Rooms.{HasRoom, answer_room, asked_room};
 ghost use Rattle.trdp_engine.specs.Asked.{asked_act, left_of};
 ghost use Rattle.trdp_engine.specs.Indexed.{com_of};
+ghost use Rattle.trdp_engine.specs.InSession.{session_of};
 
 use crate::callers::confirm;
 use crate::fault::Refusal;
@@ -122,7 +124,9 @@ pub fn ask(
         ≡ out.old.records
         ++ labelled s
         (asked_act (setup_of config.now) globals.entry.now handle asked.now object.old).records }
+    ensures kind { kind_of object.new ≡ kind_of object.old }
     ensures sought { com_of object.new ≡ com_of object.old }
+    ensures session { session_of object.new ≡ session_of object.old }
 {
     match *asked {
         Asked::Put(bytes) => {

@@ -5,6 +5,7 @@ ghost use Rattle.trdp_base.specs.Moments.{last_moment};
 ghost use Rattle.trdp_filter.specs.Telegrams.{telegram_model, IsWithinLimit};
 ghost use Rattle.trdp_md.specs.Callers.{called as new_caller};
 ghost use Rattle.trdp_table.specs.declared.any_object.AnyObject.TheVariants.{Caller as Asking};
+ghost use Rattle.trdp_table.specs.Kinds.{kind_of};
 ghost use Rattle.trdp_engine.specs.Records.{labelled, reply_model};
 ghost use Rattle.trdp_engine.specs.Openings.{opened_with};
 ghost use Rattle.trdp_engine.specs.Requests.{request_refusal, request_sent};
@@ -14,8 +15,10 @@ ghost use Rattle.trdp_engine.specs.Rooms.{HasRoom, message_room, confirm_room};
 ghost use Rattle.trdp_engine.specs.Acting.{slot_at, Becomes};
 ghost use Rattle.trdp_engine.specs.Asked.{left_of};
 ghost use Rattle.trdp_engine.specs.Indexed.{com_of};
+ghost use Rattle.trdp_engine.specs.InSession.{session_of};
 
 use crate::asked::Left;
+use crate::counts::Counts;
 use crate::fault::Refusal;
 use crate::opening::{open, opening_refusal};
 use crate::outbox::Outbox;
@@ -88,7 +91,7 @@ pub fn request(
         return;
     }
     let caller = Caller::new(terms, globals.now);
-    let answer = open(store, s, AnyObject::Caller(caller));
+    let answer = open(store, s, AnyObject::Caller(caller), &mut Counts::none());
     out.push_plain_answer(s, answer);
     out.push_md(s, terms.to, &request_head(terms), payload);
 }
@@ -123,6 +126,7 @@ fn confirm_by(
         ≡ out.old.records
         ++ labelled s (confirms_unless (confirm_refusal caller.old place status) handle place
         status caller.old).records }
+    ensures terms { caller.new.terms ≡ caller.old.terms }
 {
     if let Some(refusal) = confirm_refusal(caller, place, status) {
         out.push_plain_answer(s, PlainAnswer::Refused(refusal));
@@ -154,7 +158,9 @@ pub fn confirm(
     ensures left { left_of result object.new ≡ (confirms handle place status object.old).left }
     ensures records { out.new.records
         ≡ out.old.records ++ labelled s (confirms handle place status object.old).records }
+    ensures kind { kind_of object.new ≡ kind_of object.old }
     ensures sought { com_of object.new ≡ com_of object.old }
+    ensures session { session_of object.new ≡ session_of object.old }
 {
     match object {
         AnyObject::Caller(caller) => confirm_by(caller, handle, place, status, s, out),

@@ -1,33 +1,35 @@
 //! What a telegram does to the objects of the slots.
 
-ghost use Rattle.std.specs.Prelude.{◌≡◌, ℕ, ◌+◌, ◌*◌, ◌<◌, ◌≤◌, ◌++◌, ◌∷◌, [], length};
+ghost use Rattle.std.specs.Prelude.{◌≡◌, ℕ, ◌+◌, ◌*◌, ◌^◌, ◌<◌, ◌≤◌, ◌++◌, ◌∷◌, [], length};
 ghost use Rattle.std.specs.Prelude.{Some, true, slice_get};
 ghost use Rattle.std.specs.List.{flat_map};
 ghost use Rattle.trdp_base.specs.Moments.{last_moment};
 ghost use Rattle.trdp_filter.specs.Telegrams.{telegram_model, IsWithinLimit};
 ghost use Rattle.trdp_table.specs.Kinds.{kind_of};
-ghost use Rattle.trdp_table.specs.Objects.{is_addressed, after_taking, taken};
+ghost use Rattle.trdp_table.specs.Tables.{room_of};
+ghost use Rattle.trdp_table.specs.Objects.{due_of, is_addressed, after_taking, taken};
 ghost use Rattle.trdp_engine.specs.Configs.{setup_of};
 ghost use Rattle.trdp_engine.specs.Slots.{SlotState, slots_of};
 ghost use Rattle.trdp_engine.specs.Records.{labelled};
 ghost use Rattle.trdp_engine.specs.Datagrams.{is_valid_at, fits_object};
 ghost use Rattle.trdp_engine.specs.Datagrams.{taken_records, left_taking};
 ghost use Rattle.trdp_engine.specs.Datagrams.{acting, handed};
+ghost use Rattle.trdp_engine.specs.Timed.{IsOver};
 ghost use Rattle.trdp_engine.specs.Asked.{left_of};
 ghost use Rattle.trdp_engine.specs.NodeStates.{HasOutcome, Appends};
 ghost use Rattle.trdp_engine.specs.Rooms.{HasRoom, kind_room, entries_room};
 ghost use Rattle.trdp_engine.specs.Acting.{TookWithin};
 ghost use Rattle.trdp_engine.specs.Noted.{noted_from};
-ghost use Rattle.trdp_engine.specs.Quiet.{IsQuiet};
 ghost use Rattle.trdp_engine.specs.Indexed.{com_of};
+ghost use Rattle.trdp_engine.specs.InSession.{session_of};
 
 use crate::addressees::Addressee;
 use crate::asked::Left;
 use crate::callers::push_replied;
+use crate::counts::Counts;
 use crate::notices::push_heard;
 use crate::outbox::Outbox;
 use crate::pull::{answer_place, push_answer};
-use crate::quiet_slots::wake;
 use crate::row::Form;
 use crate::store::Store;
 use trdp_dataset::NodeConfig;
@@ -87,7 +89,10 @@ pub fn take_object(
         (taken object.old (telegram_model telegram.now) globals.entry.now
         (fits_object (setup_of config.now) (telegram_model telegram.now) object.old))) }
     ensures within { TookWithin out.old out.new (kind_room (kind_of object.old)) }
+    ensures kind { kind_of object.new ≡ kind_of object.old }
+    ensures over { result ≡ Left.Ended → IsOver (due_of object.old) (due_of object.new) }
     ensures sought { com_of object.new ≡ com_of object.old }
+    ensures session { session_of object.new ≡ session_of object.old }
 {
     let fits = fits_object(config, telegram, object);
     match object.take(telegram, globals, fits) {
@@ -111,17 +116,17 @@ pub fn take_object(
     Left::Stays
 }
 
-/// Hands the telegram to each object that was noted, in turn, and wakes its slot.
+/// Hands the telegram to each object that was noted, in turn. That it tests it by itself is
+/// counted, and that it ends as a look-up.
 pub fn take_all(
     store: &mut Store,
-    quiet: &mut Vec<u64>,
     noted: &[Addressee],
     config: &NodeConfig,
     telegram: &Telegram<'_>,
     globals: &Globals,
     out: &mut Outbox,
+    counts: &mut Counts,
 )
-    requires quiet { IsQuiet quiet.old.items (slots_of store.old) }
     requires noted { noted.now
         ≡ noted_from 0 (telegram_model telegram.now) globals.now (slots_of store.old) }
     requires now { globals.now.now ≤ last_moment }
@@ -134,10 +139,14 @@ pub fn take_all(
         → HasOutcome (slots_of store.new) out.old.records out.new.records s
         (handed (setup_of config.now) slot globals.entry.now (telegram_model telegram.now)) }
     ensures appends { Appends (slots_of store.old) out.old.records out.new.records }
-    ensures quiet { IsQuiet quiet.new.items (slots_of store.new) }
+    ensures comparisons { (b : ℕ) → room_of store.old < 2 ^ b
+        → counts.new.comparisons ≤ counts.old.comparisons + length noted.now * (2 * b + 2) }
+    ensures tests { counts.new.tests ≤ counts.old.tests + length noted.now }
+    ensures look_ups { counts.new.look_ups ≤ counts.old.look_ups + length noted.now }
 {
     store.sound();
     for addressee in noted {
+        counts.tested();
         store.take(
             addressee.slot,
             addressee.handle,
@@ -145,7 +154,7 @@ pub fn take_all(
             telegram,
             globals,
             out,
+            counts,
         );
-        wake(quiet, addressee.slot);
     }
 }

@@ -8,6 +8,7 @@ ghost use Rattle.trdp_engine.specs.Openings.{opened_unless, answered};
 ghost use Rattle.trdp_engine.specs.Outboxes.{plain_answer_model};
 ghost use Rattle.trdp_engine.specs.Acting.{slot_at};
 
+use crate::counts::Counts;
 use crate::fault::Refusal;
 use crate::opening::open;
 use crate::row::PlainAnswer;
@@ -27,5 +28,10 @@ pub fn listen(store: &mut Store, s: u16, filter: &MdFilter) -> PlainAnswer
     if filter.low > filter.high {
         return PlainAnswer::Refused(Refusal::Range);
     }
-    open(store, s, AnyObject::Listener(Listener::new(filter)))
+    open(
+        store,
+        s,
+        AnyObject::Listener(Listener::new(filter)),
+        &mut Counts::none(),
+    )
 }

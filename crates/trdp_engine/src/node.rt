@@ -5,24 +5,19 @@ ghost use Rattle.std.specs.Prelude.{length, OnOk, OnErr, IfOk, IfErr, Err, Some,
 ghost use Rattle.trdp_engine.specs.Events.{MomentIs, TopologyIs, RoleIs, DatagramIs, CallIs};
 ghost use Rattle.trdp_engine.specs.Events.{call_model, event_model};
 ghost use Rattle.trdp_engine.specs.Slots.{SlotState};
-ghost use Rattle.trdp_engine.specs.Peeks.{peeked, peek_in};
-ghost use Rattle.trdp_engine.specs.ShownItems.{showing_in, ShowsItem};
 ghost use Rattle.trdp_marshal.specs.Items.{model_of};
 ghost use Rattle.trdp_engine.specs.Values.{valued_at};
 ghost use Rattle.trdp_engine.specs.Configs.{setup_of};
 
 use crate::addressees::Addressee;
 use crate::calls::{put_value, serve};
+use crate::counts::Counts;
 use crate::event::{Call, Event};
 use crate::fault::NodeFault;
-use crate::look::subscription_at;
+use crate::moment::fire_all;
 use crate::outbox::Outbox;
-use crate::peek::PeekFault;
-use crate::quiet_slots::wake;
 use crate::reception::hear;
 use crate::record::Protocol;
-use crate::shown::{ValueFault, item_shown};
-use crate::slots::{due_room, move_slots};
 use crate::start::parts;
 use crate::store::Store;
 use std::alloc::Global;
@@ -31,7 +26,8 @@ use trdp_base::{MOMENT_MAX, Place, Topo};
 use trdp_dataset::NodeConfig;
 use trdp_filter::{Globals, Groups};
 use trdp_marshal::Item;
-use trdp_pd::Peek;
+
+mod looks;
 
 /// The communication node of one end device. It serves each slot of its configuration.
 #[derive(Drop)]
@@ -47,9 +43,8 @@ pub struct Node {
     /// The objects that act at the telegram that is being handled; between events it says nothing.
     /// It has room for all objects, so that a telegram takes no memory for it.
     noted: Vec<Addressee>,
-    /// For each slot a moment, in microseconds, before which none of its objects is due, so that an
-    /// earlier one costs one comparison; 0 from an event that may change it on.
-    quiet: Vec<u64>,
+    /// What the latest event that it took cost.
+    counts: Counts,
 }
 
 impl Model for Node {
@@ -61,7 +56,6 @@ impl Model for Node {
     ghost use Rattle.trdp_table.specs.TableLaws.{object_limit};
     ghost use Rattle.trdp_engine.specs.Slots.{slots_of};
     ghost use Rattle.trdp_engine.specs.Fitting.{EachFits};
-    ghost use Rattle.trdp_engine.specs.Quiet.{IsQuiet};
 
     ghost Value = { NodeState };
 
@@ -69,17 +63,18 @@ impl Model for Node {
       config = n.config;
       globals = n.globals;
       slots = slots_of n.store;
+      counts = n.counts;
     } };
 
     ghost invariant = { λ n. (n.globals.now ≤ last_moment) × IsRegistry n.config.registry
         × EachFits (setup_of n.config) (slots_of n.store)
-        × (16 * object_limit ≤ vec_capacity n.noted)
-        × IsQuiet n.quiet.items (slots_of n.store) };
+        × (16 * object_limit ≤ vec_capacity n.noted) };
 }
 
 impl Node {
     ghost use Rattle.trdp_engine.specs.NodeStates.{NodeState, GetsOutcome, StepsAsAlone};
-    ghost use Rattle.trdp_engine.specs.NodeStates.{Appends, MayTakeMemory, opened_node};
+    ghost use Rattle.trdp_engine.specs.NodeStates.{Appends, MayTakeMemory, opened_node, no_counts};
+    ghost use Rattle.trdp_engine.specs.Costs.{IsBounded};
     ghost use Rattle.trdp_engine.specs.Rooms.{MayLackMemory};
     ghost use Rattle.trdp_engine.specs.Alone.{FaultIs, refused_as, globals_after};
 
@@ -96,7 +91,7 @@ impl Node {
         config.registry().sound();
         match parts(alloc, &config) {
             Err(_) => Err(config),
-            Ok((store, noted, quiet)) => {
+            Ok((store, noted)) => {
                 let globals = Globals {
                     now: 0,
                     topo: Topo { etb: 0, op_trn: 0 },
@@ -108,7 +103,7 @@ impl Node {
                     globals,
                     store,
                     noted,
-                    quiet,
+                    counts: Counts::none(),
                 })
             }
         }
@@ -119,6 +114,14 @@ impl Node {
         ensures { result ≡ self.now.globals.now }
     {
         self.globals.now
+    }
+
+    /// What the latest event cost that the node took; nothing for a new node. An event that is
+    /// refused leaves it. What a call costs isn't counted.
+    pub fn counts(&self) -> Counts
+        ensures { result ≡ self.now.counts }
+    {
+        self.counts
     }
 
     /// Takes the moment `t`, in microseconds: room for all records first, then each due object
@@ -144,6 +147,7 @@ impl Node {
             → slice_get self.old.slots s ≡ Some slot
             → StepsAsAlone self.old self.new out.old.records out.new.records (MomentIs t) s slot) }
         ensures appends { Appends self.old.slots out.old.records out.new.records }
+        ensures cost { OnOk result (IsBounded self.old.slots (MomentIs t) self.new.counts) }
     {
         if t < self.globals.now {
             return Err(NodeFault::Past);
@@ -151,10 +155,13 @@ impl Node {
         if t > MOMENT_MAX {
             return Err(NodeFault::TooLate);
         }
-        let room = due_room(&self.store, &self.quiet, t);
+        let mut cost = Counts::none();
+        let (room, comparisons) = self.store.due_room(t);
+        cost.compared(comparisons);
         out.reserve(room.rows, room.bytes)?;
         self.globals.now = t;
-        move_slots(&mut self.store, &mut self.quiet, &self.globals, out);
+        fire_all(&mut self.store, &self.globals, out, &mut cost);
+        self.counts = cost;
         Ok(())
     }
 
@@ -163,8 +170,10 @@ impl Node {
         ensures globals { self.new.globals ≡ globals_after self.old.globals (TopologyIs topo) }
         ensures slots { self.new.slots ≡ self.old.slots }
         ensures config { self.new.config ≡ self.old.config }
+        ensures counts { self.new.counts ≡ no_counts }
     {
         self.globals.topo = topo;
+        self.counts = Counts::none();
     }
 
     /// Takes the node's role in a redundancy group.
@@ -181,11 +190,13 @@ impl Node {
             ≡ globals_after self.old.globals (RoleIs group leader)) }
         ensures slots { self.new.slots ≡ self.old.slots }
         ensures group { OnOk result (0 < group) }
+        ensures counts { OnOk result (self.new.counts ≡ no_counts) }
     {
         if group == 0 {
             return Err(NodeFault::NoGroup);
         }
         self.globals.led.set(group, leader);
+        self.counts = Counts::none();
         Ok(())
     }
 
@@ -221,10 +232,12 @@ impl Node {
             → StepsAsAlone self.old self.new out.old.records out.new.records
             (DatagramIs protocol src dst bytes.now) s slot) }
         ensures appends { Appends self.old.slots out.old.records out.new.records }
+        ensures cost { OnOk result (IsBounded self.old.slots
+            (DatagramIs protocol src dst bytes.now) self.new.counts) }
     {
+        let mut counts = Counts::none();
         hear(
             &mut self.store,
-            &mut self.quiet,
             &mut self.noted,
             &self.config,
             protocol,
@@ -233,7 +246,9 @@ impl Node {
             bytes,
             &self.globals,
             out,
+            &mut counts,
         )?;
+        self.counts = counts;
         Ok(())
     }
 
@@ -260,6 +275,7 @@ impl Node {
             → StepsAsAlone self.old self.new out.old.records out.new.records
             (CallIs s (call_model call.now)) r slot) }
         ensures appends { Appends self.old.slots out.old.records out.new.records }
+        ensures counts { OnOk result (self.new.counts ≡ no_counts) }
     {
         if usize::from(s) >= self.store.slots() {
             return Err(NodeFault::NoSlot);
@@ -273,7 +289,7 @@ impl Node {
             &self.globals,
             out,
         )?;
-        wake(&mut self.quiet, s);
+        self.counts = Counts::none();
         Ok(())
     }
 
@@ -304,6 +320,8 @@ impl Node {
             → StepsAsAlone self.old self.new out.old.records out.new.records
             (event_model event.now) s slot) }
         ensures appends { Appends self.old.slots out.old.records out.new.records }
+        ensures cost { OnOk result (IsBounded self.old.slots (event_model event.now)
+            self.new.counts) }
     {
         match event {
             Event::Moment(t) => self.step_moment(*t, out),
@@ -349,6 +367,7 @@ impl Node {
             → GetsOutcome self.new out.old.records out.new.records s
             (valued_at (setup_of self.old.config) slot s state handle (model_of item.now))) }
         ensures appends { Appends self.old.slots out.old.records out.new.records }
+        ensures counts { OnOk result (self.new.counts ≡ no_counts) }
     {
         if usize::from(slot) >= self.store.slots() {
             return Err(NodeFault::NoSlot);
@@ -363,38 +382,7 @@ impl Node {
             &self.globals,
             out,
         )?;
-        wake(&mut self.quiet, slot);
+        self.counts = Counts::none();
         Ok(())
-    }
-
-    /// What the subscription of that handle shows, in every state of it. It takes no memory.
-    ///
-    /// # Errors
-    /// The first that applies of `NoSlot`, `NoHandle`, and `WrongKind` (the object is no
-    /// subscription).
-    pub fn peek(&self, slot: u16, handle: u32) -> Result<Peek<'_>, PeekFault>
-        ensures { peeked result ≡ peek_in (slice_get self.now.slots slot) handle }
-    {
-        if usize::from(slot) >= self.store.slots() {
-            return Err(PeekFault::NoSlot);
-        }
-        Ok(subscription_at(&self.store, slot, handle)?.peek())
-    }
-
-    /// The item that the subscription of that handle shows, in every state of it: it spells, as a
-    /// value of the subscription's dataset, the bytes that `peek` shows.
-    ///
-    /// # Errors
-    /// The first that applies of `NoSlot`, `NoHandle`, `WrongKind` (the object is no
-    /// subscription), `NoDataset` (it is one of dataset 0), and last `OutOfMemory`.
-    pub fn value_of(&self, alloc: Global, slot: u16, handle: u32) -> Result<Item, ValueFault>
-        ensures { ShowsItem (setup_of self.now.config)
-            (showing_in (slice_get self.now.slots slot) handle) result }
-    {
-        if usize::from(slot) >= self.store.slots() {
-            return Err(ValueFault::NoSlot);
-        }
-        let subscription = subscription_at(&self.store, slot, handle)?;
-        item_shown(alloc, &self.config, subscription)
     }
 }

@@ -1,7 +1,9 @@
 //! Calls that make an object in a slot.
 
-ghost use Rattle.std.specs.Prelude.{◌≡◌, ◌<◌, ◌≤◌, length, slice_set, Option, IfOk, IfErr, Some};
+ghost use Rattle.std.specs.Prelude.{◌≡◌, ◌<◌, ◌≤◌, ◌+◌, ◌*◌, ◌^◌, ℕ, length, slice_set, Option};
+ghost use Rattle.std.specs.Prelude.{IfOk, IfErr, Some};
 ghost use Rattle.trdp_table.specs.Kinds.{kind_of};
+ghost use Rattle.trdp_table.specs.Tables.{room_of};
 ghost use Rattle.trdp_engine.specs.declared.fault.Refusal.{Refusal};
 ghost use Rattle.trdp_engine.specs.Configs.{setup_of, zero_size_of};
 ghost use Rattle.trdp_engine.specs.Slots.{slots_of};
@@ -10,7 +12,9 @@ ghost use Rattle.trdp_engine.specs.Openings.{opening_refusal};
 ghost use Rattle.trdp_engine.specs.Openings.{opened_unless, answered};
 ghost use Rattle.trdp_engine.specs.Outboxes.{plain_answer_model};
 ghost use Rattle.trdp_engine.specs.Acting.{slot_at};
+ghost use Rattle.trdp_engine.specs.InSession.{IsNewInSession};
 
+use crate::counts::Counts;
 use crate::fault::Refusal;
 use crate::row::PlainAnswer;
 use crate::store::Store;
@@ -32,15 +36,22 @@ pub fn opening_refusal(store: &Store, s: u16, kind: Kind) -> Option<Refusal>
     }
 }
 
-/// Adds an object to slot `s` and answers its handle, or says why not.
-pub fn open(store: &mut Store, s: u16, object: AnyObject) -> PlainAnswer
-    requires { s < length store.old }
+/// Adds an object to slot `s`, of which none is in its session in its role, and answers its handle,
+/// or says why not. It counts how often two orders were compared.
+pub fn open(store: &mut Store, s: u16, object: AnyObject, counts: &mut Counts) -> PlainAnswer
+    requires slot { s < length store.old }
+    requires fresh { IsNewInSession object (slot_at s store.old).objects }
     ensures outcome { opened_unless (opening_refusal (slot_at s store.old) (kind_of object))
         (slot_at s store.old) object
         ≡ answered (slot_at s store.new) (plain_answer_model result) }
     ensures others { slots_of store.new ≡ slice_set (slots_of store.old) s (slot_at s store.new) }
+    ensures room { room_of store.new ≡ room_of store.old }
+    ensures comparisons { (b : ℕ) → room_of store.old < 2 ^ b
+        → counts.new.comparisons ≤ counts.old.comparisons + (2 * b + 2) }
+    ensures tests { counts.new.tests ≡ counts.old.tests }
+    ensures look_ups { counts.new.look_ups ≡ counts.old.look_ups }
 {
-    match store.add(s, object) {
+    match store.add(s, object, counts) {
         Ok(handle) => PlainAnswer::Handle(handle),
         Err((_, fault)) => PlainAnswer::Refused(Refusal::from(fault)),
     }

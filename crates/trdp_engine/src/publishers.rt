@@ -2,6 +2,7 @@
 
 ghost use Rattle.std.specs.Prelude.{◌≡◌, ◌<◌, ◌≤◌, length, slice_set, OnErr, IfOk};
 ghost use Rattle.trdp_base.specs.Moments.{last_moment};
+ghost use Rattle.trdp_table.specs.Kinds.{kind_of};
 ghost use Rattle.trdp_engine.specs.Configs.{setup_of};
 ghost use Rattle.trdp_engine.specs.Events.{PublishCall};
 ghost use Rattle.trdp_engine.specs.Slots.{slots_of};
@@ -11,7 +12,9 @@ ghost use Rattle.trdp_engine.specs.Acts.{answers};
 ghost use Rattle.trdp_engine.specs.Outboxes.{plain_answer_model};
 ghost use Rattle.trdp_engine.specs.Acting.{slot_at};
 ghost use Rattle.trdp_engine.specs.Indexed.{com_of};
+ghost use Rattle.trdp_engine.specs.InSession.{session_of};
 
+use crate::counts::Counts;
 use crate::fault::Refusal;
 use crate::opening::{is_span, open, opening_refusal, value_size};
 use crate::row::PlainAnswer;
@@ -70,14 +73,21 @@ pub fn publish(
         return Ok(PlainAnswer::Refused(refusal));
     }
     let publisher = Publisher::new(alloc, terms, globals.now)?;
-    Ok(open(store, s, AnyObject::Publisher(publisher)))
+    Ok(open(
+        store,
+        s,
+        AnyObject::Publisher(publisher),
+        &mut Counts::none(),
+    ))
 }
 
 /// Gives the object a new value, or says why not.
 pub fn put(object: &mut AnyObject, config: &NodeConfig, bytes: &[u8]) -> PlainAnswer
     ensures answers { puts (setup_of config.now) bytes.now object.old
         ≡ answers object.new (plain_answer_model result) }
+    ensures kind { kind_of object.new ≡ kind_of object.old }
     ensures sought { com_of object.new ≡ com_of object.old }
+    ensures session { session_of object.new ≡ session_of object.old }
 {
     match object {
         AnyObject::Publisher(publisher) => {

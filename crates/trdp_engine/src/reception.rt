@@ -1,7 +1,7 @@
 //! What a datagram does to a node, from its bytes on.
 
 ghost use Rattle.std.specs.Prelude.{◌≡◌, ℕ, ◌*◌, ◌≤◌, length, OnOk, OnErr, Some, true};
-ghost use Rattle.std.specs.Prelude.{slice_get, vec_capacity};
+ghost use Rattle.std.specs.Prelude.{slice_get, vec_capacity, ◌<◌, ◌^◌};
 ghost use Rattle.std.specs.List.{list_any};
 ghost use Rattle.trdp_base.specs.Moments.{last_moment};
 ghost use Rattle.trdp_filter.specs.Telegrams.{telegram_model, IsWithinLimit};
@@ -11,9 +11,10 @@ ghost use Rattle.trdp_engine.specs.Slots.{SlotState, slots_of};
 ghost use Rattle.trdp_engine.specs.Datagrams.{telegram_of, received_if, concerns};
 ghost use Rattle.trdp_engine.specs.NodeStates.{HasOutcome, Appends};
 ghost use Rattle.trdp_engine.specs.Rooms.{LacksRoom, datagram_room};
-ghost use Rattle.trdp_engine.specs.Quiet.{IsQuiet};
+ghost use Rattle.trdp_engine.specs.Costs.{quota_total, datagram_bounds, CostsAtMost};
 
 use crate::addressees::{Addressee, note_all};
+use crate::counts::Counts;
 use crate::datagram::{is_valid_at, take_all};
 use crate::outbox::Outbox;
 use crate::record::Protocol;
@@ -32,14 +33,13 @@ use trdp_head::{read_md, read_pd};
 /// Want of memory for the records, where the telegram concerns a slot; nothing has changed.
 fn receive(
     store: &mut Store,
-    quiet: &mut Vec<u64>,
     noted: &mut Vec<Addressee>,
     config: &NodeConfig,
     telegram: &Telegram<'_>,
     globals: &Globals,
     out: &mut Outbox,
+    counts: &mut Counts,
 ) -> Result<(), AllocError>
-    requires quiet { IsQuiet quiet.old.items (slots_of store.old) }
     requires capacity { 16 * object_limit ≤ vec_capacity noted.old }
     requires now { globals.now.now ≤ last_moment }
     requires limit { IsWithinLimit (telegram_model telegram.now) }
@@ -51,7 +51,6 @@ fn receive(
         (received_if (setup_of config.now) slot globals.entry.now
         (Some (telegram_model telegram.now)))) }
     ensures appends { Appends (slots_of store.old) out.old.records out.new.records }
-    ensures quiet { IsQuiet quiet.new.items (slots_of store.new) }
     ensures kept { OnErr result (store.new ≡ store.old) }
     ensures unrecorded { OnErr result (out.new.records ≡ out.old.records) }
     ensures memory { OnErr result
@@ -63,16 +62,19 @@ fn receive(
     ensures still { OnErr result (LacksRoom out.new
         (datagram_room globals.entry.now (slots_of store.old)
         (Some (telegram_model telegram.now)))) }
+    ensures cost { (b : ℕ) → quota_total (slots_of store.old) < 2 ^ b
+        → CostsAtMost counts.old counts.new
+        (datagram_bounds b (slots_of store.old) (Some (telegram_model telegram.now))) }
 {
     if !is_valid_at(telegram, globals) {
         return Ok(());
     }
-    let room = note_all(store, telegram, globals, noted);
+    let room = note_all(store, telegram, globals, noted, counts);
     out.reserve(room.rows, room.bytes)?;
     if is_request(telegram) {
-        ask_all(store, quiet, telegram, globals, out);
+        ask_all(store, telegram, globals, out, counts);
     } else {
-        take_all(store, quiet, noted, config, telegram, globals, out);
+        take_all(store, noted, config, telegram, globals, out, counts);
     }
     Ok(())
 }
@@ -83,7 +85,6 @@ fn receive(
 /// Want of memory, where the datagram concerns a slot; nothing has changed.
 pub fn hear(
     store: &mut Store,
-    quiet: &mut Vec<u64>,
     noted: &mut Vec<Addressee>,
     config: &NodeConfig,
     protocol: Protocol,
@@ -92,8 +93,8 @@ pub fn hear(
     bytes: &[u8],
     globals: &Globals,
     out: &mut Outbox,
+    counts: &mut Counts,
 ) -> Result<(), AllocError>
-    requires quiet { IsQuiet quiet.old.items (slots_of store.old) }
     requires capacity { 16 * object_limit ≤ vec_capacity noted.old }
     requires now { globals.now.now ≤ last_moment }
     ensures count { length store.new ≡ length store.old }
@@ -104,7 +105,6 @@ pub fn hear(
         (received_if (setup_of config.now) slot globals.entry.now
         (telegram_of protocol src dst bytes.now))) }
     ensures appends { Appends (slots_of store.old) out.old.records out.new.records }
-    ensures quiet { IsQuiet quiet.new.items (slots_of store.new) }
     ensures kept { OnErr result (store.new ≡ store.old) }
     ensures unrecorded { OnErr result (out.new.records ≡ out.old.records) }
     ensures memory { OnErr result
@@ -116,20 +116,23 @@ pub fn hear(
     ensures still { OnErr result (LacksRoom out.new
         (datagram_room globals.entry.now (slots_of store.old)
         (telegram_of protocol src dst bytes.now))) }
+    ensures cost { (b : ℕ) → quota_total (slots_of store.old) < 2 ^ b
+        → CostsAtMost counts.old counts.new
+        (datagram_bounds b (slots_of store.old) (telegram_of protocol src dst bytes.now)) }
 {
     match protocol {
         Protocol::Pd => match read_pd(bytes) {
             Err(_) => Ok(()),
             Ok(view) => {
                 let telegram = Telegram::Pd { src, dst, view };
-                receive(store, quiet, noted, config, &telegram, globals, out)
+                receive(store, noted, config, &telegram, globals, out, counts)
             }
         },
         Protocol::Md => match read_md(bytes) {
             Err(_) => Ok(()),
             Ok(view) => {
                 let telegram = Telegram::Md { src, dst, view };
-                receive(store, quiet, noted, config, &telegram, globals, out)
+                receive(store, noted, config, &telegram, globals, out, counts)
             }
         },
     }

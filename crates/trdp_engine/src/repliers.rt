@@ -3,6 +3,7 @@
 ghost use Rattle.std.specs.Prelude.{◌≡◌, ◌≤◌, ◌++◌, ◌∷◌, [], Some, length};
 ghost use Rattle.trdp_base.specs.Moments.{last_moment};
 ghost use Rattle.trdp_head.specs.MdBytes.{md_bytes};
+ghost use Rattle.trdp_table.specs.Kinds.{kind_of};
 ghost use Rattle.trdp_engine.specs.declared.record.Protocol.TheVariants.{Md};
 ghost use Rattle.trdp_engine.specs.Records.{Answers, DoneIs, Sends, labelled};
 ghost use Rattle.trdp_engine.specs.Replies.{reply_refusal, query_refusal, error_refusal};
@@ -10,6 +11,7 @@ ghost use Rattle.trdp_engine.specs.Replies.{replies, queries, reply_errors};
 ghost use Rattle.trdp_engine.specs.Rooms.{HasRoom, message_room};
 ghost use Rattle.trdp_engine.specs.Asked.{left_of};
 ghost use Rattle.trdp_engine.specs.Indexed.{com_of};
+ghost use Rattle.trdp_engine.specs.InSession.{session_of};
 
 use crate::asked::Left;
 use crate::callers::TIMEOUT_MIN;
@@ -90,7 +92,9 @@ pub fn reply(
         ≡ (replies com_id status payload.now object.old).left }
     ensures records { out.new.records
         ≡ out.old.records ++ labelled s (replies com_id status payload.now object.old).records }
+    ensures kind { kind_of object.new ≡ kind_of object.old }
     ensures sought { com_of object.new ≡ com_of object.old }
+    ensures session { session_of object.new ≡ session_of object.old }
 {
     let AnyObject::Replier(replier) = object else {
         out.push_plain_answer(s, PlainAnswer::Refused(Refusal::WrongKind));
@@ -129,7 +133,9 @@ pub fn query(
         ≡ out.old.records
         ++ labelled s
         (queries globals.entry.now.now com_id status timeout payload.now object.old).records }
+    ensures kind { kind_of object.new ≡ kind_of object.old }
     ensures sought { com_of object.new ≡ com_of object.old }
+    ensures session { session_of object.new ≡ session_of object.old }
 {
     let AnyObject::Replier(replier) = object else {
         out.push_plain_answer(s, PlainAnswer::Refused(Refusal::WrongKind));
@@ -161,7 +167,9 @@ pub fn reply_error(
     ensures left { left_of result object.new ≡ (reply_errors com_id status object.old).left }
     ensures records { out.new.records
         ≡ out.old.records ++ labelled s (reply_errors com_id status object.old).records }
+    ensures kind { kind_of object.new ≡ kind_of object.old }
     ensures sought { com_of object.new ≡ com_of object.old }
+    ensures session { session_of object.new ≡ session_of object.old }
 {
     let AnyObject::Replier(replier) = object else {
         out.push_plain_answer(s, PlainAnswer::Refused(Refusal::WrongKind));

@@ -1,6 +1,7 @@
 //! Calls about requesters.
 
 ghost use Rattle.std.specs.Prelude.{◌≡◌, ◌<◌, ◌++◌, length, slice_set, Some};
+ghost use Rattle.trdp_table.specs.Kinds.{kind_of};
 ghost use Rattle.trdp_engine.specs.Events.{OpenPullCall};
 ghost use Rattle.trdp_engine.specs.Configs.{NodeSetup};
 ghost use Rattle.trdp_engine.specs.Slots.{slots_of};
@@ -13,7 +14,9 @@ ghost use Rattle.trdp_engine.specs.Acting.{slot_at};
 ghost use Rattle.trdp_pd.specs.Requesters.{opened};
 ghost use Rattle.trdp_table.specs.declared.kind.Kind.TheVariants.{Requester as Requesting};
 ghost use Rattle.trdp_engine.specs.Indexed.{com_of};
+ghost use Rattle.trdp_engine.specs.InSession.{session_of};
 
+use crate::counts::Counts;
 use crate::fault::Refusal;
 use crate::opening::open;
 use crate::outbox::Outbox;
@@ -31,7 +34,12 @@ pub fn open_pull(store: &mut Store, s: u16, terms: &RequesterTerms) -> PlainAnsw
         ≡ answered (slot_at s store.new) (plain_answer_model result) }
     ensures others { slots_of store.new ≡ slice_set (slots_of store.old) s (slot_at s store.new) }
 {
-    open(store, s, AnyObject::Requester(Requester::new(terms)))
+    open(
+        store,
+        s,
+        AnyObject::Requester(Requester::new(terms)),
+        &mut Counts::none(),
+    )
 }
 
 /// Lets the object pull, and records the answer and its pull request.
@@ -40,7 +48,9 @@ pub fn pull(object: &mut AnyObject, globals: &Globals, s: u16, out: &mut Outbox)
     ensures object { Some object.new ≡ (pulls globals.entry.now object.old).left }
     ensures records { out.new.records
         ≡ out.old.records ++ labelled s (pulls globals.entry.now object.old).records }
+    ensures kind { kind_of object.new ≡ kind_of object.old }
     ensures sought { com_of object.new ≡ com_of object.old }
+    ensures session { session_of object.new ≡ session_of object.old }
 {
     match object {
         AnyObject::Requester(requester) => {

@@ -5,6 +5,7 @@ ghost use Rattle.trdp_engine.specs.Events.{event_model};
 ghost use Rattle.trdp_engine.specs.Slots.{SlotState};
 ghost use Rattle.trdp_engine.specs.NodeStates.{RunsAsAlone, Appends, MayTakeMemory};
 ghost use Rattle.trdp_engine.specs.Rooms.{MayLackMemory};
+ghost use Rattle.trdp_engine.specs.NodeRuns.{CountsLatest};
 
 use crate::event::Event;
 use crate::fault::is_out_of_memory;
@@ -28,6 +29,8 @@ impl Node {
             → RunsAsAlone self.old self.new out.old.records out.new.records
             (map event_model (take result events.now)) s slot }
         ensures appends { Appends self.old.slots out.old.records out.new.records }
+        ensures counted { CountsLatest self.old self.new
+            (map event_model (take result events.now)) }
     {
         let mut taken = 0;
         for event in events {

@@ -3,7 +3,6 @@
 ghost use Rattle.std.specs.Prelude.{◌≡◌, ◌*◌, ◌≤◌, length, IfOk, map, vec_capacity};
 ghost use Rattle.trdp_table.specs.TableLaws.{object_limit};
 ghost use Rattle.trdp_engine.specs.Slots.{opened_slot, slots_of};
-ghost use Rattle.trdp_engine.specs.Quiet.{IsQuiet};
 
 use crate::addressees::Addressee;
 use crate::store::Store;
@@ -42,22 +41,16 @@ fn open_slots(alloc: Global, config: &NodeConfig) -> Result<Store, AllocError>
     Store::new(alloc, &quotas)
 }
 
-/// The empty table of a configuration, room to note all objects that it can hold, and moment 0
-/// for each of its slots.
+/// The empty store of a configuration, and room to note all objects that it can hold.
 ///
 /// # Errors
 /// Want of memory for one of them.
-pub fn parts(
-    alloc: Global,
-    config: &NodeConfig,
-) -> Result<(Store, Vec<Addressee>, Vec<u64>), AllocError>
+pub fn parts(alloc: Global, config: &NodeConfig) -> Result<(Store, Vec<Addressee>), AllocError>
     ensures slots { IfOk result
         (λ parts. slots_of parts.0 ≡ map (λ slot. opened_slot slot.quotas) config.now.slots) }
     ensures capacity { IfOk result (λ parts. 16 * object_limit ≤ vec_capacity parts.1) }
-    ensures quiet { IfOk result (λ parts. IsQuiet parts.2.items (slots_of parts.0)) }
 {
     let store = open_slots(alloc, config)?;
     let noted = Vec::with_capacity(alloc, NOTED_MAX)?;
-    let quiet = vec![in alloc; 0u64; store.slots()]?;
-    Ok((store, noted, quiet))
+    Ok((store, noted))
 }

@@ -1,106 +1,82 @@
-//! The objects of all slots, and the index by which a telegram finds those that it may be for.
+//! The objects of all slots, the indexes by which a telegram finds those that it may be for, and
+//! the heap by which a moment finds those that are due.
 
 ghost use Rattle.std.specs.Prelude.{◌≡◌, ℕ, ◌<◌, ◌≤◌, length, map, Some, None, IfOk, IfErr, OnOk};
-ghost use Rattle.std.specs.Prelude.{OnErr, IfSome, OnSome, slice_get, option_map, option_copied};
-ghost use Rattle.std.specs.Prelude.{◌+◌, ◌*◌, ◌^◌, Option, true, false};
+ghost use Rattle.std.specs.Prelude.{OnErr, IfSome, slice_get};
+ghost use Rattle.std.specs.Prelude.{◌+◌, ◌*◌, ◌^◌, Option, true, is_some};
 ghost use Rattle.trdp_base.specs.Moments.{last_moment};
 ghost use Rattle.trdp_filter.specs.Telegrams.{telegram_model, IsWithinLimit};
 ghost use Rattle.trdp_table.specs.declared.any_object.AnyObject.{AnyObject};
 ghost use Rattle.trdp_table.specs.Kinds.{kind_of};
-ghost use Rattle.trdp_table.specs.Tables.{Keyed, slot_limit, opened_slot, slot_in, all_objects};
-ghost use Rattle.trdp_table.specs.Tables.{by_handle, by_key, refusal, Adds, changed_at, without};
-ghost use Rattle.trdp_table.specs.Tables.{exchanged, with_other_by_handle, room_of};
-ghost use Rattle.trdp_table.specs.TableLaws.{object_limit, IsTable};
+ghost use Rattle.trdp_table.specs.Objects.{due_of};
+ghost use Rattle.trdp_table.specs.Tables.{Keyed, slot_limit, opened_slot, slot_in};
+ghost use Rattle.trdp_table.specs.Tables.{by_handle, refusal, Adds, changed_at, without};
+ghost use Rattle.trdp_table.specs.Tables.{room_of};
+ghost use Rattle.trdp_table.specs.TableLaws.{object_limit};
 ghost use Rattle.trdp_engine.specs.Configs.{setup_of};
 ghost use Rattle.trdp_engine.specs.Slots.{entry_of};
 ghost use Rattle.trdp_engine.specs.Calls.{at_object};
 ghost use Rattle.trdp_engine.specs.Asked.{asked_act};
 ghost use Rattle.trdp_engine.specs.Datagrams.{is_for_entry, taking_act};
 ghost use Rattle.trdp_engine.specs.Moments.{is_due, firing_act};
-ghost use Rattle.trdp_engine.specs.Rooms.{HasRoom, asked_room};
+ghost use Rattle.trdp_engine.specs.Slots.{slots_of};
+ghost use Rattle.trdp_engine.specs.Firing.{ComesNext};
+ghost use Rattle.trdp_engine.specs.NodeStates.{due_in};
+ghost use Rattle.trdp_engine.specs.Rooms.{HasRoom, asked_room, moment_room};
 ghost use Rattle.trdp_engine.specs.Acting.{slot_at, MayAct, Becomes, ActsAt};
-ghost use Rattle.trdp_index.specs.ComRows.{run_of, has_com_row};
-ghost use Rattle.trdp_engine.specs.Indexed.{com_of, com_in, rows_from, run_with};
-ghost use Rattle.trdp_engine.specs.Indexed.{run_without, one_if_some};
+ghost use Rattle.trdp_engine.specs.Indexed.{com_of, com_in, rows_from};
+ghost use Rattle.trdp_base.specs.declared.session.SessionId.{SessionId};
+ghost use Rattle.trdp_index.specs.declared.session_row.Role.{Role};
+ghost use Rattle.trdp_engine.specs.Requests.{has_session};
+ghost use Rattle.trdp_engine.specs.InSession.{session_of, session_in, kind_as, IsNewInSession};
+ghost use Rattle.trdp_engine.specs.InSession.{HasPart};
 
 use crate::asked::{Asked, Left, ask};
+use crate::by_com::{com_of, delist, enlist};
+use crate::by_session::{enter, leave, session_of};
+use crate::counts::Counts;
 use crate::datagram::take_object;
 use crate::fault::Refusal;
 use crate::moment::fire_object;
 use crate::outbox::Outbox;
+use crate::room::Room;
 use crate::row::PlainAnswer;
+use crate::schedule::Schedule;
 use std::alloc::{AllocError, Global};
 use std::marker::Model;
-use trdp_base::Quotas;
+use trdp_base::{Quotas, SessionId};
 use trdp_dataset::NodeConfig;
 use trdp_filter::{Globals, Telegram};
-use trdp_index::{ComIndex, ComRow};
-use trdp_table::{AnyObject, Kind, Table, TableFault};
+use trdp_index::{ComIndex, ComRow, Role, SessionIndex};
+use trdp_pd::Object;
+use trdp_table::{AnyObject, Table, TableFault};
+use trdp_timers::Order;
 
-/// The objects of all slots of a node, as its table has them, and an index of those that telegrams
-/// of a comId may be for.
+mod reads;
+
+/// The objects of all slots of a node, as its table has them, an index of those that telegrams of
+/// a comId may be for, one of those that are in a session, and when each is due.
 #[derive(Drop)]
 pub struct Store {
     /// The objects, each under a handle of its slot and a key.
     table: Table,
     /// A row for each publisher, subscription and listener.
     coms: ComIndex,
+    /// The callers and repliers, by identifier, slot and role.
+    sessions: SessionIndex,
+    /// The due moments, and the room that each object may need.
+    schedule: Schedule,
 }
 
 impl Model for Store {
     ghost use Rattle.trdp_table.specs.Tables.{TableState};
-    ghost use Rattle.trdp_engine.specs.Indexed.{IsIndexed};
+    ghost use Rattle.trdp_engine.specs.Timed.{IsStore};
 
     ghost Value = { TableState };
 
     ghost view = { λ s. s.table };
 
-    ghost invariant = { λ s. IsIndexed s.table s.coms };
-}
-
-/// The comId, or any, under which telegrams look for the object; None for one that isn't looked
-/// for by comId.
-fn com_of(object: &AnyObject) -> Option<Option<u32>>
-    ensures { result ≡ com_of object.now }
-{
-    match object {
-        AnyObject::Publisher(publisher) => Some(Some(publisher.com_id())),
-        AnyObject::Subscription(subscription) => Some(Some(subscription.com_id())),
-        AnyObject::Listener(listener) => Some(listener.com_id()),
-        AnyObject::Requester(_) | AnyObject::Caller(_) | AnyObject::Replier(_) => None,
-    }
-}
-
-/// Adds a row for a new object to the index, if telegrams look for it by comId.
-fn enlist(coms: &mut ComIndex, sought: Option<Option<u32>>, slot: u16, handle: u32, key: usize)
-    requires spare { OnSome sought (length coms.old.rows < coms.old.room) }
-    requires fresh { IfSome sought (λ com_id. has_com_row com_id slot handle coms.old.rows ≡ false) }
-    ensures runs { (com_id : Option ℕ) → run_of com_id coms.new.rows
-        ≡ run_with sought slot handle key com_id (run_of com_id coms.old.rows) }
-    ensures count { length coms.new.rows ≡ length coms.old.rows + one_if_some sought }
-    ensures room { coms.new.room ≡ coms.old.room }
-{
-    if let Some(com_id) = sought {
-        coms.insert(ComRow {
-            com_id,
-            slot,
-            handle,
-            key,
-        });
-    }
-}
-
-/// Takes the row of an object out of the index, if telegrams look for it by comId.
-fn delist(coms: &mut ComIndex, sought: Option<Option<u32>>, slot: u16, handle: u32)
-    requires there { IfSome sought (λ com_id. has_com_row com_id slot handle coms.old.rows ≡ true) }
-    ensures runs { (com_id : Option ℕ) → run_of com_id coms.new.rows
-        ≡ run_without sought slot handle (run_of com_id coms.old.rows) }
-    ensures count { length coms.old.rows ≡ length coms.new.rows + one_if_some sought }
-    ensures room { coms.new.room ≡ coms.old.room }
-{
-    if let Some(com_id) = sought {
-        coms.remove(com_id, slot, handle);
-    }
+    ghost invariant = { λ s. IsStore s.table s.coms s.sessions s.schedule };
 }
 
 impl Store {
@@ -114,61 +90,17 @@ impl Store {
         ensures { IfOk result (λ store. store ≡ map opened_slot quotas.now) }
     {
         let table = Table::new(alloc, quotas)?;
-        let coms = ComIndex::with_room(alloc, table.room())?;
-        Ok(Store { table, coms })
-    }
-
-    /// How many slots there are, at most 16.
-    pub fn slots(&self) -> usize
-        ensures count { result ≡ length self.now }
-        ensures within { result ≤ slot_limit }
-    {
-        self.table.slots()
-    }
-
-    /// How many objects a slot has, at most 1,536.
-    pub fn count(&self, slot: u16) -> usize
-        requires { slot < length self.now }
-        ensures count { result ≡ length (slot_in slot self.now).objects }
-        ensures within { result ≤ object_limit }
-    {
-        self.table.count(slot)
-    }
-
-    /// A slot's object of that index, by rising handle from 0; None past the last one.
-    pub fn object_at(&self, slot: u16, index: usize) -> Option<&AnyObject>
-        requires { slot < length self.now }
-        ensures { option_copied result
-            ≡ option_map (λ keyed. keyed.object) (slice_get (slot_in slot self.now).objects index) }
-    {
-        self.table.object_at(slot, index)
-    }
-
-    /// The handle of a slot's object of that index, from 0; None past the last one.
-    pub fn handle_at(&self, slot: u16, index: usize) -> Option<u32>
-        requires { slot < length self.now }
-        ensures { result
-            ≡ option_map (λ keyed. keyed.handle) (slice_get (slot_in slot self.now).objects index) }
-    {
-        self.table.handle_at(slot, index)
-    }
-
-    /// The key of a slot's object of that handle; None where the slot has none.
-    pub fn find(&self, slot: u16, handle: u32) -> Option<usize>
-        requires { slot < length self.now }
-        ensures { result
-            ≡ option_map (λ keyed. keyed.key)
-            (by_handle handle (slot_in slot self.now).objects) }
-    {
-        self.table.find(slot, handle)
-    }
-
-    /// The object of that key; None where no slot has one.
-    pub fn get(&self, key: usize) -> Option<&AnyObject>
-        ensures { option_copied result
-            ≡ option_map (λ keyed. keyed.object) (by_key key (all_objects self.now)) }
-    {
-        self.table.get(key)
+        table.sound();
+        let room = table.room();
+        let coms = ComIndex::with_room(alloc, room)?;
+        let sessions = SessionIndex::with_room(alloc, room)?;
+        let schedule = Schedule::with_room(alloc, room)?;
+        Ok(Store {
+            table,
+            coms,
+            sessions,
+            schedule,
+        })
     }
 
     /// The rows of the objects that telegrams look for under that comId, or under any, by slot and
@@ -184,22 +116,45 @@ impl Store {
         self.coms.run(com_id, comparisons)
     }
 
-    /// Why a slot takes no further object of a kind: the first that applies of its quota and its
-    /// handles, as [`Store::add`] answers it.
-    pub fn refuses(&self, slot: u16, kind: Kind) -> Option<TableFault>
-        requires { slot < length self.now }
-        ensures { result ≡ refusal (slot_in slot self.now) kind }
+    /// The key of a slot's object that is in a session in that role; None where there is none.
+    pub fn session(&self, slot: u16, session: SessionId, role: Role) -> Option<usize>
+        ensures key { IfSome result
+            (λ key. HasPart (slot_in slot self.now).objects (session, role) key) }
+        ensures variant { is_some result
+            ≡ has_session (kind_as role) session (slot_at slot self.now).objects }
     {
-        self.table.refuses(slot, kind)
+        self.table.sound();
+        self.sessions.get(session, slot, role)
+    }
+
+    /// The handle of a slot's object that is in a session in that role; None where there is none.
+    pub fn handle_in(&self, slot: u16, session: SessionId, role: Role) -> Option<u32>
+        ensures found { IfSome result
+            (λ handle. session_in slot handle self.now ≡ Some (session, role)) }
+        ensures alone { (index : ℕ) (keyed : Keyed)
+            → slice_get (slot_in slot self.now).objects index ≡ Some keyed
+            → session_of keyed.object ≡ Some (session, role)
+            → result ≡ Some keyed.handle }
+    {
+        self.table.sound();
+        let key = self.sessions.get(session, slot, role)?;
+        let owner = self.table.owner(key)?;
+        Some(owner.1)
     }
 
     /// Adds an object to a slot, last under the slot's next handle, and answers that handle. It
-    /// takes no memory.
+    /// takes no memory, and counts how often it compared two orders.
     ///
     /// # Errors
     /// The object, and the first that applies of `Quota` and `Exhausted`; nothing has changed.
-    pub fn add(&mut self, slot: u16, object: AnyObject) -> Result<u32, (AnyObject, TableFault)>
-        requires { slot < length self.old }
+    pub fn add(
+        &mut self,
+        slot: u16,
+        object: AnyObject,
+        counts: &mut Counts,
+    ) -> Result<u32, (AnyObject, TableFault)>
+        requires slot { slot < length self.old }
+        requires fresh { IsNewInSession object (slot_at slot self.old).objects }
         ensures handle { IfOk result (λ handle. handle ≡ (slot_in slot self.old).next) }
         ensures granted { OnOk result
             (refusal (slot_in slot self.old) (kind_of object) ≡ None) }
@@ -208,15 +163,26 @@ impl Store {
         ensures fault { IfErr result
             (λ refused. refusal (slot_in slot self.old) (kind_of object) ≡ Some refused.1) }
         ensures kept { OnErr result (self.new ≡ self.old) }
+        ensures comparisons { (b : ℕ) → room_of self.old < 2 ^ b
+            → counts.new.comparisons ≤ counts.old.comparisons + (2 * b + 2) }
+        ensures tests { counts.new.tests ≡ counts.old.tests }
+        ensures look_ups { counts.new.look_ups ≡ counts.old.look_ups }
     {
         let sought = com_of(&object);
+        let own = session_of(&object);
+        let due = object.due();
+        let room = Room::of(&object);
         self.table.sound();
         self.coms.sound();
         match self.table.add(slot, object) {
             Err(refused) => Err(refused),
             Ok(handle) => {
+                self.table.sound();
                 if let Some(key) = self.table.find(slot, handle) {
                     enlist(&mut self.coms, sought, slot, handle, key);
+                    enter(&mut self.sessions, own, slot, key);
+                    self.schedule.admit(key, room);
+                    counts.compared(self.schedule.set(key, slot, handle, due));
                 }
                 Ok(handle)
             }
@@ -233,42 +199,61 @@ impl Store {
         com_of(self.table.get(key)?)
     }
 
-    /// Takes a slot's object of that handle out of the store; all other objects keep their keys.
-    /// None where the slot has no such object; nothing has changed.
-    pub fn remove(&mut self, slot: u16, handle: u32) -> Option<AnyObject>
+    /// The session of a slot's object of that handle, and what it is there.
+    fn session_at(&self, slot: u16, handle: u32) -> Option<(SessionId, Role)>
+        requires { slot < length self.now }
+        ensures { result ≡ session_in slot handle self.now }
+    {
+        self.table.sound();
+        let key = self.table.find(slot, handle)?;
+        session_of(self.table.get(key)?)
+    }
+
+    /// Takes a slot's object of that handle, if it has one, out of the store; all other objects
+    /// keep their keys. It answers how often it compared two orders.
+    fn remove(&mut self, slot: u16, handle: u32) -> u64
         requires { slot < length self.old }
-        ensures object { result
-            ≡ option_map (λ keyed. keyed.object)
-            (by_handle handle (slot_in slot self.old).objects) }
         ensures table { self.new ≡ changed_at slot (without handle) self.old }
+        ensures cost { (b : ℕ) → room_of self.old < 2 ^ b → result ≤ 2 * b + 2 }
+        ensures idle { (keyed : Keyed) → by_handle handle (slot_in slot self.old).objects ≡ Some keyed
+            → due_of keyed.object ≡ None → result ≡ 0 }
     {
         self.table.sound();
         let sought = self.com_at(slot, handle);
+        let own = self.session_at(slot, handle);
         delist(&mut self.coms, sought, slot, handle);
-        self.table.remove(slot, handle)
-    }
-
-    /// What holds of every store: a law, which does nothing when it runs. It is that of the table.
-    pub fn sound(&self)
-        ensures sound { IsTable self.now }
-        ensures found { (s handle : ℕ) (keyed : Keyed)
-            → by_handle handle (slot_in s self.now).objects ≡ Some keyed
-            → by_key keyed.key (all_objects self.now) ≡ Some keyed }
-        ensures listed { (s index : ℕ) (keyed : Keyed)
-            → slice_get (slot_in s self.now).objects index ≡ Some keyed
-            → by_handle keyed.handle (slot_in s self.now).objects ≡ Some keyed }
-        ensures exchanged { (s handle : ℕ) (keyed : Keyed) (object : AnyObject)
-            → by_handle handle (slot_in s self.now).objects ≡ Some keyed
-            → exchanged keyed.key self.now object
-            ≡ changed_at s (with_other_by_handle handle object) self.now }
-    {
-        self.table.sound();
+        leave(&mut self.sessions, own, slot);
+        let key = self.table.find(slot, handle);
+        let comparisons = self.schedule.dismiss(key);
+        self.table.remove(slot, handle);
+        comparisons
     }
 }
 
 impl Store {
+    /// When the object acts that fires next of those that are due by `t`, in microseconds, of all
+    /// slots. None where nothing is due by then.
+    pub fn next_due(&mut self, t: u64) -> Option<Order>
+        ensures next { ComesNext t self.old result }
+        ensures kept { self.new ≡ self.old }
+    {
+        self.table.sound();
+        self.schedule.first_due(t)
+    }
+
+    /// Room for what fires in all slots by `t`, in microseconds, and how often an order was
+    /// compared with `t`.
+    pub fn due_room(&mut self, t: u64) -> (Room, u64)
+        ensures room { result.0 ≡ moment_room t (slots_of self.old) }
+        ensures kept { self.new ≡ self.old }
+        ensures cost { result.1 ≤ 4 * due_in t (slots_of self.old) + 2 }
+    {
+        self.table.sound();
+        self.schedule.due_room(t)
+    }
+
     /// Hands the telegram to the object of that handle in slot `s`, which it is for. An object that
-    /// ends leaves the store.
+    /// ends leaves the store, which counts as a look-up.
     pub fn take(
         &mut self,
         s: u16,
@@ -277,6 +262,7 @@ impl Store {
         telegram: &Telegram<'_>,
         globals: &Globals,
         out: &mut Outbox,
+        counts: &mut Counts,
     )
         requires slot { s < length self.old }
         requires may { MayAct (slot_at s self.old) handle out.old }
@@ -284,42 +270,71 @@ impl Store {
             (λ entry. is_for_entry (telegram_model telegram.now) globals.now entry ≡ true) }
         requires now { globals.now.now ≤ last_moment }
         requires limit { IsWithinLimit (telegram_model telegram.now) }
-        ensures { ActsAt s handle
+        ensures acts { ActsAt s handle
             (taking_act (setup_of config.now) (telegram_model telegram.now) globals.entry.now)
             self.old self.new out.old out.new }
+        ensures comparisons { (b : ℕ) → room_of self.old < 2 ^ b
+            → counts.new.comparisons ≤ counts.old.comparisons + (2 * b + 2) }
+        ensures tests { counts.new.tests ≡ counts.old.tests }
+        ensures look_ups { counts.new.look_ups ≤ counts.old.look_ups + 1 }
     {
         self.table.sound();
         let left = match self.table.find(s, handle) {
             None => Left::Stays,
             Some(key) => match self.table.get_mut(key) {
                 None => Left::Stays,
-                Some(object) => take_object(object, handle, config, telegram, globals, s, out),
+                Some(object) => {
+                    let before = object.due();
+                    let left = take_object(object, handle, config, telegram, globals, s, out);
+                    let due = object.due();
+                    counts.compared(self.schedule.change(key, s, handle, before, due));
+                    left
+                }
             },
         };
         if let Left::Ended = left {
-            self.remove(s, handle);
+            counts.looked_up();
+            counts.compared(self.remove(s, handle));
         }
     }
 
-    /// Fires the object of that handle in slot `s`, which is due. One that ends leaves the store.
-    pub fn fire(&mut self, s: u16, handle: u32, globals: &Globals, out: &mut Outbox)
+    /// Fires the object of that handle in slot `s`, which is due. One that ends leaves the store,
+    /// which counts as a look-up.
+    pub fn fire(
+        &mut self,
+        s: u16,
+        handle: u32,
+        globals: &Globals,
+        out: &mut Outbox,
+        counts: &mut Counts,
+    )
         requires slot { s < length self.old }
         requires may { MayAct (slot_at s self.old) handle out.old }
         requires due { IfSome (entry_of handle (slot_at s self.old).objects)
             (λ entry. is_due globals.now.now entry ≡ true) }
         requires now { globals.now.now ≤ last_moment }
-        ensures { ActsAt s handle (firing_act globals.entry.now) self.old self.new out.old out.new }
+        ensures acts { ActsAt s handle (firing_act globals.entry.now) self.old self.new out.old
+            out.new }
+        ensures comparisons { (b : ℕ) → room_of self.old < 2 ^ b
+            → counts.new.comparisons ≤ counts.old.comparisons + (4 * b + 4) }
+        ensures tests { counts.new.tests ≡ counts.old.tests }
+        ensures look_ups { counts.new.look_ups ≤ counts.old.look_ups + 1 }
     {
         self.table.sound();
         let left = match self.table.find(s, handle) {
             None => Left::Stays,
             Some(key) => match self.table.get_mut(key) {
                 None => Left::Stays,
-                Some(object) => fire_object(object, handle, globals, s, out),
+                Some(object) => {
+                    let left = fire_object(object, handle, globals, s, out);
+                    counts.compared(self.schedule.set(key, s, handle, object.due()));
+                    left
+                }
             },
         };
         if let Left::Ended = left {
-            self.remove(s, handle);
+            counts.looked_up();
+            counts.compared(self.remove(s, handle));
         }
     }
 
@@ -347,7 +362,11 @@ impl Store {
             None => None,
             Some(key) => match self.table.get_mut(key) {
                 None => None,
-                Some(object) => Some(ask(object, handle, asked, config, globals, s, out)),
+                Some(object) => {
+                    let left = ask(object, handle, asked, config, globals, s, out);
+                    self.schedule.set(key, s, handle, object.due());
+                    Some(left)
+                }
             },
         };
         let Some(left) = left else {

@@ -14,6 +14,7 @@ ghost use Rattle.trdp_engine.specs.Outboxes.{plain_answer_model};
 ghost use Rattle.trdp_engine.specs.Rooms.{HasRoom, answer_room};
 ghost use Rattle.trdp_engine.specs.Acting.{slot_at};
 
+use crate::counts::Counts;
 use crate::fault::Refusal;
 use crate::look::as_subscription;
 use crate::opening::{is_span, open, opening_refusal, value_size};
@@ -90,7 +91,12 @@ pub fn subscribe(
         Err(refusal) => Ok(PlainAnswer::Refused(refusal)),
         Ok(size) => {
             let subscription = Subscription::new(alloc, terms, size, globals.now)?;
-            Ok(open(store, s, AnyObject::Subscription(subscription)))
+            Ok(open(
+                store,
+                s,
+                AnyObject::Subscription(subscription),
+                &mut Counts::none(),
+            ))
         }
     }
 }

@@ -5,13 +5,13 @@ use Rattle.std.specs.Str.Lines.{lines}
 use Rattle.std.specs.Io.KnownBytes.{Appends}
 use Rattle.trdp_engine.specs.Events.{EventModel}
 use Rattle.trdp_dataset.specs.Configs.{ConfigModel}
-use Rattle.trdp_engine.specs.NodeStates.{NodeState, opened_node}
+use Rattle.trdp_engine.specs.NodeStates.{NodeState, opened_node, uncounted}
 use Rattle.trdp_script.specs.ScriptRuns.{RunsScript, WritesFront}
 use Rattle.trdp_script.specs.declared.script.Script.{Script}
 use Rattle.trdp_script.specs.declared.script.ScriptFault.{ScriptFault}
 use Rattle.trdp_script.specs.declared.script.ScriptFault.TheVariants.{Line, Read, Write, OutOfMemory}
 use Rattle.trdp_script.specs.ScriptText.{event_text, events_of, events_text, fault_from, node_after, script_events, script_fault, script_text}
-use Rattle.trdp_script.specs.ScriptSteps.{ComesTo, Starts, Stops}
+use Rattle.trdp_script.specs.ScriptSteps.{node_of, ComesTo, Starts, Stops}
 use Rattle.trdp_script.specs.Writes.{PassesOn, PassesSome}
 use Rattle.trdp_script.proofs.Writing.{passes_both, passes_some_after, passes_some_of}
 
@@ -46,11 +46,11 @@ events_front node (event ∷ events) (suc n) =
     (more.0, ap (λ l. event_text node event ++ l) more.1 ∙ sym (append_assoc (event_text node event) (events_text (node_after node event) (take n events)) more.0))
 
 -- what was told, where all of it was written
-starts_text : (config : ConfigModel) (s : Script) → Starts config s → (input : List ℕ) → events_text s.player.node (events_of (lines (s.line.items ++ input))) ≡ script_text config input
-starts_text config s start input = ap (λ n. events_text n (events_of (lines (s.line.items ++ input)))) start.node ∙ ap (events_text (opened_node config)) (starts_events start input)
+starts_text : (config : ConfigModel) (s : Script) → Starts config s → (input : List ℕ) → events_text (node_of s.player) (events_of (lines (s.line.items ++ input))) ≡ script_text config input
+starts_text config s start input = ap (λ n. events_text (uncounted n) (events_of (lines (s.line.items ++ input)))) start.node ∙ ap (events_text (opened_node config)) (starts_events start input)
 
-starts_front : (config : ConfigModel) (s : Script) → Starts config s → (input : List ℕ) (n : ℕ) → events_text s.player.node (take n (events_of (lines (s.line.items ++ input)))) ≡ events_text (opened_node config) (take n (script_events input))
-starts_front config s start input n = ap (λ m. events_text m (take n (events_of (lines (s.line.items ++ input))))) start.node ∙ ap (λ es. events_text (opened_node config) (take n es)) (starts_events start input)
+starts_front : (config : ConfigModel) (s : Script) → Starts config s → (input : List ℕ) (n : ℕ) → events_text (node_of s.player) (take n (events_of (lines (s.line.items ++ input)))) ≡ events_text (opened_node config) (take n (script_events input))
+starts_front config s start input n = ap (λ m. events_text (uncounted m) (take n (events_of (lines (s.line.items ++ input))))) start.node ∙ ap (λ es. events_text (opened_node config) (take n es)) (starts_events start input)
 
 -- a run that comes to its end, whose output is written
 pub run_written : (config : ConfigModel) (a b c : Script) (u v w : Option (List ℕ)) (input : List ℕ) (left : Option (List ℕ)) (r : Result (Unit {0}) ScriptFault) → Starts config a → c.player.output.items ≡ []

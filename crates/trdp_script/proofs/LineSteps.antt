@@ -14,7 +14,7 @@ use Rattle.trdp_script.specs.Words.{words_of}
 use Rattle.trdp_script.specs.Lines.{Reads, event_or_fault, form_among, is_skipped, line_among, line_of, words_say}
 use Rattle.trdp_script.specs.Pieces.{IsBare}
 use Rattle.trdp_script.specs.ScriptText.{after_line, events_of, events_text, fault_from, fault_or, nodes_after}
-use Rattle.trdp_script.specs.ScriptSteps.{Ends, LineComesTo, Plays, PlaysLine, Stops, StopsAt, line_events}
+use Rattle.trdp_script.specs.ScriptSteps.{node_of, Ends, LineComesTo, Plays, PlaysLine, Stops, StopsAt, line_events}
 use Rattle.trdp_script.specs.Writes.{PassesOn, PassesSome}
 use Rattle.trdp_script.proofs.LineLists.{lines_first, lines_last}
 use Rattle.trdp_script.proofs.Writing.{passes_some_of}
@@ -32,7 +32,7 @@ line_plays old new v w event bare is played empty next =
     let first : (later : List ℕ) → lines (old.line.items ++ 10 ∷ later) ≡ strip_carriage_return old.line.items ∷ lines later = λ later. lines_first old.line.items later bare in
     let number : suc old.number ≡ new.number = omega (arith, next) in
     record {
-      text = events_text old.player.node (line_events (Ok event));
+      text = events_text (node_of old.player) (line_events (Ok event));
       passed = played.passed;
       taken = record {
         events = line_events (Ok event);
@@ -51,7 +51,7 @@ bad_stops old new v w line rest later bad n fault is first came = record {
   text = [];
   passed = came.2;
   first = ap (fault_from old.number) first ∙ ap (λ m. fault_or old.number m (fault_from (suc old.number) later)) is ∙ ap (λ k. Some (k, bad)) (sym came.0) ∙ ap (λ f. Some (n, f)) (sym came.1);
-  text_is = ap (events_text old.player.node) (sym (ap events_of first ∙ ap (λ m. after_line m (events_of later)) is));
+  text_is = ap (events_text (node_of old.player)) (sym (ap events_of first ∙ ap (λ m. after_line m (events_of later)) is));
 }
 
 line_stops_as : (old new : Script) (v w : Option (List ℕ)) (line rest : List ℕ) (later : List (List ℕ)) (meaning : Result (Option EventModel) LineFault) (r : Result (Unit {0}) ScriptFault) → line_of line ≡ meaning → lines (old.line.items ++ rest) ≡ line ∷ later
@@ -67,8 +67,8 @@ line_stops_as old new v w line rest later (Ok event) (Err (Line n fault)) is fir
 line_stops_as old new v w line rest later (Ok event) (Err Read) is first came = absurd came
 line_stops_as old new v w line rest later (Ok event) (Err Write) is first came =
     subst (λ (l : List ℕ). PassesSome v w old.player.output.items l)
-    (sym (ap (events_text old.player.node) (ap events_of first ∙ line_then line event later is) ∙ text_append old.player.node (line_events (Ok event)) (events_of later)))
-    (passes_some_of (events_text (nodes_after old.player.node (line_events (Ok event))) (events_of later)) came)
+    (sym (ap (events_text (node_of old.player)) (ap events_of first ∙ line_then line event later is) ∙ text_append (node_of old.player) (line_events (Ok event)) (events_of later)))
+    (passes_some_of (events_text (nodes_after (node_of old.player) (line_events (Ok event))) (events_of later)) came)
 line_stops_as old new v w line rest later (Ok event) (Err OutOfMemory) is first came = stops_here rest came
 
 -- a line that stops the script
@@ -80,10 +80,10 @@ line_stops old new v w line rest later r first came = line_stops_as old new v w 
 pub line_ends : (old new : Script) (v w : Option (List ℕ)) (event : Option EventModel) → lines (old.line.items ++ []) ≡ old.line.items ∷ [] → line_of old.line.items ≡ Ok event
     → PlaysLine old.player new.player v w (line_events (Ok event)) → Ends old new v w []
 line_ends old new v w event first is played = record {
-  text = events_text old.player.node (line_events (Ok event));
+  text = events_text (node_of old.player) (line_events (Ok event));
   passed = played.passed;
   no_fault = ap (fault_from old.number) first ∙ ap (λ m. fault_or old.number m None) is;
-  text_is = ap (events_text old.player.node) (sym (ap events_of first ∙ line_then old.line.items event [] is ∙ append-nil (line_events (Ok event))));
+  text_is = ap (events_text (node_of old.player)) (sym (ap events_of first ∙ line_then old.line.items event [] is ∙ append-nil (line_events (Ok event))));
 }
 
 -- a line that was played, by what came of it

@@ -12,7 +12,7 @@ use Rattle.trdp_engine.specs.Events.{EventModel}
 use Rattle.trdp_engine.specs.Records.{RecordModel, labelled, records_of}
 use Rattle.trdp_engine.specs.Slots.{SlotState}
 use Rattle.trdp_engine.specs.Alone.{FaultIs, refused_as, globals_after, slot_after, records_after}
-use Rattle.trdp_engine.specs.NodeStates.{NodeState, StepsAsAlone, Appends}
+use Rattle.trdp_engine.specs.NodeStates.{NodeState, StepsAsAlone, Appends, no_counts, uncounted}
 use Rattle.trdp_script.specs.RecordText.{text_of_record}
 use Rattle.trdp_script.specs.ScriptText.{slots_after, slots_text, node_after, event_text, node_unless, text_unless}
 use Rattle.trdp_script.specs.SlotOrder.{by_slot}
@@ -89,14 +89,14 @@ no_fault (Some fault) is = absurd is
 pub node_played : (old new : NodeState) (records records_then : List RecordModel) (event : EventModel) → FaultIs (refused_as (length old.slots) old.globals event) (Ok tt)
     → new.config ≡ old.config → new.globals ≡ globals_after old.globals event → length new.slots ≡ length old.slots
     → ((s : ℕ) (slot : SlotState) → slice_get old.slots s ≡ Some slot → StepsAsAlone old new records records_then event s slot)
-    → new ≡ node_after old event
+    → uncounted new ≡ node_after (uncounted old) event
 node_played old new records records_then event taken config globals len steps =
     let slots : new.slots ≡ slots_after (setup_of old.config) old.globals event 0 old.slots =
     slots_same (setup_of old.config) old.globals event 0 old.slots new.slots len (λ i s slot is there. let same : s ≡ i = omega (arith, is) in rw same (steps i slot there).slot_is) in
-    ap (λ c. let n : NodeState = record { config = c; globals = new.globals; slots = new.slots } in n) config
-    ∙ ap (λ g. let n : NodeState = record { config = old.config; globals = g; slots = new.slots } in n) globals
-    ∙ ap (λ l. let n : NodeState = record { config = old.config; globals = globals_after old.globals event; slots = l } in n) slots
-    ∙ ap (λ fault. node_unless fault old event) (sym (no_fault (refused_as (length old.slots) old.globals event) taken))
+    ap (λ c. let n : NodeState = record { config = c; globals = new.globals; slots = new.slots; counts = no_counts } in n) config
+    ∙ ap (λ g. let n : NodeState = record { config = old.config; globals = g; slots = new.slots; counts = no_counts } in n) globals
+    ∙ ap (λ l. let n : NodeState = record { config = old.config; globals = globals_after old.globals event; slots = l; counts = no_counts } in n) slots
+    ∙ ap (λ fault. node_unless fault (uncounted old) event) (sym (no_fault (refused_as (length old.slots) old.globals event) taken))
 
 -- what is told of an event that the node took
 pub text_played : (n : ℕ) (old new : NodeState) (records records_then : List RecordModel) (event : EventModel) (text : List ℕ) → FaultIs (refused_as (length old.slots) old.globals event) (Ok tt)
@@ -104,7 +104,7 @@ pub text_played : (n : ℕ) (old new : NodeState) (records records_then : List R
     → ((s : ℕ) (slot : SlotState) → slice_get old.slots s ≡ Some slot → StepsAsAlone old new records records_then event s slot)
     → Appends old.slots records records_then
     → text ≡ flat_map text_of_record (by_slot n records_then)
-    → text ≡ event_text old event
+    → text ≡ event_text (uncounted old) event
 text_played n old new records records_then event text taken fits empty steps appends told =
     let room : n ≡ length old.slots + (n - length old.slots) = omega (arith, fits) in
     let none : (s : ℕ) → slice_get old.slots s ≡ None → records_of s records_then ≡ [] = λ s past. appends.none_else s past ∙ ap (records_of s) empty in
@@ -115,4 +115,4 @@ text_played n old new records records_then event text taken fits empty steps app
     ∙ ap (flat_map text_of_record) (by_slot_past old.slots records_then none (n - length old.slots) n room)
     ∙ sym (ap (λ l. flat_map text_of_record l ++ slots_text (setup_of old.config) old.globals event 0 old.slots) (sym (by_slot_zero records_then))
     ∙ slots_text_after (setup_of old.config) old.globals event records_then old.slots 0 (length old.slots) (sym whole) each)
-    ∙ ap (λ fault. text_unless fault old event) (sym (no_fault (refused_as (length old.slots) old.globals event) taken))
+    ∙ ap (λ fault. text_unless fault (uncounted old) event) (sym (no_fault (refused_as (length old.slots) old.globals event) taken))

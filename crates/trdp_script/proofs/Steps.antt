@@ -12,7 +12,7 @@ use Rattle.trdp_script.specs.declared.script.ScriptFault.{ScriptFault}
 use Rattle.trdp_script.specs.declared.script.ScriptFault.TheVariants.{Line, Read, Write, OutOfMemory}
 use Rattle.trdp_script.specs.Pieces.{IsBare}
 use Rattle.trdp_script.specs.ScriptText.{event_text, events_of, events_text, fault_from, node_after, nodes_after}
-use Rattle.trdp_script.specs.ScriptSteps.{Ends, Going, Plays, Stops, StopsAmong, Takes}
+use Rattle.trdp_script.specs.ScriptSteps.{node_of, Ends, Going, Plays, Stops, StopsAmong, Takes}
 use Rattle.trdp_script.specs.Writes.{PassesOn, PassesSome}
 use Rattle.trdp_script.proofs.LineLists.{LongFirst, long_line, too_long_events, too_long_fault}
 use Rattle.trdp_script.proofs.Writing.{passes_both, passes_some_after, passes_some_of}
@@ -55,15 +55,15 @@ pub plays_both : {a b c : Script} {v w x : Option (List ℕ)} {bs cs : List ℕ}
 plays_both p q = record { text = p.text ++ q.text; taken = takes_both p.taken q.taken; passed = passes_both p.passed q.passed }
 
 -- what is told of bytes and of the rest of the input
-pub rest_text : {a b : Script} {v w : Option (List ℕ)} {bs : List ℕ} (p : Plays a b v w bs) (rest : List ℕ) → events_text a.player.node (events_of (lines (a.line.items ++ (bs ++ rest)))) ≡ p.text ++ events_text b.player.node (events_of (lines (b.line.items ++ rest)))
-rest_text {a} {b} p rest = ap (events_text a.player.node) (p.taken.later_events rest) ∙ text_joined p.taken (events_of (lines (b.line.items ++ rest)))
+pub rest_text : {a b : Script} {v w : Option (List ℕ)} {bs : List ℕ} (p : Plays a b v w bs) (rest : List ℕ) → events_text (node_of a.player) (events_of (lines (a.line.items ++ (bs ++ rest)))) ≡ p.text ++ events_text (node_of b.player) (events_of (lines (b.line.items ++ rest)))
+rest_text {a} {b} p rest = ap (events_text (node_of a.player)) (p.taken.later_events rest) ∙ text_joined p.taken (events_of (lines (b.line.items ++ rest)))
 
 -- the same up to so many events
-pub front_text : {a b : Script} {v w : Option (List ℕ)} {bs : List ℕ} (p : Plays a b v w bs) (rest : List ℕ) (k : ℕ) → events_text a.player.node (take (length p.taken.events + k) (events_of (lines (a.line.items ++ (bs ++ rest))))) ≡ p.text ++ events_text b.player.node (take k (events_of (lines (b.line.items ++ rest))))
+pub front_text : {a b : Script} {v w : Option (List ℕ)} {bs : List ℕ} (p : Plays a b v w bs) (rest : List ℕ) (k : ℕ) → events_text (node_of a.player) (take (length p.taken.events + k) (events_of (lines (a.line.items ++ (bs ++ rest))))) ≡ p.text ++ events_text (node_of b.player) (take k (events_of (lines (b.line.items ++ rest))))
 front_text {a} {b} p rest k =
     let more = events_of (lines (b.line.items ++ rest)) in
-    ap (λ l. events_text a.player.node (take (length p.taken.events + k) l)) (p.taken.later_events rest)
-    ∙ ap (events_text a.player.node) (take_append p.taken.events more k)
+    ap (λ l. events_text (node_of a.player) (take (length p.taken.events + k) l)) (p.taken.later_events rest)
+    ∙ ap (events_text (node_of a.player)) (take_append p.taken.events more k)
     ∙ text_joined p.taken (take k more)
 
 pub among_after : {a b c : Script} {v w x : Option (List ℕ)} {bs : List ℕ} (rest : List ℕ) → Plays a b v w bs → StopsAmong b c w x rest → StopsAmong a c v x (bs ++ rest)
@@ -121,14 +121,14 @@ too_long_stops s w bytes later bare more long =
       text = [];
       passed = passes_nothing w s.player.output.items;
       first = too_long_fault s.number _ first;
-      text_is = ap (events_text s.player.node) (sym (too_long_events _ first));
+      text_is = ap (events_text (node_of s.player)) (sym (too_long_events _ first));
     }
 
 -- a write that failed
 pub write_stops : (old new : Script) (v w : Option (List ℕ)) (r : Result (Unit {0}) ScriptFault) → IfErr r (λ fault. fault ≡ Write) → OnErr r (PassesSome v w old.player.output.items []) → IfErr r (λ fault. (rest : List ℕ) → Stops old new v w rest fault)
 unfolding Stops
 write_stops old new v w (Ok done) is some = tt
-write_stops old new v w (Err fault) is some = λ rest. subst (λ (f : ScriptFault). Stops old new v w rest f) (sym is) (passes_some_of (events_text old.player.node (events_of (lines (old.line.items ++ rest)))) some)
+write_stops old new v w (Err fault) is some = λ rest. subst (λ (f : ScriptFault). Stops old new v w rest f) (sym is) (passes_some_of (events_text (node_of old.player) (events_of (lines (old.line.items ++ rest)))) some)
 
 -- no byte is taken
 pub plays_nothing : (s : Script) (w : Option (List ℕ)) → Plays s s w w []

@@ -4,7 +4,7 @@ use Rattle.std.specs.Prelude.{Option, Some, None, Result, Ok, Err}
 use Rattle.std.specs.Str.Lines.{lines}
 use Rattle.trdp_dataset.specs.Configs.{ConfigModel}
 use Rattle.trdp_engine.specs.Events.{EventModel}
-use Rattle.trdp_engine.specs.NodeStates.{NodeState, opened_node}
+use Rattle.trdp_engine.specs.NodeStates.{NodeState, opened_node, uncounted}
 use Rattle.trdp_script.specs.declared.fault.LineFault.{LineFault}
 use Rattle.trdp_script.specs.declared.script.Player.{Player}
 use Rattle.trdp_script.specs.declared.script.Script.{Script}
@@ -21,11 +21,15 @@ line_events (Ok (Some event)) = event ∷ []
 line_events (Ok None) = []
 line_events (Err fault) = []
 
+-- the node of a player, of which nothing tells what an event cost
+abbrev pub node_of : Player → NodeState
+node_of player = uncounted player.node
+
 -- a line without a fault was played
 pub record PlaysLine (old new : Player) (v w : Option (List ℕ)) (events : List EventModel)
     : Type 0 where
-  pub node_is : new.node ≡ nodes_after old.node events
-  pub passed : PassesOn v w old.output.items new.output.items (events_text old.node events)
+  pub node_is : node_of new ≡ nodes_after (node_of old) events
+  pub passed : PassesOn v w old.output.items new.output.items (events_text (node_of old) events)
 
 -- what came of the line of that number, which has this meaning; what the writer holds is v, then w
 unfoldable pub LineComesTo : Player → Player → Option (List ℕ) → Option (List ℕ) → ℕ
@@ -41,7 +45,7 @@ LineComesTo old new v w number (Ok event) (Ok done) =
 LineComesTo old new v w number (Ok event) (Err (Line n fault)) = ⊥
 LineComesTo old new v w number (Ok event) (Err Read) = ⊥
 LineComesTo old new v w number (Ok event) (Err Write) =
-    PassesSome v w old.output.items (events_text old.node (line_events (Ok event)))
+    PassesSome v w old.output.items (events_text (node_of old) (line_events (Ok event)))
 LineComesTo old new v w number (Ok event) (Err OutOfMemory) =
     PassesOn v w old.output.items new.output.items []
 
@@ -52,7 +56,7 @@ pub record Going : Type 0 where
   pub number : ℕ
 
 abbrev pub going : Script → Going
-going s = record { node = s.player.node; line = s.line.items; number = s.number }
+going s = record { node = node_of s.player; line = s.line.items; number = s.number }
 
 -- bytes were taken: the events that end in them were played and told, and what comes later means
 -- the same
@@ -76,7 +80,7 @@ pub record Ends (old new : Script) (v w : Option (List ℕ)) (rest : List ℕ) :
   pub text : List ℕ
   pub passed : PassesOn v w old.player.output.items new.player.output.items text
   pub no_fault : fault_from old.number (lines (old.line.items ++ rest)) ≡ None
-  pub text_is : text ≡ events_text old.player.node (events_of (lines (old.line.items ++ rest)))
+  pub text_is : text ≡ events_text (node_of old.player) (events_of (lines (old.line.items ++ rest)))
 
 -- the rest of the input was played up to its first line with a fault
 pub record StopsAt (old new : Script) (v w : Option (List ℕ)) (rest : List ℕ)
@@ -84,7 +88,7 @@ pub record StopsAt (old new : Script) (v w : Option (List ℕ)) (rest : List ℕ
   pub text : List ℕ
   pub passed : PassesOn v w old.player.output.items new.player.output.items text
   pub first : fault_from old.number (lines (old.line.items ++ rest)) ≡ Some (n, fault)
-  pub text_is : text ≡ events_text old.player.node (events_of (lines (old.line.items ++ rest)))
+  pub text_is : text ≡ events_text (node_of old.player) (events_of (lines (old.line.items ++ rest)))
 
 -- some of the events of the rest of the input were played
 pub record StopsAmong (old new : Script) (v w : Option (List ℕ)) (rest : List ℕ) : Type 0 where
@@ -92,7 +96,7 @@ pub record StopsAmong (old new : Script) (v w : Option (List ℕ)) (rest : List 
   pub passed : PassesOn v w old.player.output.items new.player.output.items text
   pub count : ℕ
   pub text_is : text
-      ≡ events_text old.player.node (take count (events_of (lines (old.line.items ++ rest))))
+      ≡ events_text (node_of old.player) (take count (events_of (lines (old.line.items ++ rest))))
 
 -- where a script with this rest of its input stops for a fault
 unfoldable pub Stops : Script → Script → Option (List ℕ) → Option (List ℕ) → List ℕ
@@ -100,7 +104,7 @@ unfoldable pub Stops : Script → Script → Option (List ℕ) → Option (List 
 Stops old new v w rest (Line n fault) = StopsAt old new v w rest n fault
 Stops old new v w rest Read = StopsAmong old new v w rest
 Stops old new v w rest Write = PassesSome v w old.player.output.items
-    (events_text old.player.node (events_of (lines (old.line.items ++ rest))))
+    (events_text (node_of old.player) (events_of (lines (old.line.items ++ rest))))
 Stops old new v w rest OutOfMemory = StopsAmong old new v w rest
 
 -- no newline is among the bytes of the line that has begun, and the node has at most 16 slots

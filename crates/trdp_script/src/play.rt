@@ -3,6 +3,7 @@
 ghost use Rattle.std.specs.Prelude.{◌≡◌, ◌≤◌, ◌++◌, ◌==◌, [], length, filter, true, OnOk};
 ghost use Rattle.std.specs.List.{flat_map};
 ghost use Rattle.trdp_engine.specs.Events.{event_model};
+ghost use Rattle.trdp_engine.specs.NodeStates.{uncounted};
 ghost use Rattle.trdp_script.specs.RecordText.{text_of_record};
 ghost use Rattle.trdp_script.specs.ScriptText.{event_text, node_after};
 ghost use Rattle.trdp_engine.specs.Records.{record_model};
@@ -27,8 +28,10 @@ pub fn play(
     text: &mut Vec<u8>,
 ) -> Result<(), AllocError>
     requires slots { length node.old.slots ≤ 16 }
-    ensures node { OnOk result (node.new ≡ node_after node.old (event_model event.now)) }
-    ensures text { OnOk result (text.new.items ≡ event_text node.old (event_model event.now)) }
+    ensures node { OnOk result
+        (uncounted node.new ≡ node_after (uncounted node.old) (event_model event.now)) }
+    ensures text { OnOk result
+        (text.new.items ≡ event_text (uncounted node.old) (event_model event.now)) }
     ensures count { length node.new.slots ≡ length node.old.slots }
 {
     records.clear();

@@ -7,8 +7,8 @@
 //! (rcom, rip), its status (st), the time for a reply (t), its URIs (src, dst), and behind the bar
 //! the payload; what isn't named is 0 or empty. Where the telegram isn't as it should be, it also
 //! says how: another version (v) or length (n), a wrong frame check (bad), no zeros behind the
-//! payload (nopad), or so many bytes alone (cut). What a script can't say stands in `items`,
-//! `node` and `limits`.
+//! payload (nopad), or so many bytes alone (cut). What a script can't say stands in `counts`,
+//! `items`, `node` and `limits`.
 #![tactic(auto)]
 
 #[cfg(test)]
@@ -19,6 +19,8 @@ mod callers;
 mod calls;
 #[cfg(test)]
 mod confirmations;
+#[cfg(test)]
+mod counts;
 #[cfg(test)]
 mod items;
 #[cfg(test)]

@@ -6,7 +6,7 @@
 use crate::play::{Row, play_all};
 use std::test::Fail;
 
-static ROWS: [Row; 11] = [
+static ROWS: [Row; 12] = [
     Row {
         name: "what is due at one moment goes out slot by slot",
         script: "\
@@ -71,6 +71,27 @@ static ROWS: [Row; 11] = [
             00000000\n\
             0 send pd 10.0.0.2:17224 \
             000000000100506400000003000000000000000000000001000000000000000000000000af5205ec\
+            00000000\n",
+    },
+    Row {
+        name: "a publisher that ended is due no more, whoever has its place",
+        script: "\
+            call 0 publish 2 0 100000 0 0 0 10.0.0.2:17224\n\
+            call 0 put 1 00\n\
+            moment 50000\n\
+            call 0 unpublish 1\n\
+            call 1 publish 2 0 100000 0 0 0 10.0.0.2:17224\n\
+            call 1 put 1 00\n\
+            moment 100000\n\
+            moment 150000\n",
+        output: "\
+            0 handle 1\n\
+            0 done\n\
+            0 done\n\
+            1 handle 1\n\
+            1 done\n\
+            1 send pd 10.0.0.2:17224 \
+            000000000100506400000002000000000000000000000001000000000000000000000000a1c28e49\
             00000000\n",
     },
     Row {

@@ -1,4 +1,4 @@
-use Rattle.std.proofs.Common.{◌≡◌, ◌≤◌, ◌+◌, ◌-◌, ◌*◌, length, vec_len, vec_capacity}
+use Rattle.std.proofs.Common.{◌≡◌, ◌≤◌, ◌+◌, ◌*◌, vec_len, vec_capacity}
 use Rattle.trdp_filter.specs.Telegrams.{telegram_model}
 use Rattle.trdp_engine.proofs.Seeking.{NotesRun}
 use Rattle.trdp_engine.proofs.addressees.note_run.Given as goal
@@ -10,4 +10,7 @@ invariant-loop-row l = record {
   bytes : l.room.bytes ≤ 65388 * l.row-index;
   capacity : vec_capacity l.noted ≡ vec_capacity l.fn.noted;
   length : vec_len l.noted ≤ vec_len l.fn.noted + l.row-index;
+  comparisons : l.counts.comparisons ≡ l.fn.counts.comparisons;
+  tests : l.counts.tests ≤ l.fn.counts.tests + l.row-index;
+  look_ups : l.counts.look_ups ≡ l.fn.counts.look_ups;
 }

@@ -1,6 +1,7 @@
 use Rattle.std.proofs.Common.{◌∙◌, sym, arith}
 use Rattle.trdp_filter.specs.Telegrams.{telegram_model}
 use Rattle.trdp_engine.proofs.Receiving.{kind_taken}
+use Rattle.trdp_engine.proofs.Over.{over_replied, over_confirmed}
 use Rattle.trdp_engine.proofs.datagram.take_object.Goals as goal
 
 pub push_answer-requires-clause-bytes : goal.push_answer-requires-clause-bytes
@@ -59,3 +60,11 @@ returns-in-RepliedLast-clause-within c =
     let row_then = c.push-in-RepliedLast.ensures.row_room in
     let bytes_then = c.push-in-RepliedLast.ensures.byte_room in
     rw kind (record { rows = omega (arith, row, row_then); bytes = omega (arith, bytes, bytes_then) })
+
+pub returns-in-RepliedLast-clause-over : goal.returns-in-RepliedLast-clause-over
+returns-in-RepliedLast-clause-over c = λ _.
+    over_replied c.args.object.now c.take.new.self (telegram_model c.args.telegram.now) c.args.globals.now c.fits_object-fits.result c.take.ensures.state (sym c.in-RepliedLast.is ∙ c.take.ensures.outcome)
+
+pub returns-in-Confirmed-clause-over : goal.returns-in-Confirmed-clause-over
+returns-in-Confirmed-clause-over c = λ _.
+    over_confirmed c.args.object.now c.take.new.self (telegram_model c.args.telegram.now) c.args.globals.now c.fits_object-fits.result c.in-Confirmed.status c.take.ensures.state (sym c.in-Confirmed.is ∙ c.take.ensures.outcome)

@@ -4,9 +4,7 @@ use Rattle.trdp_engine.specs.Configs.{setup_of}
 use Rattle.trdp_engine.specs.Slots.{slots_of}
 use Rattle.trdp_engine.specs.Values.{valued, valued_at}
 use Rattle.trdp_engine.proofs.Fitting.{valued_at_fits}
-use Rattle.trdp_engine.proofs.Tables.{slots_length}
 use Rattle.trdp_engine.proofs.Parts.{became_parts, became_appends, became_count}
-use Rattle.trdp_engine.proofs.Quiet.{woken}
 use Rattle.trdp_engine.proofs.Steps.{outcomes_fit}
 use Rattle.trdp_engine.proofs.node.Node.put_value.Goals as goal
 
@@ -22,13 +20,10 @@ returns-clause-appends c =
     rw (← c.self.view_is)
     (became_appends (λ slot. valued (setup_of c.self.inside.config) slot c.args.handle (model_of c.args.item.now)) c.args.slot c.self.inside.store c.put_value.new.store c.args.out.now c.put_value.new.out there c.in_ok-put_value.ensures.becomes)
 
-pub wake-requires : goal.wake-requires
-wake-requires c = omega (arith, slots_length c.self.inside.store, c.self.invariant.4.count)
-
 pub invariant_of-self-2 : goal.invariant_of-self-2
 invariant_of-self-2 c =
     let there : c.args.slot < length c.self.inside.store = omega arith in
     let parts = became_parts (λ slot. valued (setup_of c.self.inside.config) slot c.args.handle (model_of c.args.item.now)) c.args.slot c.self.inside.store c.put_value.new.store c.args.out.now c.put_value.new.out there c.in_ok-put_value.ensures.becomes in
     let count = became_count c.args.slot _ c.self.inside.store c.put_value.new.store c.args.out.now c.put_value.new.out c.in_ok-put_value.ensures.becomes in
     let fits = outcomes_fit (setup_of c.self.inside.config) (λ r slot. valued_at (setup_of c.self.inside.config) c.args.slot r slot c.args.handle (model_of c.args.item.now)) (slots_of c.self.inside.store) (slots_of c.put_value.new.store) _ _ count parts (λ r slot fit. valued_at_fits (setup_of c.self.inside.config) c.args.slot r slot c.args.handle (model_of c.args.item.now) fit) c.self.invariant.2 in
-    (c.self.invariant.0, c.self.invariant.1, fits, c.self.invariant.3, rw c.wake.ensures (woken c.self.inside.quiet.items c.args.slot (slots_of c.self.inside.store) (slots_of c.put_value.new.store) _ c.self.invariant.4 c.in_ok-put_value.ensures.becomes.slots))
+    (c.self.invariant.0, c.self.invariant.1, fits, c.self.invariant.3)

@@ -1,5 +1,7 @@
 use Rattle.std.proofs.Common.{arith, refl, ◌∙◌}
 use Rattle.std.proofs.lemmas.Option.{slice_get-get_or, slice_get_past}
+use Rattle.trdp_engine.specs.NodeRuns.{NoneTaken}
+use Rattle.trdp_engine.proofs.Latest.{has_come, latest_next}
 use Rattle.trdp_engine.proofs.Runs.{one_event, so_far, one_more, at_start}
 use Rattle.trdp_engine.proofs.Steps.{appends_none, appends_more}
 use Rattle.trdp_engine.proofs.node.Node.run.Goals as goal
@@ -11,6 +13,7 @@ loop-event-init c = record {
   count = refl;
   runs = λ s slot is. at_start c.args.self.now c.args.out.now.records s slot is;
   appends = appends_none c.args.self.now.slots c.args.out.now.records c.args.out.now.records refl;
+  counted = NoneTaken tt refl;
 }
 
 pub loop-event-preserved : goal.loop-event-preserved
@@ -22,6 +25,9 @@ loop-event-preserved c = record {
       rw (one_more c.args.events.now c.loop-event.event-index c.event-item.result c.loop-event-test.true, ← c.event-item.is)
       (one_event c.args.self.now c.loop-event.self c.step-result.new.self c.args.out.now.records c.loop-event.out.records c.step-result.new.out.records _ _ s slot _ c.step-result.result c.loop-event.invariant.config refl c.step-result.ensures.fault (c.is_out_of_memory.ensures.no c.if-is_out_of_memory.false) c.step-result.ensures.kept c.step-result.ensures.unrecorded c.step-result.ensures.globals c.step-result.ensures.steps (c.loop-event.invariant.runs s slot is));
   appends = appends_more c.args.self.now.slots c.loop-event.self.slots _ _ _ c.loop-event.invariant.count c.loop-event.invariant.appends c.step-result.ensures.appends;
+  counted =
+      rw (one_more c.args.events.now c.loop-event.event-index c.event-item.result c.loop-event-test.true, ← c.event-item.is)
+      (latest_next c.args.self.now c.loop-event.self c.step-result.new.self _ _ c.step-result.result c.step-result.ensures.fault (c.is_out_of_memory.ensures.no c.if-is_out_of_memory.false) (has_come c.args.self.now c.loop-event.self c.args.out.now.records c.loop-event.out.records _ c.loop-event.invariant.count c.loop-event.invariant.runs) c.step-result.ensures.kept c.step-result.ensures.cost c.loop-event.invariant.counted);
 }
 
 pub returns-then-is_out_of_memory-clause-alone : goal.returns-then-is_out_of_memory-clause-alone
@@ -51,3 +57,12 @@ returns-then-is_out_of_memory-clause-lacks c =
 
 pub returns-clause-lacks : goal.returns-clause-lacks
 returns-clause-lacks c = rw (c.loop-event.invariant.taken, slice_get_past c.args.events.now c.loop-event.event-index (omega arith)) tt
+
+pub returns-then-is_out_of_memory-clause-counted : goal.returns-then-is_out_of_memory-clause-counted
+returns-then-is_out_of_memory-clause-counted c =
+    let memory = c.is_out_of_memory.ensures.yes c.if-is_out_of_memory.true in
+    let kept = rw memory at c.step-result.ensures.kept in
+    rw (c.loop-event.invariant.taken, kept) c.loop-event.invariant.counted
+
+pub returns-clause-counted : goal.returns-clause-counted
+returns-clause-counted c = rw c.loop-event.invariant.taken c.loop-event.invariant.counted

@@ -3,6 +3,7 @@ use Rattle.std.specs.Prelude.{slice_get}
 use Rattle.trdp_engine.specs.Events.{event_model}
 use Rattle.trdp_engine.specs.Slots.{SlotState}
 use Rattle.trdp_engine.specs.NodeStates.{Appends}
+use Rattle.trdp_engine.specs.NodeRuns.{CountsLatest}
 use Rattle.trdp_engine.proofs.Runs.{RunsAsAloneSoFar}
 use Rattle.trdp_engine.proofs.node.Node.run.Given as goal
 
@@ -14,4 +15,5 @@ invariant-loop-event l = record {
   count : length l.self.slots ≡ length l.fn.self.slots;
   runs : (s : ℕ) (slot : SlotState) → slice_get l.fn.self.slots s ≡ Some slot → RunsAsAloneSoFar l.fn.self l.self l.fn.out.records l.out.records (map event_model (take l.event-index l.events)) s slot;
   appends : Appends l.fn.self.slots l.fn.out.records l.out.records;
+  counted : CountsLatest l.fn.self l.self (map event_model (take l.event-index l.events));
 }

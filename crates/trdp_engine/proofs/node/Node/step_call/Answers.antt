@@ -7,7 +7,6 @@ use Rattle.trdp_engine.specs.Alone.{plain_effect}
 use Rattle.trdp_engine.proofs.Fitting.{plain_call_fits}
 use Rattle.trdp_engine.proofs.Tables.{slots_length}
 use Rattle.trdp_engine.proofs.Parts.{became_parts, became_appends, became_count}
-use Rattle.trdp_engine.proofs.Quiet.{woken}
 use Rattle.trdp_engine.proofs.Steps.{plain_steps, call_admitted, outcomes_fit}
 use Rattle.trdp_engine.proofs.node.Node.step_call.Goals as goal
 
@@ -25,13 +24,10 @@ returns-clause-appends c =
     rw (← c.self.view_is)
     (became_appends (λ slot. called (setup_of c.self.inside.config) slot c.self.inside.globals (call_model c.args.call.now)) c.args.s c.self.inside.store c.serve.new.store c.args.out.now c.serve.new.out there c.in_ok-serve.ensures.becomes)
 
-pub wake-requires : goal.wake-requires
-wake-requires c = omega (arith, slots_length c.self.inside.store, c.self.invariant.4.count)
-
 pub invariant_of-self-2 : goal.invariant_of-self-2
 invariant_of-self-2 c =
     let there : c.args.s < length c.self.inside.store = omega arith in
     let parts = became_parts (λ slot. called (setup_of c.self.inside.config) slot c.self.inside.globals (call_model c.args.call.now)) c.args.s c.self.inside.store c.serve.new.store c.args.out.now c.serve.new.out there c.in_ok-serve.ensures.becomes in
     let count = became_count c.args.s _ c.self.inside.store c.serve.new.store c.args.out.now c.serve.new.out c.in_ok-serve.ensures.becomes in
     let fits = outcomes_fit (setup_of c.self.inside.config) (λ r slot. plain_effect (setup_of c.self.inside.config) r slot c.self.inside.globals (CallIs c.args.s (call_model c.args.call.now))) (slots_of c.self.inside.store) (slots_of c.serve.new.store) _ _ count parts (λ r slot fit. plain_call_fits (setup_of c.self.inside.config) c.args.s r slot c.self.inside.globals (call_model c.args.call.now) c.self.invariant.1 fit) c.self.invariant.2 in
-    (c.self.invariant.0, c.self.invariant.1, fits, c.self.invariant.3, rw c.wake.ensures (woken c.self.inside.quiet.items c.args.s (slots_of c.self.inside.store) (slots_of c.serve.new.store) _ c.self.invariant.4 c.in_ok-serve.ensures.becomes.slots))
+    (c.self.invariant.0, c.self.invariant.1, fits, c.self.invariant.3)

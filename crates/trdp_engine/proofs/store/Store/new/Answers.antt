@@ -1,8 +1,18 @@
-use Rattle.std.proofs.Common.{◌≤◌, sym, ap, arith}
-use Rattle.trdp_table.specs.Tables.{room_of}
+use Rattle.std.proofs.Common.{arith}
 use Rattle.trdp_engine.proofs.Stored.{indexed_new}
+use Rattle.trdp_engine.proofs.InSession.{session_new}
+use Rattle.trdp_engine.proofs.Timed.{scheduled_new}
+use Rattle.trdp_engine.proofs.Sizes.{room_limited}
 use Rattle.trdp_engine.proofs.store.Store.new.Goals as goal
+
+pub with_room-requires-3 : goal.with_room-requires-3
+with_room-requires-3 c = omega (arith, c.room-room.ensures, room_limited c.in_ok-table.table c.sound.ensures.sound)
 
 pub invariant_of-result : goal.invariant_of-result
 invariant_of-result c =
-    rw (c.in_ok-coms.ensures, c.room.ensures, c.in_ok-table.ensures) (indexed_new c.args.quotas.now _ (omega arith))
+    rw (c.in_ok-coms.ensures, c.in_ok-sessions.ensures, c.in_ok-schedule.ensures, c.room-room.ensures, c.in_ok-table.ensures)
+    (record {
+      by_com = indexed_new c.args.quotas.now _ (omega arith);
+      by_session = session_new c.args.quotas.now _ (omega arith);
+      by_moment = scheduled_new c.args.quotas.now _ (omega arith);
+    })

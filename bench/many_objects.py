@@ -1,0 +1,105 @@
+#!/usr/bin/env python3
+"""What an event costs where slots have many objects: nanoseconds of processor time of `trdpd run`.
+
+    bench/many_objects.py [LINES] [PROGRAM]       default: 400000 lines, crates/trdpd/out/trdpd (./run builds it)
+
+Each row plays a script of that many equal lines from a file to a file, with so many objects open, and again without them: the cost
+of a line is that of the longer script less that of its first half, the least of three runs. Reading and printing a line is in it.
+Objects of one kind have comIds of their own; one of them is concerned. The telegrams' frame checks are zlib's.
+"""
+import os
+import struct
+import subprocess
+import sys
+import tempfile
+import zlib
+
+TOP = os.path.dirname(os.path.dirname(os.path.abspath(__file__)))
+RUNS = 3
+COUNTS = [(1, 1), (16, 1), (64, 1), (256, 1), (1, 16), (256, 16)]     # objects a slot, slots
+PLACES = "10.0.0.2:17224 10.0.0.1:17224"
+TAKEN, UNKNOWN = 200, 7                                               # comIds of a subscription, and of none
+LATE = 2**32 - 1                                                      # the longest cycle, in microseconds
+
+
+def config(slots):
+    """A configuration of so many slots, each with all the objects of each kind that there may be."""
+    kinds = ("publishers", "subscriptions", "requesters", "listeners", "callers", "repliers")
+    slot = "[[slot]]\n" + "".join(f"{kind} = 256\n" for kind in kinds)
+    return '[node]\naddress = "10.0.0.1"\n' + slot * slots
+
+
+def telegram(counter, com_id):
+    head = struct.pack(">IH2s7I", counter, 0x0100, b"Pd", com_id, 0, 0, 8, 0, 0, 0)
+    return (head + struct.pack("<I", zlib.crc32(head)) + struct.pack(">Q", counter)).hex()
+
+
+def subscriptions(objects, slots):
+    """One subscription is for the comId that is taken, and no other one is."""
+    for slot in range(slots):
+        for i in range(objects):
+            com_id = TAKEN if slot == 0 and i == 0 else 1000 + slot * 256 + i
+            yield f"call {slot} subscribe {com_id} 0 0.0.0.0 0.0.0.0 0.0.0.0 0 0 0 keep"
+
+
+def publishers(objects, slots, cycle, first_cycle):
+    """All have the one cycle but the first, which has its own."""
+    for slot in range(slots):
+        for i in range(objects):
+            own = first_cycle if slot == 0 and i == 0 else cycle
+            yield f"call {slot} publish {1000 + slot * 256 + i} 0 {own} 0 0 0 10.0.0.2:17224"
+            yield f"call {slot} put {i + 1} 00"
+
+
+def telegrams(com_id, count):
+    return (f"pd {PLACES} {telegram(i * 16 % 2**32, com_id)}" for i in range(count))
+
+
+def moments(step, count):
+    return (f"moment {(i + 1) * step}" for i in range(count))
+
+
+def seconds(program, settings, lines):
+    """Processor time of one run over these lines, from a file to a file."""
+    with tempfile.TemporaryFile() as script, tempfile.TemporaryFile() as out:
+        script.write("".join(line + "\n" for line in lines).encode())
+        script.seek(0)
+        ran = subprocess.Popen([program, "run", settings], stdin=script, stdout=out)
+        _, status, usage = os.wait4(ran.pid, 0)
+        if status != 0:
+            sys.exit(f"trdpd ended with {status}")
+        return usage.ru_utime + usage.ru_stime
+
+
+def cost(program, settings, opening, lines, count, per):
+    """Nanoseconds for each of `per` acts of a line, of those behind the first half."""
+    opened = list(opening)
+    half = min(seconds(program, settings, opened + list(lines(count // 2))) for _ in range(RUNS))
+    whole = min(seconds(program, settings, opened + list(lines(count))) for _ in range(RUNS))
+    return (whole - half) / (count - count // 2) / per * 1e9
+
+
+def main():
+    count = int(sys.argv[1]) if len(sys.argv) > 1 else 400_000
+    program = sys.argv[2] if len(sys.argv) > 2 else f"{TOP}/crates/trdpd/out/trdpd"
+    print("objects a slot  slots   taken  unknown   idle  one due  each of all due")
+    for objects, slots in COUNTS:
+        with tempfile.NamedTemporaryFile("w", suffix=".toml") as settings:
+            settings.write(config(slots))
+            settings.flush()
+
+            def row(opening, lines, many=count, per=1):
+                return cost(program, settings.name, opening, lines, many, per)
+
+            all_of = objects * slots
+            taken = row(subscriptions(objects, slots), lambda n: telegrams(TAKEN, n))
+            unknown = row(subscriptions(objects, slots), lambda n: telegrams(UNKNOWN, n))
+            idle = row(publishers(objects, slots, LATE, LATE), lambda n: moments(0, n))
+            one = row(publishers(objects, slots, LATE, 1000), lambda n: moments(1000, n))
+            moments_of_all = max(count // all_of, 20)
+            each = row(publishers(objects, slots, 1000, 1000), lambda n: moments(1000, n), moments_of_all, all_of)
+        print(f"{objects:14}{slots:7}{taken:8.0f}{unknown:9.0f}{idle:7.0f}{one:9.0f}{each:17.0f}", flush=True)
+
+
+if __name__ == "__main__":
+    main()

@@ -1,0 +1,66 @@
+//! What a store shows of its table: the slots, and their objects by handle and key.
+
+ghost use Rattle.std.specs.Prelude.{◌≡◌, ℕ, ◌<◌, ◌≤◌, length, Some};
+ghost use Rattle.std.specs.Prelude.{slice_get, option_map, option_copied};
+ghost use Rattle.trdp_table.specs.declared.any_object.AnyObject.{AnyObject};
+ghost use Rattle.trdp_table.specs.Tables.{Keyed, slot_limit, slot_in, all_objects};
+ghost use Rattle.trdp_table.specs.Tables.{by_handle, by_key, refusal, changed_at};
+ghost use Rattle.trdp_table.specs.Tables.{exchanged, with_other_by_handle};
+ghost use Rattle.trdp_table.specs.TableLaws.{IsTable};
+
+use crate::store::Store;
+use trdp_table::{AnyObject, Kind, TableFault};
+
+impl Store {
+    /// How many slots there are, at most 16.
+    pub fn slots(&self) -> usize
+        ensures count { result ≡ length self.now }
+        ensures within { result ≤ slot_limit }
+    {
+        self.table.slots()
+    }
+
+    /// The key of a slot's object of that handle; None where the slot has none.
+    pub fn find(&self, slot: u16, handle: u32) -> Option<usize>
+        requires { slot < length self.now }
+        ensures { result
+            ≡ option_map (λ keyed. keyed.key)
+            (by_handle handle (slot_in slot self.now).objects) }
+    {
+        self.table.find(slot, handle)
+    }
+
+    /// The object of that key; None where no slot has one.
+    pub fn get(&self, key: usize) -> Option<&AnyObject>
+        ensures { option_copied result
+            ≡ option_map (λ keyed. keyed.object) (by_key key (all_objects self.now)) }
+    {
+        self.table.get(key)
+    }
+
+    /// Why a slot takes no further object of a kind: the first that applies of its quota and its
+    /// handles, as [`Store::add`] answers it.
+    pub fn refuses(&self, slot: u16, kind: Kind) -> Option<TableFault>
+        requires { slot < length self.now }
+        ensures { result ≡ refusal (slot_in slot self.now) kind }
+    {
+        self.table.refuses(slot, kind)
+    }
+
+    /// What holds of every store: a law, which does nothing when it runs. It is that of the table.
+    pub fn sound(&self)
+        ensures sound { IsTable self.now }
+        ensures found { (s handle : ℕ) (keyed : Keyed)
+            → by_handle handle (slot_in s self.now).objects ≡ Some keyed
+            → by_key keyed.key (all_objects self.now) ≡ Some keyed }
+        ensures listed { (s index : ℕ) (keyed : Keyed)
+            → slice_get (slot_in s self.now).objects index ≡ Some keyed
+            → by_handle keyed.handle (slot_in s self.now).objects ≡ Some keyed }
+        ensures exchanged { (s handle : ℕ) (keyed : Keyed) (object : AnyObject)
+            → by_handle handle (slot_in s self.now).objects ≡ Some keyed
+            → exchanged keyed.key self.now object
+            ≡ changed_at s (with_other_by_handle handle object) self.now }
+    {
+        self.table.sound();
+    }
+}
