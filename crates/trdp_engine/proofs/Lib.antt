@@ -42,4 +42,5 @@ pub mod Sweeps
 pub mod Parts
 pub mod Runs
 pub mod Fitting
+pub mod FittingEvents
 pub mod Showing

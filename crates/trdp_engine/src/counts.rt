@@ -1,6 +1,6 @@
 //! What an event costs a node.
 
-ghost use Rattle.std.specs.Prelude.{◌≡◌, ◌≤◌, ◌+◌};
+ghost use Rattle.std.specs.Prelude.{◌≡◌, ◌≤◌, ◌<◌, ◌+◌, ◌-◌, ◌^◌};
 ghost use Rattle.trdp_engine.specs.NodeStates.{no_counts};
 
 /// What the latest event that a node took cost it. Each number stays at 2^64 - 1 where it is that
@@ -32,6 +32,8 @@ impl Counts {
     /// Counts so many comparisons.
     pub fn compared(&mut self, times: u64)
         ensures comparisons { self.new.comparisons ≤ self.old.comparisons + times }
+        ensures all { self.new.comparisons < 2 ^ 64 - 1
+            → self.new.comparisons ≡ self.old.comparisons + times }
         ensures tests { self.new.tests ≡ self.old.tests }
         ensures look_ups { self.new.look_ups ≡ self.old.look_ups }
     {
@@ -42,6 +44,7 @@ impl Counts {
     pub fn tested(&mut self)
         ensures comparisons { self.new.comparisons ≡ self.old.comparisons }
         ensures tests { self.new.tests ≤ self.old.tests + 1 }
+        ensures all { self.new.tests < 2 ^ 64 - 1 → self.new.tests ≡ self.old.tests + 1 }
         ensures look_ups { self.new.look_ups ≡ self.old.look_ups }
     {
         self.tests = self.tests.saturating_add(1);
@@ -52,6 +55,7 @@ impl Counts {
         ensures comparisons { self.new.comparisons ≡ self.old.comparisons }
         ensures tests { self.new.tests ≡ self.old.tests }
         ensures look_ups { self.new.look_ups ≤ self.old.look_ups + 1 }
+        ensures all { self.new.look_ups < 2 ^ 64 - 1 → self.new.look_ups ≡ self.old.look_ups + 1 }
     {
         self.look_ups = self.look_ups.saturating_add(1);
     }

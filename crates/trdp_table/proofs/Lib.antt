@@ -6,3 +6,5 @@ pub mod Seen
 pub mod Keys
 pub mod Entries
 pub mod Tables
+pub mod Changes
+pub mod Known

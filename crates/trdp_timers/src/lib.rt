@@ -5,6 +5,11 @@
 //! handle. What a key has is a finite map, `specs/Contents.antt`. The heap below it keeps a place
 //! for each key, so that an order in the middle is set anew or cleared as cheaply as the first is
 //! taken; each comparison is counted.
+//!
+//! What no contract says is that `clear` and `pop` count every comparison: an order in the last
+//! place goes without any, and places are no part of what a key has. The test
+//! `calls_have_their_comparisons` has the number of each call. To ask for the `first` twice is as
+//! good as once.
 #![tactic(auto)]
 
 mod due;

@@ -3,7 +3,7 @@ use Rattle.trdp_marshal.specs.Items.{model_of}
 use Rattle.trdp_engine.specs.Configs.{setup_of}
 use Rattle.trdp_engine.specs.Slots.{slots_of}
 use Rattle.trdp_engine.specs.Values.{valued, valued_at}
-use Rattle.trdp_engine.proofs.Fitting.{valued_at_fits}
+use Rattle.trdp_engine.proofs.FittingEvents.{valued_at_fits}
 use Rattle.trdp_engine.proofs.Parts.{became_parts, became_appends, became_count}
 use Rattle.trdp_engine.proofs.Steps.{outcomes_fit}
 use Rattle.trdp_engine.proofs.node.Node.put_value.Goals as goal

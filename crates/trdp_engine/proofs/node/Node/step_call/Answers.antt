@@ -4,7 +4,7 @@ use Rattle.trdp_engine.specs.Events.{CallIs, call_model}
 use Rattle.trdp_engine.specs.Slots.{slots_of}
 use Rattle.trdp_engine.specs.Calls.{called}
 use Rattle.trdp_engine.specs.Alone.{plain_effect}
-use Rattle.trdp_engine.proofs.Fitting.{plain_call_fits}
+use Rattle.trdp_engine.proofs.FittingEvents.{plain_call_fits}
 use Rattle.trdp_engine.proofs.Tables.{slots_length}
 use Rattle.trdp_engine.proofs.Parts.{became_parts, became_appends, became_count}
 use Rattle.trdp_engine.proofs.Steps.{plain_steps, call_admitted, outcomes_fit}

@@ -4,7 +4,7 @@ use Rattle.trdp_engine.specs.Events.{DatagramIs}
 use Rattle.trdp_engine.specs.Slots.{slots_of}
 use Rattle.trdp_engine.specs.Datagrams.{telegram_of, received_if}
 use Rattle.trdp_engine.proofs.Costs.{within_costs}
-use Rattle.trdp_engine.proofs.Fitting.{received_fits}
+use Rattle.trdp_engine.proofs.FittingEvents.{received_fits}
 use Rattle.trdp_engine.proofs.Parts.{same_count}
 use Rattle.trdp_engine.proofs.Steps.{plain_steps, outcomes_fit}
 use Rattle.trdp_engine.proofs.node.Node.step_datagram.Goals as goal

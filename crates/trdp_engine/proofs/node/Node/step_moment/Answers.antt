@@ -9,7 +9,7 @@ use Rattle.trdp_engine.specs.Configs.{setup_of}
 use Rattle.trdp_engine.specs.Events.{MomentIs}
 use Rattle.trdp_engine.specs.Slots.{slots_of}
 use Rattle.trdp_engine.specs.Moments.{moved_to}
-use Rattle.trdp_engine.proofs.Fitting.{moved_fits}
+use Rattle.trdp_engine.proofs.FittingEvents.{moved_fits}
 use Rattle.trdp_engine.proofs.Parts.{same_count, lacks_due}
 use Rattle.trdp_engine.proofs.Steps.{plain_steps, moment_admitted, has_outcome, outcomes_fit}
 use Rattle.trdp_engine.proofs.node.Node.step_moment.Goals as goal

@@ -1,7 +1,7 @@
 use Rattle.std.proofs.Common.{◌<◌, length, arith}
 use Rattle.trdp_engine.specs.Configs.{setup_of}
 use Rattle.trdp_engine.specs.Acting.{slot_at}
-use Rattle.trdp_engine.proofs.Fitting.{subscription_fits}
+use Rattle.trdp_engine.proofs.FittingEvents.{subscription_fits}
 use Rattle.trdp_engine.proofs.Tables.{slot_there}
 use Rattle.trdp_engine.proofs.node.Node.value_of.Goals as goal
 

@@ -1,5 +1,7 @@
 use Rattle.trdp_table.specs.Kinds.{kind_of}
-use Rattle.trdp_table.proofs.Tables.{within_slots, slot_read, granted, pool_room, IsKeptTable-add, adds}
+use Rattle.trdp_table.proofs.Known.{within_slots, granted}
+use Rattle.trdp_table.proofs.Tables.{slot_read}
+use Rattle.trdp_table.proofs.Changes.{pool_room, IsKeptTable-add, adds}
 use Rattle.trdp_table.proofs.table.Table.install.Goals as goal
 
 pub insert-key-requires : goal.insert-key-requires

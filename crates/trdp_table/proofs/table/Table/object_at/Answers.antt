@@ -1,7 +1,8 @@
 use Rattle.std.proofs.Common.{◌≡◌, ◌∙◌, Some, sym}
 use Rattle.std.specs.Prelude.{slice_get}
 use Rattle.trdp_table.specs.Entries.{entries_in}
-use Rattle.trdp_table.proofs.Tables.{within_slots, slot_read, object_there, entry_held}
+use Rattle.trdp_table.proofs.Known.{within_slots}
+use Rattle.trdp_table.proofs.Tables.{slot_read, object_there, entry_held}
 use Rattle.trdp_table.proofs.table.Table.object_at.Goals as goal
 
 pub returns : goal.returns

@@ -1,6 +1,8 @@
 use Rattle.std.proofs.Common.{◌≤◌, arith}
 use Rattle.trdp_table.specs.Tables.{last_handle}
-use Rattle.trdp_table.proofs.Tables.{within_slots, slot_read, IsKeptTable-next, next_seen}
+use Rattle.trdp_table.proofs.Known.{within_slots}
+use Rattle.trdp_table.proofs.Tables.{slot_read}
+use Rattle.trdp_table.proofs.Changes.{IsKeptTable-next, next_seen}
 use Rattle.trdp_table.proofs.table.Table.raise.Goals as goal
 
 pub invariant_of-self : goal.invariant_of-self

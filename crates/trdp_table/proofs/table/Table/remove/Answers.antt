@@ -1,6 +1,8 @@
 use Rattle.std.proofs.Common.{◌≡◌, ◌∙◌, Some, None, sym}
 use Rattle.trdp_table.specs.Entries.{entries_in, key_of}
-use Rattle.trdp_table.proofs.Tables.{within_slots, slot_read, same_slots, nothing_found, gone_seen, found_is_held, found_object, IsKeptTable-remove, remove_seen}
+use Rattle.trdp_table.proofs.Known.{within_slots}
+use Rattle.trdp_table.proofs.Tables.{slot_read}
+use Rattle.trdp_table.proofs.Changes.{same_slots, nothing_found, gone_seen, found_is_held, found_object, IsKeptTable-remove, remove_seen}
 use Rattle.trdp_table.proofs.table.Table.remove.Goals as goal
 
 pub invariant_of-self : goal.invariant_of-self

@@ -1,4 +1,5 @@
-use Rattle.trdp_table.proofs.Tables.{IsTable-kept, found_by_key, listed, exchanged_alone, table_room, table_spare}
+use Rattle.trdp_table.proofs.Tables.{IsTable-kept, found_by_key, listed, exchanged_alone}
+use Rattle.trdp_table.proofs.Known.{table_room, table_spare}
 use Rattle.trdp_table.proofs.table.Table.sound.Goals as goal
 
 pub returns-clause-sound : goal.returns-clause-sound
