@@ -4,7 +4,7 @@
     bench/many_objects.py [LINES] [PROGRAM]       default: 400000 lines, crates/trdpd/out/trdpd (./run builds it)
 
 Each row plays a script of that many equal lines from a file to a file, with so many objects open, and again without them: the cost
-of a line is that of the longer script less that of its first half, the least of three runs. Reading and printing a line is in it.
+of a line is that of the longer script less that of its first half, the least of five runs. Reading and printing a line is in it.
 Objects of one kind have comIds of their own; one of them is concerned. The telegrams' frame checks are zlib's.
 """
 import os
@@ -15,7 +15,7 @@ import tempfile
 import zlib
 
 TOP = os.path.dirname(os.path.dirname(os.path.abspath(__file__)))
-RUNS = 3
+RUNS = 5
 COUNTS = [(1, 1), (16, 1), (64, 1), (256, 1), (1, 16), (256, 16)]     # objects a slot, slots
 PLACES = "10.0.0.2:17224 10.0.0.1:17224"
 TAKEN, UNKNOWN = 200, 7                                               # comIds of a subscription, and of none

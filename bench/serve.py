@@ -84,9 +84,9 @@ ROWS = [
     PULLED,
     PUT,
     CYCLIC,
-    Row(f"telegram in, wanted, {OBJECTS} objects", subscriptions(OBJECTS), telegrams(200), scale=0.1),
-    Row(f"telegram in, for no one, {OBJECTS}", subscriptions(OBJECTS), telegrams(9), scale=0.1),
-    Row(f"telegram out, {OBJECTS} publishers", publishers(1000, OBJECTS), scale=0.006),
+    Row(f"telegram in, wanted, {OBJECTS} objects", subscriptions(OBJECTS), telegrams(200)),
+    Row(f"telegram in, for no one, {OBJECTS}", subscriptions(OBJECTS), telegrams(9)),
+    Row(f"telegram out, {OBJECTS} publishers", publishers(1000, OBJECTS)),
 ]
 
 

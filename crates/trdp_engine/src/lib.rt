@@ -5,6 +5,10 @@
 //! room), a `run_both` of two such runs, and a `value_of` that answers want of memory wherever it
 //! could show an item meet their contracts, since memory may be lacking; the worked examples
 //! (`trdp_worked`) show that with ample memory every event is taken and every item shown.
+//!
+//! Nor can one say how often a body looks: to ask twice for what is due next, or for its room, is
+//! as good as once, and so is to dismiss an object from the schedule twice, though the comparisons
+//! of one call alone are told then.
 #![tactic(auto)]
 
 mod addressees;
