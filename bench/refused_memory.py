@@ -1,7 +1,7 @@
 #!/usr/bin/env python3
 """Refuses each request for memory of a test, one in each run.
 
-    bench/refused_memory.py [CRATE [TEST]]      default: trdp_daemon, tests::turns::refused_memory_is_counted
+    bench/refused_memory.py [CRATE [TEST]]      default: trdp_daemon_worked, turns::refused_memory_is_counted
 
 The test must pass each time. It is the one in crates/CRATE/out/CRATE_tests, which `rt test` in crates/CRATE proves and builds; gcc builds
 refused_memory.c, which refuses the system's malloc or realloc of a number. The exit status is 0 where the test passed in every run, and 1
@@ -26,7 +26,7 @@ def run(program, test, preload, number=None):
 
 
 def main(words):
-    crate, test = (words + ["trdp_daemon", "tests::turns::refused_memory_is_counted"][len(words):])[:2]
+    crate, test = (words + ["trdp_daemon_worked", "turns::refused_memory_is_counted"][len(words):])[:2]
     program = os.path.join(os.path.dirname(BENCH), "crates", crate, "out", f"{crate}_tests")
     if not os.path.exists(program):
         sys.exit(f"refused_memory.py: {program} is missing: rt test in crates/{crate} builds it")

@@ -1,12 +1,12 @@
 //! A node as a device on a network: datagrams come from a wire, time from a clock.
 //!
 //! What no contract can say is that memory is there: a daemon that loses every text, and every event
-//! for which memory may be wanting, and counts them in `memory`, meets its contract, and the tests
-//! show that with ample memory nothing is lost. What is told of a wire and a clock is told where
-//! these tell; the system's sockets and clock tell nothing. So a [`UdpWire`] at which nothing ever
-//! comes, or that sends nothing, meets its contract, as a network may be so, and so does a
-//! [`RunClock`] that stands still; that they work is tested. For the same reason no contract says
-//! which sockets [`UdpWire::bind`] binds.
+//! for which memory may be wanting, and counts them in `memory`, meets its contract, and
+//! `trdp_daemon_worked` shows that with ample memory nothing is lost. What is told of a wire and a
+//! clock is told where these tell; the system's sockets and clock tell nothing. So a [`UdpWire`] at
+//! which nothing ever comes, or that sends nothing, meets its contract, as a network may be so, and
+//! so does a [`RunClock`] that stands still; that they work is tested. For the same reason no
+//! contract says which sockets [`UdpWire::bind`] binds.
 #![tactic(auto)]
 
 mod answer;
@@ -41,6 +41,3 @@ pub use run_clock::RunClock;
 pub use totals::Totals;
 pub use udp_wire::{BindFault, UdpWire};
 pub use wire::Wire;
-
-#[cfg(test)]
-mod tests;

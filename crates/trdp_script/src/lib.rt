@@ -4,8 +4,8 @@
 //! What no contract can say is that memory is there and that the outside works: a `read_line` or a
 //! `run_script` that answers want of memory at once meets its contract. A reader that always fails,
 //! and so a `read_piece` that always answers `Read`, meets the contracts too, since a reader may
-//! always fail. The tests show that reading works: with ample memory the lines are read and the
-//! scripts played.
+//! always fail. `trdp_script_worked` shows that reading works: with ample memory the lines are read
+//! and the scripts played.
 #![tactic(auto)]
 
 mod calls;
@@ -35,14 +35,3 @@ pub use output::write_whole;
 pub use port::{read_control, read_operator};
 pub use print::print_record;
 pub use script::{ScriptFault, run_script};
-
-#[cfg(test)]
-mod form_tests;
-#[cfg(test)]
-mod port_tests;
-#[cfg(test)]
-mod print_tests;
-#[cfg(test)]
-mod run_tests;
-#[cfg(test)]
-mod tests;

@@ -1,10 +1,10 @@
 //! Daemons over the system's sockets and clock, all on this machine.
 
-use crate::{BindFault, Clock, Daemon, RunClock, UdpWire};
 use std::net::{Ipv4Addr, Net, SocketAddr, SocketAddrV4, UdpSocket};
 use std::process::Abort;
 use std::test::Fail;
 use std::{io, time};
+use trdp_daemon::{BindFault, Clock, Daemon, RunClock, UdpWire};
 use trdp_dataset::NodeConfig;
 
 /// A device that publishes.

@@ -1,10 +1,10 @@
 //! Random bytes at every port, behind which a good line is answered.
 
-use super::{memory_daemon, totals, turns_give};
-use crate::{MemoryWire, Port};
+use crate::bench::{memory_daemon, totals, turns_give};
 use std::alloc::{AllocError, Global};
 use std::test::Fail;
 use trdp_base::{Ip, Place};
+use trdp_daemon::{MemoryWire, Port};
 
 /// A node with a port of each kind.
 const CONFIG: &[u8] = b"

@@ -1,6 +1,8 @@
-use super::*;
+//! Lines and their faults, and the longest line.
+
 use std::test::Fail;
 use trdp_engine::Event;
+use trdp_script::{LineFault, read_line};
 
 /// A line, and its fault if it has one.
 struct Row {

@@ -1,9 +1,9 @@
 //! Each word of each form as it is, and otherwise.
 
-use super::*;
 use std::alloc::{AllocError, AllocGlobal, Global};
 use std::process::Abort;
 use std::test::Fail;
+use trdp_script::{LineFault, read_line};
 
 /// A form, by the words of a good line and for each of them one that can't stand in its place.
 struct Form {

@@ -1,11 +1,11 @@
 //! Lines of records that tell of sessions.
 
-use crate::print_record;
 use std::test::Fail;
 use trdp_base::{Ip, Place, SessionId, Uri};
 use trdp_engine::{Indication, Message, Record, Reply, What};
 use trdp_head::MdKind;
 use trdp_pd::Reason;
+use trdp_script::print_record;
 
 /// Where the request and its answer came from.
 const PEER: Place = Place {

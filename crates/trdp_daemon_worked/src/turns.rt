@@ -1,11 +1,11 @@
 //! A daemon over a wire and a clock in memory, whose takes, gives and memory fail in turn.
 
-use super::{MemoryDaemon, memory_daemon, totals, turns_give};
-use crate::{MemoryWire, Port, Totals};
+use crate::bench::{MemoryDaemon, memory_daemon, totals, turns_give};
 use std::alloc::{AllocError, Global};
 use std::process::Abort;
 use std::test::Fail;
 use trdp_base::{Ip, Place};
+use trdp_daemon::{MemoryWire, Port, Totals};
 
 /// A node with three ports of its own, and the control port of slot 0.
 const CONFIG: &[u8] = b"

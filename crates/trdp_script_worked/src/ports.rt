@@ -1,9 +1,9 @@
 //! Lines that come in datagrams, at the control port of slot 0 and at the operator's port.
 
-use crate::{LineFault, read_control, read_operator};
 use std::test::Fail;
 use trdp_base::Topo;
 use trdp_engine::{Call, Event};
+use trdp_script::{LineFault, read_control, read_operator};
 
 /// A datagram, and its fault at each port if it has one.
 struct Row {

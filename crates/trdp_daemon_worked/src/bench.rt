@@ -1,19 +1,15 @@
-//! Values from outside, over a wire and a clock in memory and over the system's sockets.
+//! A daemon in memory, and what its turns are to give.
 
-mod loopback;
-mod random_bytes;
-mod turns;
-
-use crate::{Daemon, MemoryClock, MemoryWire, Totals};
 use std::alloc::Global;
 use std::process::Abort;
+use trdp_daemon::{Daemon, MemoryClock, MemoryWire, Totals};
 use trdp_dataset::NodeConfig;
 
 /// A daemon in memory.
-type MemoryDaemon = Daemon<MemoryWire, MemoryClock>;
+pub type MemoryDaemon = Daemon<MemoryWire, MemoryClock>;
 
 /// Totals without want of memory.
-const fn totals(taken: u64, offered: u64, lost: u64, unread: u64) -> Totals {
+pub const fn totals(taken: u64, offered: u64, lost: u64, unread: u64) -> Totals {
     Totals {
         taken,
         offered,
@@ -24,7 +20,7 @@ const fn totals(taken: u64, offered: u64, lost: u64, unread: u64) -> Totals {
 }
 
 /// A daemon over a wire, whose clock reads these moments; None for want of memory.
-fn memory_daemon(
+pub fn memory_daemon(
     alloc: Global,
     config: &[u8],
     wire: MemoryWire,
@@ -36,7 +32,7 @@ fn memory_daemon(
 }
 
 /// Asserts what so many turns offer and count; the text of a failure has the case's number.
-fn turns_give(
+pub fn turns_give(
     rt: &impl Abort,
     case: usize,
     daemon: &mut MemoryDaemon,

@@ -1,11 +1,11 @@
 //! Scripts through the whole, over readers and writers in memory, and over some that fail.
 
-use crate::{LineFault, ScriptFault, run_script};
 use std::alloc::Global;
 use std::io;
 use std::io::{Read, Write};
 use std::test::Fail;
 use trdp_dataset::NodeConfig;
+use trdp_script::{LineFault, ScriptFault, run_script};
 
 /// A node with one slot that takes process data.
 const CONFIG: &[u8] =

@@ -1,0 +1,13 @@
+//! Worked turns of a daemon: over a wire and a clock in memory whose takes, gives and memory fail
+//! in turn, over random bytes, and over the system's sockets. What a daemon gives is proved in
+//! `trdp_daemon`; the values here come from outside.
+#![tactic(auto)]
+
+#[cfg(test)]
+mod bench;
+#[cfg(test)]
+mod loopback;
+#[cfg(test)]
+mod random_bytes;
+#[cfg(test)]
+mod turns;
