@@ -89,12 +89,18 @@ unfolding content_telling
 record_indicated {W} {takings_in} {gives_in} {a} {b} places r indication is told =
     record { lost = told.lost; carried = subst (λ (x : Content). Carries takings_in gives_in a b [] (content_telling places told.lost r x)) (sym is) told.carried }
 
-own_next : (n i : ℕ) (rs : List RecordModel) (r : RecordModel) → slice_get rs i ≡ Some r → filter (λ x. x.slot == n) (take (i + 1) rs) ≡ filter (λ x. x.slot == n) (take i rs) ++ if_of_slot n r
-own_next n i rs r here =
+next_taken : (i : ℕ) (rs : List RecordModel) (r : RecordModel) → slice_get rs i ≡ Some r → take (i + 1) rs ≡ take i rs ++ r ∷ []
+next_taken i rs r here =
     let next : i + 1 ≡ suc i = omega arith in
-    let front : take (i + 1) rs ≡ take i rs ++ r ∷ [] =
-    ap (λ m. take m rs) next ∙ take-suc rs i r (slice_get_within rs i r here) ∙ ap (λ x. take i rs ++ x ∷ []) (get_or_from_slice_get rs i r r here) in
-    ap (filter (λ x. x.slot == n)) front ∙ filter-append (λ x. x.slot == n) (take i rs) (r ∷ [])
+    ap (λ m. take m rs) next ∙ take-suc rs i r (slice_get_within rs i r here) ∙ ap (λ x. take i rs ++ x ∷ []) (get_or_from_slice_get rs i r r here)
+
+-- one more record is told
+pub tells_more : {W : Type 0} {takings_in : W → Option (List Taking)} {gives_in : W → Option (List Give)} {places : List (Option Place)} {a b c : Link W} (i : ℕ) (rs : List RecordModel) (r : RecordModel) → slice_get rs i ≡ Some r → Tells takings_in gives_in places a b (take i rs) → TellsRecord takings_in gives_in places b c r → Tells takings_in gives_in places a c (take (i + 1) rs)
+tells_more {W} {takings_in} {gives_in} {places} {a} {b} {c} i rs r here p q =
+    subst (λ (l : List RecordModel). Tells takings_in gives_in places a c l) (sym (next_taken i rs r here)) (tells_both p (tells_one q))
+
+own_next : (n i : ℕ) (rs : List RecordModel) (r : RecordModel) → slice_get rs i ≡ Some r → filter (λ x. x.slot == n) (take (i + 1) rs) ≡ filter (λ x. x.slot == n) (take i rs) ++ if_of_slot n r
+own_next n i rs r here = ap (filter (λ x. x.slot == n)) (next_taken i rs r here) ∙ filter-append (λ x. x.slot == n) (take i rs) (r ∷ [])
 
 -- one more record is told if it is of the slot
 pub tells_next : {W : Type 0} {takings_in : W → Option (List Taking)} {gives_in : W → Option (List Give)} {places : List (Option Place)} {a b c : Link W} (n i : ℕ) (rs : List RecordModel) (r : RecordModel) → slice_get rs i ≡ Some r → Tells takings_in gives_in places a b (filter (λ x. x.slot == n) (take i rs)) → Tells takings_in gives_in places b c (if_of_slot n r) → Tells takings_in gives_in places a c (filter (λ x. x.slot == n) (take (i + 1) rs))

@@ -12,13 +12,47 @@ use crate::port::Port;
 use crate::wire::Wire;
 use trdp_base::Place;
 use trdp_engine::{Outbox, Protocol, Record, What};
-use trdp_script::print_record;
+use trdp_script::{is_rising, print_record};
 
 /// The number of slots that a node has at most (profile).
 const SLOTS_MAX: u16 = 16;
 
 /// Offers what the records send, slot by slot, slots rising, each slot's in their order.
 pub(crate) fn tell_records<W: Wire>(
+    records: &Outbox,
+    places: &[Option<Place>],
+    text: &mut Vec<u8>,
+    link: &mut Link<W>,
+)
+    ensures { Tells W.takings W.gives places.now link.old link.new
+        (by_slot 16 records.now.records) }
+{
+    if is_rising(records) {
+        tell_all(records, places, text, link);
+    } else {
+        tell_by_slot(records, places, text, link);
+    }
+}
+
+/// Offers what all records send, in their order.
+fn tell_all<W: Wire>(
+    records: &Outbox,
+    places: &[Option<Place>],
+    text: &mut Vec<u8>,
+    link: &mut Link<W>,
+)
+    ensures { Tells W.takings W.gives places.now link.old link.new records.now.records }
+{
+    for i in 0..records.len() {
+        match records.get(i) {
+            Some(record) => tell_record(&record, places, text, link),
+            None => {}
+        }
+    }
+}
+
+/// Offers what all records send slot by slot, slots rising, each slot's in their order.
+fn tell_by_slot<W: Wire>(
     records: &Outbox,
     places: &[Option<Place>],
     text: &mut Vec<u8>,

@@ -1,5 +1,5 @@
 -- Turns of the loops over records.
-use Rattle.std.proofs.Common.{◌≡◌, suc, ◌+◌, ◌<◌, ◌≤◌, ℕ, false, List, [], ◌∷◌, ◌++◌, length, take, drop, Some, None, sym, ◌∙◌, ap, arith, append_assoc, append-nil}
+use Rattle.std.proofs.Common.{◌≡◌, suc, ◌+◌, ◌<◌, ◌≤◌, ℕ, false, List, [], ◌∷◌, ◌++◌, length, take, drop, Some, None, sym, ◌∙◌, ap, arith, append_assoc, append-nil, subst}
 use Rattle.std.specs.Prelude.{slice_get, slice_index, ◌==◌}
 use Rattle.std.specs.List.{flat_map}
 use Rattle.std.proofs.Math.Seq.{drop-cons, take-suc}
@@ -44,6 +44,10 @@ told_all f xs i n told all past len before =
 -- one more record of this slot or a higher one
 pub rising_more : (xs : List RecordModel) (i : ℕ) (r : RecordModel) (s end : ℕ) → slice_get xs i ≡ Some r → s ≤ r.slot → r.slot < end → IsRising r.slot end (drop (i + 1) xs) → IsRising s end (drop i xs)
 rising_more xs i r s end here higher below rest = rw (drop_get xs i r here) (higher, below, rest)
+
+-- records that rise from an element on, and that element
+pub rising_less : (xs : List RecordModel) (i : ℕ) (r : RecordModel) (s end : ℕ) → slice_get xs i ≡ Some r → IsRising s end (drop i xs) → (s ≤ r.slot) × (r.slot < end) × IsRising r.slot end (drop (i + 1) xs)
+rising_less xs i r s end here rises = subst (λ (l : List RecordModel). IsRising s end l) (drop_get xs i r here) rises
 
 -- past the last record
 pub rising_all : (xs : List RecordModel) (i n s end : ℕ) → n ≤ i → n ≡ length xs → IsRising s end (drop i xs)

@@ -1,20 +1,18 @@
 //! An event's way through the node, and the text of what the node gives.
 
-ghost use Rattle.std.specs.Prelude.{◌≡◌, ◌≤◌, ◌++◌, ◌==◌, [], length, filter, true, OnOk};
+ghost use Rattle.std.specs.Prelude.{◌≡◌, ◌≤◌, ◌++◌, ◌==◌, [], length, filter, OnOk};
 ghost use Rattle.std.specs.List.{flat_map};
 ghost use Rattle.trdp_engine.specs.Events.{event_model};
 ghost use Rattle.trdp_engine.specs.NodeStates.{uncounted};
 ghost use Rattle.trdp_script.specs.RecordText.{text_of_record};
 ghost use Rattle.trdp_script.specs.ScriptText.{event_text, node_after};
 ghost use Rattle.trdp_engine.specs.Records.{record_model};
-ghost use Rattle.trdp_script.specs.SlotOrder.{IsRising, by_slot, slot_text};
+ghost use Rattle.trdp_script.specs.SlotOrder.{by_slot, slot_text};
 
+use crate::order::{SLOTS_MAX, is_rising};
 use crate::print::{print_fault, print_record};
 use std::alloc::AllocError;
 use trdp_engine::{Event, Node, NodeFault, Outbox, Record};
-
-/// The number of slots that a node has at most (profile).
-const SLOTS_MAX: u16 = 16;
 
 /// Gives the node an event, and leaves the text of what it gives in `text`: the records slot by
 /// slot, slots rising, each slot's in their order, or the line of the event's fault (profile).
@@ -54,20 +52,6 @@ fn push_records(text: &mut Vec<u8>, records: &Outbox) -> Result<(), AllocError>
     } else {
         push_by_slot(text, records)
     }
-}
-
-/// Whether no record is of a lower slot than one before it.
-fn is_rising(records: &Outbox) -> bool
-    ensures { result ≡ true → IsRising 0 16 records.now.records }
-{
-    let mut slot = 0;
-    for i in 0..records.len() {
-        match records.get(i) {
-            Some(record) if record.slot >= slot && record.slot < SLOTS_MAX => slot = record.slot,
-            _ => return false,
-        }
-    }
-    true
 }
 
 /// Appends the lines of all records in their order.

@@ -1,6 +1,6 @@
 use Rattle.trdp_script.specs.SlotOrder.{by_slot}
 use Rattle.trdp_daemon.specs.Tellings.{Tells}
-use Rattle.trdp_daemon.proofs.telling.tell_records.Given as goal
+use Rattle.trdp_daemon.proofs.telling.tell_by_slot.Given as goal
 
 -- what the slots so far send was offered
 abbrev pub invariant-loop-slot : goal.invariant-loop-slot
