@@ -75,7 +75,7 @@ IDLE = Row("turn, nothing comes", scale=5)
 WANTED = Row("telegram in, wanted", subscriptions(1), telegrams(200))
 PULLED = Row("request in, reply out", publishers(0, 1), REQUESTS, reply=len(telegrams(200)[0]))
 PUT = Row("put in, answer out", publishers(0, 1), PUTS, port=2, reply=len("0 done\n"))
-CYCLIC = Row("telegram out, 64 publishers", publishers(1000, 64))
+CYCLIC = Row(f"telegram out, {OBJECTS} publishers", publishers(1000, OBJECTS))     # with few, idle turns drown them
 ROWS = [
     IDLE,
     WANTED,
@@ -83,10 +83,9 @@ ROWS = [
     Row("telegram in, frame check wrong", subscriptions(1), DAMAGED),
     PULLED,
     PUT,
-    CYCLIC,
     Row(f"telegram in, wanted, {OBJECTS} objects", subscriptions(OBJECTS), telegrams(200)),
     Row(f"telegram in, for no one, {OBJECTS}", subscriptions(OBJECTS), telegrams(9)),
-    Row(f"telegram out, {OBJECTS} publishers", publishers(1000, OBJECTS)),
+    CYCLIC,
 ]
 
 
