@@ -2,52 +2,111 @@
 
 use crate::bench::Bench;
 use crate::play::CONFIG;
+use std::alloc::Global;
 use std::test::Fail;
+use trdp_engine::Counts;
 
-/// A subscription of comId 100 in each of the two slots.
-static SUBSCRIPTIONS: [&str; 2] = [
-    "call 0 subscribe 100 0 0.0.0.0 0.0.0.0 0.0.0.0 0 0 0 zero",
-    "call 1 subscribe 100 0 0.0.0.0 0.0.0.0 0.0.0.0 0 0 0 zero",
-];
+/// A subscription of comId 100 in the first of the two slots.
+const FIRST: &str = "call 0 subscribe 100 0 0.0.0.0 0.0.0.0 0.0.0.0 0 0 0 zero";
+
+/// The same in the second slot.
+const SECOND: &str = "call 1 subscribe 100 0 0.0.0.0 0.0.0.0 0.0.0.0 0 0 0 zero";
 
 /// Pd c=7 com=100 | 0102
-static DATA: &str = "\
+const DATA: &str = "\
     pd 10.0.0.2:17224 10.0.0.1:17224 \
     00000007010050640000006400000000000000000000000200000000000000000000000035e54114\
     01020000";
 
 /// Pd c=7 com=7 | 0102
-static OTHER_DATA: &str = "\
+const OTHER_DATA: &str = "\
     pd 10.0.0.2:17224 10.0.0.1:17224 \
     0000000701005064000000070000000000000000000000020000000000000000000000004386af2a\
     01020000";
 
 /// Mp s=1 com=301 | 0c
-static REPLY: &str = "\
+const REPLY: &str = "\
     md 10.0.0.2:17225 10.0.0.1:17225 \
     0000000001004d700000012d00000000000000000000000100000000000000000000000000000000\
     00000001000000000000000000000000000000000000000000000000000000000000000000000000\
     00000000000000000000000000000000000000000000000000000000000000004488c7480c000000";
 
-#[test]
-fn data_is_tested_by_its_com_id(rt: HostRuntime) -> Result<(), Fail> {
-    let mut bench = Bench::after(rt.alloc(), CONFIG, &SUBSCRIPTIONS)?;
-    bench.take(rt.alloc(), DATA)?;
-    let counts = bench.node.counts();
-    assert!(rt; counts.tests >= 2 && counts.tests <= 4);
-    assert!(rt; counts.comparisons >= 1);
-    assert_eq!(rt; counts.look_ups, 0);
-    bench.take(rt.alloc(), OTHER_DATA)?;
-    assert_eq!(rt; bench.node.counts().tests, 0);
-    Ok(())
+/// What a datagram costs a node that has taken lines: at least, and at most.
+struct Costing {
+    before: &'static [&'static str],
+    datagram: &'static str,
+    least: Counts,
+    most: Counts,
+}
+
+static COSTINGS: [Costing; 3] = [
+    // Data that a subscription in each slot takes.
+    Costing {
+        before: &[FIRST, SECOND],
+        datagram: DATA,
+        least: Counts {
+            comparisons: 1,
+            tests: 2,
+            look_ups: 0,
+        },
+        most: Counts {
+            comparisons: u64::MAX,
+            tests: 4,
+            look_ups: 0,
+        },
+    },
+    // Data of a comId that nobody has.
+    Costing {
+        before: &[FIRST, SECOND, DATA],
+        datagram: OTHER_DATA,
+        least: Counts {
+            comparisons: 0,
+            tests: 0,
+            look_ups: 0,
+        },
+        most: Counts {
+            comparisons: u64::MAX,
+            tests: 0,
+            look_ups: 0,
+        },
+    },
+    // A reply, whose session is looked for in each slot.
+    Costing {
+        before: &[],
+        datagram: REPLY,
+        least: Counts {
+            comparisons: 0,
+            tests: 0,
+            look_ups: 2,
+        },
+        most: Counts {
+            comparisons: u64::MAX,
+            tests: 0,
+            look_ups: 4,
+        },
+    },
+];
+
+/// What the datagram of the row costs the node.
+fn counts_of(alloc: Global, row: &Costing) -> Result<Counts, Fail> {
+    let mut bench = Bench::after(alloc, CONFIG, row.before)?;
+    bench.take(alloc, row.datagram)?;
+    Ok(bench.node.counts())
+}
+
+/// Whether no count is greater than in the other.
+fn at_most(counts: &Counts, other: &Counts) -> bool {
+    counts.comparisons <= other.comparisons
+        && counts.tests <= other.tests
+        && counts.look_ups <= other.look_ups
 }
 
 #[test]
-fn each_slot_looks_for_the_session(rt: HostRuntime) -> Result<(), Fail> {
-    let mut bench = Bench::new(rt.alloc(), CONFIG)?;
-    bench.take(rt.alloc(), REPLY)?;
-    let counts = bench.node.counts();
-    assert!(rt; counts.look_ups >= 2 && counts.look_ups <= 4);
-    assert_eq!(rt; counts.tests, 0);
+fn datagrams_cost_what_they_concern(rt: HostRuntime) -> Result<(), Fail> {
+    for row in &COSTINGS {
+        let counts = counts_of(rt.alloc(), row)?;
+        assert!(rt; at_most(&row.least, &counts), "{counts:?}");
+        assert!(rt; at_most(&counts, &row.most), "{counts:?}");
+    }
     Ok(())
 }

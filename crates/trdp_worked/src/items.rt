@@ -134,13 +134,17 @@ fn put_each(
     Ok(())
 }
 
+/// Puts each item, and pulls the last value that was put.
+fn put_and_pull(rt: &(impl Abort + AllocGlobal), bench: &mut Bench) -> Result<(), Fail> {
+    put_each(rt, bench, &PUTTINGS)?;
+    bench.take(rt.alloc(), PULL)?;
+    bench.tells(rt, PULLED)
+}
+
 #[test]
 fn items_are_put_as_their_bytes(rt: HostRuntime) -> Result<(), Fail> {
-    let alloc = rt.alloc();
-    let mut bench = Bench::after(alloc, CONFIG, &THREE)?;
-    put_each(&rt, &mut bench, &PUTTINGS)?;
-    bench.take(alloc, PULL)?;
-    bench.tells(&rt, PULLED)
+    let mut bench = Bench::after(rt.alloc(), CONFIG, &THREE)?;
+    put_and_pull(&rt, &mut bench)
 }
 
 /// What a subscription of dataset 1001 shows after lines.
@@ -212,17 +216,21 @@ fn shows_item(bench: &Bench, alloc: Global, handle: u32, count: u16) -> Result<b
 }
 
 /// Asserts that the subscription shows what the row says.
-fn shows(rt: &(impl Abort + AllocGlobal), row: &'static Showing) -> Result<(), Fail> {
-    let bench = Bench::after(rt.alloc(), CONFIG, row.lines)?;
-    shows_line(rt, &bench, row.peek)?;
-    assert!(rt; shows_item(&bench, rt.alloc(), 1, row.count)?);
+fn shows(
+    rt: &(impl Abort + AllocGlobal),
+    bench: &Bench,
+    row: &'static Showing,
+) -> Result<(), Fail> {
+    shows_line(rt, bench, row.peek)?;
+    assert!(rt; shows_item(bench, rt.alloc(), 1, row.count)?);
     Ok(())
 }
 
 #[test]
 fn subscriptions_show_bytes_and_their_item(rt: HostRuntime) -> Result<(), Fail> {
     for row in &SHOWINGS {
-        shows(&rt, row)?;
+        let bench = Bench::after(rt.alloc(), CONFIG, row.lines)?;
+        shows(&rt, &bench, row)?;
     }
     Ok(())
 }
@@ -323,13 +331,17 @@ const HERE: Place = Place {
     port: 17224,
 };
 
+/// Puts the longest item, and takes the telegram that it goes out in.
+fn goes_round(rt: &(impl Abort + AllocGlobal), bench: &mut Bench) -> Result<(), Fail> {
+    put_each(rt, bench, &LARGEST)?;
+    bench.take(rt.alloc(), PULL)?;
+    assert_eq!(rt; bench.loop_back(rt.alloc(), 0, Protocol::Pd, HERE)?, 1472);
+    assert!(rt; shows_item(bench, rt.alloc(), 2, 1430)?);
+    Ok(())
+}
+
 #[test]
 fn an_item_of_1432_bytes_goes_out_and_comes_in(rt: HostRuntime) -> Result<(), Fail> {
-    let alloc = rt.alloc();
-    let mut bench = Bench::after(alloc, LARGE, &PAIR)?;
-    put_each(&rt, &mut bench, &LARGEST)?;
-    bench.take(alloc, PULL)?;
-    assert_eq!(rt; bench.loop_back(alloc, 0, Protocol::Pd, HERE)?, 1472);
-    assert!(rt; shows_item(&bench, alloc, 2, 1430)?);
-    Ok(())
+    let mut bench = Bench::after(rt.alloc(), LARGE, &PAIR)?;
+    goes_round(&rt, &mut bench)
 }

@@ -142,27 +142,31 @@ fn open_sessions(rt: &(impl Abort + AllocGlobal), bench: &mut Bench) -> Result<(
     bench.tells(rt, "0 refused Quota\n0 overrun 769\n")
 }
 
-/// A node with 256 objects of each kind, each publisher with a value of 1,432 bytes.
-fn full(rt: &(impl Abort + AllocGlobal)) -> Result<Bench, Fail> {
-    let text = largest(rt.alloc())?;
-    let mut bench = Bench::new(rt.alloc(), &text)?;
+/// Makes 256 objects of each kind, and gives each publisher a value of 1,432 bytes.
+fn fill(rt: &(impl Abort + AllocGlobal), bench: &mut Bench) -> Result<(), Fail> {
     for opening in &OPENINGS {
-        open_all(rt, &mut bench, opening.line, opening.last)?;
+        open_all(rt, bench, opening.line, opening.last)?;
     }
-    open_sessions(rt, &mut bench)?;
+    open_sessions(rt, bench)?;
     for handle in 1..=256 {
-        put_longest(&mut bench, handle)?;
+        put_longest(bench, handle)?;
     }
-    Ok(bench)
+    Ok(())
+}
+
+/// Lets everything be due at once: each publisher sends, each subscription is silent, and each
+/// session is over.
+fn let_all_be_due(rt: &(impl Abort + AllocGlobal), bench: &mut Bench) -> Result<(), Fail> {
+    assert_eq!(rt; bench.out.len(), 256);
+    bench.out.clear();
+    bench.take(rt.alloc(), "moment 1000")?;
+    assert_eq!(rt; bench.out.len(), 1024);
+    Ok(())
 }
 
 #[test]
 fn a_node_at_every_limit(rt: HostRuntime) -> Result<(), Fail> {
-    let mut bench = full(&rt)?;
-    assert_eq!(rt; bench.out.len(), 256);
-    bench.out.clear();
-    // Each publisher sends, each subscription is silent, and each session is over.
-    bench.take(rt.alloc(), "moment 1000")?;
-    assert_eq!(rt; bench.out.len(), 1024);
-    Ok(())
+    let mut bench = Bench::new(rt.alloc(), &largest(rt.alloc())?)?;
+    fill(&rt, &mut bench)?;
+    let_all_be_due(&rt, &mut bench)
 }

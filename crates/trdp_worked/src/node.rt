@@ -2,6 +2,7 @@
 
 use crate::bench::Bench;
 use crate::play::CONFIG;
+use std::process::Abort;
 use std::test::Fail;
 use trdp_base::{Ip, Place, Topo};
 use trdp_engine::{Call, Event, run_both, same_view, view_drops_nothing};
@@ -71,14 +72,19 @@ static FIRST_TELEGRAM: &str = "\
     000000000100506400000064000000000000000000000002000000000000000000000000ec179c94\
     0a0b0000\n";
 
-#[test]
-fn a_run_takes_all_events(rt: HostRuntime) -> Result<(), Fail> {
-    let mut bench = Bench::new(rt.alloc(), CONFIG)?;
+/// Asserts what the events give a new node.
+fn run(rt: &(impl Abort + AllocGlobal), bench: &mut Bench) -> Result<(), Fail> {
     assert!(rt; bench.out.is_empty());
     let taken = bench.node.run(&events(), &mut bench.out);
     assert_eq!(rt; taken, 3);
     assert!(rt; bench.out.get(3).is_none());
-    bench.tells(&rt, FIRST_TELEGRAM)
+    bench.tells(rt, FIRST_TELEGRAM)
+}
+
+#[test]
+fn a_run_takes_all_events(rt: HostRuntime) -> Result<(), Fail> {
+    let mut bench = Bench::new(rt.alloc(), CONFIG)?;
+    run(&rt, &mut bench)
 }
 
 /// The datasets, the address and the ports of the other configuration, the same slot 0, and a
@@ -117,10 +123,12 @@ static OTHER_TELEGRAM: &str = "\
     000000000100506400000064000000000000000000000002000000000000000000000000ec179c94\
     0a0b0000\n";
 
-#[test]
-fn two_nodes_run_alike(rt: HostRuntime) -> Result<(), Fail> {
-    let mut first = Bench::new(rt.alloc(), CONFIG)?;
-    let mut second = Bench::new(rt.alloc(), OTHER_CONFIG)?;
+/// Asserts what both lists of events give two new nodes.
+fn run_two(
+    rt: &(impl Abort + AllocGlobal),
+    first: &mut Bench,
+    second: &mut Bench,
+) -> Result<(), Fail> {
     let taken = run_both(
         &mut first.node,
         &mut second.node,
@@ -132,6 +140,13 @@ fn two_nodes_run_alike(rt: HostRuntime) -> Result<(), Fail> {
     assert_eq!(rt; taken, (3, 6));
     same_view();
     view_drops_nothing();
-    first.tells(&rt, FIRST_TELEGRAM)?;
-    second.tells(&rt, OTHER_TELEGRAM)
+    first.tells(rt, FIRST_TELEGRAM)?;
+    second.tells(rt, OTHER_TELEGRAM)
+}
+
+#[test]
+fn two_nodes_run_alike(rt: HostRuntime) -> Result<(), Fail> {
+    let mut first = Bench::new(rt.alloc(), CONFIG)?;
+    let mut second = Bench::new(rt.alloc(), OTHER_CONFIG)?;
+    run_two(&rt, &mut first, &mut second)
 }
