@@ -10,8 +10,6 @@ mod place;
 mod quotas;
 mod session;
 mod status;
-#[cfg(test)]
-mod tests;
 mod text;
 mod topo;
 mod uri;

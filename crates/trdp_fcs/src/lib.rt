@@ -23,8 +23,3 @@ pub fn frame_check(bytes: &[u8]) -> u32
     running.feed(bytes);
     running.finish()
 }
-
-#[cfg(test)]
-mod plain;
-#[cfg(test)]
-mod tests;

@@ -16,6 +16,3 @@ pub use globals::{Globals, Groups};
 pub use md_filter::MdFilter;
 pub use pd_filter::PdFilter;
 pub use telegram::Telegram;
-
-#[cfg(test)]
-mod tests;

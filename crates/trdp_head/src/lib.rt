@@ -20,6 +20,3 @@ pub use md::{MD_HEAD, MD_PAYLOAD_MAX, MD_TELEGRAM_MAX, MdHead, MdKind, MdView};
 pub use pd::reading::read_pd;
 pub use pd::writing::{pd_length, push_pd, write_pd};
 pub use pd::{PD_HEAD, PD_PAYLOAD_MAX, PD_TELEGRAM_MAX, PdHead, PdKind, PdView};
-
-#[cfg(test)]
-mod tests;

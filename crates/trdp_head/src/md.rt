@@ -12,8 +12,6 @@
 
 mod layout;
 pub mod reading;
-#[cfg(test)]
-mod tests;
 pub mod writing;
 
 use trdp_base::{SessionId, Topo, Uri};

@@ -15,8 +15,6 @@ mod ranked;
 mod search;
 mod session_index;
 mod session_row;
-#[cfg(test)]
-mod tests;
 
 pub use com_index::ComIndex;
 pub use com_row::ComRow;

@@ -14,8 +14,6 @@ mod measure;
 mod number;
 mod payload;
 mod reader;
-#[cfg(test)]
-mod tests;
 mod writer;
 mod zero;
 

@@ -24,8 +24,3 @@ pub use listener::Listener;
 pub use notify::notification;
 pub use replier::{Replier, Stage};
 pub use terms::{CallerTerms, NotifyTerms};
-
-#[cfg(test)]
-mod session_tests;
-#[cfg(test)]
-mod tests;

@@ -22,6 +22,3 @@ pub use publisher::Publisher;
 pub use requester::Requester;
 pub use subscription::Subscription;
 pub use terms::{Behaviour, Peek, PublisherTerms, RequesterTerms, SubscriptionTerms, ValueState};
-
-#[cfg(test)]
-mod tests;

@@ -17,8 +17,6 @@ mod pool;
 mod search;
 mod slot;
 mod table;
-#[cfg(test)]
-mod tests;
 
 pub use any_object::AnyObject;
 pub use fault::TableFault;

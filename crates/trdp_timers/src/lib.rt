@@ -17,8 +17,6 @@ mod entries;
 mod heap;
 mod laws;
 mod order;
-#[cfg(test)]
-mod tests;
 mod timers;
 
 pub use laws::{first_is_due_first, one_fewer_is_due};

@@ -3,12 +3,12 @@
 ghost use Rattle.std.specs.Prelude.{◌≤◌};
 ghost use Rattle.trdp_base.specs.Moments.{last_moment};
 
-use crate::{Caller, CallerTerms, Replier, Stage, request_head};
 use std::process::Abort;
 use std::test::Fail;
 use trdp_base::{Ip, Place, SessionId, Topo, Uri};
 use trdp_filter::{Globals, Groups, Telegram};
 use trdp_head::{MdHead, MdKind, MdView};
+use trdp_md::{Caller, CallerTerms, Replier, Stage, request_head};
 use trdp_pd::{Fired, Object, Reason, Taken};
 
 const ANY: Topo = Topo { etb: 0, op_trn: 0 };

@@ -2,7 +2,8 @@
 
 ghost use Rattle.std.specs.Prelude.{◌≤◌};
 
-use crate::{Running, frame_check, plain};
+use crate::plain;
+use trdp_fcs::{Running, frame_check};
 
 #[test]
 fn texts_have_the_published_checks(rt: HostRuntime) {

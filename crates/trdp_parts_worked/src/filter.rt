@@ -1,7 +1,7 @@
 //! Worked examples.
 
-use crate::{Globals, Groups, MdFilter, PdFilter, Telegram, topo_valid, valid};
 use trdp_base::{Ip, Place, SessionId, Topo, Uri};
+use trdp_filter::{Globals, Groups, MdFilter, PdFilter, Telegram, topo_valid, valid};
 use trdp_head::{MdHead, MdKind, MdView, PdHead, PdKind, PdView};
 
 fn topo(etb: u32, op_trn: u32) -> Topo {

@@ -2,12 +2,12 @@
 
 ghost use Rattle.std.specs.Prelude.{◌≤◌};
 
-use crate::{
+use std::test::Fail;
+use trdp_base::{Ip, Topo};
+use trdp_head::{
     HeadFault, PD_PAYLOAD_MAX, PD_TELEGRAM_MAX, PdHead, PdKind, pd_length, push_pd, read_pd,
     write_pd,
 };
-use std::test::Fail;
-use trdp_base::{Ip, Topo};
 
 /// `Pd` of comId 100 with the dataset `0a0b`.
 const DATA: [u8; 44] = [

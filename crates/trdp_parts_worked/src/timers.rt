@@ -1,8 +1,8 @@
 //! Worked examples: which key acts first, what is due, and the comparisons of each call.
 
-use crate::{Order, Timers};
 use std::process::Abort;
 use std::test::Fail;
+use trdp_timers::{Order, Timers};
 
 /// An order as its due moment, slot and handle.
 type Parts = (u64, u16, u32);

@@ -1,9 +1,9 @@
 //! Worked examples: runs by comId, sessions by slot and role, growth and removal.
 
-use crate::{ComIndex, ComRow, Role, SessionIndex};
 use std::process::Abort;
 use std::test::Fail;
 use trdp_base::SessionId;
+use trdp_index::{ComIndex, ComRow, Role, SessionIndex};
 
 /// Rows of four comIds, in no order: comId, slot, handle and key, which is the row's place in the
 /// order of all.

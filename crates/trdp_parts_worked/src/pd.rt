@@ -3,15 +3,15 @@
 ghost use Rattle.std.specs.Prelude.{◌≤◌};
 ghost use Rattle.trdp_base.specs.Moments.{last_moment};
 
-use crate::{
-    Behaviour, Fired, Object, Publisher, PublisherTerms, Requester, RequesterTerms, Subscription,
-    SubscriptionTerms, Taken, ValueState,
-};
 use std::process::Abort;
 use std::test::Fail;
 use trdp_base::{Ip, Place, Topo};
 use trdp_filter::{Globals, Groups, PdFilter, Telegram};
 use trdp_head::{PdHead, PdKind, PdView};
+use trdp_pd::{
+    Behaviour, Fired, Object, Publisher, PublisherTerms, Requester, RequesterTerms, Subscription,
+    SubscriptionTerms, Taken, ValueState,
+};
 
 const ANY: Topo = Topo { etb: 0, op_trn: 0 };
 

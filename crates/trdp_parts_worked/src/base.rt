@@ -1,5 +1,11 @@
-use super::*;
+//! Texts and numbers that others gave, and the limits of what they stand for.
+
 use std::test::Fail;
+use trdp_base::{
+    Ip, MOMENT_MAX, Moment, Place, QUOTA_LIMIT, Quotas, SessionId, TextFault, Topo, URI_LIMIT, Uri,
+    push_hex, push_ip, push_number, push_place, push_session, push_status, read_hex, read_ip,
+    read_number, read_place, read_session, read_status, read_uri,
+};
 
 const ADDRESS: Ip = Ip(0x0a00_0002);
 

@@ -1,10 +1,10 @@
 //! Worked examples: what a listener hears, and what a notification carries.
 
-use crate::{Listener, NotifyTerms, notification};
 use std::test::Fail;
 use trdp_base::{Ip, Place, SessionId, Topo, Uri};
 use trdp_filter::{Globals, Groups, MdFilter, Telegram};
 use trdp_head::{MdHead, MdKind, MdView, PdHead, PdKind, PdView};
+use trdp_md::{Listener, NotifyTerms, notification};
 use trdp_pd::{Object, Taken};
 
 const ANY: Topo = Topo { etb: 0, op_trn: 0 };

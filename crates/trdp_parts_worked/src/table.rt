@@ -1,12 +1,12 @@
 //! Worked examples: kinds, handles, quotas and the last handle.
 
-use crate::{AnyObject, Kind, Table, TableFault};
 use std::process::Abort;
 use std::test::Fail;
 use trdp_base::{Ip, Place, Quotas, Topo, Uri};
 use trdp_filter::MdFilter;
 use trdp_md::Listener;
 use trdp_pd::{Object, Publisher, PublisherTerms, Requester, RequesterTerms};
+use trdp_table::{AnyObject, Kind, Table, TableFault};
 
 /// What is done to a slot.
 #[derive(Clone, Copy)]

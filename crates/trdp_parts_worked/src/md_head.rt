@@ -3,9 +3,11 @@
 
 ghost use Rattle.std.specs.Prelude.{◌≤◌};
 
-use crate::{HeadFault, MD_TELEGRAM_MAX, MdHead, MdKind, md_length, push_md, read_md, write_md};
 use std::test::Fail;
 use trdp_base::{SessionId, Topo, Uri};
+use trdp_head::{
+    HeadFault, MD_TELEGRAM_MAX, MdHead, MdKind, md_length, push_md, read_md, write_md,
+};
 
 /// `Mn` of comId 300 with the dataset `0d`.
 const NOTIFY: [u8; 120] = [

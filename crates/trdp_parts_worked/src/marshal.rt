@@ -1,8 +1,10 @@
-use super::*;
+//! Values beside the bytes that the standard's layout gives them, and what is refused.
+
 use std::alloc::{AllocError, Global};
 use std::process::Abort;
 use std::test::Fail;
 use trdp_dataset::{ConfigFault, Registry};
+use trdp_marshal::{Item, MarshalFault, decode, encode, fits, write_zero};
 
 /// Datasets of one length (1004, 1005) and with arrays of a counted size, of which 1006 has one of
 /// values that have one themselves, and 1007 one of values of one length.
