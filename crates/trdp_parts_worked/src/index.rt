@@ -117,6 +117,22 @@ fn open(rt: &impl Abort, index: &mut SessionIndex, slot: u16, role: Role, key: u
     index.insert(SessionId(1), slot, role, key);
 }
 
+/// What stands in the index of two slots' sessions: session, slot, role and key.
+static SESSIONS: [(u128, u16, Role, Option<usize>); 5] = [
+    (1, 0, Role::Caller, Some(6)),
+    (1, 1, Role::Caller, Some(5)),
+    (1, 0, Role::Replier, Some(7)),
+    (1, 1, Role::Replier, None),
+    (2, 0, Role::Caller, None),
+];
+
+/// Each row is found as it says.
+fn finds(rt: &impl Abort, index: &SessionIndex, rows: &[(u128, u16, Role, Option<usize>)]) {
+    for (session, slot, role, key) in rows {
+        assert_eq!(rt; index.get(SessionId(*session), *slot, *role), *key);
+    }
+}
+
 #[test]
 fn worked_sessions(rt: HostRuntime) -> Result<(), Fail> {
     let mut index = SessionIndex::with_room(rt.alloc(), 2)?;
@@ -124,16 +140,15 @@ fn worked_sessions(rt: HostRuntime) -> Result<(), Fail> {
     open(&rt, &mut index, 0, Role::Caller, 6);
     index.grow(4)?;
     assert_eq!(rt; (index.len(), index.room()), (2, 4));
-    assert_eq!(rt; index.get(SessionId(1), 0, Role::Caller), Some(6));
-    assert_eq!(rt; index.get(SessionId(1), 1, Role::Caller), Some(5));
-    assert_eq!(rt; index.get(SessionId(1), 0, Role::Replier), None);
-    assert_eq!(rt; index.get(SessionId(2), 0, Role::Caller), None);
     open(&rt, &mut index, 0, Role::Replier, 7);
-    assert_eq!(rt; index.get(SessionId(1), 0, Role::Replier), Some(7));
+    finds(&rt, &index, &SESSIONS);
     assert!(rt; index.remove(SessionId(1), 0, Role::Caller));
     assert!(rt; !index.remove(SessionId(1), 0, Role::Caller));
-    assert_eq!(rt; index.get(SessionId(1), 0, Role::Caller), None);
-    assert_eq!(rt; index.get(SessionId(1), 1, Role::Caller), Some(5));
+    finds(
+        &rt,
+        &index,
+        &[(1, 0, Role::Caller, None), (1, 1, Role::Caller, Some(5))],
+    );
     index.sound();
     Ok(())
 }

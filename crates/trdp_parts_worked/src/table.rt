@@ -156,6 +156,23 @@ fn handles_and_quotas(rt: HostRuntime) -> Result<(), Fail> {
     Ok(())
 }
 
+/// Adds an object, which stands under its key, and removes it, which frees the key.
+fn add_and_remove(
+    rt: &impl Abort,
+    table: &mut Table,
+    slot: u16,
+    object: AnyObject,
+) -> Result<(), Fail> {
+    assert!(rt; usize::from(slot) < table.slots());
+    let handle = table.add(slot, object).map_err(|_| "refused")?;
+    let key = table.find(slot, handle).ok_or("no key")?;
+    assert!(rt; key < table.room());
+    assert_eq!(rt; table.owner(key), Some((slot, handle)));
+    assert!(rt; table.remove(slot, handle).is_some());
+    assert_eq!(rt; (table.find(slot, handle), table.owner(key)), (None, None));
+    Ok(())
+}
+
 /// A key that is free again stands under the slot and the handle of its next object.
 #[test]
 fn key_used_again(rt: HostRuntime) -> Result<(), Fail> {
@@ -163,14 +180,8 @@ fn key_used_again(rt: HostRuntime) -> Result<(), Fail> {
     let mut table = Table::new(rt.alloc(), &[one, one])?;
     assert_eq!(rt; table.room(), 2);
     for slot in [0, 1, 0, 1] {
-        assert!(rt; usize::from(slot) < table.slots());
         let object = AnyObject::Publisher(Publisher::new(rt.alloc(), &terms(100), 0)?);
-        let handle = table.add(slot, object).map_err(|_| "refused")?;
-        let key = table.find(slot, handle).ok_or("no key")?;
-        assert!(rt; key < table.room());
-        assert_eq!(rt; table.owner(key), Some((slot, handle)));
-        assert!(rt; table.remove(slot, handle).is_some());
-        assert_eq!(rt; (table.find(slot, handle), table.owner(key)), (None, None));
+        add_and_remove(&rt, &mut table, slot, object)?;
     }
     Ok(())
 }

@@ -95,22 +95,39 @@ fn calls_have_their_comparisons(rt: HostRuntime) -> Result<(), Fail> {
     Ok(())
 }
 
+/// Calls on timers with room for three keys, which come by due moment, slot and handle.
+static ORDERED: [Does; 9] = [
+    Does::Set(0, (5, 1, 1)),
+    Does::Set(1, (5, 0, 2)),
+    Does::Set(2, (4, 1, 9)),
+    Does::DueTotal(5, 7),
+    Does::DueTotal(4, 4),
+    Does::Pop(Some((2, (4, 1, 9)))),
+    Does::Pop(Some((1, (5, 0, 2)))),
+    Does::Pop(Some((0, (5, 1, 1)))),
+    Does::Pop(None),
+];
+
+/// Calls once there is room for five.
+static GROWN: [Does; 3] = [
+    Does::Set(4, (1, 1, 1)),
+    Does::Clear(3),
+    Does::First(Some((4, (1, 1, 1)))),
+];
+
+/// Makes the calls in turn.
+fn act_all(rt: &impl Abort, timers: &mut Timers, calls: &[Does]) {
+    for does in calls {
+        act(rt, timers, *does);
+    }
+}
+
 #[test]
 fn keys_come_by_due_moment_slot_and_handle(rt: HostRuntime) -> Result<(), Fail> {
     let mut timers = Timers::with_room(rt.alloc(), 3)?;
-    timers.set(0, order((5, 1, 1)));
-    timers.set(1, order((5, 0, 2)));
-    timers.set(2, order((4, 1, 9)));
-    assert_eq!(rt; timers.due_total(5, &[1, 10, 100]), 111);
-    assert_eq!(rt; timers.due_total(4, &[1, 10, 100]), 100);
-    assert_eq!(rt; timers.pop(), Some((2, order((4, 1, 9)))));
-    assert_eq!(rt; timers.pop(), Some((1, order((5, 0, 2)))));
-    assert_eq!(rt; timers.pop(), Some((0, order((5, 1, 1)))));
-    assert_eq!(rt; timers.pop(), None);
+    act_all(&rt, &mut timers, &ORDERED);
     timers.grow(5)?;
-    timers.set(4, order((1, 1, 1)));
-    timers.clear(3);
-    assert_eq!(rt; timers.first(), Some((4, order((1, 1, 1)))));
+    act_all(&rt, &mut timers, &GROWN);
     assert_eq!(rt; timers.room(), 5);
     Ok(())
 }
