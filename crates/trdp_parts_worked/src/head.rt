@@ -85,15 +85,16 @@ fn telegrams_are_added_to_a_list(rt: HostRuntime) -> Result<(), Fail> {
     Ok(())
 }
 
-/// The telegram of comId 100 with two other bytes at an offset, its frame check, and what is read
-/// of it: the length of its payload.
-struct Changed {
-    offset: usize,
-    bytes: [u8; 2],
-    check: [u8; 4],
-    read: Result<usize, HeadFault>,
+/// A telegram with two other bytes at an offset, its frame check, and what is read of it: the
+/// length of its payload.
+pub(crate) struct Changed {
+    pub offset: usize,
+    pub bytes: [u8; 2],
+    pub check: [u8; 4],
+    pub read: Result<usize, HeadFault>,
 }
 
+/// The telegram of comId 100, changed.
 static CHANGED: [Changed; 7] = [
     // Another type under the old frame check.
     Changed {

@@ -3,6 +3,7 @@
 
 ghost use Rattle.std.specs.Prelude.{◌≤◌};
 
+use crate::head::Changed;
 use std::test::Fail;
 use trdp_base::{SessionId, Topo, Uri};
 use trdp_head::{
@@ -105,15 +106,7 @@ fn telegrams_are_added_to_a_list(rt: HostRuntime) -> Result<(), Fail> {
     Ok(())
 }
 
-/// The telegram of comId 300 with two other bytes at an offset, its frame check, and what is read
-/// of it: the length of its payload.
-struct Changed {
-    offset: usize,
-    bytes: [u8; 2],
-    check: [u8; 4],
-    read: Result<usize, HeadFault>,
-}
-
+/// The telegram of comId 300, changed.
 static CHANGED: [Changed; 6] = [
     // Another type under the old frame check.
     Changed {

@@ -4,7 +4,7 @@
 const GENERATOR: u32 = 0xEDB8_8320;
 
 /// The frame check of the bytes.
-pub fn frame_check(bytes: &[u8]) -> u32 {
+pub(crate) fn frame_check(bytes: &[u8]) -> u32 {
     let mut register = u32::MAX;
     for byte in bytes {
         register = past_byte(register, *byte);

@@ -7,9 +7,9 @@
 //! taken; each comparison is counted.
 //!
 //! What no contract says is that `clear` and `pop` count every comparison: an order in the last
-//! place goes without any, and places are no part of what a key has. The test
-//! `calls_have_their_comparisons` has the number of each call. To ask for the `first` twice is as
-//! good as once.
+//! place goes without any, and places are no part of what a key has. The worked example
+//! `calls_have_their_comparisons` of `trdp_parts_worked` has the number of each call. To ask for
+//! the `first` twice is as good as once.
 #![tactic(auto)]
 
 mod due;
