@@ -196,42 +196,69 @@ fn falls_silent<C: Clock>(
     Ok(())
 }
 
+/// Asserts what a device answers to an application, and that its ports are its own.
+fn answers_a_client<C: Clock>(
+    rt: &(impl Net + Abort + AllocGlobal),
+    daemons: &mut [Daemon<UdpWire, C>],
+    application: &UdpSocket,
+) -> Result<(), Fail> {
+    let config = NodeConfig::from_toml(rt.alloc(), ALONE)?;
+    assert_eq!(rt; UdpWire::bind(rt, &config).err(), Some(BindFault::Bind));
+    let line = b"publish 100 0 100000 0 0 0 127.0.0.1:17999";
+    answers(rt, daemons, application, line, b"0 handle 1\n")?;
+    Ok(())
+}
+
 #[test]
 fn a_client_at_a_control_port_is_answered(rt: HostRuntime) -> Result<(), Fail> {
-    let mut daemons = [daemon(&rt, ALONE)?];
-    let config = NodeConfig::from_toml(rt.alloc(), ALONE)?;
-    assert_eq!(&rt; UdpWire::bind(&rt, &config).err(), Some(BindFault::Bind));
     let application = application(&rt, 0x7f00_0001, 18900)?;
-    let line = b"publish 100 0 100000 0 0 0 127.0.0.1:17999";
-    answers(&rt, &mut daemons, &application, line, b"0 handle 1\n")?;
+    let mut daemons = [daemon(&rt, ALONE)?];
+    answers_a_client(&rt, &mut daemons, &application)
+}
+
+/// Asserts what the applications of two devices hear of a value that is put, and of its end.
+fn shows<C: Clock>(
+    rt: &impl Abort,
+    daemons: &mut [Daemon<UdpWire, C>],
+    [first, second]: [&UdpSocket; 2],
+) -> Result<(), Fail> {
+    let publish = b"publish 100 0 1000 0 0 0 127.0.0.2:17934";
+    answers(rt, daemons, first, publish, b"0 handle 1\n")?;
+    answers(rt, daemons, first, b"put 1 0a0b", b"0 done\n")?;
+    // A supervision time that no pause of this process is likely to reach.
+    let subscribe = b"subscribe 100 0 127.0.0.1 127.0.0.1 0.0.0.0 0 0 300000 keep";
+    answers(rt, daemons, second, subscribe, b"0 handle 1\n")?;
+    shows_value(rt, daemons, second)?;
+    answers(rt, daemons, first, b"unpublish 1", b"0 done\n")?;
+    falls_silent(rt, daemons, second)?;
     Ok(())
 }
 
 #[test]
 fn a_device_shows_what_another_one_publishes(rt: HostRuntime) -> Result<(), Fail> {
-    let mut daemons = [daemon(&rt, PUBLISHER)?, daemon(&rt, SUBSCRIBER)?];
     let first = application(&rt, 0x7f00_0001, 18910)?;
     let second = application(&rt, 0x7f00_0002, 18911)?;
-    let publish = b"publish 100 0 1000 0 0 0 127.0.0.2:17934";
-    answers(&rt, &mut daemons, &first, publish, b"0 handle 1\n")?;
-    answers(&rt, &mut daemons, &first, b"put 1 0a0b", b"0 done\n")?;
-    // A supervision time that no pause of this process is likely to reach.
-    let subscribe = b"subscribe 100 0 127.0.0.1 127.0.0.1 0.0.0.0 0 0 300000 keep";
-    answers(&rt, &mut daemons, &second, subscribe, b"0 handle 1\n")?;
-    shows_value(&rt, &mut daemons, &second)?;
-    answers(&rt, &mut daemons, &first, b"unpublish 1", b"0 done\n")?;
-    falls_silent(&rt, &mut daemons, &second)?;
+    let mut daemons = [daemon(&rt, PUBLISHER)?, daemon(&rt, SUBSCRIBER)?];
+    shows(&rt, &mut daemons, [&first, &second])
+}
+
+/// Asserts what both applications hear in the exchange.
+fn exchange<C: Clock>(
+    rt: &impl Abort,
+    daemons: &mut [Daemon<UdpWire, C>],
+    [first, second]: [&UdpSocket; 2],
+) -> Result<(), Fail> {
+    for (asks, line, heard) in EXCHANGE {
+        let application = if asks { first } else { second };
+        answers(rt, daemons, application, line, heard)?;
+    }
     Ok(())
 }
 
 #[test]
 fn a_query_answers_a_request_and_is_confirmed(rt: HostRuntime) -> Result<(), Fail> {
-    let mut daemons = [daemon(&rt, CALLER)?, daemon(&rt, REPLIER)?];
     let first = application(&rt, 0x7f00_0001, 18920)?;
     let second = application(&rt, 0x7f00_0002, 18921)?;
-    for (asks, line, heard) in EXCHANGE {
-        let application = if asks { &first } else { &second };
-        answers(&rt, &mut daemons, application, line, heard)?;
-    }
-    Ok(())
+    let mut daemons = [daemon(&rt, CALLER)?, daemon(&rt, REPLIER)?];
+    exchange(&rt, &mut daemons, [&first, &second])
 }
