@@ -1,5 +1,6 @@
 -- The written form of bytes.
-use Rattle.std.specs.Prelude.{◌≡◌, ℕ, ◌+◌, ◌/◌, ◌%◌, ◌<◌, ◌≤◌, ◌⊎◌, List, [], ◌∷◌, length, codes, nat_lt, if◌then◌else◌, All}
+use Rattle.std.specs.Prelude.{◌≡◌, ℕ, ◌+◌, ◌/◌, ◌%◌, ◌<◌, ◌≤◌, ◌⊎◌, List, []}
+use Rattle.std.specs.Prelude.{◌∷◌, length, codes, nat_lt, if◌then◌else◌, All}
 
 -- the character of a hexadecimal digit: `0` to `9`, then `a` to `f`
 abbrev pub hex_digit : ℕ → ℕ

@@ -1,5 +1,6 @@
 -- The URIs of message data, and the fields that they stand in.
-use Rattle.std.specs.Prelude.{◌≢◌, ℕ, ◌≡◌, ◌-◌, ◌<◌, ◌≤◌, ◌==◌, List, [], ◌∷◌, ◌++◌, length, replicate, if◌then◌else◌, All}
+use Rattle.std.specs.Prelude.{◌≢◌, ℕ, ◌≡◌, ◌-◌, ◌<◌, ◌≤◌, ◌==◌, List, [], ◌∷◌}
+use Rattle.std.specs.Prelude.{◌++◌, length, replicate, if◌then◌else◌, All}
 use Rattle.trdp_base.specs.HexText.{text_of_hex}
 
 -- the most bytes of a URI, which is the length of its field
@@ -22,4 +23,5 @@ uri_field uri = uri ++ replicate (uri_limit - length uri) 0
 
 -- the text is the written form of a URI: its bytes as digits in pairs, or `-` for none
 abbrev pub IsUriText : List ℕ → Type 0
-IsUriText text = (uri : List ℕ) × IsUri uri × All (λ byte. byte < 256) uri × (text ≡ text_of_hex uri)
+IsUriText text = (uri : List ℕ) × IsUri uri × All (λ byte. byte < 256) uri
+    × (text ≡ text_of_hex uri)

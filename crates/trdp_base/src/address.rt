@@ -1,6 +1,7 @@
 //! Addresses and places as text: four numbers joined by dots, and a port behind a colon.
 
-ghost use Rattle.std.specs.Prelude.{◌≡◌, ◌≢◌, ℕ, ◌+◌, ◌^◌, ◌<◌, ◌≤◌, ◌++◌, ◌∷◌, IfOk, IfErr, OnOk, OnErr, IsOk, IfSome, IfNone, All, vec_len, vec_capacity};
+ghost use Rattle.std.specs.Prelude.{◌≡◌, ◌≢◌, ℕ, ◌+◌, ◌^◌, ◌<◌, ◌≤◌, ◌++◌, ◌∷◌, IfOk, IfErr, OnOk};
+ghost use Rattle.std.specs.Prelude.{OnErr, IsOk, IfSome, IfNone, All, vec_len, vec_capacity};
 ghost use Rattle.trdp_base.specs.AddressText.{text_of_ip, text_of_place, ip_length, place_length};
 ghost use Rattle.trdp_base.specs.NumberText.{text_of_number};
 ghost use Rattle.trdp_base.specs.declared.place.Ip.{Ip};

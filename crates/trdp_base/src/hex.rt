@@ -1,7 +1,10 @@
 //! Bytes as text: two lower-case hexadecimal digits for each, and `-` for none.
 
-ghost use Rattle.std.specs.Prelude.{◌≡◌, ℕ, List, [], ◌+◌, ◌*◌, ◌/◌, ◌%◌, ◌<◌, ◌≤◌, ◌↔◌, ◌++◌, length, IfOk, IfErr, OnOk, OnErr, IsOk, IsTrue, All, vec_len, vec_capacity};
-ghost use Rattle.trdp_base.specs.HexText.{hex_digit, hex_pairs, text_of_hex, IsHexText, IsHexDigit, IsInPairs};
+ghost use Rattle.std.specs.Prelude.{◌≡◌, ℕ, List, [], ◌+◌, ◌*◌, ◌/◌, ◌%◌, ◌<◌, ◌≤◌};
+ghost use Rattle.std.specs.Prelude.{◌↔◌, ◌++◌, length, IfOk, IfErr, OnOk, OnErr};
+ghost use Rattle.std.specs.Prelude.{IsOk, IsTrue, All, vec_len, vec_capacity};
+ghost use Rattle.trdp_base.specs.HexText.{hex_digit, hex_pairs, text_of_hex};
+ghost use Rattle.trdp_base.specs.HexText.{IsHexText, IsHexDigit, IsInPairs};
 ghost use Rattle.trdp_base.specs.declared.text.TextFault.TheVariants.{BadText};
 
 use crate::text::TextFault;

@@ -1,6 +1,8 @@
 //! Numbers as text: decimal digits without leading zeros.
 
-ghost use Rattle.std.specs.Prelude.{◌≡◌, ℕ, ◌+◌, ◌%◌, ◌^◌, ◌<◌, ◌≤◌, ◌↔◌, ◌++◌, length, drop, IfOk, IfErr, OnOk, OnErr, IsOk, IfSome, IsTrue, vec_len, vec_capacity};
+ghost use Rattle.std.specs.Prelude.{◌≡◌, ℕ, ◌+◌, ◌%◌, ◌^◌, ◌<◌, ◌≤◌, ◌↔◌, ◌++◌};
+ghost use Rattle.std.specs.Prelude.{length, drop, IfOk, IfErr, OnOk, OnErr};
+ghost use Rattle.std.specs.Prelude.{IsOk, IfSome, IsTrue, vec_len, vec_capacity};
 ghost use Rattle.trdp_base.specs.NumberText.{text_of_number, number_length, HasNeedlessStart};
 ghost use Rattle.trdp_base.specs.declared.text.TextFault.TheVariants.{BadText};
 

@@ -1,6 +1,7 @@
 //! How many objects a slot may hold.
 
-ghost use Rattle.std.specs.Prelude.{◌≡◌, ◌<◌, ◌≤◌, None, Some, nat_le, length, slice_index, if◌then◌else◌, IfSome};
+ghost use Rattle.std.specs.Prelude.{◌≡◌, ◌<◌, ◌≤◌, None, Some, nat_le, length};
+ghost use Rattle.std.specs.Prelude.{slice_index, if◌then◌else◌, IfSome};
 ghost use Rattle.std.specs.List.{list_all};
 ghost use Rattle.trdp_base.specs.QuotaLimits.{quota_limit, quota_kinds};
 

@@ -1,6 +1,7 @@
 //! Statuses of replies as text: decimal numbers with their sign.
 
-ghost use Rattle.std.specs.Prelude.{◌≡◌, ℤ, ◌+◌, ◌≤◌, ◌++◌, FitsSigned, IfOk, IfErr, OnOk, OnErr, IsOk, ◌∷◌, vec_len, vec_capacity};
+ghost use Rattle.std.specs.Prelude.{◌≡◌, ℤ, ◌+◌, ◌≤◌, ◌++◌, FitsSigned, IfOk, IfErr};
+ghost use Rattle.std.specs.Prelude.{OnOk, OnErr, IsOk, ◌∷◌, vec_len, vec_capacity};
 ghost use Rattle.std.specs.Int.{w32};
 ghost use Rattle.trdp_base.specs.StatusText.{text_of_status, status_length};
 ghost use Rattle.trdp_base.specs.declared.text.TextFault.TheVariants.{BadText};

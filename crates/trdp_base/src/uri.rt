@@ -1,6 +1,7 @@
 //! URIs: the texts that a message is from and to.
 
-ghost use Rattle.std.specs.Prelude.{◌≡◌, ◌≢◌, ℕ, ◌*◌, ◌<◌, ◌≤◌, ◌↔◌, List, [], ◌++◌, length, drop, Ok, All, IfOk, IfErr, IsSome, IfSome, IfNone, IsTrue};
+ghost use Rattle.std.specs.Prelude.{◌≡◌, ◌≢◌, ℕ, ◌*◌, ◌<◌, ◌≤◌, ◌↔◌, List, [], ◌++◌, length};
+ghost use Rattle.std.specs.Prelude.{drop, Ok, All, IfOk, IfErr, IsSome, IfSome, IfNone, IsTrue};
 ghost use Rattle.trdp_base.specs.HexText.{hex_pairs, text_of_hex, IsInPairs};
 ghost use Rattle.trdp_base.specs.Uris.{IsUri, IsUriText, before_zero, uri_field, uri_limit};
 ghost use Rattle.trdp_base.specs.declared.text.TextFault.TheVariants.{BadText};

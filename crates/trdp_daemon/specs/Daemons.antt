@@ -49,7 +49,8 @@ pub record TakesTurns {W C : Type 0} (takings_in : W → Option (List Taking))
 -- a daemon of this configuration has taken n turns since it was made with this wire and clock, each
 -- with one reading of the clock and one take at each port in order: the list of its offers is that
 -- of these turns, whatever the gives answered, and its totals count the datagrams that came, the
--- gives, those that failed, the takes that failed, and the entries that were lost for want of memory
+-- gives, those that failed, the takes that failed, and the entries that were lost for want of
+-- memory
 pub record HasServed {W C : Type 0} (takings_in : W → Option (List Taking))
     (gives_in : W → Option (List Give)) (readings_in : C → Option (List ℕ))
     (config : ConfigModel) (wire : W) (clock : C) (n : ℕ) (daemon : DaemonState W C)

@@ -111,7 +111,8 @@ is_give_beyond wire bytes = wire.give_room == 0 || nat_lt wire.byte_room bytes
 -- to fail; unless the count of failures is at its last value
 unfoldable pub next_give_fails : MemoryWireState → ℕ → Bool
 next_give_fails wire bytes = nat_lt wire.failures (2 ^ 64 - 1)
-    && (is_give_beyond wire bytes || is_failing wire.laid_down.failing_gives (length wire.gives + 1))
+    && (is_give_beyond wire bytes
+    || is_failing wire.laid_down.failing_gives (length wire.gives + 1))
 
 -- a count that goes up where this holds
 unfoldable pub one_more_if : Bool → ℕ → ℕ
@@ -120,7 +121,10 @@ one_more_if more n = if more then n + 1 else n
 -- a wire after a take; beyond its room it isn't remembered, and the wire tells nothing from then on
 unfoldable pub after_take : MemoryWireState → Taking → MemoryWireState
 after_take wire taking = if wire.take_room == 0
-    then record wire { tells = false; failures = one_more_if (has_failed taking.arrived) wire.failures }
+    then record wire {
+      tells = false;
+      failures = one_more_if (has_failed taking.arrived) wire.failures;
+    }
     else record wire {
       takings = wire.takings ++ taking ∷ [];
       failures = one_more_if (has_failed taking.arrived) wire.failures;

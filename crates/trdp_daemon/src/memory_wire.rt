@@ -75,7 +75,8 @@ impl MemoryWire {
     ghost use Rattle.std.specs.Prelude.{true, false, ◌<◌, ◌≤◌};
     ghost use Rattle.std.specs.List.{flat_map};
     ghost use Rattle.trdp_daemon.specs.MemoryWires.{nothing_laid_down, with_arrival};
-    ghost use Rattle.trdp_daemon.specs.MemoryWires.{is_give_beyond, with_failing_give, with_failing_take};
+    ghost use Rattle.trdp_daemon.specs.MemoryWires.{is_give_beyond, with_failing_give};
+    ghost use Rattle.trdp_daemon.specs.MemoryWires.{with_failing_take};
     ghost use Rattle.trdp_daemon.specs.Rows.{given_to};
 
     /// A wire over which nothing arrives yet, with room for so many takes, gives, and bytes of

@@ -1,5 +1,6 @@
 -- What a configuration file means, as a function of the table that its text is.
-use Rattle.std.specs.Prelude.{◌≡◌, ℕ, List, Option, Some, None, Result, Ok, Err, map, option_map, option_and_then, unwrap_or}
+use Rattle.std.specs.Prelude.{◌≡◌, ℕ, List, Option, Some, None, Result, Ok}
+use Rattle.std.specs.Prelude.{Err, map, option_map, option_and_then, unwrap_or}
 use Rattle.std.specs.List.{filter_map}
 use Rattle.std.specs.Str.{IsUtf8}
 use Rattle.toml.specs.Data.{Data, Members}
@@ -12,13 +13,16 @@ use Rattle.toml.specs.declared.value.Value.{Value}
 use Rattle.trdp_dataset.specs.declared.element.Element.{Element}
 use Rattle.trdp_dataset.specs.declared.element.ElementKind.{ElementKind}
 use Rattle.trdp_dataset.specs.declared.key.Key.{Key}
-use Rattle.trdp_dataset.specs.declared.key.Key.TheVariants.{Address, PdPort, MdPort, OperatorPort, Slot, ControlPort, Dataset, DatasetId, Elements, ElementType, ElementSize}
+use Rattle.trdp_dataset.specs.declared.key.Key.TheVariants.{Address, PdPort, MdPort, OperatorPort}
+use Rattle.trdp_dataset.specs.declared.key.Key.TheVariants.{Slot, ControlPort, Dataset, DatasetId}
+use Rattle.trdp_dataset.specs.declared.key.Key.TheVariants.{Elements, ElementType, ElementSize}
 use Rattle.trdp_dataset.specs.declared.fault.ConfigFault.{ConfigFault}
 use Rattle.trdp_dataset.specs.declared.fault.ConfigFault.TheVariants.{Toml, OutOfMemory}
 use Rattle.trdp_dataset.specs.Keys.{wanted_by, default_of, quota_keys}
 use Rattle.trdp_dataset.specs.Values.{number_in, address_in, identifier_in, kind_in}
 use Rattle.trdp_dataset.specs.Datasets.{DatasetModel}
-use Rattle.trdp_dataset.specs.Positions.{value_at, tables_at, node_in, dataset_positions, all_positions}
+use Rattle.trdp_dataset.specs.Positions.{value_at, tables_at, node_in}
+use Rattle.trdp_dataset.specs.Positions.{dataset_positions, all_positions}
 use Rattle.trdp_dataset.specs.Faults.{fault_in}
 
 -- the number of a key whose value was looked for: the key's default where there is none in the

@@ -1,7 +1,9 @@
 -- Datasets, as contracts see them.
-use Rattle.std.specs.Prelude.{◌==◌, ◌||◌, ◌&&◌, not, ℕ, Bool, true, List, [], ◌∷◌, Option, option_map, is_some, find}
+use Rattle.std.specs.Prelude.{◌==◌, ◌||◌, ◌&&◌, not, ℕ, Bool, true, List}
+use Rattle.std.specs.Prelude.{[], ◌∷◌, Option, option_map, is_some, find}
 use Rattle.trdp_dataset.specs.declared.element.Form.{Form}
-use Rattle.trdp_dataset.specs.declared.element.Form.TheVariants.{Unsigned, Signed, Time48, Time64, Nested}
+use Rattle.trdp_dataset.specs.declared.element.Form.TheVariants.{Unsigned, Signed}
+use Rattle.trdp_dataset.specs.declared.element.Form.TheVariants.{Time48, Time64, Nested}
 use Rattle.trdp_dataset.specs.declared.element.Element.{Element}
 use Rattle.trdp_dataset.specs.Elements.{form_of, is_count}
 

@@ -5,7 +5,11 @@ use Rattle.trdp_dataset.specs.declared.element.Width.TheVariants.{One, Two, Four
 use Rattle.trdp_dataset.specs.declared.element.Form.{Form}
 use Rattle.trdp_dataset.specs.declared.element.Form.TheVariants as form
 use Rattle.trdp_dataset.specs.declared.element.ElementKind.{ElementKind}
-use Rattle.trdp_dataset.specs.declared.element.ElementKind.TheVariants.{Bool8, Char8, Utf16, Int8, Int16, Int32, Int64, Uint8, Uint16, Uint32, Uint64, Timedate32, Timedate48, Timedate64, Nested}
+use Rattle.trdp_dataset.specs.declared.element.ElementKind.TheVariants.{Bool8, Char8, Utf16, Int8}
+use Rattle.trdp_dataset.specs.declared.element.ElementKind.TheVariants.{Int16, Int32, Int64, Uint8}
+use Rattle.trdp_dataset.specs.declared.element.ElementKind.TheVariants.{Uint16, Uint32, Uint64}
+use Rattle.trdp_dataset.specs.declared.element.ElementKind.TheVariants.{Timedate32, Timedate48}
+use Rattle.trdp_dataset.specs.declared.element.ElementKind.TheVariants.{Timedate64, Nested}
 use Rattle.trdp_dataset.specs.declared.element.Element.{Element}
 
 -- how many bytes a number takes

@@ -1,5 +1,7 @@
 -- The faults of a configuration file: of each position of a key, and of the datasets.
-use Rattle.std.specs.Prelude.{◌≡◌, ◌==◌, ◌&&◌, ◌||◌, not, nat_lt, nat_le, ℕ, Bool, true, false, List, [], ◌∷◌, Option, Some, None, option_map, is_some, find, length, map, Result, Ok, Err, if◌then◌else◌}
+use Rattle.std.specs.Prelude.{◌≡◌, ◌==◌, ◌&&◌, ◌||◌, not, nat_lt, nat_le, ℕ, Bool, true}
+use Rattle.std.specs.Prelude.{false, List, [], ◌∷◌, Option, Some, None, option_map}
+use Rattle.std.specs.Prelude.{is_some, find, length, map, Result, Ok, Err, if◌then◌else◌}
 use Rattle.std.specs.List.{filter_map, flat_map, list_all}
 use Rattle.toml.specs.Data.{Data}
 use Rattle.trdp_dataset.specs.declared.element.Element.{Element}
@@ -7,13 +9,18 @@ use Rattle.trdp_dataset.specs.declared.key.Key.{Key}
 use Rattle.trdp_dataset.specs.declared.key.Wanted.{Wanted}
 use Rattle.trdp_dataset.specs.declared.key.Wanted.TheVariants as wanted
 use Rattle.trdp_dataset.specs.declared.fault.ConfigFault.{ConfigFault}
-use Rattle.trdp_dataset.specs.declared.fault.ConfigFault.TheVariants.{Toml, Missing, WrongType, Real, BadId, TwiceId, NoDataset, NoCount, TooDeep, TooBig, TooMany, OutOfMemory}
+use Rattle.trdp_dataset.specs.declared.fault.ConfigFault.TheVariants.{Toml, Missing, WrongType}
+use Rattle.trdp_dataset.specs.declared.fault.ConfigFault.TheVariants.{Real, BadId, TwiceId}
+use Rattle.trdp_dataset.specs.declared.fault.ConfigFault.TheVariants.{NoDataset, NoCount, TooDeep}
+use Rattle.trdp_dataset.specs.declared.fault.ConfigFault.TheVariants.{TooBig, TooMany, OutOfMemory}
 use Rattle.trdp_dataset.specs.Elements.{form_of, nested_id}
 use Rattle.trdp_dataset.specs.Datasets.{DatasetModel, is_known, all_counted}
 use Rattle.trdp_dataset.specs.Depths.{is_within}
 use Rattle.trdp_dataset.specs.ZeroSizes.{zero_size}
 use Rattle.trdp_dataset.specs.Keys.{wanted_by, is_required}
-use Rattle.trdp_dataset.specs.Values.{items_in, natural_in, natural_within, address_in, identifier_in, kind_in, is_real, is_integer, is_table, is_tables, is_type}
+use Rattle.trdp_dataset.specs.Values.{items_in, natural_in, natural_within}
+use Rattle.trdp_dataset.specs.Values.{address_in, identifier_in, kind_in, is_real}
+use Rattle.trdp_dataset.specs.Values.{is_integer, is_table, is_tables, is_type}
 use Rattle.trdp_dataset.specs.Positions.{PositionModel}
 
 -- a value has to be of its key's kind

@@ -1,7 +1,12 @@
 -- The table of keys of a configuration file.
 use Rattle.std.specs.Prelude.{ℕ, Bool, true, false, List, [], ◌∷◌, codes}
 use Rattle.trdp_dataset.specs.declared.key.Key.{Key}
-use Rattle.trdp_dataset.specs.declared.key.Key.TheVariants.{Node, Address, PdPort, MdPort, OperatorPort, Slot, Publishers, Subscriptions, Requesters, Listeners, Callers, Repliers, ControlPort, Dataset, DatasetId, Elements, ElementType, ElementSize}
+use Rattle.trdp_dataset.specs.declared.key.Key.TheVariants.{Node, Address, PdPort, MdPort}
+use Rattle.trdp_dataset.specs.declared.key.Key.TheVariants.{OperatorPort, Slot, Publishers}
+use Rattle.trdp_dataset.specs.declared.key.Key.TheVariants.{Subscriptions, Requesters}
+use Rattle.trdp_dataset.specs.declared.key.Key.TheVariants.{Listeners, Callers, Repliers}
+use Rattle.trdp_dataset.specs.declared.key.Key.TheVariants.{ControlPort, Dataset, DatasetId}
+use Rattle.trdp_dataset.specs.declared.key.Key.TheVariants.{Elements, ElementType, ElementSize}
 use Rattle.trdp_dataset.specs.declared.key.Wanted.{Wanted}
 use Rattle.trdp_dataset.specs.declared.key.Wanted.TheVariants as wanted
 use Rattle.trdp_dataset.specs.declared.key.Absent.{Absent}

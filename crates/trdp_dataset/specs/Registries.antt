@@ -1,5 +1,6 @@
 -- What holds of the datasets of every configuration.
-use Rattle.std.specs.Prelude.{◌≡◌, ◌<◌, ◌≤◌, length, ℕ, true, false, List, Some, option_map, slice_get}
+use Rattle.std.specs.Prelude.{◌≡◌, ◌<◌, ◌≤◌, length, ℕ, true, false}
+use Rattle.std.specs.Prelude.{List, Some, option_map, slice_get}
 use Rattle.trdp_dataset.specs.declared.element.Element.{Element}
 use Rattle.trdp_dataset.specs.Datasets.{DatasetModel, elements_of, is_known, all_pass, all_counted}
 use Rattle.trdp_dataset.specs.Depths.{is_within}

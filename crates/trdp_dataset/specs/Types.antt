@@ -1,11 +1,16 @@
 -- The types of elements, as a file names and numbers them.
-use Rattle.std.specs.Prelude.{◌==◌, ◌&&◌, ◌||◌, nat_le, bytes_eq, ℕ, Bool, List, [], ◌∷◌, codes, Option, Some, None, option_map, find, if◌then◌else◌}
+use Rattle.std.specs.Prelude.{◌==◌, ◌&&◌, ◌||◌, nat_le, bytes_eq, ℕ, Bool, List, [], ◌∷◌}
+use Rattle.std.specs.Prelude.{codes, Option, Some, None, option_map, find, if◌then◌else◌}
 use Rattle.trdp_dataset.specs.declared.key.Key.TheVariants.{DatasetId}
 use Rattle.trdp_dataset.specs.declared.key.Wanted.{Wanted}
 use Rattle.trdp_dataset.specs.declared.key.Wanted.TheVariants.{Identifier}
 use Rattle.trdp_dataset.specs.Keys.{wanted_by}
 use Rattle.trdp_dataset.specs.declared.element.ElementKind.{ElementKind}
-use Rattle.trdp_dataset.specs.declared.element.ElementKind.TheVariants.{Bool8, Char8, Utf16, Int8, Int16, Int32, Int64, Uint8, Uint16, Uint32, Uint64, Timedate32, Timedate48, Timedate64, Nested}
+use Rattle.trdp_dataset.specs.declared.element.ElementKind.TheVariants.{Bool8, Char8, Utf16, Int8}
+use Rattle.trdp_dataset.specs.declared.element.ElementKind.TheVariants.{Int16, Int32, Int64, Uint8}
+use Rattle.trdp_dataset.specs.declared.element.ElementKind.TheVariants.{Uint16, Uint32, Uint64}
+use Rattle.trdp_dataset.specs.declared.element.ElementKind.TheVariants.{Timedate32, Timedate48}
+use Rattle.trdp_dataset.specs.declared.element.ElementKind.TheVariants.{Timedate64, Nested}
 
 -- the names of the basic types
 abbrev pub type_names : List (List ℕ × ElementKind)

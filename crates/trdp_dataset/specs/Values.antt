@@ -1,12 +1,15 @@
 -- What the values of a configuration file mean.
-use Rattle.std.specs.Prelude.{◌≤◌, ◌||◌, bytes_eq, ℕ, zero, suc, ◌^◌, pos, Bool, false, List, [], ◌∷◌, Option, Some, None, option_and_then, is_some, if◌then◌else◌}
+use Rattle.std.specs.Prelude.{◌≤◌, ◌||◌, bytes_eq, ℕ, zero, suc, ◌^◌, pos, Bool, false, List, []}
+use Rattle.std.specs.Prelude.{◌∷◌, Option, Some, None, option_and_then, is_some, if◌then◌else◌}
 use Rattle.std.specs.List.{list_all}
 use Rattle.trdp_base.specs.AddressText.{text_of_ip}
-use Rattle.toml.specs.Data.{Data, string, integer, array, Items, no_items, item, as_str, as_integer, as_table}
+use Rattle.toml.specs.Data.{Data, string, integer, array, Items}
+use Rattle.toml.specs.Data.{no_items, item, as_str, as_integer, as_table}
 use Rattle.trdp_dataset.specs.declared.element.ElementKind.{ElementKind}
 use Rattle.trdp_dataset.specs.declared.key.Wanted.{Wanted}
 use Rattle.trdp_dataset.specs.declared.key.Wanted.TheVariants as wanted
-use Rattle.trdp_dataset.specs.Types.{in_range, identifier_of, type_named, type_numbered, is_real_name, is_real_number}
+use Rattle.trdp_dataset.specs.Types.{in_range, identifier_of, type_named}
+use Rattle.trdp_dataset.specs.Types.{type_numbered, is_real_name, is_real_number}
 
 -- the items in order
 abbrev pub items_list : Items → List Data

@@ -1,7 +1,8 @@
 -- How many bytes the values take whose numbers are all 0.
 use Rattle.std.specs.Prelude.{ℕ, zero, suc, ◌+◌, ◌*◌, List, [], ◌∷◌, unwrap_or}
 use Rattle.trdp_dataset.specs.declared.element.Form.{Form}
-use Rattle.trdp_dataset.specs.declared.element.Form.TheVariants.{Unsigned, Signed, Time48, Time64, Nested}
+use Rattle.trdp_dataset.specs.declared.element.Form.TheVariants.{Unsigned, Signed}
+use Rattle.trdp_dataset.specs.declared.element.Form.TheVariants.{Time48, Time64, Nested}
 use Rattle.trdp_dataset.specs.declared.element.Element.{Element}
 use Rattle.trdp_dataset.specs.Elements.{width_len, form_of}
 use Rattle.trdp_dataset.specs.Datasets.{DatasetModel, elements_of}
@@ -22,7 +23,8 @@ entries_size size (e ∷ es) = e.size * size (form_of e.kind) + entries_size siz
 -- the zero value of a dataset down to a depth, below which nothing counts
 unfoldable pub dataset_size : List DatasetModel → ℕ → ℕ → ℕ
 dataset_size registry zero id = 0
-dataset_size registry (suc depth) id = entries_size (form_size (dataset_size registry depth)) (unwrap_or (elements_of registry id) [])
+dataset_size registry (suc depth) id =
+    entries_size (form_size (dataset_size registry depth)) (unwrap_or (elements_of registry id) [])
 
 -- the zero value of a dataset, which nests no deeper than 5
 unfoldable pub zero_size : List DatasetModel → ℕ → ℕ

@@ -4,7 +4,8 @@ ghost use Rattle.std.specs.Prelude.{◌≡◌, false, not, nat_le, find, IfOk};
 ghost use Rattle.std.specs.List.{list_all};
 ghost use Rattle.trdp_dataset.specs.Stored.{zero_sizes_of};
 ghost use Rattle.trdp_dataset.specs.Datasets.{is_known, all_counted};
-ghost use Rattle.trdp_dataset.specs.Faults.{nested_ids, no_dataset_in, no_count_in, too_big_in, fit_fault, Answers};
+ghost use Rattle.trdp_dataset.specs.Faults.{nested_ids, no_dataset_in, no_count_in};
+ghost use Rattle.trdp_dataset.specs.Faults.{too_big_in, fit_fault, Answers};
 
 use crate::datasets::Datasets;
 use crate::depth::too_deep;

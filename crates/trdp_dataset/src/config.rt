@@ -7,7 +7,8 @@ ghost use Rattle.trdp_dataset.specs.Keys.{wanted_by, default_of};
 ghost use Rattle.trdp_dataset.specs.Values.{address_in, IsAllowed};
 ghost use Rattle.trdp_dataset.specs.Positions.{value_at};
 ghost use Rattle.trdp_dataset.specs.Seen.{tables_seen};
-ghost use Rattle.trdp_dataset.specs.Configs.{number_of, node_value, config_in, datasets_in, quotas_in, slot_in, slots_in};
+ghost use Rattle.trdp_dataset.specs.Configs.{number_of, node_value, config_in};
+ghost use Rattle.trdp_dataset.specs.Configs.{datasets_in, quotas_in, slot_in, slots_in};
 ghost use Rattle.trdp_dataset.specs.StoredSlots.{slot_seen, slots_of};
 
 use crate::fault::ConfigFault;

@@ -23,7 +23,8 @@ impl Model for Datasets {
 }
 
 impl Datasets {
-    ghost use Rattle.std.specs.Prelude.{◌≡◌, ◌<◌, ◌++◌, [], ◌∷◌, false, true, length, is_some, option_map, slice_get, IfSome, IfOk, OnErr};
+    ghost use Rattle.std.specs.Prelude.{◌≡◌, ◌<◌, ◌++◌, [], ◌∷◌, false, true, length};
+    ghost use Rattle.std.specs.Prelude.{is_some, option_map, slice_get, IfSome, IfOk, OnErr};
     ghost use Rattle.trdp_dataset.specs.Datasets.{elements_of, is_known};
 
     /// No dataset.

@@ -1,6 +1,7 @@
 //! How deep datasets nest.
 
-ghost use Rattle.std.specs.Prelude.{◌≡◌, ℕ, suc, None, Some, length, replicate, false, IfOk, if◌then◌else◌};
+ghost use Rattle.std.specs.Prelude.{◌≡◌, ℕ, suc, None, Some, length};
+ghost use Rattle.std.specs.Prelude.{replicate, false, IfOk, if◌then◌else◌};
 ghost use Rattle.std.specs.List.{list_all};
 ghost use Rattle.trdp_dataset.specs.Datasets.{passes, all_pass};
 ghost use Rattle.trdp_dataset.specs.Depths.{is_within};

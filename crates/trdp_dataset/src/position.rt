@@ -3,7 +3,10 @@
 ghost use Rattle.std.specs.Prelude.{◌≡◌, ◌++◌, IfOk, OnOk, option_map, map, Some};
 ghost use Rattle.std.specs.List.{filter_map};
 ghost use Rattle.toml.specs.View.{view, table_view};
-ghost use Rattle.trdp_dataset.specs.Positions.{value_at, tables_at, position_at, positions_at, positions_of_all, node_in, positions_of_node, node_positions, slot_positions, element_positions, dataset_positions, all_positions};
+ghost use Rattle.trdp_dataset.specs.Positions.{value_at, tables_at, position_at, positions_at};
+ghost use Rattle.trdp_dataset.specs.Positions.{positions_of_all, node_in, positions_of_node};
+ghost use Rattle.trdp_dataset.specs.Positions.{node_positions, slot_positions, element_positions};
+ghost use Rattle.trdp_dataset.specs.Positions.{dataset_positions, all_positions};
 ghost use Rattle.trdp_dataset.specs.Seen.{position_seen, positions_seen, tables_seen};
 
 use crate::key::Key;

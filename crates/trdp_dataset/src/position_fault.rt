@@ -5,7 +5,9 @@ ghost use Rattle.toml.specs.View.{view};
 ghost use Rattle.trdp_dataset.specs.Keys.{wanted_by};
 ghost use Rattle.trdp_dataset.specs.Values.{natural_in};
 ghost use Rattle.trdp_dataset.specs.Seen.{position_seen, positions_seen};
-ghost use Rattle.trdp_dataset.specs.Faults.{wrong_unless, count_fault, tables_fault, quota_fault, bad_unless, identifier_fault, kind_fault, value_fault, fault_at, least_fault};
+ghost use Rattle.trdp_dataset.specs.Faults.{wrong_unless, count_fault, tables_fault};
+ghost use Rattle.trdp_dataset.specs.Faults.{quota_fault, bad_unless, identifier_fault};
+ghost use Rattle.trdp_dataset.specs.Faults.{kind_fault, value_fault, fault_at, least_fault};
 
 use crate::fault::{ConfigFault, least_of_two};
 use crate::key::{Key, Wanted};

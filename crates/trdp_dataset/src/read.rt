@@ -1,6 +1,7 @@
 //! Datasets as a file has them.
 
-ghost use Rattle.std.specs.Prelude.{◌≡◌, ◌≤◌, ◌++◌, false, option_map, option_and_then, None, IfOk, OnOk, IfErr};
+ghost use Rattle.std.specs.Prelude.{◌≡◌, ◌≤◌, ◌++◌, false, option_map};
+ghost use Rattle.std.specs.Prelude.{option_and_then, None, IfOk, OnOk, IfErr};
 ghost use Rattle.std.specs.List.{filter_map};
 ghost use Rattle.toml.specs.Data.{as_table};
 ghost use Rattle.toml.specs.View.{view, table_view};
@@ -10,7 +11,8 @@ ghost use Rattle.trdp_dataset.specs.Positions.{value_at, tables_at};
 ghost use Rattle.trdp_dataset.specs.Seen.{tables_seen};
 ghost use Rattle.trdp_dataset.specs.Faults.{has_twice, IsFaultOf, twice_id_in};
 ghost use Rattle.trdp_dataset.specs.Adding.{Adds, twice_fault};
-ghost use Rattle.trdp_dataset.specs.Configs.{number_of, number_at, element_in, elements_in, dataset_in, datasets_in};
+ghost use Rattle.trdp_dataset.specs.Configs.{number_of, number_at, element_in};
+ghost use Rattle.trdp_dataset.specs.Configs.{elements_in, dataset_in, datasets_in};
 
 use crate::datasets::Datasets;
 use crate::element::Element;

@@ -38,7 +38,8 @@ impl Model for Registry {
 }
 
 impl Registry {
-    ghost use Rattle.std.specs.Prelude.{◌≡◌, ◌==◌, ◌≤◌, length, option_map, option_and_then, is_some, slice_get, if◌then◌else◌, IfSome};
+    ghost use Rattle.std.specs.Prelude.{◌≡◌, ◌==◌, ◌≤◌, length, option_map, option_and_then};
+    ghost use Rattle.std.specs.Prelude.{is_some, slice_get, if◌then◌else◌, IfSome};
     ghost use Rattle.trdp_dataset.specs.Datasets.{elements_of, is_known};
     ghost use Rattle.trdp_dataset.specs.ZeroSizes.{zero_size};
     ghost use Rattle.trdp_dataset.specs.Registries.{IsRegistry};

@@ -3,8 +3,11 @@
 ghost use Rattle.std.specs.Prelude.{◌≡◌, ◌≤◌, IfSome, option_map, is_some, map, Some};
 ghost use Rattle.std.specs.List.{list_all};
 ghost use Rattle.toml.specs.View.{view};
-ghost use Rattle.trdp_dataset.specs.Types.{in_range, identifier_of, type_named, type_numbered, is_real_name, is_real_number};
-ghost use Rattle.trdp_dataset.specs.Values.{items_in, address_of, address_in, natural_in, natural_within, number_in, IsAllowed, identifier_in, kind_in, is_real, is_table, is_tables};
+ghost use Rattle.trdp_dataset.specs.Types.{in_range, identifier_of, type_named};
+ghost use Rattle.trdp_dataset.specs.Types.{type_numbered, is_real_name, is_real_number};
+ghost use Rattle.trdp_dataset.specs.Values.{items_in, address_of, address_in, natural_in};
+ghost use Rattle.trdp_dataset.specs.Values.{natural_within, number_in, IsAllowed, identifier_in};
+ghost use Rattle.trdp_dataset.specs.Values.{kind_in, is_real, is_table, is_tables};
 
 use crate::element::ElementKind;
 use crate::key::{Key, Wanted};

@@ -23,7 +23,8 @@ pub fn com_of(object: &AnyObject) -> Option<Option<u32>>
 /// Adds a row for a new object to the index, if telegrams look for it by comId.
 pub fn enlist(coms: &mut ComIndex, sought: Option<Option<u32>>, slot: u16, handle: u32, key: usize)
     requires spare { OnSome sought (length coms.old.rows < coms.old.room) }
-    requires fresh { IfSome sought (λ com_id. has_com_row com_id slot handle coms.old.rows ≡ false) }
+    requires fresh { IfSome sought
+        (λ com_id. has_com_row com_id slot handle coms.old.rows ≡ false) }
     ensures runs { (com_id : Option ℕ) → run_of com_id coms.new.rows
         ≡ run_with sought slot handle key com_id (run_of com_id coms.old.rows) }
     ensures count { length coms.new.rows ≡ length coms.old.rows + one_if_some sought }

@@ -215,7 +215,8 @@ impl Store {
         requires { slot < length self.old }
         ensures table { self.new ≡ changed_at slot (without handle) self.old }
         ensures cost { (b : ℕ) → room_of self.old < 2 ^ b → result ≤ 2 * b + 2 }
-        ensures idle { (keyed : Keyed) → by_handle handle (slot_in slot self.old).objects ≡ Some keyed
+        ensures idle { (keyed : Keyed)
+            → by_handle handle (slot_in slot self.old).objects ≡ Some keyed
             → due_of keyed.object ≡ None → result ≡ 0 }
     {
         self.table.sound();

@@ -1,6 +1,7 @@
 -- Bits of numbers as lists. A bit is 0 or 1; a number's top bit is its highest, its bottom bit
 -- its lowest.
-use Rattle.std.specs.Prelude.{ℕ, zero, suc, ◌+◌, ◌-◌, ◌*◌, ◌/◌, ◌%◌, ◌^◌, List, [], ◌∷◌, map, flat_map}
+use Rattle.std.specs.Prelude.{ℕ, zero, suc, ◌+◌, ◌-◌, ◌*◌, ◌/◌, ◌%◌}
+use Rattle.std.specs.Prelude.{◌^◌, List, [], ◌∷◌, map, flat_map}
 
 -- the lowest k bits of a number, the highest of them first
 abbrev pub bits_from_top : ℕ → ℕ → List ℕ

@@ -1,8 +1,10 @@
 -- What keeps bytes from being a telegram of process data or message data.
-use Rattle.std.specs.Prelude.{ℕ, ◌-◌, ◌==◌, nat_lt, if◌then◌else◌, Bool, List, length, slice_index, Option, Some, None, not}
+use Rattle.std.specs.Prelude.{ℕ, ◌-◌, ◌==◌, nat_lt, if◌then◌else◌, Bool, List}
+use Rattle.std.specs.Prelude.{length, slice_index, Option, Some, None, not}
 use Rattle.std.specs.Option.{option_or}
 use Rattle.trdp_head.specs.declared.fault.HeadFault.{HeadFault}
-use Rattle.trdp_head.specs.declared.fault.HeadFault.TheVariants.{Short, TooLong, Fcs, Version, Kind, Length}
+use Rattle.trdp_head.specs.declared.fault.HeadFault.TheVariants.{Short, TooLong, Fcs}
+use Rattle.trdp_head.specs.declared.fault.HeadFault.TheVariants.{Version, Kind, Length}
 use Rattle.trdp_head.specs.Fields.{field}
 use Rattle.trdp_head.specs.Checks.{is_checked}
 

@@ -6,7 +6,8 @@ use Rattle.trdp_head.specs.Checks.{is_checked}
 
 -- the bytes are a telegram with a header of so many bytes, at most so long, that begins with these
 -- fields and carries this payload; what follows the payload is not looked at
-pub record IsTelegram (size longest : ℕ) (bytes : List ℕ) (prefix : Prefix) (payload : List ℕ) : Type 0 where
+pub record IsTelegram (size longest : ℕ) (bytes : List ℕ) (prefix : Prefix) (payload : List ℕ)
+    : Type 0 where
   pub long_enough : size ≤ length bytes
   pub short_enough : length bytes ≤ longest
   pub checked : is_checked (size - 4) bytes ≡ true

@@ -1,7 +1,8 @@
 -- The message types of message data.
 use Rattle.std.specs.Prelude.{ℕ, ◌==◌, if◌then◌else◌, Option, Some, None}
 use Rattle.trdp_head.specs.declared.md.MdKind.{MdKind}
-use Rattle.trdp_head.specs.declared.md.MdKind.TheVariants.{Notify, Request, Reply, Query, Confirm, Error}
+use Rattle.trdp_head.specs.declared.md.MdKind.TheVariants.{Notify, Request, Reply}
+use Rattle.trdp_head.specs.declared.md.MdKind.TheVariants.{Query, Confirm, Error}
 
 -- the code of a type: its two letters in ASCII
 abbrev pub md_code_of : MdKind → ℕ

@@ -1,6 +1,7 @@
 //! Numbers and bytes at their offsets in a telegram.
 
-ghost use Rattle.std.specs.Prelude.{ℕ, ◌≡◌, ◌≤◌, ◌+◌, ◌-◌, ◌++◌, length, take, drop, replicate, FitsSigned};
+ghost use Rattle.std.specs.Prelude.{ℕ, ◌≡◌, ◌≤◌, ◌+◌, ◌-◌, ◌++◌, length};
+ghost use Rattle.std.specs.Prelude.{take, drop, replicate, FitsSigned};
 ghost use Rattle.std.specs.Int.{w32, cast_signed, cast_unsigned};
 ghost use Rattle.trdp_head.specs.Fields.{field, little_field, be_bytes};
 

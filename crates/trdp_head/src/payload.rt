@@ -1,7 +1,8 @@
 //! What stands behind the first fields of a header: its frame check, the payload, and zeros up to a
 //! multiple of four.
 
-ghost use Rattle.std.specs.Prelude.{ℕ, ◌≡◌, ◌≤◌, ◌+◌, ◌-◌, ◌++◌, length, take, drop, Some, None, IfOk, IfErr};
+ghost use Rattle.std.specs.Prelude.{ℕ, ◌≡◌, ◌≤◌, ◌+◌, ◌-◌, ◌++◌, length};
+ghost use Rattle.std.specs.Prelude.{take, drop, Some, None, IfOk, IfErr};
 ghost use Rattle.std.specs.Prelude.{vec_len, vec_capacity};
 ghost use Rattle.trdp_head.specs.Fields.{field};
 ghost use Rattle.trdp_head.specs.Faults.{payload_fault_of};

@@ -1,8 +1,10 @@
 -- Which fault comes.
-use Rattle.std.specs.Prelude.{◌≡◌, ◌==◌, ◌&&◌, not, Bool, ℕ, List, Option, Some, None, Result, Ok, Err, is_some, if◌then◌else◌, nat_lt, length}
+use Rattle.std.specs.Prelude.{◌≡◌, ◌==◌, ◌&&◌, not, Bool, ℕ, List, Option, Some, None}
+use Rattle.std.specs.Prelude.{Result, Ok, Err, is_some, if◌then◌else◌, nat_lt, length}
 use Rattle.trdp_dataset.specs.Datasets.{DatasetModel, is_known}
 use Rattle.trdp_marshal.specs.declared.fault.MarshalFault.{MarshalFault}
-use Rattle.trdp_marshal.specs.declared.fault.MarshalFault.TheVariants.{NoDataset, Shape, TooLong, OutOfMemory}
+use Rattle.trdp_marshal.specs.declared.fault.MarshalFault.TheVariants.{NoDataset, Shape}
+use Rattle.trdp_marshal.specs.declared.fault.MarshalFault.TheVariants.{TooLong, OutOfMemory}
 use Rattle.trdp_marshal.specs.Items.{ItemModel}
 use Rattle.trdp_marshal.specs.Reading.{reading}
 use Rattle.trdp_marshal.specs.Spelling.{spelling}

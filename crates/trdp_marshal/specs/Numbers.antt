@@ -1,5 +1,6 @@
 -- Numbers in bytes.
-use Rattle.std.specs.Prelude.{◌≡◌, ◌<◌, ◌-◌, ◌/◌, ◌^◌, ℕ, ℤ, pos, negsuc, List, length, get_or, nat_lt, if◌then◌else◌}
+use Rattle.std.specs.Prelude.{◌≡◌, ◌<◌, ◌-◌, ◌/◌, ◌^◌, ℕ, ℤ, pos, negsuc}
+use Rattle.std.specs.Prelude.{List, length, get_or, nat_lt, if◌then◌else◌}
 use Rattle.byteorder.specs.Endian.{big_number}
 
 -- each is a byte

@@ -1,12 +1,15 @@
 -- The item of a dataset that stands first in bytes, and the bytes after it, computed.
-use Rattle.std.specs.Prelude.{ℕ, zero, suc, Bool, ◌||◌, is_some, option_map, ◌==◌, List, [], ◌∷◌, Option, Some, None, length, drop, nat_lt, if◌then◌else◌}
+use Rattle.std.specs.Prelude.{ℕ, zero, suc, Bool, ◌||◌, is_some, option_map, ◌==◌, List, []}
+use Rattle.std.specs.Prelude.{◌∷◌, Option, Some, None, length, drop, nat_lt, if◌then◌else◌}
 use Rattle.byteorder.specs.Endian.{big_number}
 use Rattle.trdp_dataset.specs.declared.element.Form.{Form}
-use Rattle.trdp_dataset.specs.declared.element.Form.TheVariants.{Unsigned, Signed, Time48, Time64, Nested}
+use Rattle.trdp_dataset.specs.declared.element.Form.TheVariants.{Unsigned, Signed}
+use Rattle.trdp_dataset.specs.declared.element.Form.TheVariants.{Time48, Time64, Nested}
 use Rattle.trdp_dataset.specs.declared.element.Element.{Element}
 use Rattle.trdp_dataset.specs.Elements.{width_len, form_of}
 use Rattle.trdp_dataset.specs.Datasets.{DatasetModel, elements_of}
-use Rattle.trdp_marshal.specs.Items.{ItemModel, ItemModels, unsigned, signed, time48, time64, list, none, more, count_of, items_in}
+use Rattle.trdp_marshal.specs.Items.{ItemModel, ItemModels, unsigned, signed, time48}
+use Rattle.trdp_marshal.specs.Items.{time64, list, none, more, count_of, items_in}
 use Rattle.trdp_marshal.specs.Numbers.{signed_number}
 use Rattle.trdp_marshal.specs.Spelling.{◌>>=◌}
 

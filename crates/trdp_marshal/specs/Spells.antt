@@ -1,11 +1,14 @@
 -- Which bytes an item of a dataset is sent as.
-use Rattle.std.specs.Prelude.{◌≡◌, ◌⊎◌, ◌≢◌, ◌<◌, ◌++◌, ℕ, zero, suc, List, [], ◌∷◌, Option, Some, length}
+use Rattle.std.specs.Prelude.{◌≡◌, ◌⊎◌, ◌≢◌, ◌<◌, ◌++◌, ℕ, zero, suc}
+use Rattle.std.specs.Prelude.{List, [], ◌∷◌, Option, Some, length}
 use Rattle.trdp_dataset.specs.declared.element.Form.{Form}
-use Rattle.trdp_dataset.specs.declared.element.Form.TheVariants.{Unsigned, Signed, Time48, Time64, Nested}
+use Rattle.trdp_dataset.specs.declared.element.Form.TheVariants.{Unsigned, Signed}
+use Rattle.trdp_dataset.specs.declared.element.Form.TheVariants.{Time48, Time64, Nested}
 use Rattle.trdp_dataset.specs.declared.element.Element.{Element}
 use Rattle.trdp_dataset.specs.Elements.{width_len, form_of}
 use Rattle.trdp_dataset.specs.Datasets.{DatasetModel, elements_of}
-use Rattle.trdp_marshal.specs.Items.{ItemModel, ItemModels, unsigned, signed, time48, time64, list, none, more, count_of, items_in}
+use Rattle.trdp_marshal.specs.Items.{ItemModel, ItemModels, unsigned, signed, time48}
+use Rattle.trdp_marshal.specs.Items.{time64, list, none, more, count_of, items_in}
 use Rattle.trdp_marshal.specs.Numbers.{IsNumber, signed_number}
 
 -- which bytes a value is sent as

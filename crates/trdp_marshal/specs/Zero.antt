@@ -1,11 +1,13 @@
 -- The value of a dataset whose numbers are all 0 and whose counted arrays are empty.
 use Rattle.std.specs.Prelude.{ℕ, zero, suc, ◌==◌, pos, List, [], ◌∷◌, unwrap_or, if◌then◌else◌}
 use Rattle.trdp_dataset.specs.declared.element.Form.{Form}
-use Rattle.trdp_dataset.specs.declared.element.Form.TheVariants.{Unsigned, Signed, Time48, Time64, Nested}
+use Rattle.trdp_dataset.specs.declared.element.Form.TheVariants.{Unsigned, Signed}
+use Rattle.trdp_dataset.specs.declared.element.Form.TheVariants.{Time48, Time64, Nested}
 use Rattle.trdp_dataset.specs.declared.element.Element.{Element}
 use Rattle.trdp_dataset.specs.Elements.{form_of}
 use Rattle.trdp_dataset.specs.Datasets.{DatasetModel, elements_of}
-use Rattle.trdp_marshal.specs.Items.{ItemModel, ItemModels, unsigned, signed, time48, time64, list, none, more}
+use Rattle.trdp_marshal.specs.Items.{ItemModel, ItemModels, unsigned, signed}
+use Rattle.trdp_marshal.specs.Items.{time48, time64, list, none, more}
 
 -- one value, where those of nested datasets are given
 unfoldable pub form_zero : (ℕ → ItemModel) → Form → ItemModel

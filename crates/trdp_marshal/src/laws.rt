@@ -1,8 +1,10 @@
 //! Laws of items and their bytes, which hold for every registry. The functions do nothing when
 //! they run: each contract is the law.
 
-ghost use Rattle.trdp_marshal.specs.Laws.{OneSpelling, OneItem, SpelledIsComputed, ComputedIsSpelled};
-ghost use Rattle.trdp_marshal.specs.Laws.{SpelledIsRead, ReadIsSpelled, FittingIsFit, FixedIsLength, ZeroIsSpelled};
+ghost use Rattle.trdp_marshal.specs.Laws.{OneSpelling, OneItem};
+ghost use Rattle.trdp_marshal.specs.Laws.{SpelledIsComputed, ComputedIsSpelled};
+ghost use Rattle.trdp_marshal.specs.Laws.{SpelledIsRead, ReadIsSpelled, FittingIsFit};
+ghost use Rattle.trdp_marshal.specs.Laws.{FixedIsLength, ZeroIsSpelled};
 
 /// One item of a dataset is spelled by at most one list of bytes.
 #[tactic(auto, using(crate::proofs::Spellings::one_spelling))]

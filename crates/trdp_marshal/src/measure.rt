@@ -3,7 +3,9 @@
 ghost use Rattle.std.specs.Prelude.{◌≡◌, ◌+◌, min};
 ghost use Rattle.trdp_dataset.specs.Elements.{width_len, form_of};
 ghost use Rattle.trdp_marshal.specs.Items.{model_of, models_in};
-ghost use Rattle.trdp_marshal.specs.Spelling.{unsigned_spelling, signed_spelling, time48_spelling, time64_spelling, form_spelling, repeated_spelling, entry_spelling, entries_spelling, dataset_spelling};
+ghost use Rattle.trdp_marshal.specs.Spelling.{unsigned_spelling, signed_spelling, time48_spelling};
+ghost use Rattle.trdp_marshal.specs.Spelling.{time64_spelling, form_spelling, repeated_spelling};
+ghost use Rattle.trdp_marshal.specs.Spelling.{entry_spelling, entries_spelling, dataset_spelling};
 ghost use Rattle.trdp_marshal.specs.Lengths.{measured};
 
 use crate::code::{signed_code, unsigned_code};

@@ -1,6 +1,7 @@
 //! Whether bytes are a payload of a dataset. Nothing is built, and no memory is taken.
 
-ghost use Rattle.std.specs.Prelude.{◌≡◌, ◌↔◌, ℕ, ◌*◌, true, false, drop, option_map, IsTrue, is_some};
+ghost use Rattle.std.specs.Prelude.{◌≡◌, ◌↔◌, ℕ, ◌*◌, true, false};
+ghost use Rattle.std.specs.Prelude.{drop, option_map, IsTrue, is_some};
 ghost use Rattle.trdp_dataset.specs.Elements.{form_of, is_count};
 ghost use Rattle.trdp_dataset.specs.Datasets.{passes, all_pass, all_counted};
 ghost use Rattle.trdp_dataset.specs.Depths.{is_within};
@@ -9,7 +10,8 @@ ghost use Rattle.trdp_marshal.specs.Items.{ItemModel};
 ghost use Rattle.trdp_marshal.specs.Spells.{Fits};
 ghost use Rattle.trdp_marshal.specs.Faults.{has_items};
 ghost use Rattle.trdp_marshal.specs.Lengths.{rest_after, starts_counted};
-ghost use Rattle.trdp_marshal.specs.Reading.{Reader, form_at, repeated_at, entry_at, entries_at, dataset_at, counted, skipped, reading, is_fitting};
+ghost use Rattle.trdp_marshal.specs.Reading.{Reader, form_at, repeated_at, entry_at, entries_at};
+ghost use Rattle.trdp_marshal.specs.Reading.{dataset_at, counted, skipped, reading, is_fitting};
 
 use crate::number::{DEPTH, item_count, number};
 use trdp_dataset::{Element, Form, Registry};

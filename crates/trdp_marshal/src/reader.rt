@@ -5,7 +5,9 @@ ghost use Rattle.trdp_dataset.specs.Elements.{width_len, form_of};
 ghost use Rattle.trdp_marshal.specs.Items.{model_of, models_in};
 ghost use Rattle.trdp_marshal.specs.Numbers.{signed_number};
 ghost use Rattle.trdp_marshal.specs.Spells.{Spells, IsSpelled};
-ghost use Rattle.trdp_marshal.specs.Reading.{number_at, unsigned_at, signed_at, time48_at, time64_at, form_at, repeated_at, entry_at, entries_at, dataset_at, reading};
+ghost use Rattle.trdp_marshal.specs.Reading.{number_at, unsigned_at, signed_at};
+ghost use Rattle.trdp_marshal.specs.Reading.{time48_at, time64_at, form_at, repeated_at};
+ghost use Rattle.trdp_marshal.specs.Reading.{entry_at, entries_at, dataset_at, reading};
 ghost use Rattle.trdp_marshal.specs.Faults.{has_items, Gives, Answers, decode_fault};
 
 use crate::fault::MarshalFault;

@@ -4,7 +4,10 @@ ghost use Rattle.std.specs.Prelude.{◌≡◌, ◌≤◌, ◌↔◌, ◌++◌, l
 ghost use Rattle.byteorder.specs.Endian.{big_bytes};
 ghost use Rattle.trdp_dataset.specs.Elements.{width_len, form_of};
 ghost use Rattle.trdp_marshal.specs.Items.{model_of, models_in};
-ghost use Rattle.trdp_marshal.specs.Spelling.{unsigned_spelling, signed_spelling, time48_spelling, time64_spelling, form_spelling, repeated_spelling, entry_spelling, entries_spelling, dataset_spelling, spelling};
+ghost use Rattle.trdp_marshal.specs.Spelling.{unsigned_spelling, signed_spelling};
+ghost use Rattle.trdp_marshal.specs.Spelling.{time48_spelling, time64_spelling, form_spelling};
+ghost use Rattle.trdp_marshal.specs.Spelling.{repeated_spelling, entry_spelling};
+ghost use Rattle.trdp_marshal.specs.Spelling.{entries_spelling, dataset_spelling, spelling};
 ghost use Rattle.trdp_marshal.specs.Spells.{Spells, HasBytes, IsTooLong};
 ghost use Rattle.trdp_marshal.specs.Lengths.{Appends};
 ghost use Rattle.trdp_marshal.specs.Faults.{has_items, Answers, encode_fault};

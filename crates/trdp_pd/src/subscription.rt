@@ -243,7 +243,8 @@ impl Object for Subscription {
     ghost use Rattle.trdp_pd.specs.Subscriptions.{subscription_addressed, subscription_taking};
     ghost use Rattle.trdp_pd.specs.Subscriptions.{subscription_firing};
     ghost use Rattle.trdp_pd.specs.SubscriptionLaws.{subscription_taking-unaddressed};
-    ghost use Rattle.trdp_pd.specs.SubscriptionLaws.{subscription_due-firing, subscription_due-taking};
+    ghost use Rattle.trdp_pd.specs.SubscriptionLaws.{subscription_due-firing};
+    ghost use Rattle.trdp_pd.specs.SubscriptionLaws.{subscription_due-taking};
 
     ghost due_of = { λ s. s.deadline };
 

@@ -2,7 +2,8 @@
 --
 -- The slab that holds them picks places as it likes. So the pool has a list from its keys to those
 -- places, and a list of the keys that are free.
-use Rattle.std.specs.Prelude.{◌≡◌, ◌+◌, ◌<◌, ◌≤◌, ℕ, List, length, Option, Some, None, is_some, IsSome}
+use Rattle.std.specs.Prelude.{◌≡◌, ◌+◌, ◌<◌, ◌≤◌, ℕ, List, length}
+use Rattle.std.specs.Prelude.{Option, Some, None, is_some, IsSome}
 use Rattle.std.specs.Prelude.{count_by, slice_get, slice_index_or, slice_set, option_map}
 use Rattle.slab.specs.Slab.{Slab, get, slab_len}
 use Rattle.trdp_table.specs.declared.any_object.AnyObject.{AnyObject}

@@ -65,7 +65,7 @@ impl Slot {
     /// An empty slot.
     ///
     /// # Errors
-    /// [`AllocError`] where there is no memory for the handles of all objects that the quotas allow.
+    /// [`AllocError`] where there is no memory for the handles of all objects that quotas allow.
     pub fn new(alloc: Global, quotas: Quotas) -> Result<Slot, AllocError>
         ensures slot { IfOk result (λ slot. slot ≡ opened_entries quotas) }
         ensures limited { AreLimited quotas }

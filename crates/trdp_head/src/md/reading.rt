@@ -1,6 +1,7 @@
 //! Reading a message data telegram.
 
-ghost use Rattle.std.specs.Prelude.{◌≡◌, ◌≤◌, ◌+◌, List, ℕ, length, Some, None, IfOk, IfErr, IsOkAnd};
+ghost use Rattle.std.specs.Prelude.{◌≡◌, ◌≤◌, ◌+◌, List, ℕ, length};
+ghost use Rattle.std.specs.Prelude.{Some, None, IfOk, IfErr, IsOkAnd};
 ghost use Rattle.trdp_head.specs.Prefixes.{prefix_in};
 ghost use Rattle.trdp_head.specs.MdKinds.{md_kind_of};
 ghost use Rattle.trdp_head.specs.MdHeads.{uri_in, md_head_in};
