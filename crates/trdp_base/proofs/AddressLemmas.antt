@@ -1,5 +1,7 @@
 -- Facts on the written forms of addresses and places.
-use Rattle.std.proofs.Common.{◌≡◌, ◌≢◌, ℕ, ◌+◌, ◌*◌, ◌/◌, ◌%◌, ◌^◌, ◌<◌, List, [], ◌∷◌, ◌++◌, get_or, drop, Result, Ok, Err, refl, sym, ap, ◌∙◌, arith, append_assoc}
+use Rattle.std.proofs.Common.{◌≡◌, ◌≢◌, ℕ, ◌+◌, ◌*◌, ◌/◌, ◌%◌, ◌^◌, ◌<◌}
+use Rattle.std.proofs.Common.{List, [], ◌∷◌, ◌++◌, get_or, drop, Result, Ok}
+use Rattle.std.proofs.Common.{Err, refl, sym, ap, ◌∙◌, arith, append_assoc}
 use Rattle.std.specs.Prelude.{All}
 use Rattle.std.specs.Int.{w32, to_be_bytes, from_be_bytes}
 use Rattle.std.specs.Net.Addr.{ipv4_octets, ipv4_bits}
@@ -8,7 +10,8 @@ use Rattle.std.specs.declared.net.ipv4_addr.Ipv4Addr.{Ipv4Addr}
 use Rattle.std.proofs.NetLemmas.Theorems.{IsIpv4Text_unique}
 use Rattle.std.proofs.lemmas.Fmt.{decimal_is_IsNumeral}
 use Rattle.std.proofs.lemmas.Nat.{from_be_bytes-to_be_bytes_4}
-use Rattle.std.proofs.lemmas.List.Elements.{All-nil, All-cons, All-head, All-tail, All-append, All-from_get_or}
+use Rattle.std.proofs.lemmas.List.Elements.{All-nil, All-cons, All-head, All-tail}
+use Rattle.std.proofs.lemmas.List.Elements.{All-append, All-from_get_or}
 use Rattle.std.proofs.lemmas.Result.{MatchResult-at_ok}
 use Rattle.std.proofs.lemmas.Str.Parse.{digit_at}
 use Rattle.trdp_base.specs.AddressText.{text_of_ip, text_of_place}
@@ -21,7 +24,8 @@ pub address_of : Ip → Ipv4Addr
 address_of ip = record { octets = to_be_bytes w32 ip.0 }
 
 -- the written form is one that std reads as the address
-pub text_is_read : (text : List ℕ) (ip : Ip) → text ≡ text_of_ip ip → IsIpv4Text text (address_of ip)
+pub text_is_read : (text : List ℕ) (ip : Ip) → text ≡ text_of_ip ip
+    → IsIpv4Text text (address_of ip)
 unfolding address_of
 text_is_read text ip e = record {
   a = ip.0 / 2 ^ 24 % 256;
@@ -34,24 +38,33 @@ text_is_read text ip e = record {
 }
 
 -- an address that std reads with this written form is that address
-pub bits_of_text : (text : List ℕ) (ip : Ip) (address : Ipv4Addr) → ip.0 < 2 ^ 32 → text ≡ text_of_ip ip → IsIpv4Text text address → ipv4_bits address ≡ ip.0
+pub bits_of_text : (text : List ℕ) (ip : Ip) (address : Ipv4Addr)
+    → ip.0 < 2 ^ 32 → text ≡ text_of_ip ip → IsIpv4Text text address → ipv4_bits address ≡ ip.0
 unfolding address_of ipv4_bits
 bits_of_text text ip address small e read =
-    ap ipv4_bits (IsIpv4Text_unique text address (address_of ip) read (text_is_read text ip e)) ∙ from_be_bytes-to_be_bytes_4 ip.0 small
+    ap ipv4_bits (IsIpv4Text_unique text address (address_of ip) read (text_is_read text ip e))
+    ∙ from_be_bytes-to_be_bytes_4 ip.0 small
 
-bits_of_octets : (address : Ipv4Addr) (a b c d : ℕ) → ipv4_octets address ≡ a ∷ b ∷ c ∷ d ∷ [] → ipv4_bits address ≡ a * 2 ^ 24 + b * 2 ^ 16 + c * 2 ^ 8 + d
+bits_of_octets : (address : Ipv4Addr) (a b c d : ℕ) → ipv4_octets address ≡ a ∷ b ∷ c ∷ d ∷ []
+    → ipv4_bits address ≡ a * 2 ^ 24 + b * 2 ^ 16 + c * 2 ^ 8 + d
 unfolding ipv4_bits
 bits_of_octets address a b c d e = ap (from_be_bytes w32) e
 
 -- what std reads is the written form of the address's bits
-pub text_of_read : (text : List ℕ) (address : Ipv4Addr) → IsIpv4Text text address → text ≡ text_of_ip (record { 0 = ipv4_bits address })
+pub text_of_read : (text : List ℕ) (address : Ipv4Addr)
+    → IsIpv4Text text address → text ≡ text_of_ip (record { 0 = ipv4_bits address })
 text_of_read text address read =
     let bits = bits_of_octets address read.a read.b read.c read.d read.value in
-    let a : read.a ≡ ipv4_bits address / 2 ^ 24 % 256 = omega (arith, bits, read.fit.0, read.fit.1, read.fit.2, read.fit.3) in
-    let b : read.b ≡ ipv4_bits address / 2 ^ 16 % 256 = omega (arith, bits, read.fit.0, read.fit.1, read.fit.2, read.fit.3) in
-    let c : read.c ≡ ipv4_bits address / 2 ^ 8 % 256 = omega (arith, bits, read.fit.0, read.fit.1, read.fit.2, read.fit.3) in
-    let d : read.d ≡ ipv4_bits address % 256 = omega (arith, bits, read.fit.0, read.fit.1, read.fit.2, read.fit.3) in
-    read.spelled ∙ λ i. text_of_number (a i) ++ 46 ∷ [] ++ text_of_number (b i) ++ 46 ∷ [] ++ text_of_number (c i) ++ 46 ∷ [] ++ text_of_number (d i)
+    let a : read.a ≡ ipv4_bits address / 2 ^ 24 % 256 =
+    omega (arith, bits, read.fit.0, read.fit.1, read.fit.2, read.fit.3) in
+    let b : read.b ≡ ipv4_bits address / 2 ^ 16 % 256 =
+    omega (arith, bits, read.fit.0, read.fit.1, read.fit.2, read.fit.3) in
+    let c : read.c ≡ ipv4_bits address / 2 ^ 8 % 256 =
+    omega (arith, bits, read.fit.0, read.fit.1, read.fit.2, read.fit.3) in
+    let d : read.d ≡ ipv4_bits address % 256 =
+    omega (arith, bits, read.fit.0, read.fit.1, read.fit.2, read.fit.3) in
+    read.spelled ∙ λ i. text_of_number (a i) ++ 46 ∷ [] ++ text_of_number (b i)
+    ++ 46 ∷ [] ++ text_of_number (c i) ++ 46 ∷ [] ++ text_of_number (d i)
 
 -- the byte is no colon
 abbrev pub NoColon : ℕ → Type 0
@@ -72,27 +85,39 @@ pub ip_no_colon : (ip : Ip) → All NoColon (text_of_ip ip)
 ip_no_colon ip =
     let number = λ (n : ℕ) (small : n < 256). number_no_colon n (omega arith) in
     let join = λ (xs ys : List ℕ). All-append NoColon xs ys in
-    join _ _ (join _ _ (join _ _ (join _ _ (join _ _ (join _ _ (number (ip.0 / 2 ^ 24 % 256) (omega arith)) dot_no_colon) (number (ip.0 / 2 ^ 16 % 256) (omega arith))) dot_no_colon) (number (ip.0 / 2 ^ 8 % 256) (omega arith))) dot_no_colon) (number (ip.0 % 256) (omega arith))
+    join _ _ (join _ _ (join _ _ (join _ _ (join _ _ (join _ _ (number (ip.0 / 2 ^ 24 % 256)
+    (omega arith)) dot_no_colon) (number (ip.0 / 2 ^ 16 % 256) (omega arith))) dot_no_colon)
+    (number (ip.0 / 2 ^ 8 % 256) (omega arith))) dot_no_colon)
+    (number (ip.0 % 256) (omega arith))
 
 -- a text has one part before its first colon, and one behind it
-pub parts_alone : (front back head tail : List ℕ) → All NoColon front → All NoColon head → front ++ 58 ∷ back ≡ head ++ 58 ∷ tail → (front ≡ head) × (back ≡ tail)
+pub parts_alone : (front back head tail : List ℕ) → All NoColon front
+    → All NoColon head → front ++ 58 ∷ back ≡ head ++ 58 ∷ tail → (front ≡ head) × (back ≡ tail)
 parts_alone [] back [] tail p q e = (refl, ap (drop 1) e)
-parts_alone [] back (y ∷ head) tail p q e = absurd (All-head NoColon y head q (sym (ap (λ l. get_or l 0 0) e)))
-parts_alone (x ∷ front) back [] tail p q e = absurd (All-head NoColon x front p (ap (λ l. get_or l 0 0) e))
+parts_alone [] back (y ∷ head) tail p q e =
+    absurd (All-head NoColon y head q (sym (ap (λ l. get_or l 0 0) e)))
+parts_alone (x ∷ front) back [] tail p q e =
+    absurd (All-head NoColon x front p (ap (λ l. get_or l 0 0) e))
 parts_alone (x ∷ front) back (y ∷ head) tail p q e =
-    let same = parts_alone front back head tail (All-tail NoColon x front p) (All-tail NoColon y head q) (ap (drop 1) e) in
+    let same = parts_alone front back head tail
+    (All-tail NoColon x front p) (All-tail NoColon y head q) (ap (drop 1) e) in
     let first = ap (λ l. get_or l 0 0) e in
     ((λ i. first i ∷ same.0 i), same.1)
 
 -- equal results have equal values
 pub ok_same : {A E : Type 0} (x y : A) → Path (Result A E) (Ok x) (Ok y) → x ≡ y
-ok_same {A} {E} x y e = MatchResult-at_ok {T = A} {E = E} {r = Ok x} (λ z. x ≡ z) (λ _. Unit {0}) y e refl
+ok_same {A} {E} x y e =
+    MatchResult-at_ok {T = A} {E = E} {r = Ok x} (λ z. x ≡ z) (λ _. Unit {0}) y e refl
 
 -- a value is no fault
 pub err_not_ok : {A E : Type 0} (y : A) (fault : E) → Path (Result A E) (Err fault) (Ok y) → ⊥
-err_not_ok {A} {E} y fault e = MatchResult-at_ok {T = A} {E = E} {r = Err fault} (λ _. ⊥) (λ _. Unit {0}) y e tt
+err_not_ok {A} {E} y fault e =
+    MatchResult-at_ok {T = A} {E = E} {r = Err fault} (λ _. ⊥) (λ _. Unit {0}) y e tt
 
 -- the parts of a written place
-pub parts_of_place : (text front back : List ℕ) (place : Place) → text ≡ front ++ 58 ∷ back → All NoColon front → text ≡ text_of_place place → (front ≡ text_of_ip place.ip) × (back ≡ text_of_number place.port)
+pub parts_of_place : (text front back : List ℕ) (place : Place)
+    → text ≡ front ++ 58 ∷ back → All NoColon front → text ≡ text_of_place place
+    → (front ≡ text_of_ip place.ip) × (back ≡ text_of_number place.port)
 parts_of_place text front back place parts alone e =
-    parts_alone front back _ _ alone (ip_no_colon place.ip) (sym parts ∙ e ∙ append_assoc (text_of_ip place.ip) (58 ∷ []) (text_of_number place.port))
+    parts_alone front back _ _ alone (ip_no_colon place.ip)
+    (sym parts ∙ e ∙ append_assoc (text_of_ip place.ip) (58 ∷ []) (text_of_number place.port))

@@ -1,5 +1,7 @@
 -- Facts on URIs and their fields.
-use Rattle.std.proofs.Common.{◌≡◌, ◌≢◌, ℕ, zero, suc, ◌-◌, ◌<◌, ◌≤◌, List, [], ◌∷◌, ◌++◌, length, get_or, take, drop, refl, sym, ap, ◌∙◌, subst, Option, Some, None, inl, inr, arith}
+use Rattle.std.proofs.Common.{◌≡◌, ◌≢◌, ℕ, zero, suc, ◌-◌, ◌<◌, ◌≤◌, List, []}
+use Rattle.std.proofs.Common.{◌∷◌, ◌++◌, length, get_or, take, drop, refl, sym}
+use Rattle.std.proofs.Common.{ap, ◌∙◌, subst, Option, Some, None, inl, inr, arith}
 use Rattle.std.specs.Prelude.{All, IsSome, IfSome, IfNone, replicate}
 use Rattle.std.proofs.lemmas.Bool.{cases_lt, false≢true}
 use Rattle.std.proofs.lemmas.Bool.Decides.{nat_tests}
@@ -17,7 +19,8 @@ NoZero byte = byte ≢ 0
 begins_zero : (byte : ℕ) (bytes : List ℕ) → byte ≡ 0 → before_zero (byte ∷ bytes) ≡ []
 begins_zero byte bytes none = rw none refl
 
-pub goes_on : (byte : ℕ) (bytes : List ℕ) → 0 < byte → before_zero (byte ∷ bytes) ≡ byte ∷ before_zero bytes
+pub goes_on : (byte : ℕ) (bytes : List ℕ) → 0 < byte
+    → before_zero (byte ∷ bytes) ≡ byte ∷ before_zero bytes
 goes_on byte bytes above = grind (arith, nat_tests)
 
 -- no more stand before the first zero byte than there are
@@ -34,15 +37,19 @@ pub no_zero_before : (bytes : List ℕ) → All NoZero (before_zero bytes)
 no_zero_before [] = All-nil NoZero
 no_zero_before (byte ∷ bytes) =
     elim (cases_lt 0 byte) [
-      | inl above ↦ subst (All NoZero) (sym (goes_on byte bytes above)) (All-cons NoZero byte (before_zero bytes) (λ e. omega (arith, e, above)) (no_zero_before bytes))
-      | inr below ↦ subst (All NoZero) (sym (begins_zero byte bytes (omega (arith, below)))) (All-nil NoZero)
+      | inl above ↦ subst (All NoZero) (sym (goes_on byte bytes above)) (All-cons NoZero
+          byte (before_zero bytes) (λ e. omega (arith, e, above)) (no_zero_before bytes))
+      | inr below ↦
+          subst (All NoZero) (sym (begins_zero byte bytes (omega (arith, below)))) (All-nil NoZero)
     ]
 
 above_zero : (byte : ℕ) → byte ≢ 0 → 0 < byte
-above_zero byte other = elim (cases_lt 0 byte) [ inl above ↦ above | inr below ↦ absurd (other (omega (arith, below))) ]
+above_zero byte other =
+    elim (cases_lt 0 byte) [ inl above ↦ above | inr below ↦ absurd (other (omega (arith, below))) ]
 
 -- bytes stand before the zeros that follow them
-pub before_zeros : (bytes : List ℕ) (count : ℕ) → All NoZero bytes → before_zero (bytes ++ replicate count 0) ≡ bytes
+pub before_zeros : (bytes : List ℕ) (count : ℕ)
+    → All NoZero bytes → before_zero (bytes ++ replicate count 0) ≡ bytes
 before_zeros [] zero sound = refl
 before_zeros [] (suc count) sound = refl
 before_zeros (byte ∷ bytes) count sound =
@@ -62,12 +69,14 @@ unfolding uri_field
 field_back uri sound = before_zeros uri (32 - length uri) sound
 
 -- bytes at the front of 32 zeros are their field
-pub field_of_front : (uri : List ℕ) → length uri ≤ 32 → uri ++ drop (length uri) (replicate 32 0) ≡ uri_field uri
+pub field_of_front : (uri : List ℕ) → length uri ≤ 32
+    → uri ++ drop (length uri) (replicate 32 0) ≡ uri_field uri
 unfolding uri_field
 field_of_front uri within = ap (λ l. uri ++ l) (drop-replicate (length uri) 32 0)
 
 -- the bytes up to the first zero byte stand before it
-pub up_to_zero : (bytes : List ℕ) (end : ℕ) → ((k : ℕ) → k < end → get_or bytes k 0 ≢ 0) → get_or bytes end 0 ≡ 0 → take end bytes ≡ before_zero bytes
+pub up_to_zero : (bytes : List ℕ) (end : ℕ) → ((k : ℕ) → k < end → get_or bytes k 0 ≢ 0)
+    → get_or bytes end 0 ≡ 0 → take end bytes ≡ before_zero bytes
 up_to_zero [] zero sound last = refl
 up_to_zero [] (suc end) sound last = refl
 up_to_zero (byte ∷ bytes) zero sound last = sym (begins_zero byte bytes last)
@@ -76,7 +85,8 @@ up_to_zero (byte ∷ bytes) (suc end) sound last =
     ∙ sym (goes_on byte bytes (above_zero byte (sound 0 (omega arith))))
 
 -- where an optional value is not there, what follows from that is so
-pub if_none : {X : Type 0} {P : Type 0} → (found : Option X) → ((IsSome found → ⊥) → P) → IfNone found P
+pub if_none : {X : Type 0} {P : Type 0} → (found : Option X)
+    → ((IsSome found → ⊥) → P) → IfNone found P
 if_none None none = none (λ some. false≢true some)
 if_none (Some x) none = tt
 
@@ -92,9 +102,12 @@ pairs_of text [] pairs e = absurd (omega (arith, pairs.even, ap length e))
 pairs_of text (byte ∷ bytes) pairs e = sym e
 
 -- what was read of a text in pairs is the URI that it is the written form of
-pub uri_alone : (text uri : List ℕ) (found : Option (List ℕ)) → IsInPairs text → IfSome found (λ read. hex_pairs read ≡ text)
+pub uri_alone : (text uri : List ℕ) (found : Option (List ℕ))
+    → IsInPairs text → IfSome found (λ read. hex_pairs read ≡ text)
     → IfSome found (All IsByte)
     → IfNone found ((good : List ℕ) → IsUri good → All IsByte good → hex_pairs good ≢ text)
     → IsUri uri → All IsByte uri → text ≡ text_of_hex uri → found ≡ Some uri
-uri_alone text uri None pairs same bytes none good fits e = absurd (none uri good fits (pairs_of text uri pairs e))
-uri_alone text uri (Some read) pairs same bytes none good fits e = ap Some (read_alone text read uri pairs same bytes fits e)
+uri_alone text uri None pairs same bytes none good fits e =
+    absurd (none uri good fits (pairs_of text uri pairs e))
+uri_alone text uri (Some read) pairs same bytes none good fits e =
+    ap Some (read_alone text read uri pairs same bytes fits e)

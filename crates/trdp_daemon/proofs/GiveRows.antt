@@ -1,6 +1,8 @@
 -- The gives of a wire in memory, one thing after another.
-use Rattle.std.proofs.Common.{◌≡◌, suc, zero, ◌+◌, ◌≤◌, ℕ, List, [], ◌∷◌, ◌++◌, refl, sym, ◌∙◌, ap, arith, length, take, drop, length-append}
-use Rattle.std.proofs.lemmas.List.{take_all, take-append-le, drop-append-le, take-append-drop, length-take-le}
+use Rattle.std.proofs.Common.{◌≡◌, suc, zero, ◌+◌, ◌≤◌, ℕ, List, [], ◌∷◌, ◌++◌, refl}
+use Rattle.std.proofs.Common.{sym, ◌∙◌, ap, arith, length, take, drop, length-append}
+use Rattle.std.proofs.lemmas.List.{take_all, take-append-le, drop-append-le}
+use Rattle.std.proofs.lemmas.List.{take-append-drop, length-take-le}
 use Rattle.std.specs.Prelude.{slice_get, Option, Some}
 use Rattle.std.specs.Option.{option_map}
 use Rattle.std.specs.List.{flat_map}
@@ -19,7 +21,9 @@ length_rest (suc n) (x ∷ xs) le =
     let rest = length_rest n xs less in
     omega (arith, rest)
 
-pub gives_append : (rows : List GiveRow) (row : GiveRow) (bytes more : List ℕ) → bytes_in rows ≡ length bytes → row.len ≡ length more → gives_of (bytes ++ more) (rows ++ row ∷ []) ≡ gives_of bytes rows ++ row_give row more ∷ []
+pub gives_append : (rows : List GiveRow) (row : GiveRow) (bytes more : List ℕ)
+    → bytes_in rows ≡ length bytes → row.len ≡ length more
+    → gives_of (bytes ++ more) (rows ++ row ∷ []) ≡ gives_of bytes rows ++ row_give row more ∷ []
 gives_append [] row [] more whole len =
     let all : take row.len more ≡ more = take_all row.len more (omega (arith, len)) in
     ap (λ l. row_give row l ∷ []) all
@@ -28,38 +32,48 @@ gives_append (r ∷ rows) row bytes more whole len =
     let within : r.len ≤ length bytes = omega (arith, whole) in
     let rest = length_rest r.len bytes within in
     let left : bytes_in rows ≡ length (drop r.len bytes) = omega (arith, whole, rest) in
-    ap (λ l. row_give r l ∷ gives_of (drop r.len (bytes ++ more)) (rows ++ row ∷ [])) (take-append-le r.len bytes more within)
-    ∙ ap (λ l. row_give r (take r.len bytes) ∷ gives_of l (rows ++ row ∷ [])) (drop-append-le r.len bytes more within)
-    ∙ ap (λ l. row_give r (take r.len bytes) ∷ l) (gives_append rows row (drop r.len bytes) more left len)
+    ap (λ l. row_give r l ∷ gives_of (drop r.len (bytes ++ more)) (rows ++ row ∷ []))
+    (take-append-le r.len bytes more within)
+    ∙ ap (λ l. row_give r (take r.len bytes) ∷ gives_of l (rows ++ row ∷ []))
+    (drop-append-le r.len bytes more within)
+    ∙ ap (λ l. row_give r (take r.len bytes) ∷ l)
+    (gives_append rows row (drop r.len bytes) more left len)
 
-pub bytes_append : (rows : List GiveRow) (row : GiveRow) (bytes more : List ℕ) → bytes_in rows ≡ length bytes → row.len ≡ length more → bytes_in (rows ++ row ∷ []) ≡ length (bytes ++ more)
-bytes_append rows row bytes more whole len = sum rows ∙ ap (λ n. n + row.len) whole ∙ ap (λ n. length bytes + n) len ∙ sym (length-append bytes more)
+pub bytes_append : (rows : List GiveRow) (row : GiveRow) (bytes more : List ℕ) → bytes_in rows
+    ≡ length bytes → row.len ≡ length more → bytes_in (rows ++ row ∷ []) ≡ length (bytes ++ more)
+bytes_append rows row bytes more whole len = sum rows
+    ∙ ap (λ n. n + row.len) whole ∙ ap (λ n. length bytes + n) len ∙ sym (length-append bytes more)
   where
     sum : (rows : List GiveRow) → bytes_in (rows ++ row ∷ []) ≡ bytes_in rows + row.len
     sum [] = omega arith
     sum (r ∷ rows) = let rest = sum rows in omega (arith, rest)
 
 -- all bytes are those of the gives
-pub gives_bytes : (rows : List GiveRow) (bytes : List ℕ) → bytes_in rows ≡ length bytes → bytes ≡ flat_map (λ g. g.offer.bytes) (gives_of bytes rows)
+pub gives_bytes : (rows : List GiveRow) (bytes : List ℕ)
+    → bytes_in rows ≡ length bytes → bytes ≡ flat_map (λ g. g.offer.bytes) (gives_of bytes rows)
 gives_bytes [] [] whole = refl
 gives_bytes [] (b ∷ bytes) whole = absurd (omega (arith, whole))
 gives_bytes (r ∷ rows) bytes whole =
     let within : r.len ≤ length bytes = omega (arith, whole) in
     let rest = length_rest r.len bytes within in
     let left : bytes_in rows ≡ length (drop r.len bytes) = omega (arith, whole, rest) in
-    sym (take-append-drop r.len bytes) ∙ ap (λ l. take r.len bytes ++ l) (gives_bytes rows (drop r.len bytes) left)
-    ∙ sym (flat_map-cons (λ (g : Give). g.offer.bytes) (row_give r (take r.len bytes)) (gives_of (drop r.len bytes) rows))
+    sym (take-append-drop r.len bytes)
+    ∙ ap (λ l. take r.len bytes ++ l) (gives_bytes rows (drop r.len bytes) left)
+    ∙ sym (flat_map-cons (λ (g : Give). g.offer.bytes)
+    (row_give r (take r.len bytes)) (gives_of (drop r.len bytes) rows))
 
 pub gives_many : (rows : List GiveRow) (bytes : List ℕ) → length (gives_of bytes rows) ≡ length rows
 gives_many [] bytes = refl
 gives_many (r ∷ rows) bytes = ap suc (gives_many rows (drop r.len bytes))
 
 -- the give of an index
-pub gives_at : (rows : List GiveRow) (bytes : List ℕ) (i : ℕ) → bytes_in rows ≡ length bytes → option_map given_to (slice_get (gives_of bytes rows) i) ≡ option_map row_to (slice_get rows i)
+pub gives_at : (rows : List GiveRow) (bytes : List ℕ) (i : ℕ) → bytes_in rows ≡ length bytes
+    → option_map given_to (slice_get (gives_of bytes rows) i) ≡ option_map row_to (slice_get rows i)
 gives_at [] bytes i whole = refl
 gives_at (r ∷ rows) bytes zero whole =
     let within : r.len ≤ length bytes = omega (arith, whole) in
-    ap (λ n. let x : Option (Port × Place × ℕ) = Some (r.port, r.to, n) in x) (length-take-le r.len bytes within)
+    ap (λ n. let x : Option (Port × Place × ℕ) = Some (r.port, r.to, n) in
+    x) (length-take-le r.len bytes within)
 gives_at (r ∷ rows) bytes (suc i) whole =
     let within : r.len ≤ length bytes = omega (arith, whole) in
     let rest = length_rest r.len bytes within in

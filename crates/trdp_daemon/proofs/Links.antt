@@ -1,5 +1,7 @@
 -- What came and went at a link, one thing after another.
-use Rattle.std.proofs.Common.{◌≡◌, zero, suc, ◌+◌, ◌-◌, ◌^◌, min, ℕ, Bool, List, [], ◌++◌, length, map, Option, Some, None, refl, sym, ◌∙◌, ap, arith, append_assoc, append-nil, length-append}
+use Rattle.std.proofs.Common.{◌≡◌, zero, suc, ◌+◌, ◌-◌, ◌^◌, min, ℕ, Bool, List, []}
+use Rattle.std.proofs.Common.{◌++◌, length, map, Option, Some, None, refl, sym, ◌∙◌}
+use Rattle.std.proofs.Common.{ap, arith, append_assoc, append-nil, length-append}
 use Rattle.std.specs.Prelude.{filter}
 use Rattle.std.proofs.lemmas.List.{map-append}
 use Rattle.std.proofs.lemmas.List.Elements.{filter-append}
@@ -14,7 +16,8 @@ pub adds_none : {X : Type 0} (told : Option (List X)) → Adds told told []
 adds_none None = tt
 adds_none (Some xs) = sym (append-nil xs)
 
-pub adds_both : {X : Type 0} (a b c : Option (List X)) (xs ys : List X) → Adds a b xs → Adds b c ys → Adds a c (xs ++ ys)
+pub adds_both : {X : Type 0} (a b c : Option (List X)) (xs ys : List X)
+    → Adds a b xs → Adds b c ys → Adds a c (xs ++ ys)
 adds_both a b None xs ys p q = tt
 adds_both a None (Some zs) xs ys p q = absurd q
 adds_both None (Some ws) (Some zs) xs ys p q = absurd p
@@ -26,23 +29,30 @@ counted_both n (suc a) b =
     let next : suc (a + b) ≡ suc a + b = omega arith in
     counted_both (min (n + 1) (2 ^ 64 - 1)) a b ∙ ap (counted n) next
 
-so_many_in : {X : Type 0} (p : X → Bool) (xs ys : List X) → length (filter p (xs ++ ys)) ≡ length (filter p xs) + length (filter p ys)
+so_many_in : {X : Type 0} (p : X → Bool) (xs ys : List X)
+    → length (filter p (xs ++ ys)) ≡ length (filter p xs) + length (filter p ys)
 so_many_in p xs ys = ap length (filter-append p xs ys) ∙ length-append (filter p xs) (filter p ys)
 
-counted_more : {X : Type 0} (p : X → Bool) (n : ℕ) (xs ys : List X) → counted (counted n (length (filter p xs))) (length (filter p ys)) ≡ counted n (length (filter p (xs ++ ys)))
-counted_more p n xs ys = counted_both n (length (filter p xs)) (length (filter p ys)) ∙ ap (counted n) (sym (so_many_in p xs ys))
+counted_more : {X : Type 0} (p : X → Bool) (n : ℕ) (xs ys : List X)
+    → counted (counted n (length (filter p xs))) (length (filter p ys))
+    ≡ counted n (length (filter p (xs ++ ys)))
+counted_more p n xs ys = counted_both n (length (filter p xs)) (length (filter p ys))
+    ∙ ap (counted n) (sym (so_many_in p xs ys))
 
-pub totals_both : (t : Totals) (ts us : List Taking) (gs hs : List Give) (m n : ℕ) → totals_after (totals_after t ts gs m) us hs n ≡ totals_after t (ts ++ us) (gs ++ hs) (m + n)
+pub totals_both : (t : Totals) (ts us : List Taking) (gs hs : List Give) (m n : ℕ)
+    → totals_after (totals_after t ts gs m) us hs n ≡ totals_after t (ts ++ us) (gs ++ hs) (m + n)
 totals_both t ts us gs hs m n =
     let taken = counted_more (λ x. has_come x.arrived) t.taken ts us in
     let unread = counted_more (λ x. has_failed x.arrived) t.unread ts us in
     let lost = counted_more (λ x. x.failed) t.lost gs hs in
-    let offered = counted_both t.offered (length gs) (length hs) ∙ ap (counted t.offered) (sym (length-append gs hs)) in
+    let offered = counted_both t.offered (length gs) (length hs)
+    ∙ ap (counted t.offered) (sym (length-append gs hs)) in
     let memory = counted_both t.memory m n in
     cc
 
 -- nothing came and went
-pub carries_none : {W : Type 0} (takings_in : W → Option (List Taking)) (gives_in : W → Option (List Give)) (l : Link W) → Carries takings_in gives_in l l [] silence
+pub carries_none : {W : Type 0} (takings_in : W → Option (List Taking))
+    (gives_in : W → Option (List Give)) (l : Link W) → Carries takings_in gives_in l l [] silence
 carries_none takings_in gives_in l = record {
   gives = [];
   offers = refl;
@@ -52,11 +62,18 @@ carries_none takings_in gives_in l = record {
 }
 
 -- one thing after another
-pub carries_both : {W : Type 0} {takings_in : W → Option (List Taking)} {gives_in : W → Option (List Give)} {a b c : Link W} {ts us : List Taking} {x y : Telling} → Carries takings_in gives_in a b ts x → Carries takings_in gives_in b c us y → Carries takings_in gives_in a c (ts ++ us) (both x y)
+pub carries_both : {W : Type 0} {takings_in : W → Option (List Taking)}
+    {gives_in : W → Option (List Give)} {a b c : Link W} {ts us : List Taking} {x y : Telling}
+    → Carries takings_in gives_in a b ts x → Carries takings_in gives_in b c us y
+    → Carries takings_in gives_in a c (ts ++ us) (both x y)
 carries_both {W} {takings_in} {gives_in} {a} {b} {c} {ts} {us} {x} {y} p q = record {
   gives = p.gives ++ q.gives;
-  offers = map-append (λ g. g.offer) p.gives q.gives ∙ ap (λ l. l ++ map (λ g. g.offer) q.gives) p.offers ∙ ap (λ l. x.offers ++ l) q.offers;
-  takes = adds_both (takings_in a.wire) (takings_in b.wire) (takings_in c.wire) ts us p.takes q.takes;
-  given = adds_both (gives_in a.wire) (gives_in b.wire) (gives_in c.wire) p.gives q.gives p.given q.given;
-  totals = q.totals ∙ ap (λ t. totals_after t us q.gives y.missed) p.totals ∙ totals_both a.totals ts us p.gives q.gives x.missed y.missed;
+  offers = map-append (λ g. g.offer) p.gives q.gives
+      ∙ ap (λ l. l ++ map (λ g. g.offer) q.gives) p.offers ∙ ap (λ l. x.offers ++ l) q.offers;
+  takes =
+      adds_both (takings_in a.wire) (takings_in b.wire) (takings_in c.wire) ts us p.takes q.takes;
+  given = adds_both (gives_in a.wire) (gives_in b.wire)
+      (gives_in c.wire) p.gives q.gives p.given q.given;
+  totals = q.totals ∙ ap (λ t. totals_after t us q.gives y.missed) p.totals
+      ∙ totals_both a.totals ts us p.gives q.gives x.missed y.missed;
 }

@@ -1,8 +1,13 @@
 -- What the calls of a wire in memory make of it.
-use Rattle.std.proofs.Common.{◌≡◌, ◌==◌, ◌&&◌, ◌||◌, ◌<◌, ◌+◌, ◌-◌, ◌^◌, zero, suc, ℕ, Bool, true, false, nat_lt, if◌then◌else◌, List, [], ◌∷◌, ◌++◌, refl, sym, ◌∙◌, ap, arith, length, eqb-true}
+use Rattle.std.proofs.Common.{◌≡◌, ◌==◌, ◌&&◌, ◌||◌, ◌<◌, ◌+◌, ◌-◌, ◌^◌, zero, suc}
+use Rattle.std.proofs.Common.{ℕ, Bool, true, false, nat_lt, if◌then◌else◌, List, []}
+use Rattle.std.proofs.Common.{◌∷◌, ◌++◌, refl, sym, ◌∙◌, ap, arith, length, eqb-true}
 use Rattle.trdp_daemon.specs.declared.port.Port.{Port}
 use Rattle.trdp_daemon.specs.Counting.{has_failed}
-use Rattle.trdp_daemon.specs.MemoryWires.{ArrivalModel, MemoryWireState, with_arrival, is_failing, takes_at, failure_after, arrival_for, next_take_fails, next_arrival, is_give_beyond, next_give_fails, one_more_if, after_take, after_give}
+use Rattle.trdp_daemon.specs.MemoryWires.{ArrivalModel, MemoryWireState, with_arrival}
+use Rattle.trdp_daemon.specs.MemoryWires.{is_failing, takes_at, failure_after, arrival_for}
+use Rattle.trdp_daemon.specs.MemoryWires.{next_take_fails, next_arrival, is_give_beyond}
+use Rattle.trdp_daemon.specs.MemoryWires.{next_give_fails, one_more_if, after_take, after_give}
 use Rattle.trdp_daemon.specs.Told.{Arrived, Taking, Give}
 
 by_true : {X : Type 0} (b : Bool) (x y : X) → b ≡ true → x ≡ (if b then x else y)
@@ -25,68 +30,147 @@ not_zero n more = by_test (n == 0) refl
     by_test false is = is
 
 -- one more datagram was laid down
-pub arrival_laid : (w : MemoryWireState) (more : List ArrivalModel) (takings : List Taking) (arrival : ArrivalModel) → more ≡ w.laid_down.arrivals ++ arrival ∷ [] → takings ≡ w.takings
-    → (let x : MemoryWireState = record w { laid_down = record w.laid_down { arrivals = more }; takings = takings } in x) ≡ with_arrival w arrival
+pub arrival_laid : (w : MemoryWireState) (more : List ArrivalModel) (takings : List Taking)
+    (arrival : ArrivalModel) → more ≡ w.laid_down.arrivals ++ arrival ∷ [] → takings ≡ w.takings
+    → (let x : MemoryWireState = record w {
+      laid_down = record w.laid_down { arrivals = more };
+      takings = takings;
+    } in x) ≡ with_arrival w arrival
 arrival_laid w more takings arrival is same =
-    ap (λ l. let x : MemoryWireState = record w { laid_down = record w.laid_down { arrivals = l }; takings = takings } in x) is
-    ∙ ap (λ l. let x : MemoryWireState = record w { laid_down = record w.laid_down { arrivals = w.laid_down.arrivals ++ arrival ∷ [] }; takings = l } in x) same
+    ap (λ l. let x : MemoryWireState =
+    record w { laid_down = record w.laid_down { arrivals = l }; takings = takings } in x) is
+    ∙ ap (λ l. let x : MemoryWireState = record w {
+      laid_down = record w.laid_down
+          { arrivals = w.laid_down.arrivals ++ arrival ∷ [] };
+      takings = l;
+    } in x) same
 
 -- a take beyond the wire's room
-pub arrival_beyond : (w : MemoryWireState) (port : Port) (room : ℕ) (arrived : Arrived) → w.take_room ≡ 0 → arrived ≡ failure_after w.failures → arrived ≡ next_arrival w port room
+pub arrival_beyond : (w : MemoryWireState) (port : Port) (room : ℕ) (arrived : Arrived)
+    → w.take_room ≡ 0 → arrived ≡ failure_after w.failures → arrived ≡ next_arrival w port room
 unfolding next_arrival next_take_fails
 arrival_beyond w port room arrived none is =
-    let beyond : next_take_fails w ≡ true = ap (λ b. b || is_failing w.laid_down.failing_takes (length w.takings + 1)) (is_zero w.take_room none) in
-    is ∙ by_true (next_take_fails w) (failure_after w.failures) (arrival_for w.laid_down.arrivals port (takes_at port w.takings + 1) room) beyond
+    let beyond : next_take_fails w ≡ true = ap (λ b. b || is_failing w.laid_down.failing_takes
+    (length w.takings + 1)) (is_zero w.take_room none) in
+    is ∙ by_true (next_take_fails w) (failure_after w.failures)
+    (arrival_for w.laid_down.arrivals port (takes_at port w.takings + 1) room) beyond
 
-pub take_beyond : (w : MemoryWireState) (taking : Taking) (failures : ℕ) → w.take_room ≡ 0 → failures ≡ one_more_if (has_failed taking.arrived) w.failures → (let x : MemoryWireState = record w { tells = false; failures = failures } in x) ≡ after_take w taking
+pub take_beyond : (w : MemoryWireState) (taking : Taking) (failures : ℕ)
+    → w.take_room ≡ 0 → failures ≡ one_more_if (has_failed taking.arrived) w.failures
+    → (let x : MemoryWireState = record w { tells = false; failures = failures } in x)
+    ≡ after_take w taking
 unfolding after_take
 take_beyond w taking failures none is =
     ap (λ n. let x : MemoryWireState = record w { tells = false; failures = n } in x) is
-    ∙ by_true (w.take_room == 0) (let x : MemoryWireState = record w { tells = false; failures = one_more_if (has_failed taking.arrived) w.failures } in x) _ (is_zero w.take_room none)
+    ∙ by_true (w.take_room == 0) (let x : MemoryWireState = record w {
+      tells = false;
+      failures =
+          one_more_if (has_failed taking.arrived) w.failures;
+    } in x) _ (is_zero w.take_room none)
 
 -- a take within it
-pub arrival_within : (w : MemoryWireState) (port : Port) (room number : ℕ) (fails : Bool) (arrived : Arrived) → 0 < w.take_room → fails ≡ is_failing w.laid_down.failing_takes (length w.takings + 1) → number ≡ takes_at port w.takings + 1
-    → arrived ≡ (if fails then failure_after w.failures else arrival_for w.laid_down.arrivals port number room) → arrived ≡ next_arrival w port room
+pub arrival_within :
+    (w : MemoryWireState) (port : Port) (room number : ℕ) (fails : Bool) (arrived : Arrived)
+    → 0 < w.take_room → fails ≡ is_failing w.laid_down.failing_takes (length w.takings + 1)
+    → number ≡ takes_at port w.takings + 1
+    → arrived ≡ (if fails then failure_after w.failures
+    else arrival_for w.laid_down.arrivals port number room) → arrived ≡ next_arrival w port room
 unfolding next_arrival next_take_fails
 arrival_within w port room number fails arrived some which nth is =
-    let same : fails ≡ next_take_fails w = which ∙ ap (λ b. b || is_failing w.laid_down.failing_takes (length w.takings + 1)) (sym (not_zero w.take_room some)) in
-    is ∙ ap (λ b. if b then failure_after w.failures else arrival_for w.laid_down.arrivals port number room) same
-    ∙ ap (λ n. if next_take_fails w then failure_after w.failures else arrival_for w.laid_down.arrivals port n room) nth
+    let same : fails ≡ next_take_fails w = which
+    ∙ ap (λ b. b || is_failing w.laid_down.failing_takes (length w.takings + 1))
+    (sym (not_zero w.take_room some)) in
+    is ∙ ap (λ b. if b then failure_after w.failures
+    else arrival_for w.laid_down.arrivals port number room) same
+    ∙ ap (λ n. if next_take_fails w then failure_after w.failures
+    else arrival_for w.laid_down.arrivals port n room) nth
 
-pub take_within : (w : MemoryWireState) (taking : Taking) (takings : List Taking) (failures room : ℕ) → 0 < w.take_room → takings ≡ w.takings ++ taking ∷ [] → failures ≡ one_more_if (has_failed taking.arrived) w.failures → room ≡ w.take_room - 1
-    → (let x : MemoryWireState = record w { takings = takings; failures = failures; take_room = room } in x) ≡ after_take w taking
+pub take_within : (w : MemoryWireState) (taking : Taking) (takings : List Taking)
+    (failures room : ℕ) → 0 < w.take_room → takings ≡ w.takings ++ taking ∷ []
+    → failures ≡ one_more_if (has_failed taking.arrived) w.failures → room ≡ w.take_room - 1
+    → (let x : MemoryWireState = record w
+    { takings = takings; failures = failures; take_room = room } in x) ≡ after_take w taking
 unfolding after_take
 take_within w taking takings failures room some more is less =
-    let whole : (let x : MemoryWireState = record w { takings = takings; failures = failures; take_room = room } in x) ≡ (let x : MemoryWireState = record w { takings = w.takings ++ taking ∷ []; failures = one_more_if (has_failed taking.arrived) w.failures; take_room = w.take_room - 1 } in x) = cc in
-    whole ∙ by_false (w.take_room == 0) _ (let x : MemoryWireState = record w { takings = w.takings ++ taking ∷ []; failures = one_more_if (has_failed taking.arrived) w.failures; take_room = w.take_room - 1 } in x) (not_zero w.take_room some)
+    let whole : (let x : MemoryWireState =
+    record w { takings = takings; failures = failures; take_room = room } in x)
+    ≡ (let x : MemoryWireState = record w {
+      takings = w.takings ++ taking ∷ [];
+      failures =
+          one_more_if (has_failed taking.arrived) w.failures;
+      take_room = w.take_room - 1;
+    } in x) =
+    cc in
+    whole ∙ by_false (w.take_room == 0) _ (let x : MemoryWireState = record w {
+      takings =
+          w.takings ++ taking ∷ [];
+      failures = one_more_if (has_failed taking.arrived) w.failures;
+      take_room = w.take_room - 1;
+    } in x) (not_zero w.take_room some)
 
 -- a give beyond the wire's rooms
-pub fails_beyond : (w : MemoryWireState) (bytes : ℕ) (failed : Bool) → is_give_beyond w bytes ≡ true → failed ≡ nat_lt w.failures (2 ^ 64 - 1) → failed ≡ next_give_fails w bytes
+pub fails_beyond : (w : MemoryWireState) (bytes : ℕ) (failed : Bool) → is_give_beyond w bytes ≡ true
+    → failed ≡ nat_lt w.failures (2 ^ 64 - 1) → failed ≡ next_give_fails w bytes
 unfolding next_give_fails
 fails_beyond w bytes failed beyond is =
     let fails = is_failing w.laid_down.failing_gives (length w.gives + 1) in
-    is ∙ and_true (nat_lt w.failures (2 ^ 64 - 1)) ∙ ap (λ b. nat_lt w.failures (2 ^ 64 - 1) && (b || fails)) (sym beyond)
+    is ∙ and_true (nat_lt w.failures (2 ^ 64 - 1))
+    ∙ ap (λ b. nat_lt w.failures (2 ^ 64 - 1) && (b || fails)) (sym beyond)
   where
     and_true : (b : Bool) → b ≡ (b && true)
     and_true true = refl
     and_true false = refl
 
-pub give_beyond : (w : MemoryWireState) (give : Give) (failures : ℕ) → is_give_beyond w (length give.offer.bytes) ≡ true → failures ≡ one_more_if give.failed w.failures → (let x : MemoryWireState = record w { tells = false; failures = failures } in x) ≡ after_give w give
+pub give_beyond : (w : MemoryWireState) (give : Give) (failures : ℕ)
+    → is_give_beyond w (length give.offer.bytes) ≡ true
+    → failures ≡ one_more_if give.failed w.failures
+    → (let x : MemoryWireState = record w { tells = false; failures = failures } in x)
+    ≡ after_give w give
 unfolding after_give
 give_beyond w give failures beyond is =
     ap (λ n. let x : MemoryWireState = record w { tells = false; failures = n } in x) is
-    ∙ by_true (is_give_beyond w (length give.offer.bytes)) (let x : MemoryWireState = record w { tells = false; failures = one_more_if give.failed w.failures } in x) _ beyond
+    ∙ by_true (is_give_beyond w (length give.offer.bytes)) (let x : MemoryWireState =
+    record w { tells = false; failures = one_more_if give.failed w.failures } in x) _ beyond
 
 -- a give within them
-pub fails_within : (w : MemoryWireState) (bytes : ℕ) (fails failed : Bool) → is_give_beyond w bytes ≡ false → fails ≡ is_failing w.laid_down.failing_gives (length w.gives + 1) → failed ≡ (nat_lt w.failures (2 ^ 64 - 1) && fails) → failed ≡ next_give_fails w bytes
+pub fails_within : (w : MemoryWireState) (bytes : ℕ) (fails failed : Bool) → is_give_beyond w bytes
+    ≡ false → fails ≡ is_failing w.laid_down.failing_gives (length w.gives + 1)
+    → failed ≡ (nat_lt w.failures (2 ^ 64 - 1) && fails) → failed ≡ next_give_fails w bytes
 unfolding next_give_fails
 fails_within w bytes fails failed within which is =
     let may = nat_lt w.failures (2 ^ 64 - 1) in
-    is ∙ ap (λ b. may && b) which ∙ ap (λ b. may && (b || is_failing w.laid_down.failing_gives (length w.gives + 1))) (sym within)
+    is ∙ ap (λ b. may && b) which ∙ ap (λ b. may
+    && (b || is_failing w.laid_down.failing_gives (length w.gives + 1))) (sym within)
 
-pub give_within : (w : MemoryWireState) (give : Give) (gives : List Give) (failures room byte_room : ℕ) → is_give_beyond w (length give.offer.bytes) ≡ false → gives ≡ w.gives ++ give ∷ [] → failures ≡ one_more_if give.failed w.failures → room ≡ w.give_room - 1 → byte_room ≡ w.byte_room - length give.offer.bytes
-    → (let x : MemoryWireState = record w { gives = gives; failures = failures; give_room = room; byte_room = byte_room } in x) ≡ after_give w give
+pub give_within : (w : MemoryWireState) (give : Give) (gives : List Give)
+    (failures room byte_room : ℕ) → is_give_beyond w (length give.offer.bytes) ≡ false
+    → gives ≡ w.gives ++ give ∷ [] → failures ≡ one_more_if give.failed w.failures
+    → room ≡ w.give_room - 1 → byte_room ≡ w.byte_room - length give.offer.bytes
+    → (let x : MemoryWireState = record w {
+      gives = gives;
+      failures = failures;
+      give_room = room;
+      byte_room = byte_room;
+    } in x) ≡ after_give w give
 unfolding after_give
 give_within w give gives failures room byte_room within more is less fewer =
-    let whole : (let x : MemoryWireState = record w { gives = gives; failures = failures; give_room = room; byte_room = byte_room } in x) ≡ (let x : MemoryWireState = record w { gives = w.gives ++ give ∷ []; failures = one_more_if give.failed w.failures; give_room = w.give_room - 1; byte_room = w.byte_room - length give.offer.bytes } in x) = cc in
-    whole ∙ by_false (is_give_beyond w (length give.offer.bytes)) _ (let x : MemoryWireState = record w { gives = w.gives ++ give ∷ []; failures = one_more_if give.failed w.failures; give_room = w.give_room - 1; byte_room = w.byte_room - length give.offer.bytes } in x) within
+    let whole : (let x : MemoryWireState = record w {
+      gives = gives;
+      failures = failures;
+      give_room = room;
+      byte_room = byte_room;
+    } in x) ≡ (let x : MemoryWireState = record w {
+      gives = w.gives ++ give ∷ [];
+      failures = one_more_if give.failed w.failures;
+      give_room =
+          w.give_room - 1;
+      byte_room = w.byte_room - length give.offer.bytes;
+    } in x) = cc in
+    whole ∙ by_false (is_give_beyond w (length give.offer.bytes)) _ (let x : MemoryWireState =
+    record w {
+      gives = w.gives ++ give ∷ [];
+      failures = one_more_if give.failed w.failures;
+      give_room = w.give_room - 1;
+      byte_room = w.byte_room - length give.offer.bytes;
+    } in
+    x) within

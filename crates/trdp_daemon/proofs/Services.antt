@@ -1,5 +1,6 @@
 -- What an event came to.
-use Rattle.std.proofs.Common.{◌≡◌, ℕ, List, [], Option, refl, sym, ◌∙◌, ap, subst, true, if◌then◌else◌, length, suc, zero, append-nil}
+use Rattle.std.proofs.Common.{◌≡◌, ℕ, List, [], Option, refl, sym, ◌∙◌, ap, subst}
+use Rattle.std.proofs.Common.{true, if◌then◌else◌, length, suc, zero, append-nil}
 use Rattle.trdp_base.specs.declared.place.Place.{Place}
 use Rattle.trdp_engine.specs.Events.{EventModel, MomentIs, TopologyIs, RoleIs, DatagramIs, CallIs}
 use Rattle.trdp_engine.specs.NodeStates.{NodeState, MayTakeMemory, due_in, uncounted}
@@ -12,7 +13,9 @@ use Rattle.trdp_script.proofs.Orders.{by_slot_suc, by_slot_zero}
 use Rattle.trdp_daemon.specs.declared.link.Link.{Link}
 use Rattle.trdp_daemon.specs.declared.service.Service.{Service}
 use Rattle.trdp_daemon.specs.Told.{Taking, Give}
-use Rattle.trdp_daemon.specs.Effects.{ServiceState, Effect, EventLost, TextsLost, event_effect, event_records, event_taken, lost_or, may_take_memory, missing, offering, records_telling, telling_only}
+use Rattle.trdp_daemon.specs.Effects.{ServiceState, Effect, EventLost, TextsLost, event_effect}
+use Rattle.trdp_daemon.specs.Effects.{event_records, event_taken, lost_or, may_take_memory}
+use Rattle.trdp_daemon.specs.Effects.{missing, offering, records_telling, telling_only}
 use Rattle.trdp_daemon.specs.Links.{Carries}
 use Rattle.trdp_daemon.specs.Tellings.{Tells}
 use Rattle.trdp_daemon.specs.declared.port.Port.TheVariants.{Operator}
@@ -23,28 +26,48 @@ use Rattle.trdp_daemon.specs.Services.{Comes, ComesWith, service_state}
 -- no records are of any slot
 pub no_records : (n : ℕ) (records : List RecordModel) → records ≡ [] → by_slot n records ≡ []
 no_records zero records none = by_slot_zero records
-no_records (suc n) records none = by_slot_suc n records ∙ rw none (append-nil (by_slot n []) ∙ no_records n [] refl)
+no_records (suc n) records none = by_slot_suc n records
+    ∙ rw none (append-nil (by_slot n []) ∙ no_records n [] refl)
 
 -- an event was taken, or refused, and its records were told but for these texts
-pub comes_event : {W : Type 0} {takings_in : W → Option (List Taking)} {gives_in : W → Option (List Give)} {a b : Link W} (old new : Service) (event : EventModel) (places : List (Option Place)) (records : List RecordModel)
-    → uncounted new.node ≡ node_after (uncounted old.node) event → new.places.items ≡ old.places.items → places ≡ old.places.items → records ≡ event_records (uncounted old.node) event
-    → (told : Tells takings_in gives_in places a b records) → Comes takings_in gives_in old new a b [] (event_effect (service_state old) event (TextsLost told.marks))
+pub comes_event : {W : Type 0} {takings_in : W → Option (List Taking)}
+    {gives_in : W → Option (List Give)} {a b : Link W} (old new : Service)
+    (event : EventModel) (places : List (Option Place)) (records : List RecordModel)
+    → uncounted new.node ≡ node_after (uncounted old.node) event
+    → new.places.items ≡ old.places.items
+    → places ≡ old.places.items → records ≡ event_records (uncounted old.node) event
+    → (told : Tells takings_in gives_in places a b records) → Comes takings_in
+    gives_in old new a b [] (event_effect (service_state old) event (TextsLost told.marks))
 unfolding event_effect
-comes_event {W} {takings_in} {gives_in} {a} {b} old new event places records node kept same all told = record {
-  service_is = ap (λ n. let s : ServiceState = record { node = n; places = new.places.items } in s) node ∙ ap (λ l. let s : ServiceState = record { node = node_after (uncounted old.node) event; places = l } in s) kept;
-  carried = subst (λ (l : List RecordModel). Carries takings_in gives_in a b [] (records_telling old.places.items told.marks l)) all
-      (subst (λ (l : List (Option Place)). Carries takings_in gives_in a b [] (records_telling l told.marks records)) same told.carried);
-}
+comes_event {W} {takings_in} {gives_in} {a} {b} old
+    new event places records node kept same all told = record {
+      service_is = ap (λ n. let s : ServiceState = record { node = n; places = new.places.items } in
+          s) node ∙ ap (λ l. let s : ServiceState =
+          record { node = node_after (uncounted old.node) event; places = l } in s) kept;
+      carried = subst (λ (l : List RecordModel).
+          Carries takings_in gives_in a b [] (records_telling old.places.items told.marks l)) all
+          (subst (λ (l : List (Option Place)). Carries
+          takings_in gives_in a b [] (records_telling l told.marks records)) same told.carried);
+    }
 
 -- an event was taken, or refused, and its records were told
-pub comes_told : {W : Type 0} {takings_in : W → Option (List Taking)} {gives_in : W → Option (List Give)} {a b : Link W} (old new : Service) (event : EventModel) (places : List (Option Place)) (records : List RecordModel)
-    → uncounted new.node ≡ node_after (uncounted old.node) event → new.places.items ≡ old.places.items → places ≡ old.places.items → records ≡ event_records (uncounted old.node) event
-    → Tells takings_in gives_in places a b records → ComesWith takings_in gives_in old new a b (event_effect (service_state old) event)
+pub comes_told : {W : Type 0} {takings_in : W → Option (List Taking)}
+    {gives_in : W → Option (List Give)} {a b : Link W} (old new : Service)
+    (event : EventModel) (places : List (Option Place)) (records : List RecordModel)
+    → uncounted new.node ≡ node_after (uncounted old.node) event
+    → new.places.items ≡ old.places.items
+    → places ≡ old.places.items → records ≡ event_records (uncounted old.node) event
+    → Tells takings_in gives_in places a b records
+    → ComesWith takings_in gives_in old new a b (event_effect (service_state old) event)
 comes_told old new event places records node kept same all told =
-    record { loss = TextsLost told.marks; comes = comes_event old new event places records node kept same all told }
+    record {
+      loss = TextsLost told.marks;
+      comes = comes_event old new event places records node kept same all told;
+    }
 
 -- memory may be wanting for an event
-pub wanting : (node : NodeState) (event : EventModel) → MayTakeMemory node event → may_take_memory node event ≡ true
+pub wanting : (node : NodeState) (event : EventModel)
+    → MayTakeMemory node event → may_take_memory node event ≡ true
 unfolding may_take_memory
 wanting node (MomentIs t) may = lt-ltb 0 (due_in t node.slots) may
 wanting node (TopologyIs topo) may = absurd may
@@ -52,7 +75,8 @@ wanting node (RoleIs group leader) may = absurd may
 wanting node (DatagramIs protocol src dst bytes) may = may
 wanting node (CallIs s call) may = refl
 
-pub is_wanting : (node : NodeState) (event : EventModel) → may_take_memory node event ≡ true → MayTakeMemory node event
+pub is_wanting : (node : NodeState) (event : EventModel)
+    → may_take_memory node event ≡ true → MayTakeMemory node event
 unfolding may_take_memory
 is_wanting node (MomentIs t) may = ltb-true 0 (due_in t node.slots) may
 is_wanting node (TopologyIs topo) may = absurd (cc)
@@ -61,7 +85,8 @@ is_wanting node (DatagramIs protocol src dst bytes) may = may
 is_wanting node (CallIs s call) may = tt
 
 -- what an event cost decides nothing
-may_uncounted : (node : NodeState) (event : EventModel) → MayTakeMemory node event → MayTakeMemory (uncounted node) event
+may_uncounted : (node : NodeState) (event : EventModel)
+    → MayTakeMemory node event → MayTakeMemory (uncounted node) event
 may_uncounted node (MomentIs t) may = may
 may_uncounted node (TopologyIs topo) may = may
 may_uncounted node (RoleIs group leader) may = may
@@ -69,47 +94,72 @@ may_uncounted node (DatagramIs protocol src dst bytes) may = may
 may_uncounted node (CallIs s call) may = may
 
 -- an event is lost there
-lost_there : (s : ServiceState) (event : EventModel) (effect : Effect) → MayTakeMemory s.node event → telling_only s missing ≡ lost_or s event effect
-lost_there s event effect may = ap (λ b. if b then telling_only s missing else effect) (sym (wanting s.node event may))
+lost_there : (s : ServiceState) (event : EventModel) (effect : Effect)
+    → MayTakeMemory s.node event → telling_only s missing ≡ lost_or s event effect
+lost_there s event effect may =
+    ap (λ b. if b then telling_only s missing else effect) (sym (wanting s.node event may))
 
-missed : {W : Type 0} {takings_in : W → Option (List Taking)} {gives_in : W → Option (List Give)} {a b : Link W} (old new : Service) → new.node ≡ old.node → new.places.items ≡ old.places.items
-    → Carries takings_in gives_in a b [] missing → Comes takings_in gives_in old new a b [] (telling_only (service_state old) missing)
+missed : {W : Type 0} {takings_in : W → Option (List Taking)} {gives_in : W → Option (List Give)}
+    {a b : Link W} (old new : Service) → new.node ≡ old.node → new.places.items ≡ old.places.items
+    → Carries takings_in gives_in a b [] missing
+    → Comes takings_in gives_in old new a b [] (telling_only (service_state old) missing)
 missed old new node kept carried = record {
-  service_is = ap (λ n. let s : ServiceState = record { node = uncounted n; places = new.places.items } in s) node ∙ ap (λ l. let s : ServiceState = record { node = uncounted old.node; places = l } in s) kept;
+  service_is = ap (λ n. let s : ServiceState =
+      record { node = uncounted n; places = new.places.items } in s) node
+      ∙ ap (λ l. let s : ServiceState = record { node = uncounted old.node; places = l } in s) kept;
   carried = carried;
 }
 
 -- an event was lost
-pub comes_lost : {W : Type 0} {takings_in : W → Option (List Taking)} {gives_in : W → Option (List Give)} {a b : Link W} (old new : Service) (event : EventModel) → new.node ≡ old.node → new.places.items ≡ old.places.items
-    → MayTakeMemory old.node event → Carries takings_in gives_in a b [] missing → ComesWith takings_in gives_in old new a b (event_effect (service_state old) event)
+pub comes_lost : {W : Type 0} {takings_in : W → Option (List Taking)}
+    {gives_in : W → Option (List Give)} {a b : Link W} (old new : Service) (event : EventModel)
+    → new.node ≡ old.node → new.places.items ≡ old.places.items
+    → MayTakeMemory old.node event → Carries takings_in gives_in a b [] missing
+    → ComesWith takings_in gives_in old new a b (event_effect (service_state old) event)
 unfolding event_effect
 comes_lost {W} {takings_in} {gives_in} {a} {b} old new event node kept may carried = record {
   loss = EventLost;
-  comes = subst (λ (e : Effect). Comes takings_in gives_in old new a b [] e) (lost_there (service_state old) event (event_taken (service_state old) event []) (may_uncounted old.node event may)) (missed old new node kept carried);
+  comes = subst (λ (e : Effect). Comes takings_in gives_in old new a b [] e)
+      (lost_there (service_state old) event (event_taken (service_state old) event [])
+      (may_uncounted old.node event may)) (missed old new node kept carried);
 }
 
 -- an event of the operator was taken, or refused, its records were told and it was answered
-pub comes_answered : {W : Type 0} {takings_in : W → Option (List Taking)} {gives_in : W → Option (List Give)} {a b c : Link W} (old new : Service) (event : EventModel) (from : Place) (places : List (Option Place)) (records : List RecordModel) (text : List ℕ)
-    → uncounted new.node ≡ node_after (uncounted old.node) event → new.places.items ≡ old.places.items → places ≡ old.places.items → records ≡ event_records (uncounted old.node) event
+pub comes_answered : {W : Type 0} {takings_in : W → Option (List Taking)}
+    {gives_in : W → Option (List Give)} {a b c : Link W} (old new : Service) (event : EventModel)
+    (from : Place) (places : List (Option Place)) (records : List RecordModel) (text : List ℕ)
+    → uncounted new.node ≡ node_after (uncounted old.node) event
+    → new.places.items ≡ old.places.items
+    → places ≡ old.places.items → records ≡ event_records (uncounted old.node) event
     → text ≡ operator_text (refused_as (length old.node.slots) old.node.globals event)
-    → Tells takings_in gives_in places a b records → Carries takings_in gives_in b c [] (offering Operator from text)
+    → Tells takings_in gives_in places a b records
+    → Carries takings_in gives_in b c [] (offering Operator from text)
     → ComesWith takings_in gives_in old new a c (operator_event (service_state old) from event)
 unfolding operator_event
-comes_answered {W} {takings_in} {gives_in} {a} {b} {c} old new event from places records text node kept same all said told answered =
+comes_answered {W} {takings_in} {gives_in} {a} {b} {c} old
+    new event from places records text node kept same all said told answered =
     let first = comes_event old new event places records node kept same all told in
     record {
       loss = TextsLost told.marks;
       comes = record {
         service_is = first.service_is;
-        carried = carries_both first.carried (subst (λ (l : List ℕ). Carries takings_in gives_in b c [] (offering Operator from l)) said answered);
+        carried = carries_both first.carried (subst (λ (l : List ℕ).
+            Carries takings_in gives_in b c [] (offering Operator from l)) said answered);
       };
     }
 
 -- an event of the operator was lost
-pub comes_unanswered : {W : Type 0} {takings_in : W → Option (List Taking)} {gives_in : W → Option (List Give)} {a b : Link W} (old new : Service) (event : EventModel) (from : Place) → new.node ≡ old.node → new.places.items ≡ old.places.items
-    → MayTakeMemory old.node event → Carries takings_in gives_in a b [] missing → ComesWith takings_in gives_in old new a b (operator_event (service_state old) from event)
+pub comes_unanswered :
+    {W : Type 0} {takings_in : W → Option (List Taking)} {gives_in : W → Option (List Give)}
+    {a b : Link W} (old new : Service) (event : EventModel) (from : Place)
+    → new.node ≡ old.node → new.places.items ≡ old.places.items
+    → MayTakeMemory old.node event → Carries takings_in gives_in a b [] missing
+    → ComesWith takings_in gives_in old new a b (operator_event (service_state old) from event)
 unfolding operator_event
-comes_unanswered {W} {takings_in} {gives_in} {a} {b} old new event from node kept may carried = record {
-  loss = EventLost;
-  comes = subst (λ (e : Effect). Comes takings_in gives_in old new a b [] e) (lost_there (service_state old) event (operator_taken (service_state old) from event []) (may_uncounted old.node event may)) (missed old new node kept carried);
-}
+comes_unanswered {W} {takings_in} {gives_in} {a} {b} old new event from node kept may carried =
+    record {
+      loss = EventLost;
+      comes = subst (λ (e : Effect). Comes takings_in gives_in old new a b [] e)
+          (lost_there (service_state old) event (operator_taken (service_state old) from event [])
+          (may_uncounted old.node event may)) (missed old new node kept carried);
+    }

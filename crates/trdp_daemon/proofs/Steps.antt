@@ -1,5 +1,6 @@
 -- An event's way through a node, and its records slot by slot.
-use Rattle.std.proofs.Common.{◌≡◌, suc, ◌+◌, ◌-◌, ◌≤◌, ℕ, List, [], ◌∷◌, ◌++◌, length, Some, None, Ok, Err, Option, refl, sym, ◌∙◌, ap, arith, append_assoc, append-nil}
+use Rattle.std.proofs.Common.{◌≡◌, suc, ◌+◌, ◌-◌, ◌≤◌, ℕ, List, [], ◌∷◌, ◌++◌, length, Some, None}
+use Rattle.std.proofs.Common.{Ok, Err, Option, refl, sym, ◌∙◌, ap, arith, append_assoc, append-nil}
 use Rattle.std.specs.Prelude.{slice_get}
 use Rattle.trdp_engine.specs.Configs.{NodeSetup, setup_of}
 use Rattle.trdp_filter.specs.declared.globals.Globals.{Globals}
@@ -16,43 +17,62 @@ use Rattle.trdp_script.proofs.Playing.{own_labelled, by_slot_past, no_fault}
 use Rattle.trdp_daemon.specs.Effects.{slots_records, records_unless, event_records}
 
 -- the records of the slots from n on come behind those of the slots before
-slots_records_after : (setup : NodeSetup) (g : Globals) (event : EventModel) (records : List RecordModel) (slots : List SlotState) (n m : ℕ) → m ≡ n + length slots
-    → ((i s : ℕ) (slot : SlotState) → s ≡ n + i → slice_get slots i ≡ Some slot → records_of s records ≡ records_after setup s slot g event)
+slots_records_after : (setup : NodeSetup) (g : Globals) (event : EventModel)
+    (records : List RecordModel) (slots : List SlotState) (n m : ℕ) → m ≡ n + length slots
+    → ((i s : ℕ) (slot : SlotState) → s ≡ n + i
+    → slice_get slots i ≡ Some slot → records_of s records ≡ records_after setup s slot g event)
     → by_slot n records ++ slots_records setup g event n slots ≡ by_slot m records
 slots_records_after setup g event records [] n m is each =
     let same : n ≡ m = omega (arith, is) in
     append-nil (by_slot n records) ∙ ap (λ k. by_slot k records) same
 slots_records_after setup g event records (slot ∷ slots) n m is each =
     let at : n ≡ n + 0 = omega arith in
-    let own : labelled n (records_after setup n slot g event) ≡ slots_own n records = ap (labelled n) (sym (each 0 n slot at refl)) ∙ own_labelled n records in
+    let own : labelled n (records_after setup n slot g event) ≡ slots_own n records =
+    ap (labelled n) (sym (each 0 n slot at refl)) ∙ own_labelled n records in
     let rest = slots_records setup g event (suc n) slots in
     let more : m ≡ suc n + length slots = omega (arith, is) in
     ap (λ l. by_slot n records ++ (l ++ rest)) own
     ∙ sym (append_assoc (by_slot n records) (slots_own n records) rest)
     ∙ ap (λ l. l ++ rest) (sym (by_slot_suc n records))
-    ∙ slots_records_after setup g event records slots (suc n) m more (λ i s other is there. let next : s ≡ n + suc i = omega (arith, is) in each (suc i) s other next there)
+    ∙ slots_records_after setup g event records slots (suc n) m more (λ i s other is there.
+    let next : s ≡ n + suc i = omega (arith, is) in each (suc i) s other next there)
 
 -- the records of an event that the node took
-pub records_played : (n : ℕ) (old new : NodeState) (records records_then : List RecordModel) (event : EventModel) → FaultIs (refused_as (length old.slots) old.globals event) (Ok tt)
+pub records_played : (n : ℕ) (old new : NodeState) (records records_then : List RecordModel)
+    (event : EventModel) → FaultIs (refused_as (length old.slots) old.globals event) (Ok tt)
     → length old.slots ≤ n → records ≡ []
-    → ((s : ℕ) (slot : SlotState) → slice_get old.slots s ≡ Some slot → StepsAsAlone old new records records_then event s slot)
+    → ((s : ℕ) (slot : SlotState) → slice_get old.slots s ≡ Some slot
+    → StepsAsAlone old new records records_then event s slot)
     → Appends old.slots records records_then
     → by_slot n records_then ≡ event_records (uncounted old) event
 records_played n old new records records_then event taken fits empty steps appends =
     let room : n ≡ length old.slots + (n - length old.slots) = omega (arith, fits) in
-    let none : (s : ℕ) → slice_get old.slots s ≡ None → records_of s records_then ≡ [] = λ s past. appends.none_else s past ∙ ap (records_of s) empty in
-    let each : (i s : ℕ) (slot : SlotState) → s ≡ 0 + i → slice_get old.slots i ≡ Some slot → records_of s records_then ≡ records_after (setup_of old.config) s slot old.globals event =
-    λ i s slot is there. let same : s ≡ i = omega (arith, is) in rw same ((steps i slot there).records_are ∙ ap (λ l. records_of i l ++ records_after (setup_of old.config) i slot old.globals event) empty) in
+    let none : (s : ℕ) → slice_get old.slots s ≡ None → records_of s records_then ≡ [] =
+    λ s past. appends.none_else s past ∙ ap (records_of s) empty in
+    let each : (i s : ℕ) (slot : SlotState) → s ≡ 0 + i → slice_get old.slots i ≡ Some slot
+    → records_of s records_then ≡ records_after (setup_of old.config) s slot old.globals event =
+    λ i s slot is there. let same : s ≡ i = omega (arith, is) in
+    rw same ((steps i slot there).records_are ∙ ap (λ l.
+    records_of i l ++ records_after (setup_of old.config) i slot old.globals event) empty) in
     let whole : 0 + length old.slots ≡ length old.slots = omega arith in
     by_slot_past old.slots records_then none (n - length old.slots) n room
-    ∙ sym (ap (λ l. l ++ slots_records (setup_of old.config) old.globals event 0 old.slots) (sym (by_slot_zero records_then))
-    ∙ slots_records_after (setup_of old.config) old.globals event records_then old.slots 0 (length old.slots) (sym whole) each)
-    ∙ ap (λ fault. records_unless fault (uncounted old) event) (sym (no_fault (refused_as (length old.slots) old.globals event) taken))
+    ∙ sym (ap (λ l. l ++ slots_records (setup_of old.config) old.globals event 0 old.slots)
+    (sym (by_slot_zero records_then))
+    ∙ slots_records_after (setup_of old.config)
+    old.globals event records_then old.slots 0 (length old.slots) (sym whole) each)
+    ∙ ap (λ fault. records_unless fault (uncounted old) event)
+    (sym (no_fault (refused_as (length old.slots) old.globals event) taken))
 
 -- an event that the node takes no notice of has no records
-unless_refused : (fault : Option NodeFault) (refused : NodeFault) (node : NodeState) (event : EventModel) → FaultIs fault (Err refused) → (refused ≡ OutOfMemory → ⊥) → records_unless fault node event ≡ []
+unless_refused :
+    (fault : Option NodeFault) (refused : NodeFault) (node : NodeState) (event : EventModel)
+    → FaultIs fault (Err refused) → (refused ≡ OutOfMemory → ⊥)
+    → records_unless fault node event ≡ []
 unless_refused None refused node event is own = absurd (own is)
 unless_refused (Some fault) refused node event is own = refl
 
-pub records_refused : (refused : NodeFault) (node : NodeState) (event : EventModel) → FaultIs (refused_as (length node.slots) node.globals event) (Err refused) → (refused ≡ OutOfMemory → ⊥) → event_records (uncounted node) event ≡ []
-records_refused refused node event is own = unless_refused (refused_as (length node.slots) node.globals event) refused (uncounted node) event is own
+pub records_refused : (refused : NodeFault) (node : NodeState) (event : EventModel)
+    → FaultIs (refused_as (length node.slots) node.globals event) (Err refused)
+    → (refused ≡ OutOfMemory → ⊥) → event_records (uncounted node) event ≡ []
+records_refused refused node event is own = unless_refused
+    (refused_as (length node.slots) node.globals event) refused (uncounted node) event is own

@@ -1,5 +1,7 @@
 -- What was offered for records, one after another.
-use Rattle.std.proofs.Common.{◌≡◌, suc, ◌+◌, ℕ, true, false, Bool, List, [], ◌∷◌, ◌++◌, length, take, Option, Some, None, refl, sym, ◌∙◌, ap, arith, append-nil, length-append, subst}
+use Rattle.std.proofs.Common.{◌≡◌, suc, ◌+◌, ℕ, true, false, Bool, List, [], ◌∷◌}
+use Rattle.std.proofs.Common.{◌++◌, length, take, Option, Some, None, refl, sym}
+use Rattle.std.proofs.Common.{◌∙◌, ap, arith, append-nil, length-append, subst}
 use Rattle.std.specs.Prelude.{◌==◌, filter, slice_get}
 use Rattle.std.proofs.lemmas.Bool.Decides.{nat_tests}
 use Rattle.std.proofs.lemmas.List.Elements.{filter-append}
@@ -7,12 +9,15 @@ use Rattle.std.proofs.Math.Seq.{take-suc}
 use Rattle.trdp_base.specs.declared.place.Place.{Place}
 use Rattle.std.proofs.lemmas.Option.{slice_get_within, get_or_from_slice_get}
 use Rattle.trdp_engine.specs.declared.record.Protocol.{Protocol}
-use Rattle.trdp_engine.specs.Records.{RecordModel, Content, Answers, Indicates, Sends, AnswerModel, IndicationModel}
+use Rattle.trdp_engine.specs.Records.{RecordModel, Content, Answers, Indicates}
+use Rattle.trdp_engine.specs.Records.{Sends, AnswerModel, IndicationModel}
 use Rattle.trdp_script.specs.RecordText.{text_of_record}
 use Rattle.trdp_daemon.specs.declared.port.Port.TheVariants.{Control}
 use Rattle.trdp_daemon.specs.declared.link.Link.{Link}
 use Rattle.trdp_daemon.specs.Told.{Taking, Give}
-use Rattle.trdp_daemon.specs.Effects.{Telling, silence, both, missing, offering, text_telling, content_telling, port_of, place_of, record_telling, records_telling}
+use Rattle.trdp_daemon.specs.Effects.{Telling, silence, both, missing, offering}
+use Rattle.trdp_daemon.specs.Effects.{text_telling, content_telling, port_of}
+use Rattle.trdp_daemon.specs.Effects.{place_of, record_telling, records_telling}
 use Rattle.trdp_daemon.specs.Links.{Carries}
 use Rattle.trdp_daemon.specs.Tellings.{Tells, TellsRecord, TellsText, if_of_slot}
 use Rattle.trdp_daemon.proofs.Links.{carries_none, carries_both}
@@ -21,7 +26,8 @@ use Rattle.std.proofs.Common.{append_assoc}
 pub both_silence : (x : Telling) → both x silence ≡ x
 both_silence x =
     let missed : x.missed + 0 ≡ x.missed = omega arith in
-    ap (λ l. let t : Telling = record { offers = l; missed = x.missed + 0 } in t) (append-nil x.offers)
+    ap (λ l. let t : Telling = record { offers = l; missed = x.missed + 0 } in
+    t) (append-nil x.offers)
     ∙ ap (λ n. let t : Telling = record { offers = x.offers; missed = n } in t) missed
 
 pub silence_both : (x : Telling) → both silence x ≡ x
@@ -31,86 +37,162 @@ silence_both x =
 
 pub both_assoc : (x y z : Telling) → both (both x y) z ≡ both x (both y z)
 both_assoc x y z =
-    let missed : (x.missed + y.missed) + z.missed ≡ x.missed + (y.missed + z.missed) = omega arith in
-    ap (λ l. let t : Telling = record { offers = l; missed = (x.missed + y.missed) + z.missed } in t) (append_assoc x.offers y.offers z.offers)
-    ∙ ap (λ n. let t : Telling = record { offers = x.offers ++ (y.offers ++ z.offers); missed = n } in t) missed
+    let missed : (x.missed + y.missed) + z.missed
+    ≡ x.missed + (y.missed + z.missed) = omega arith in
+    ap (λ l. let t : Telling = record { offers = l; missed = (x.missed + y.missed) + z.missed } in
+    t) (append_assoc x.offers y.offers z.offers)
+    ∙ ap (λ n. let t : Telling =
+    record { offers = x.offers ++ (y.offers ++ z.offers); missed = n } in t) missed
 
-telling_append : (places : List (Option Place)) (ms ns : List Bool) (rs ss : List RecordModel) → length ms ≡ length rs → records_telling places (ms ++ ns) (rs ++ ss) ≡ both (records_telling places ms rs) (records_telling places ns ss)
+telling_append : (places : List (Option Place)) (ms ns : List Bool) (rs ss : List RecordModel)
+    → length ms ≡ length rs → records_telling places (ms ++ ns) (rs ++ ss)
+    ≡ both (records_telling places ms rs) (records_telling places ns ss)
 telling_append places [] ns [] ss len = sym (silence_both (records_telling places ns ss))
 telling_append places [] ns (r ∷ rs) ss len = absurd (omega (arith, len))
 telling_append places (m ∷ ms) ns [] ss len = absurd (omega (arith, len))
 telling_append places (m ∷ ms) ns (r ∷ rs) ss len =
     let same : length ms ≡ length rs = omega (arith, len) in
     ap (λ t. both (record_telling places m r) t) (telling_append places ms ns rs ss same)
-    ∙ sym (both_assoc (record_telling places m r) (records_telling places ms rs) (records_telling places ns ss))
+    ∙ sym (both_assoc (record_telling places m r)
+    (records_telling places ms rs) (records_telling places ns ss))
 
-pub tells_none : {W : Type 0} (takings_in : W → Option (List Taking)) (gives_in : W → Option (List Give)) (places : List (Option Place)) (l : Link W) → Tells takings_in gives_in places l l []
-tells_none takings_in gives_in places l = record { marks = []; each = refl; carried = carries_none takings_in gives_in l }
+pub tells_none : {W : Type 0} (takings_in : W → Option (List Taking))
+    (gives_in : W → Option (List Give)) (places : List (Option Place)) (l : Link W)
+    → Tells takings_in gives_in places l l []
+tells_none takings_in gives_in places l =
+    record { marks = []; each = refl; carried = carries_none takings_in gives_in l }
 
-pub tells_both : {W : Type 0} {takings_in : W → Option (List Taking)} {gives_in : W → Option (List Give)} {places : List (Option Place)} {a b c : Link W} {rs ss : List RecordModel} → Tells takings_in gives_in places a b rs → Tells takings_in gives_in places b c ss → Tells takings_in gives_in places a c (rs ++ ss)
+pub tells_both : {W : Type 0} {takings_in : W → Option (List Taking)}
+    {gives_in : W → Option (List Give)} {places : List (Option Place)}
+    {a b c : Link W} {rs ss : List RecordModel} → Tells takings_in gives_in places a b rs
+    → Tells takings_in gives_in places b c ss → Tells takings_in gives_in places a c (rs ++ ss)
 tells_both {W} {takings_in} {gives_in} {places} {a} {b} {c} {rs} {ss} p q = record {
   marks = p.marks ++ q.marks;
-  each = length-append p.marks q.marks ∙ ap (λ n. n + length q.marks) p.each ∙ ap (λ n. length rs + n) q.each ∙ sym (length-append rs ss);
-  carried = subst (λ (t : Telling). Carries takings_in gives_in a c [] t) (sym (telling_append places p.marks q.marks rs ss p.each)) (carries_both p.carried q.carried);
+  each = length-append p.marks q.marks ∙ ap (λ n. n + length q.marks) p.each
+      ∙ ap (λ n. length rs + n) q.each ∙ sym (length-append rs ss);
+  carried = subst (λ (t : Telling). Carries takings_in gives_in a c [] t)
+      (sym (telling_append places p.marks q.marks rs ss p.each)) (carries_both p.carried q.carried);
 }
 
-pub tells_one : {W : Type 0} {takings_in : W → Option (List Taking)} {gives_in : W → Option (List Give)} {places : List (Option Place)} {a b : Link W} {r : RecordModel} → TellsRecord takings_in gives_in places a b r → Tells takings_in gives_in places a b (r ∷ [])
+pub tells_one :
+    {W : Type 0} {takings_in : W → Option (List Taking)} {gives_in : W → Option (List Give)}
+    {places : List (Option Place)} {a b : Link W} {r : RecordModel}
+    → TellsRecord takings_in gives_in places a b r → Tells takings_in gives_in places a b (r ∷ [])
 tells_one {W} {takings_in} {gives_in} {places} {a} {b} {r} p = record {
   marks = p.lost ∷ [];
   each = refl;
-  carried = subst (λ (t : Telling). Carries takings_in gives_in a b [] t) (sym (both_silence (record_telling places p.lost r))) p.carried;
+  carried = subst (λ (t : Telling). Carries takings_in gives_in a b [] t)
+      (sym (both_silence (record_telling places p.lost r))) p.carried;
 }
 
-pub text_dropped : {W : Type 0} (takings_in : W → Option (List Taking)) (gives_in : W → Option (List Give)) (l : Link W) (slot : ℕ) (to : Option Place) (text : List ℕ) → to ≡ None → TellsText takings_in gives_in l l slot to text
+pub text_dropped : {W : Type 0} (takings_in : W → Option (List Taking))
+    (gives_in : W → Option (List Give)) (l : Link W) (slot : ℕ) (to : Option Place) (text : List ℕ)
+    → to ≡ None → TellsText takings_in gives_in l l slot to text
 unfolding text_telling
-text_dropped takings_in gives_in l slot None text none = record { lost = false; carried = carries_none takings_in gives_in l }
+text_dropped takings_in gives_in l slot None text none =
+    record { lost = false; carried = carries_none takings_in gives_in l }
 text_dropped takings_in gives_in l slot (Some place) text none = absurd (cc)
 
-pub text_given : {W : Type 0} {takings_in : W → Option (List Taking)} {gives_in : W → Option (List Give)} {a b : Link W} (slot : ℕ) (place : Place) (to : Option Place) (text : List ℕ) → to ≡ Some place → Carries takings_in gives_in a b [] (offering (Control slot) place text) → TellsText takings_in gives_in a b slot to text
+pub text_given :
+    {W : Type 0} {takings_in : W → Option (List Taking)} {gives_in : W → Option (List Give)}
+    {a b : Link W} (slot : ℕ) (place : Place) (to : Option Place) (text : List ℕ)
+    → to ≡ Some place → Carries takings_in gives_in a b [] (offering (Control slot) place text)
+    → TellsText takings_in gives_in a b slot to text
 unfolding text_telling
-text_given {W} {takings_in} {gives_in} {a} {b} slot place to text some carried = rw some (record { lost = false; carried = carried })
+text_given {W} {takings_in} {gives_in} {a} {b} slot place to text some carried =
+    rw some (record { lost = false; carried = carried })
 
-pub text_lost : {W : Type 0} {takings_in : W → Option (List Taking)} {gives_in : W → Option (List Give)} {a b : Link W} (slot : ℕ) (place : Place) (to : Option Place) (text : List ℕ) → to ≡ Some place → Carries takings_in gives_in a b [] missing → TellsText takings_in gives_in a b slot to text
+pub text_lost :
+    {W : Type 0} {takings_in : W → Option (List Taking)} {gives_in : W → Option (List Give)}
+    {a b : Link W} (slot : ℕ) (place : Place) (to : Option Place) (text : List ℕ) → to ≡ Some place
+    → Carries takings_in gives_in a b [] missing → TellsText takings_in gives_in a b slot to text
 unfolding text_telling
-text_lost {W} {takings_in} {gives_in} {a} {b} slot place to text some carried = rw some (record { lost = true; carried = carried })
+text_lost {W} {takings_in} {gives_in} {a} {b} slot place to text some carried =
+    rw some (record { lost = true; carried = carried })
 
-pub record_sent : {W : Type 0} {takings_in : W → Option (List Taking)} {gives_in : W → Option (List Give)} {a b : Link W} (places : List (Option Place)) (r : RecordModel) (protocol : Protocol) (to : Place) (telegram : List ℕ) → r.content ≡ Sends protocol to telegram → Carries takings_in gives_in a b [] (offering (port_of protocol) to telegram) → TellsRecord takings_in gives_in places a b r
+pub record_sent : {W : Type 0} {takings_in : W → Option (List Taking)}
+    {gives_in : W → Option (List Give)} {a b : Link W} (places : List (Option Place))
+    (r : RecordModel) (protocol : Protocol) (to : Place) (telegram : List ℕ)
+    → r.content ≡ Sends protocol to telegram
+    → Carries takings_in gives_in a b [] (offering (port_of protocol) to telegram)
+    → TellsRecord takings_in gives_in places a b r
 unfolding content_telling
 record_sent {W} {takings_in} {gives_in} {a} {b} places r protocol to telegram is carried =
-    record { lost = false; carried = subst (λ (x : Content). Carries takings_in gives_in a b [] (content_telling places false r x)) (sym is) carried }
+    record {
+      lost = false;
+      carried = subst (λ (x : Content).
+          Carries takings_in gives_in a b [] (content_telling places false r x)) (sym is) carried;
+    }
 
-pub record_answered : {W : Type 0} {takings_in : W → Option (List Taking)} {gives_in : W → Option (List Give)} {a b : Link W} (places : List (Option Place)) (r : RecordModel) (answer : AnswerModel) → r.content ≡ Answers answer → TellsText takings_in gives_in a b r.slot (place_of places r.slot) (text_of_record r) → TellsRecord takings_in gives_in places a b r
+pub record_answered : {W : Type 0} {takings_in : W → Option (List Taking)}
+    {gives_in : W → Option (List Give)} {a b : Link W} (places : List (Option Place))
+    (r : RecordModel) (answer : AnswerModel) → r.content ≡ Answers answer
+    → TellsText takings_in gives_in a b r.slot (place_of places r.slot) (text_of_record r)
+    → TellsRecord takings_in gives_in places a b r
 unfolding content_telling
 record_answered {W} {takings_in} {gives_in} {a} {b} places r answer is told =
-    record { lost = told.lost; carried = subst (λ (x : Content). Carries takings_in gives_in a b [] (content_telling places told.lost r x)) (sym is) told.carried }
+    record {
+      lost = told.lost;
+      carried = subst (λ (x : Content). Carries
+          takings_in gives_in a b [] (content_telling places told.lost r x)) (sym is) told.carried;
+    }
 
-pub record_indicated : {W : Type 0} {takings_in : W → Option (List Taking)} {gives_in : W → Option (List Give)} {a b : Link W} (places : List (Option Place)) (r : RecordModel) (indication : IndicationModel) → r.content ≡ Indicates indication → TellsText takings_in gives_in a b r.slot (place_of places r.slot) (text_of_record r) → TellsRecord takings_in gives_in places a b r
+pub record_indicated : {W : Type 0} {takings_in : W → Option (List Taking)}
+    {gives_in : W → Option (List Give)} {a b : Link W} (places : List (Option Place))
+    (r : RecordModel) (indication : IndicationModel) → r.content ≡ Indicates indication
+    → TellsText takings_in gives_in a b r.slot (place_of places r.slot) (text_of_record r)
+    → TellsRecord takings_in gives_in places a b r
 unfolding content_telling
 record_indicated {W} {takings_in} {gives_in} {a} {b} places r indication is told =
-    record { lost = told.lost; carried = subst (λ (x : Content). Carries takings_in gives_in a b [] (content_telling places told.lost r x)) (sym is) told.carried }
+    record {
+      lost = told.lost;
+      carried = subst (λ (x : Content). Carries
+          takings_in gives_in a b [] (content_telling places told.lost r x)) (sym is) told.carried;
+    }
 
-next_taken : (i : ℕ) (rs : List RecordModel) (r : RecordModel) → slice_get rs i ≡ Some r → take (i + 1) rs ≡ take i rs ++ r ∷ []
+next_taken : (i : ℕ) (rs : List RecordModel) (r : RecordModel)
+    → slice_get rs i ≡ Some r → take (i + 1) rs ≡ take i rs ++ r ∷ []
 next_taken i rs r here =
     let next : i + 1 ≡ suc i = omega arith in
-    ap (λ m. take m rs) next ∙ take-suc rs i r (slice_get_within rs i r here) ∙ ap (λ x. take i rs ++ x ∷ []) (get_or_from_slice_get rs i r r here)
+    ap (λ m. take m rs) next ∙ take-suc rs i r (slice_get_within rs i r here)
+    ∙ ap (λ x. take i rs ++ x ∷ []) (get_or_from_slice_get rs i r r here)
 
 -- one more record is told
-pub tells_more : {W : Type 0} {takings_in : W → Option (List Taking)} {gives_in : W → Option (List Give)} {places : List (Option Place)} {a b c : Link W} (i : ℕ) (rs : List RecordModel) (r : RecordModel) → slice_get rs i ≡ Some r → Tells takings_in gives_in places a b (take i rs) → TellsRecord takings_in gives_in places b c r → Tells takings_in gives_in places a c (take (i + 1) rs)
+pub tells_more : {W : Type 0} {takings_in : W → Option (List Taking)}
+    {gives_in : W → Option (List Give)} {places : List (Option Place)}
+    {a b c : Link W} (i : ℕ) (rs : List RecordModel) (r : RecordModel)
+    → slice_get rs i ≡ Some r → Tells takings_in gives_in places a b (take i rs)
+    → TellsRecord takings_in gives_in places b c r
+    → Tells takings_in gives_in places a c (take (i + 1) rs)
 tells_more {W} {takings_in} {gives_in} {places} {a} {b} {c} i rs r here p q =
-    subst (λ (l : List RecordModel). Tells takings_in gives_in places a c l) (sym (next_taken i rs r here)) (tells_both p (tells_one q))
+    subst (λ (l : List RecordModel). Tells takings_in gives_in places a c l)
+    (sym (next_taken i rs r here)) (tells_both p (tells_one q))
 
-own_next : (n i : ℕ) (rs : List RecordModel) (r : RecordModel) → slice_get rs i ≡ Some r → filter (λ x. x.slot == n) (take (i + 1) rs) ≡ filter (λ x. x.slot == n) (take i rs) ++ if_of_slot n r
-own_next n i rs r here = ap (filter (λ x. x.slot == n)) (next_taken i rs r here) ∙ filter-append (λ x. x.slot == n) (take i rs) (r ∷ [])
+own_next : (n i : ℕ) (rs : List RecordModel) (r : RecordModel)
+    → slice_get rs i ≡ Some r → filter (λ x. x.slot == n) (take (i + 1) rs)
+    ≡ filter (λ x. x.slot == n) (take i rs) ++ if_of_slot n r
+own_next n i rs r here = ap (filter (λ x. x.slot == n)) (next_taken i rs r here)
+    ∙ filter-append (λ x. x.slot == n) (take i rs) (r ∷ [])
 
 -- one more record is told if it is of the slot
-pub tells_next : {W : Type 0} {takings_in : W → Option (List Taking)} {gives_in : W → Option (List Give)} {places : List (Option Place)} {a b c : Link W} (n i : ℕ) (rs : List RecordModel) (r : RecordModel) → slice_get rs i ≡ Some r → Tells takings_in gives_in places a b (filter (λ x. x.slot == n) (take i rs)) → Tells takings_in gives_in places b c (if_of_slot n r) → Tells takings_in gives_in places a c (filter (λ x. x.slot == n) (take (i + 1) rs))
+pub tells_next : {W : Type 0} {takings_in : W → Option (List Taking)}
+    {gives_in : W → Option (List Give)} {places : List (Option Place)}
+    {a b c : Link W} (n i : ℕ) (rs : List RecordModel) (r : RecordModel) → slice_get rs i ≡ Some r
+    → Tells takings_in gives_in places a b (filter (λ x. x.slot == n) (take i rs))
+    → Tells takings_in gives_in places b c (if_of_slot n r)
+    → Tells takings_in gives_in places a c (filter (λ x. x.slot == n) (take (i + 1) rs))
 tells_next {W} {takings_in} {gives_in} {places} {a} {b} {c} n i rs r here p q =
-    subst (λ (l : List RecordModel). Tells takings_in gives_in places a c l) (sym (own_next n i rs r here)) (tells_both p q)
+    subst (λ (l : List RecordModel). Tells takings_in gives_in places a c l)
+    (sym (own_next n i rs r here)) (tells_both p q)
 
 own_is : (n : ℕ) (r : RecordModel) → r.slot ≡ n → if_of_slot n r ≡ r ∷ []
 own_is n r is = let same : (r.slot == n) ≡ true = grind (arith, nat_tests) in rw same refl
 
 -- a record of the slot is told
-pub tells_own : {W : Type 0} {takings_in : W → Option (List Taking)} {gives_in : W → Option (List Give)} {places : List (Option Place)} {a b : Link W} (n : ℕ) (r : RecordModel) → r.slot ≡ n → TellsRecord takings_in gives_in places a b r → Tells takings_in gives_in places a b (if_of_slot n r)
+pub tells_own : {W : Type 0} {takings_in : W → Option (List Taking)}
+    {gives_in : W → Option (List Give)} {places : List (Option Place)} {a b : Link W}
+    (n : ℕ) (r : RecordModel) → r.slot ≡ n → TellsRecord takings_in gives_in places a b r
+    → Tells takings_in gives_in places a b (if_of_slot n r)
 tells_own {W} {takings_in} {gives_in} {places} {a} {b} n r is told =
-    subst (λ (l : List RecordModel). Tells takings_in gives_in places a b l) (sym (own_is n r is)) (tells_one told)
+    subst (λ (l : List RecordModel). Tells takings_in gives_in places a b l)
+    (sym (own_is n r is)) (tells_one told)

@@ -1,14 +1,17 @@
 -- A turn, and turns one after another.
-use Rattle.std.proofs.Common.{◌≡◌, ◌+◌, ℕ, List, [], ◌∷◌, ◌++◌, Option, refl, sym, ◌∙◌, ap, subst, map, take}
+use Rattle.std.proofs.Common.{◌≡◌, ◌+◌, ℕ, List, [], ◌∷◌, ◌++◌, Option}
+use Rattle.std.proofs.Common.{refl, sym, ◌∙◌, ap, subst, map, take}
 use Rattle.std.proofs.lemmas.List.{map-append}
 use Rattle.trdp_daemon.specs.declared.link.Link.{Link}
 use Rattle.trdp_daemon.specs.declared.port.Port.{Port}
 use Rattle.trdp_daemon.specs.declared.service.Service.{Service}
 use Rattle.trdp_daemon.specs.Told.{Taking, Give}
-use Rattle.trdp_daemon.specs.Effects.{ServiceState, Effect, Telling, both, still, then_effect, event_effect}
+use Rattle.trdp_daemon.specs.Effects.{ServiceState, Effect, Telling, both}
+use Rattle.trdp_daemon.specs.Effects.{still, then_effect, event_effect}
 use Rattle.trdp_daemon.specs.Links.{Carries}
 use Rattle.trdp_daemon.specs.Services.{Comes, ComesWith, TakesAtPorts, TakesTurn, service_state}
-use Rattle.trdp_daemon.specs.Turns.{Visit, visit_effect, visits_effect, Turn, turn_effect, turns_effect, moment_of}
+use Rattle.trdp_daemon.specs.Turns.{Visit, visit_effect, visits_effect, Turn}
+use Rattle.trdp_daemon.specs.Turns.{turn_effect, turns_effect, moment_of}
 use Rattle.trdp_daemon.proofs.Links.{carries_none, carries_both}
 use Rattle.trdp_daemon.proofs.Tellings.{both_assoc, silence_both}
 
@@ -16,13 +19,16 @@ abbrev pub effect_of : ServiceState → Telling → Effect
 effect_of service telling = record { service = service; telling = telling }
 
 -- one effect after two others
-then_assoc : (e : Effect) (f g : ServiceState → Effect) → then_effect (then_effect e f) g ≡ then_effect e (λ s. then_effect (f s) g)
-then_assoc e f g = ap (effect_of (g (f e.service).service).service) (both_assoc e.telling (f e.service).telling (g (f e.service).service).telling)
+then_assoc : (e : Effect) (f g : ServiceState → Effect)
+    → then_effect (then_effect e f) g ≡ then_effect e (λ s. then_effect (f s) g)
+then_assoc e f g = ap (effect_of (g (f e.service).service).service)
+    (both_assoc e.telling (f e.service).telling (g (f e.service).service).telling)
 
 still_then : (s : ServiceState) (f : ServiceState → Effect) → then_effect (still s) f ≡ f s
 still_then s f = ap (effect_of (f s).service) (silence_both (f s).telling)
 
-visits_append : (s : ServiceState) (xs ys : List Visit) → visits_effect s (xs ++ ys) ≡ then_effect (visits_effect s xs) (λ after. visits_effect after ys)
+visits_append : (s : ServiceState) (xs ys : List Visit) → visits_effect s (xs ++ ys)
+    ≡ then_effect (visits_effect s xs) (λ after. visits_effect after ys)
 visits_append s [] ys = sym (still_then s (λ after. visits_effect after ys))
 visits_append s (x ∷ xs) ys =
     let first = visit_effect s x in
@@ -30,7 +36,8 @@ visits_append s (x ∷ xs) ys =
     ap (λ e. effect_of e.service (both first.telling e.telling)) later
     ∙ sym (then_assoc first (λ after. visits_effect after xs) (λ after. visits_effect after ys))
 
-pub turns_append : (s : ServiceState) (xs ys : List Turn) → turns_effect s (xs ++ ys) ≡ then_effect (turns_effect s xs) (λ after. turns_effect after ys)
+pub turns_append : (s : ServiceState) (xs ys : List Turn)
+    → turns_effect s (xs ++ ys) ≡ then_effect (turns_effect s xs) (λ after. turns_effect after ys)
 turns_append s [] ys = sym (still_then s (λ after. turns_effect after ys))
 turns_append s (x ∷ xs) ys =
     let first = turn_effect s x in
@@ -39,39 +46,72 @@ turns_append s (x ∷ xs) ys =
     ∙ sym (then_assoc first (λ after. turns_effect after xs) (λ after. turns_effect after ys))
 
 -- what comes one after another
-pub comes_both : {W : Type 0} {takings_in : W → Option (List Taking)} {gives_in : W → Option (List Give)} {r s t : Service} {a b c : Link W} {ts us : List Taking} {e : Effect} (f : ServiceState → Effect)
-    → Comes takings_in gives_in r s a b ts e → Comes takings_in gives_in s t b c us (f (service_state s)) → Comes takings_in gives_in r t a c (ts ++ us) (then_effect e f)
+pub comes_both : {W : Type 0} {takings_in : W → Option (List Taking)}
+    {gives_in : W → Option (List Give)} {r s t : Service} {a b c : Link W}
+    {ts us : List Taking} {e : Effect} (f : ServiceState → Effect)
+    → Comes takings_in gives_in r s a b ts e
+    → Comes takings_in gives_in s t b c us (f (service_state s))
+    → Comes takings_in gives_in r t a c (ts ++ us) (then_effect e f)
 comes_both {W} {takings_in} {gives_in} {r} {s} {t} {a} {b} {c} {ts} {us} {e} f p q = record {
   service_is = q.service_is ∙ ap (λ x. (f x).service) p.service_is;
-  carried = carries_both p.carried (subst (λ (x : ServiceState). Carries takings_in gives_in b c us (f x).telling) p.service_is q.carried);
+  carried = carries_both p.carried (subst (λ (x : ServiceState).
+      Carries takings_in gives_in b c us (f x).telling) p.service_is q.carried);
 }
 
-pub visits_none : {W : Type 0} (takings_in : W → Option (List Taking)) (gives_in : W → Option (List Give)) (s : Service) (a : Link W) → TakesAtPorts takings_in gives_in s s a a []
-visits_none takings_in gives_in s a = record { visits = []; ports_are = refl; comes = record { service_is = refl; carried = carries_none takings_in gives_in a } }
+pub visits_none : {W : Type 0} (takings_in : W → Option (List Taking))
+    (gives_in : W → Option (List Give)) (s : Service) (a : Link W)
+    → TakesAtPorts takings_in gives_in s s a a []
+visits_none takings_in gives_in s a = record {
+  visits = [];
+  ports_are = refl;
+  comes = record { service_is = refl; carried = carries_none takings_in gives_in a };
+}
 
-pub visits_both : {W : Type 0} {takings_in : W → Option (List Taking)} {gives_in : W → Option (List Give)} {r s t : Service} {a b c : Link W} {ps qs : List Port} → TakesAtPorts takings_in gives_in r s a b ps → TakesAtPorts takings_in gives_in s t b c qs → TakesAtPorts takings_in gives_in r t a c (ps ++ qs)
+pub visits_both : {W : Type 0} {takings_in : W → Option (List Taking)}
+    {gives_in : W → Option (List Give)} {r s t : Service} {a b c : Link W} {ps qs : List Port}
+    → TakesAtPorts takings_in gives_in r s a b ps → TakesAtPorts takings_in gives_in s t b c qs
+    → TakesAtPorts takings_in gives_in r t a c (ps ++ qs)
 visits_both {W} {takings_in} {gives_in} {r} {s} {t} {a} {b} {c} {ps} {qs} p q =
-    let first = comes_both {e = visits_effect (service_state r) p.visits} (λ after. visits_effect after q.visits) p.comes q.comes in
-    let taken = subst (λ (l : List Taking). Comes takings_in gives_in r t a c l (then_effect (visits_effect (service_state r) p.visits) (λ after. visits_effect after q.visits))) (sym (map-append (λ v. v.taking) p.visits q.visits)) first in
+    let first = comes_both {e = visits_effect (service_state r) p.visits}
+    (λ after. visits_effect after q.visits) p.comes q.comes in
+    let taken = subst (λ (l : List Taking). Comes takings_in gives_in r t a c l (then_effect
+    (visits_effect (service_state r) p.visits) (λ after. visits_effect after q.visits)))
+    (sym (map-append (λ v. v.taking) p.visits q.visits)) first in
     record {
       visits = p.visits ++ q.visits;
-      ports_are = map-append (λ v. v.taking.port) p.visits q.visits ∙ ap (λ l. l ++ map (λ v. v.taking.port) q.visits) p.ports_are ∙ ap (λ l. ps ++ l) q.ports_are;
-      comes = subst (λ (e : Effect). Comes takings_in gives_in r t a c (map (λ v. v.taking) (p.visits ++ q.visits)) e) (sym (visits_append (service_state r) p.visits q.visits)) taken;
+      ports_are = map-append (λ v. v.taking.port) p.visits q.visits
+          ∙ ap (λ l. l ++ map (λ v. v.taking.port) q.visits) p.ports_are
+          ∙ ap (λ l. ps ++ l) q.ports_are;
+      comes = subst (λ (e : Effect).
+          Comes takings_in gives_in r t a c (map (λ v. v.taking) (p.visits ++ q.visits)) e)
+          (sym (visits_append (service_state r) p.visits q.visits)) taken;
     }
 
 -- one more port
-pub visits_next : {W : Type 0} {takings_in : W → Option (List Taking)} {gives_in : W → Option (List Give)} {r s t : Service} {a b c : Link W} (ports : List Port) (i : ℕ) (port : Port) → take (i + 1) ports ≡ take i ports ++ port ∷ [] → TakesAtPorts takings_in gives_in r s a b (take i ports) → TakesAtPorts takings_in gives_in s t b c (port ∷ []) → TakesAtPorts takings_in gives_in r t a c (take (i + 1) ports)
+pub visits_next : {W : Type 0} {takings_in : W → Option (List Taking)}
+    {gives_in : W → Option (List Give)} {r s t : Service} {a b c : Link W}
+    (ports : List Port) (i : ℕ) (port : Port) → take (i + 1) ports ≡ take i ports ++ port ∷ []
+    → TakesAtPorts takings_in gives_in r s a b (take i ports)
+    → TakesAtPorts takings_in gives_in s t b c (port ∷ [])
+    → TakesAtPorts takings_in gives_in r t a c (take (i + 1) ports)
 visits_next {W} {takings_in} {gives_in} {r} {s} {t} {a} {b} {c} ports i port next p q =
-    subst (λ (l : List Port). TakesAtPorts takings_in gives_in r t a c l) (sym next) (visits_both p q)
+    subst (λ (l : List Port). TakesAtPorts takings_in gives_in r t a c l)
+    (sym next) (visits_both p q)
 
 -- a moment, and then the takes
-pub turn_taken : {W : Type 0} {takings_in : W → Option (List Taking)} {gives_in : W → Option (List Give)} {r s t : Service} {a b c : Link W} (ports : List Port) (reading : ℕ)
-    → ComesWith takings_in gives_in r s a b (event_effect (service_state r) (moment_of r.node reading)) → TakesAtPorts takings_in gives_in s t b c ports → TakesTurn takings_in gives_in r t a c ports reading
+pub turn_taken :
+    {W : Type 0} {takings_in : W → Option (List Taking)} {gives_in : W → Option (List Give)}
+    {r s t : Service} {a b c : Link W} (ports : List Port) (reading : ℕ)
+    → ComesWith takings_in
+    gives_in r s a b (event_effect (service_state r) (moment_of r.node reading))
+    → TakesAtPorts takings_in gives_in s t b c ports
+    → TakesTurn takings_in gives_in r t a c ports reading
 turn_taken {W} {takings_in} {gives_in} {r} {s} {t} {a} {b} {c} ports reading p q =
     let turn : Turn = record { reading = reading; loss = p.loss; visits = q.visits } in
     record {
       turn = turn;
       reading_is = refl;
       takes_at = q.ports_are;
-      comes = comes_both {e = event_effect (service_state r) (moment_of r.node reading) p.loss} (λ after. visits_effect after q.visits) p.comes q.comes;
+      comes = comes_both {e = event_effect (service_state r) (moment_of r.node reading) p.loss}
+          (λ after. visits_effect after q.visits) p.comes q.comes;
     }

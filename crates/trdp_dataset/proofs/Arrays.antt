@@ -1,8 +1,10 @@
 -- The members of arrays.
-use Rattle.std.proofs.Common.{◌≡◌, true, List, [], ◌∷◌, map, Option, Some, refl, sym, ap, ◌∙◌, is_some}
+use Rattle.std.proofs.Common.{◌≡◌, true, List, [], ◌∷◌, map, Option}
+use Rattle.std.proofs.Common.{Some, refl, sym, ap, ◌∙◌, is_some}
 use Rattle.std.specs.List.{list_all, filter_map, cons_option}
 use Rattle.std.proofs.lemmas.List.Folds.{list_all-map}
-use Rattle.toml.specs.Data.{Data, string, integer, float, boolean, datetime, array, table, as_array, as_table}
+use Rattle.toml.specs.Data.{Data, string, integer, float, boolean}
+use Rattle.toml.specs.Data.{datetime, array, table, as_array, as_table}
 use Rattle.toml.specs.View.{view, items_view}
 use Rattle.toml.specs.declared.value.Value.{Value}
 use Rattle.trdp_dataset.specs.Values.{items_list, items_in, is_table, is_tables}
@@ -14,8 +16,10 @@ items_listed [] = refl
 items_listed (v ∷ vs) = ap (λ (ds : List Data). view v ∷ ds) (items_listed vs)
 
 -- the members of an array are those of its data
-pub items_seen : (d : Data) (vs : List Value) → Some (items_view vs) ≡ as_array d → map view vs ≡ items_in d
-items_seen (array ds) vs e = let same : items_view vs ≡ ds = cc in items_listed vs ∙ ap items_list same
+pub items_seen : (d : Data) (vs : List Value)
+    → Some (items_view vs) ≡ as_array d → map view vs ≡ items_in d
+items_seen (array ds) vs e = let same : items_view vs ≡ ds = cc in
+    items_listed vs ∙ ap items_list same
 items_seen (string s) vs e = cc
 items_seen (integer z) vs e = cc
 items_seen (float x) vs e = cc
@@ -24,8 +28,10 @@ items_seen (datetime dt) vs e = cc
 items_seen (table ms) vs e = cc
 
 -- a value is an array of tables where each of its members is one
-pub tables_tested : (d : Data) (vs : List Value) → true ≡ is_some (as_array d) → map view vs ≡ items_in d → list_all (λ (v : Value). is_table (view v)) vs ≡ is_tables d
-tables_tested (array ds) vs there same = sym (list_all-map is_table view vs) ∙ ap (λ (xs : List Data). list_all is_table xs) same
+pub tables_tested : (d : Data) (vs : List Value) → true ≡ is_some (as_array d)
+    → map view vs ≡ items_in d → list_all (λ (v : Value). is_table (view v)) vs ≡ is_tables d
+tables_tested (array ds) vs there same = sym (list_all-map is_table view vs)
+    ∙ ap (λ (xs : List Data). list_all is_table xs) same
 tables_tested (string s) vs there same = cc
 tables_tested (integer z) vs there same = cc
 tables_tested (float x) vs there same = cc
@@ -34,10 +40,13 @@ tables_tested (datetime dt) vs there same = cc
 tables_tested (table ms) vs there same = cc
 
 -- what is made of each item of a list made of another
-pub filter_map-map : {A B C : Type 0} → (g : B → Option C) (f : A → B) (xs : List A) → filter_map (λ x. g (f x)) xs ≡ filter_map g (map f xs)
+pub filter_map-map : {A B C : Type 0} → (g : B → Option C) (f : A → B) (xs : List A)
+    → filter_map (λ x. g (f x)) xs ≡ filter_map g (map f xs)
 filter_map-map g f [] = refl
 filter_map-map g f (x ∷ xs) = ap (cons_option (g (f x))) (filter_map-map g f xs)
 
 -- the tables among the members of an array are those that its data has
-pub members_seen : (found : Option Data) (d : Data) (vs : List Value) → Some d ≡ found → map view vs ≡ items_in d → tables_seen vs ≡ tables_in found
-members_seen found d vs e same = filter_map-map as_table view vs ∙ (ap (λ (ds : List Data). filter_map as_table ds) same ∙ ap tables_in e)
+pub members_seen : (found : Option Data) (d : Data) (vs : List Value)
+    → Some d ≡ found → map view vs ≡ items_in d → tables_seen vs ≡ tables_in found
+members_seen found d vs e same = filter_map-map as_table view vs
+    ∙ (ap (λ (ds : List Data). filter_map as_table ds) same ∙ ap tables_in e)

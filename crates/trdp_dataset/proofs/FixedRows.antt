@@ -1,5 +1,6 @@
 -- Of each dataset whether its values take as many bytes.
-use Rattle.std.proofs.Common.{◌≡◌, ℕ, zero, suc, Bool, true, false, List, [], ◌∷◌, length, get_or, map, replicate, Some, None, option_map, refl, sym, ap, ◌∙◌}
+use Rattle.std.proofs.Common.{◌≡◌, ℕ, zero, suc, Bool, true, false, List, [], ◌∷◌, length}
+use Rattle.std.proofs.Common.{get_or, map, replicate, Some, None, option_map, refl, sym, ap, ◌∙◌}
 use Rattle.std.specs.Prelude.{slice_get}
 use Rattle.std.proofs.lemmas.Option.{get_or_from_slice_get}
 use Rattle.trdp_dataset.specs.Datasets.{DatasetModel, elements_of, is_known}
@@ -13,7 +14,8 @@ pub unknown_fixed : (registry : List DatasetModel) (depth id : ℕ) → false �
 unfolding is_fixed
 unknown_fixed registry zero id unknown = refl
 unknown_fixed registry (suc depth) id unknown =
-    sym (ap (elements_fixed (is_fixed registry depth)) (none_found (elements_of registry id) (sym unknown)))
+    sym (ap (elements_fixed (is_fixed registry depth))
+    (none_found (elements_of registry id) (sym unknown)))
 
 -- at depth 0 there are none
 pub none_fixed : (registry ds : List DatasetModel)
@@ -25,11 +27,13 @@ none_fixed registry (d ∷ ds) = ap (λ xs. false ∷ xs) (none_fixed registry d
 -- what is stored for an identifier is whether its dataset is of one length
 pub fixed_found : (registry : List DatasetModel) (fixed : List Bool) (id i : ℕ) (b : Bool)
     → fixed ≡ fixed_row registry 5
-    → option_map (λ (d : DatasetModel). d.id) (slice_get registry i) ≡ Some id → b ≡ get_or fixed i b
+    → option_map (λ (d : DatasetModel). d.id) (slice_get registry i) ≡ Some id
+    → b ≡ get_or fixed i b
     → b ≡ is_fixed registry 5 id
 fixed_found registry fixed id i b stored at is =
     is ∙ (ap (λ (row : List Bool). get_or row i b) stored
-    ∙ get_or_from_slice_get (fixed_row registry 5) i (is_fixed registry 5 id) b (value_found registry (is_fixed registry 5) id i at))
+    ∙ get_or_from_slice_get (fixed_row registry 5)
+    i (is_fixed registry 5 id) b (value_found registry (is_fixed registry 5) id i at))
 
 pub fixed_when : (registry : List DatasetModel) (id : ℕ) → is_fixed registry 5 id ≡ true
     → fixed_size registry id ≡ Some (zero_size registry id)

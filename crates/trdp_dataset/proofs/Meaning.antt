@@ -13,15 +13,26 @@ use Rattle.trdp_dataset.proofs.Singles.{least_single, dataset_own, never_toml_of
 use Rattle.trdp_dataset.specs.Configs.{Reads, unless}
 
 -- a file that is a table isn't none
-never_toml : (positions : List PositionModel) (ds : List DatasetModel) → fault_in positions ds ≡ Some Toml → ⊥
+never_toml : (positions : List PositionModel) (ds : List DatasetModel)
+    → fault_in positions ds ≡ Some Toml → ⊥
 unfolding fault_in
-never_toml positions ds e = never_toml_of (least_fault (map fault_at positions)) (dataset_fault ds) (least_single positions) (dataset_own ds) e
+never_toml positions ds e = never_toml_of (least_fault (map fault_at positions))
+    (dataset_fault ds) (least_single positions) (dataset_own ds) e
 
--- a call that parsed a file and then answered by its positions and datasets reads what the file means
-pub reads : {A : Type 0} → (meaning : Members → Result A ConfigFault) (positions : List PositionModel) (ds : List DatasetModel) (value : A) (bytes : List ℕ) (top : Members) (result : Result A ConfigFault)
-    → IsUtf8 bytes → parse_document bytes ≡ Some top → meaning top ≡ unless (fault_in positions ds) value → IfOk result (λ x. x ≡ value) → Answers (fault_in positions ds) result → Reads meaning bytes result
-reads meaning positions ds value bytes top (Ok x) text parsed means same answers =
-    (text, (top, parsed, ap (λ y. Ok y) same ∙ (ap (λ o. unless o value) (sym answers) ∙ sym means)))
-reads meaning positions ds value bytes top (Err Toml) text parsed means same answers = absurd (never_toml positions ds answers)
+-- a call that parsed a file and then answered by its positions and datasets reads what the file
+-- means
+pub reads : {A : Type 0} → (meaning : Members → Result A ConfigFault)
+    (positions : List PositionModel) (ds : List DatasetModel)
+    (value : A) (bytes : List ℕ) (top : Members) (result : Result A ConfigFault)
+    → IsUtf8 bytes → parse_document bytes ≡ Some top
+    → meaning top ≡ unless (fault_in positions ds) value → IfOk result (λ x. x ≡ value)
+    → Answers (fault_in positions ds) result → Reads meaning bytes result
+reads meaning positions ds value bytes top (Ok x) text parsed means same answers = (
+  text,
+  (top, parsed, ap (λ y. Ok y) same ∙ (ap (λ o. unless o value) (sym answers) ∙ sym means)),
+)
+reads meaning positions ds value bytes top (Err Toml) text parsed means same answers =
+    absurd (never_toml positions ds answers)
 reads meaning positions ds value bytes top (Err OutOfMemory) text parsed means same answers = tt
-reads meaning positions ds value bytes top (Err fault) text parsed means same answers = (text, (top, parsed, ap (λ o. unless o value) (sym answers) ∙ sym means))
+reads meaning positions ds value bytes top (Err fault) text parsed means same answers =
+    (text, (top, parsed, ap (λ o. unless o value) (sym answers) ∙ sym means))

@@ -2,19 +2,24 @@
 use Rattle.std.proofs.Common.{◌≡◌, ◌≤◌, List, ◌++◌, length, map, None}
 use Rattle.toml.specs.Data.{Members}
 use Rattle.trdp_dataset.specs.Datasets.{DatasetModel}
-use Rattle.trdp_dataset.specs.Positions.{PositionModel, node_positions, slot_positions, dataset_positions, all_positions}
+use Rattle.trdp_dataset.specs.Positions.{PositionModel, node_positions, slot_positions}
+use Rattle.trdp_dataset.specs.Positions.{dataset_positions, all_positions}
 use Rattle.trdp_dataset.specs.Faults.{fault_at, least_fault, dataset_fault, fault_in}
 use Rattle.trdp_dataset.specs.Configs.{slots_in}
 use Rattle.trdp_dataset.proofs.Least.{neither, none_least}
 use Rattle.trdp_dataset.proofs.Filled.{AreGood, good_front, good_back, some_slots}
 
 -- no position of a file without a fault has one
-pub clean : (positions : List PositionModel) (ds : List DatasetModel) → fault_in positions ds ≡ None → AreGood positions
+pub clean : (positions : List PositionModel) (ds : List DatasetModel)
+    → fault_in positions ds ≡ None → AreGood positions
 unfolding fault_in
-clean positions ds e = none_least positions (neither (least_fault (map fault_at positions)) (dataset_fault ds) e).0
+clean positions ds e =
+    none_least positions (neither (least_fault (map fault_at positions)) (dataset_fault ds) e).0
 
 -- there are 1 to 16 slots
-pub slots_counted : (top : Members) (ds : List DatasetModel) → fault_in (all_positions top) ds ≡ None → (1 ≤ length (slots_in top)) × (length (slots_in top) ≤ 16)
+pub slots_counted : (top : Members) (ds : List DatasetModel) → fault_in (all_positions top) ds
+    ≡ None → (1 ≤ length (slots_in top)) × (length (slots_in top) ≤ 16)
 unfolding all_positions
 slots_counted top ds e =
-    some_slots top (good_back (node_positions top) (slot_positions top) (good_front (node_positions top ++ slot_positions top) (dataset_positions top) (clean (all_positions top) ds e)))
+    some_slots top (good_back (node_positions top) (slot_positions top) (good_front (node_positions
+    top ++ slot_positions top) (dataset_positions top) (clean (all_positions top) ds e)))

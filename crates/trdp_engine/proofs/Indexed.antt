@@ -1,38 +1,47 @@
--- The index by comId stays the image of the slots' objects, as they come, change and go.
-use Rattle.std.proofs.Common.{◌≡◌, ◌≢◌, ℕ, zero, suc, ◌+◌, ◌<◌, List, [], ◌∷◌, ◌++◌, length, map, set, filter, not, Option, Some, None, Bool, true, false, refl, ◌∙◌, sym, ap, subst, arith, append_assoc, append-nil}
-use Rattle.std.specs.Prelude.{◌==◌}
+-- The index by comId stays the image of the slots' objects, as they come.
+use Rattle.std.proofs.Common.{◌≡◌, ◌≢◌, ℕ, zero, suc, ◌+◌, ◌<◌, List, [], ◌∷◌, ◌++◌}
+use Rattle.std.proofs.Common.{length, set, Option, Some, None, Bool, true, false, refl}
+use Rattle.std.proofs.Common.{◌∙◌, sym, ap, subst, arith, append_assoc, append-nil}
 use Rattle.std.proofs.lemmas.Bool.{false≢true}
 use Rattle.std.proofs.lemmas.Bool.Decides.{nat_tests}
-use Rattle.std.proofs.lemmas.List.Elements.{filter-append}
 use Rattle.trdp_filter.specs.declared.globals.Globals.{Globals}
 use Rattle.trdp_filter.specs.Telegrams.{TelegramModel, PdIs, MdIs}
 use Rattle.trdp_pd.specs.Publishers.{is_answered, may_send}
 use Rattle.trdp_pd.specs.Subscriptions.{is_accepted}
 use Rattle.trdp_table.specs.declared.any_object.AnyObject.{AnyObject}
-use Rattle.trdp_table.specs.declared.any_object.AnyObject.TheVariants.{Publisher, Subscription, Requester, Listener, Caller, Replier}
+use Rattle.trdp_table.specs.declared.any_object.AnyObject.TheVariants.{Publisher, Subscription}
+use Rattle.trdp_table.specs.declared.any_object.AnyObject.TheVariants.{Requester, Listener}
+use Rattle.trdp_table.specs.declared.any_object.AnyObject.TheVariants.{Caller, Replier}
 use Rattle.trdp_table.specs.Objects.{after_taking, after_firing}
-use Rattle.trdp_table.specs.Tables.{Keyed, TableState, slot_in, by_handle, new_object, with_object, without as without_keyed, other_by_handle, with_other_by_handle}
-use Rattle.trdp_table.specs.TableLaws.{AllBelow, IsRising}
+use Rattle.trdp_table.specs.Tables.{Keyed, TableState, slot_in, new_object, with_object}
+use Rattle.trdp_table.specs.TableLaws.{AllBelow}
 use Rattle.trdp_index.specs.declared.rank.Rank.{Rank}
 use Rattle.trdp_index.specs.declared.com_row.ComRow.{ComRow}
 use Rattle.trdp_index.specs.Ranks.{is_before, is_same}
-use Rattle.trdp_index.specs.Rows.{AllBefore, NoneBefore, with_row, without}
+use Rattle.trdp_index.specs.Rows.{AllBefore, NoneBefore, with_row}
 use Rattle.trdp_index.specs.ComRows.{com_number, com_rank, com_row_rank, is_same_com}
-use Rattle.trdp_engine.proofs.Counted.{AreAs, are_as}
-use Rattle.trdp_engine.specs.Indexed.{com_of, is_com, is_listed, listed_as, rows_in, rows_from, run_with, run_without}
+use Rattle.trdp_engine.specs.Indexed.{com_of, is_com, is_listed, listed_as}
+use Rattle.trdp_engine.specs.Indexed.{rows_in, rows_from, run_with}
 
 -- An object keeps the comId that telegrams look for it under.
 
-pub com-taking : (object : AnyObject) (telegram : TelegramModel) (globals : Globals) (fits : Bool) → com_of (after_taking object telegram globals fits) ≡ com_of object
-com-taking (Publisher p) (PdIs src dst telegram) globals fits = either (is_answered p telegram.head globals) refl
+pub com-taking : (object : AnyObject) (telegram : TelegramModel) (globals : Globals) (fits : Bool)
+    → com_of (after_taking object telegram globals fits) ≡ com_of object
+com-taking (Publisher p) (PdIs src dst telegram) globals fits =
+    either (is_answered p telegram.head globals) refl
   where
-    either : (b : Bool) → is_answered p telegram.head globals ≡ b → com_of (after_taking (Publisher p) (PdIs src dst telegram) globals fits) ≡ com_of (Publisher p)
+    either : (b : Bool) → is_answered p telegram.head globals ≡ b
+        → com_of (after_taking (Publisher p) (PdIs src dst telegram) globals fits)
+        ≡ com_of (Publisher p)
     either true is = rw is refl
     either false is = rw is refl
 com-taking (Publisher p) (MdIs src dst telegram) globals fits = refl
-com-taking (Subscription s) (PdIs src dst telegram) globals fits = either (is_accepted s src dst telegram.head globals fits) refl
+com-taking (Subscription s) (PdIs src dst telegram) globals fits =
+    either (is_accepted s src dst telegram.head globals fits) refl
   where
-    either : (b : Bool) → is_accepted s src dst telegram.head globals fits ≡ b → com_of (after_taking (Subscription s) (PdIs src dst telegram) globals fits) ≡ com_of (Subscription s)
+    either : (b : Bool) → is_accepted s src dst telegram.head globals fits ≡ b
+        → com_of (after_taking (Subscription s) (PdIs src dst telegram) globals fits)
+        ≡ com_of (Subscription s)
     either true is = rw is refl
     either false is = rw is refl
 com-taking (Subscription s) (MdIs src dst telegram) globals fits = refl
@@ -41,10 +50,12 @@ com-taking (Listener l) telegram globals fits = refl
 com-taking (Caller c) telegram globals fits = refl
 com-taking (Replier r) telegram globals fits = refl
 
-pub com-firing : (object : AnyObject) (globals : Globals) → com_of (after_firing object globals) ≡ com_of object
+pub com-firing : (object : AnyObject) (globals : Globals)
+    → com_of (after_firing object globals) ≡ com_of object
 com-firing (Publisher p) globals = either (may_send p globals) refl
   where
-    either : (b : Bool) → may_send p globals ≡ b → com_of (after_firing (Publisher p) globals) ≡ com_of (Publisher p)
+    either : (b : Bool) → may_send p globals ≡ b
+        → com_of (after_firing (Publisher p) globals) ≡ com_of (Publisher p)
     either true is = rw is refl
     either false is = rw is refl
 com-firing (Subscription s) globals = refl
@@ -73,27 +84,33 @@ same_number (Some a) (Some b) same = let e : a ≡ b = omega (arith, same) in ap
 
 -- The order of rows.
 
-before_slot : (n a b h g : ℕ) → a < b → is_before (record { first = n; slot = a; last = h }) (record { first = n; slot = b; last = g }) ≡ true
+before_slot : (n a b h g : ℕ) → a < b → is_before (record { first = n; slot = a; last = h })
+    (record { first = n; slot = b; last = g }) ≡ true
 unfolding is_before
 before_slot n a b h g lt = grind (arith, nat_tests)
 
-before_handle : (n a h g : ℕ) → h < g → is_before (record { first = n; slot = a; last = h }) (record { first = n; slot = a; last = g }) ≡ true
+before_handle : (n a h g : ℕ) → h < g → is_before (record { first = n; slot = a; last = h })
+    (record { first = n; slot = a; last = g }) ≡ true
 unfolding is_before
 before_handle n a h g lt = grind (arith, nat_tests)
 
-not_before : (n a b h g : ℕ) → b < a → is_before (record { first = n; slot = a; last = h }) (record { first = n; slot = b; last = g }) ≡ false
+not_before : (n a b h g : ℕ) → b < a → is_before (record { first = n; slot = a; last = h })
+    (record { first = n; slot = b; last = g }) ≡ false
 unfolding is_before
 not_before n a b h g lt = grind (arith, nat_tests)
 
-pub same_self : (n a h : ℕ) → is_same (record { first = n; slot = a; last = h }) (record { first = n; slot = a; last = h }) ≡ true
+pub same_self : (n a h : ℕ) → is_same (record { first = n; slot = a; last = h })
+    (record { first = n; slot = a; last = h }) ≡ true
 unfolding is_same
 same_self n a h = grind (arith, nat_tests)
 
-pub other_slot : (n m a b h g : ℕ) → a ≢ b → is_same (record { first = n; slot = a; last = h }) (record { first = m; slot = b; last = g }) ≡ false
+pub other_slot : (n m a b h g : ℕ) → a ≢ b → is_same (record { first = n; slot = a; last = h })
+    (record { first = m; slot = b; last = g }) ≡ false
 unfolding is_same
 other_slot n m a b h g apart = grind (arith, nat_tests)
 
-pub other_handle : (n m a b h g : ℕ) → h ≢ g → is_same (record { first = n; slot = a; last = h }) (record { first = m; slot = b; last = g }) ≡ false
+pub other_handle : (n m a b h g : ℕ) → h ≢ g → is_same (record { first = n; slot = a; last = h })
+    (record { first = m; slot = b; last = g }) ≡ false
 unfolding is_same
 other_handle n m a b h g apart = grind (arith, nat_tests)
 
@@ -103,201 +120,153 @@ same_first x y same = grind (arith, nat_tests)
 
 -- A row more.
 
-with_row-before : (r : ComRow) (xs ys : List ComRow) → AllBefore com_row_rank (com_row_rank r) xs → with_row com_row_rank r (xs ++ ys) ≡ xs ++ with_row com_row_rank r ys
+with_row-before : (r : ComRow) (xs ys : List ComRow) → AllBefore com_row_rank (com_row_rank r) xs
+    → with_row com_row_rank r (xs ++ ys) ≡ xs ++ with_row com_row_rank r ys
 with_row-before r [] ys before = refl
-with_row-before r (x ∷ xs) ys before = rw before.0 (ap (λ (zs : List ComRow). x ∷ zs) (with_row-before r xs ys before.1))
+with_row-before r (x ∷ xs) ys before =
+    rw before.0 (ap (λ (zs : List ComRow). x ∷ zs) (with_row-before r xs ys before.1))
 
-with_row-first : (r : ComRow) (ys : List ComRow) → NoneBefore com_row_rank (com_row_rank r) ys → with_row com_row_rank r ys ≡ r ∷ ys
+with_row-first : (r : ComRow) (ys : List ComRow)
+    → NoneBefore com_row_rank (com_row_rank r) ys → with_row com_row_rank r ys ≡ r ∷ ys
 with_row-first r [] none = refl
 with_row-first r (y ∷ ys) none = rw none.0 refl
 
-NoneBefore-append : (k : Rank) (xs ys : List ComRow) → NoneBefore com_row_rank k xs → NoneBefore com_row_rank k ys → NoneBefore com_row_rank k (xs ++ ys)
+NoneBefore-append : (k : Rank) (xs ys : List ComRow) → NoneBefore com_row_rank k xs
+    → NoneBefore com_row_rank k ys → NoneBefore com_row_rank k (xs ++ ys)
 NoneBefore-append k [] ys none others = others
 NoneBefore-append k (x ∷ xs) ys none others = (none.0, NoneBefore-append k xs ys none.1 others)
 
 -- rows of earlier slots come before
-before_in : (t s h : ℕ) (com_id : Option ℕ) (es : List Keyed) → t < s → AllBefore com_row_rank (com_rank com_id s h) (rows_in t com_id es)
+before_in : (t s h : ℕ) (com_id : Option ℕ) (es : List Keyed)
+    → t < s → AllBefore com_row_rank (com_rank com_id s h) (rows_in t com_id es)
 before_in t s h com_id [] lt = tt
-before_in t s h com_id (e ∷ es) lt = either (is_listed com_id e.object) refl (before_in t s h com_id es lt)
+before_in t s h com_id (e ∷ es) lt =
+    either (is_listed com_id e.object) refl (before_in t s h com_id es lt)
   where
-    either : (b : Bool) → is_listed com_id e.object ≡ b → AllBefore com_row_rank (com_rank com_id s h) (rows_in t com_id es) → AllBefore com_row_rank (com_rank com_id s h) (rows_in t com_id (e ∷ es))
+    either : (b : Bool) → is_listed com_id e.object ≡ b
+        → AllBefore com_row_rank (com_rank com_id s h) (rows_in t com_id es)
+        → AllBefore com_row_rank (com_rank com_id s h) (rows_in t com_id (e ∷ es))
     either true is rest = rw is (before_slot (com_number com_id) t s e.handle h lt, rest)
     either false is rest = rw is rest
 
 -- rows of the same slot with lower handles too
-before_same : (t s n : ℕ) (com_id : Option ℕ) (es : List Keyed) → t ≡ s → AllBelow n es → AllBefore com_row_rank (com_rank com_id s n) (rows_in t com_id es)
+before_same : (t s n : ℕ) (com_id : Option ℕ) (es : List Keyed)
+    → t ≡ s → AllBelow n es → AllBefore com_row_rank (com_rank com_id s n) (rows_in t com_id es)
 before_same t s n com_id [] same below = tt
-before_same t s n com_id (e ∷ es) same below = either (is_listed com_id e.object) refl (before_same t s n com_id es same below.1)
+before_same t s n com_id (e ∷ es) same below =
+    either (is_listed com_id e.object) refl (before_same t s n com_id es same below.1)
   where
     here : is_before (com_rank com_id t e.handle) (com_rank com_id s n) ≡ true
     here =
         subst (λ (m : ℕ). is_before (com_rank com_id t e.handle) (com_rank com_id m n) ≡ true) same
         (before_handle (com_number com_id) t e.handle n below.0)
 
-    either : (b : Bool) → is_listed com_id e.object ≡ b → AllBefore com_row_rank (com_rank com_id s n) (rows_in t com_id es) → AllBefore com_row_rank (com_rank com_id s n) (rows_in t com_id (e ∷ es))
+    either : (b : Bool) → is_listed com_id e.object ≡ b
+        → AllBefore com_row_rank (com_rank com_id s n) (rows_in t com_id es)
+        → AllBefore com_row_rank (com_rank com_id s n) (rows_in t com_id (e ∷ es))
     either true is rest = rw is (here, rest)
     either false is rest = rw is rest
 
-none_in : (t s h : ℕ) (com_id : Option ℕ) (es : List Keyed) → s < t → NoneBefore com_row_rank (com_rank com_id s h) (rows_in t com_id es)
+none_in : (t s h : ℕ) (com_id : Option ℕ) (es : List Keyed)
+    → s < t → NoneBefore com_row_rank (com_rank com_id s h) (rows_in t com_id es)
 none_in t s h com_id [] lt = tt
-none_in t s h com_id (e ∷ es) lt = either (is_listed com_id e.object) refl (none_in t s h com_id es lt)
+none_in t s h com_id (e ∷ es) lt =
+    either (is_listed com_id e.object) refl (none_in t s h com_id es lt)
   where
-    either : (b : Bool) → is_listed com_id e.object ≡ b → NoneBefore com_row_rank (com_rank com_id s h) (rows_in t com_id es) → NoneBefore com_row_rank (com_rank com_id s h) (rows_in t com_id (e ∷ es))
+    either : (b : Bool) → is_listed com_id e.object ≡ b
+        → NoneBefore com_row_rank (com_rank com_id s h) (rows_in t com_id es)
+        → NoneBefore com_row_rank (com_rank com_id s h) (rows_in t com_id (e ∷ es))
     either true is rest = rw is (not_before (com_number com_id) t s e.handle h lt, rest)
     either false is rest = rw is rest
 
-none_from : (b s h : ℕ) (com_id : Option ℕ) (slots : TableState) → s < b → NoneBefore com_row_rank (com_rank com_id s h) (rows_from b com_id slots)
+none_from : (b s h : ℕ) (com_id : Option ℕ) (slots : TableState)
+    → s < b → NoneBefore com_row_rank (com_rank com_id s h) (rows_from b com_id slots)
 none_from b s h com_id [] lt = tt
 none_from b s h com_id (x ∷ xs) lt =
-    NoneBefore-append (com_rank com_id s h) (rows_in b com_id x.objects) (rows_from (b + 1) com_id xs) (none_in b s h com_id x.objects lt) (none_from (b + 1) s h com_id xs (omega (arith, lt)))
+    NoneBefore-append (com_rank com_id s h) (rows_in b com_id x.objects)
+    (rows_from (b + 1) com_id xs) (none_in b s h com_id x.objects lt)
+    (none_from (b + 1) s h com_id xs (omega (arith, lt)))
 
-rows_in-append : (s : ℕ) (com_id : Option ℕ) (xs ys : List Keyed) → rows_in s com_id (xs ++ ys) ≡ rows_in s com_id xs ++ rows_in s com_id ys
+rows_in-append : (s : ℕ) (com_id : Option ℕ) (xs ys : List Keyed)
+    → rows_in s com_id (xs ++ ys) ≡ rows_in s com_id xs ++ rows_in s com_id ys
 rows_in-append s com_id [] ys = refl
-rows_in-append s com_id (e ∷ xs) ys = either (is_listed com_id e.object) refl (rows_in-append s com_id xs ys)
+rows_in-append s com_id (e ∷ xs) ys =
+    either (is_listed com_id e.object) refl (rows_in-append s com_id xs ys)
   where
-    either : (b : Bool) → is_listed com_id e.object ≡ b → rows_in s com_id (xs ++ ys) ≡ rows_in s com_id xs ++ rows_in s com_id ys → rows_in s com_id (e ∷ xs ++ ys) ≡ rows_in s com_id (e ∷ xs) ++ rows_in s com_id ys
+    either : (b : Bool) → is_listed com_id e.object ≡ b
+        → rows_in s com_id (xs ++ ys) ≡ rows_in s com_id xs ++ rows_in s com_id ys
+        → rows_in s com_id (e ∷ xs ++ ys) ≡ rows_in s com_id (e ∷ xs) ++ rows_in s com_id ys
     either true is rest = rw is (ap (λ (r : List ComRow). listed_as s com_id e ∷ r) rest)
     either false is rest = rw is rest
 
 -- a new object that telegrams look for under the comId
-inserted : (b i s key : ℕ) (com_id : Option ℕ) (object : AnyObject) (slots : TableState) → s ≡ b + i → i < length slots → AllBelow (slot_in i slots).next (slot_in i slots).objects → is_listed com_id object ≡ true → with_row com_row_rank (record { com_id = com_id; slot = s; handle = (slot_in i slots).next; key = key }) (rows_from b com_id slots) ≡ rows_from b com_id (set slots i (with_object key object (slot_in i slots)))
+inserted : (b i s key : ℕ) (com_id : Option ℕ) (object : AnyObject) (slots : TableState)
+    → s ≡ b + i → i < length slots → AllBelow (slot_in i slots).next (slot_in i slots).objects
+    → is_listed com_id object ≡ true → with_row com_row_rank (record {
+      com_id = com_id;
+      slot = s;
+      handle = (slot_in i slots).next;
+      key = key;
+    }) (rows_from b com_id slots)
+    ≡ rows_from b com_id (set slots i (with_object key object (slot_in i slots)))
 inserted b i s key com_id object [] of lt below listed = absurd (omega arith)
 inserted b zero s key com_id object (x ∷ xs) of lt below listed =
     let same : b ≡ s = omega (arith, of) in
     let r : ComRow = record { com_id = com_id; slot = s; handle = x.next; key = key } in
-    let there : rows_in b com_id (x.objects ++ new_object x.next key object ∷ []) ≡ rows_in b com_id x.objects ++ r ∷ [] =
+    let there : rows_in b com_id (x.objects ++ new_object x.next key object ∷ [])
+    ≡ rows_in b com_id x.objects ++ r ∷ [] =
     rows_in-append b com_id x.objects (new_object x.next key object ∷ [])
-    ∙ rw listed (ap (λ (n : ℕ). let q : ComRow = record { com_id = com_id; slot = n; handle = x.next; key = key } in rows_in b com_id x.objects ++ q ∷ []) same) in
-    with_row-before r (rows_in b com_id x.objects) (rows_from (b + 1) com_id xs) (before_same b s x.next com_id x.objects same below)
-    ∙ (ap (λ (zs : List ComRow). rows_in b com_id x.objects ++ zs) (with_row-first r (rows_from (b + 1) com_id xs) (none_from (b + 1) s x.next com_id xs (omega (arith, of))))
+    ∙ rw listed (ap (λ (n : ℕ). let q : ComRow =
+    record { com_id = com_id; slot = n; handle = x.next; key = key } in
+    rows_in b com_id x.objects ++ q ∷ []) same) in
+    with_row-before r (rows_in b com_id x.objects)
+    (rows_from (b + 1) com_id xs) (before_same b s x.next com_id x.objects same below)
+    ∙ (ap (λ (zs : List ComRow). rows_in b com_id x.objects ++ zs) (with_row-first r
+    (rows_from (b + 1) com_id xs) (none_from (b + 1) s x.next com_id xs (omega (arith, of))))
     ∙ (sym (append_assoc (rows_in b com_id x.objects) (r ∷ []) (rows_from (b + 1) com_id xs))
     ∙ ap (λ (zs : List ComRow). zs ++ rows_from (b + 1) com_id xs) (sym there)))
 inserted b (suc i) s key com_id object (x ∷ xs) of lt below listed =
-    let r : ComRow = record { com_id = com_id; slot = s; handle = (slot_in i xs).next; key = key } in
-    with_row-before r (rows_in b com_id x.objects) (rows_from (b + 1) com_id xs) (before_in b s (slot_in i xs).next com_id x.objects (omega (arith, of)))
-    ∙ ap (λ (zs : List ComRow). rows_in b com_id x.objects ++ zs) (inserted (b + 1) i s key com_id object xs (omega (arith, of)) (omega (arith, lt)) below listed)
+    let r : ComRow =
+    record { com_id = com_id; slot = s; handle = (slot_in i xs).next; key = key } in
+    with_row-before r (rows_in b com_id x.objects) (rows_from (b + 1) com_id xs)
+    (before_in b s (slot_in i xs).next com_id x.objects (omega (arith, of)))
+    ∙ ap (λ (zs : List ComRow). rows_in b com_id x.objects ++ zs) (inserted (b + 1) i
+    s key com_id object xs (omega (arith, of)) (omega (arith, lt)) below listed)
 
 -- and one that they don't
-passed_over : (b i key : ℕ) (com_id : Option ℕ) (object : AnyObject) (slots : TableState) → is_listed com_id object ≡ false → rows_from b com_id (set slots i (with_object key object (slot_in i slots))) ≡ rows_from b com_id slots
+passed_over : (b i key : ℕ) (com_id : Option ℕ) (object : AnyObject) (slots : TableState)
+    → is_listed com_id object ≡ false → rows_from b
+    com_id (set slots i (with_object key object (slot_in i slots))) ≡ rows_from b com_id slots
 passed_over b i key com_id object [] listed = refl
 passed_over b zero key com_id object (x ∷ xs) listed =
     ap (λ (zs : List ComRow). zs ++ rows_from (b + 1) com_id xs)
-    (rows_in-append b com_id x.objects (new_object x.next key object ∷ []) ∙ rw listed (append-nil (rows_in b com_id x.objects)))
+    (rows_in-append b com_id x.objects (new_object x.next key object ∷ [])
+    ∙ rw listed (append-nil (rows_in b com_id x.objects)))
 passed_over b (suc i) key com_id object (x ∷ xs) listed =
-    ap (λ (zs : List ComRow). rows_in b com_id x.objects ++ zs) (passed_over (b + 1) i key com_id object xs listed)
+    ap (λ (zs : List ComRow). rows_in b com_id x.objects ++ zs)
+    (passed_over (b + 1) i key com_id object xs listed)
 
-pub runs_added : (s key : ℕ) (object : AnyObject) (table : TableState) (com_id : Option ℕ) → s < length table → AllBelow (slot_in s table).next (slot_in s table).objects → run_with (com_of object) s (slot_in s table).next key com_id (rows_from 0 com_id table) ≡ rows_from 0 com_id (set table s (with_object key object (slot_in s table)))
+pub runs_added : (s key : ℕ) (object : AnyObject) (table : TableState) (com_id : Option ℕ)
+    → s < length table → AllBelow (slot_in s table).next (slot_in s table).objects
+    → run_with (com_of object) s (slot_in s table).next key com_id (rows_from 0 com_id table)
+    ≡ rows_from 0 com_id (set table s (with_object key object (slot_in s table)))
 runs_added s key object table com_id lt below = either (com_of object) refl
   where
-    either : (own : Option (Option ℕ)) → com_of object ≡ own → run_with own s (slot_in s table).next key com_id (rows_from 0 com_id table) ≡ rows_from 0 com_id (set table s (with_object key object (slot_in s table)))
+    either : (own : Option (Option ℕ)) → com_of object ≡ own
+        → run_with own s (slot_in s table).next key com_id (rows_from 0 com_id table)
+        ≡ rows_from 0 com_id (set table s (with_object key object (slot_in s table)))
     either None is = sym (passed_over 0 s key com_id object table (ap (is_com com_id) is))
     either (Some own) is = here (is_same_com own com_id) refl
       where
-        here : (b : Bool) → is_same_com own com_id ≡ b → run_with (Some own) s (slot_in s table).next key com_id (rows_from 0 com_id table) ≡ rows_from 0 com_id (set table s (with_object key object (slot_in s table)))
+        here : (b : Bool) → is_same_com own com_id ≡ b
+            → run_with (Some own) s (slot_in s table).next key com_id (rows_from 0 com_id table)
+            ≡ rows_from 0 com_id (set table s (with_object key object (slot_in s table)))
         here true same =
             let com_is : own ≡ com_id = same_com own com_id same in
-            rw same (ap (λ (c : Option ℕ). let r : ComRow = record { com_id = c; slot = s; handle = (slot_in s table).next; key = key } in with_row com_row_rank r (rows_from 0 com_id table)) com_is
-            ∙ inserted 0 s s key com_id object table (omega arith) lt below (ap (is_com com_id) is ∙ same))
-        here false same = rw same (sym (passed_over 0 s key com_id object table (ap (is_com com_id) is ∙ same)))
-
--- A row less.
-
--- those of a handle are looked for so
-abbrev pub AreOf : ℕ → Option (Option ℕ) → List Keyed → Type 0
-AreOf h com_id es = AreAs com_of h com_id es
-
-pub are_of : (h : ℕ) (es : List Keyed) (keyed : Keyed) → IsRising es → by_handle h es ≡ Some keyed → AreOf h (com_of keyed.object) es
-are_of h es keyed rising found = are_as com_of h es keyed rising found
-
-without_one : (t s h : ℕ) (com_id own : Option ℕ) (es : List Keyed) → t ≡ s → AreOf h (Some own) es → rows_in t com_id (filter (λ keyed. not (keyed.handle == h)) es) ≡ without com_row_rank (com_rank own s h) (rows_in t com_id es)
-without_one t s h com_id own [] same are = refl
-without_one t s h com_id own (e ∷ es) same are = either (e.handle == h) refl (is_listed com_id e.object) refl (without_one t s h com_id own es same are.1)
-  where
-    either : (b : Bool) → (e.handle == h) ≡ b → (l : Bool) → is_listed com_id e.object ≡ l → rows_in t com_id (filter (λ keyed. not (keyed.handle == h)) es) ≡ without com_row_rank (com_rank own s h) (rows_in t com_id es) → rows_in t com_id (filter (λ keyed. not (keyed.handle == h)) (e ∷ es)) ≡ without com_row_rank (com_rank own s h) (rows_in t com_id (e ∷ es))
-    either true is true listed rest =
-        let of : e.handle ≡ h = grind (arith, nat_tests) in
-        let com_is : own ≡ com_id = same_com own com_id (sym (ap (is_com com_id) (are.0 of)) ∙ listed) in
-        let gone : is_same (com_rank com_id t e.handle) (com_rank own s h) ≡ true =
-        subst (λ (m : ℕ). is_same (com_rank com_id t e.handle) (com_rank own m h) ≡ true) same
-        (subst (λ (g : ℕ). is_same (com_rank com_id t e.handle) (com_rank own t g) ≡ true) of
-        (subst (λ (c : Option ℕ). is_same (com_rank com_id t e.handle) (com_rank c t e.handle) ≡ true) (sym com_is) (same_self (com_number com_id) t e.handle))) in
-        rw (is, listed, gone) rest
-    either true is false listed rest = rw (is, listed) rest
-    either false is true listed rest =
-        let apart : e.handle ≢ h = grind (arith, nat_tests) in
-        rw (is, listed, other_handle (com_number com_id) (com_number own) t s e.handle h apart) (ap (λ (r : List ComRow). listed_as t com_id e ∷ r) rest)
-    either false is false listed rest = rw (is, listed) rest
-
-without_none : (t h : ℕ) (com_id : Option ℕ) (es : List Keyed) → AreOf h None es → rows_in t com_id (filter (λ keyed. not (keyed.handle == h)) es) ≡ rows_in t com_id es
-without_none t h com_id [] are = refl
-without_none t h com_id (e ∷ es) are = either (e.handle == h) refl (is_listed com_id e.object) refl (without_none t h com_id es are.1)
-  where
-    either : (b : Bool) → (e.handle == h) ≡ b → (l : Bool) → is_listed com_id e.object ≡ l → rows_in t com_id (filter (λ keyed. not (keyed.handle == h)) es) ≡ rows_in t com_id es → rows_in t com_id (filter (λ keyed. not (keyed.handle == h)) (e ∷ es)) ≡ rows_in t com_id (e ∷ es)
-    either true is true listed rest =
-        let of : e.handle ≡ h = grind (arith, nat_tests) in
-        absurd (false≢true (sym (ap (is_com com_id) (are.0 of)) ∙ listed))
-    either true is false listed rest = rw (is, listed) rest
-    either false is true listed rest = rw (is, listed) (ap (λ (r : List ComRow). listed_as t com_id e ∷ r) rest)
-    either false is false listed rest = rw (is, listed) rest
-
--- the rows of other slots stay
-without_other : (t s h : ℕ) (com_id own : Option ℕ) (es : List Keyed) → t ≢ s → without com_row_rank (com_rank own s h) (rows_in t com_id es) ≡ rows_in t com_id es
-without_other t s h com_id own [] apart = refl
-without_other t s h com_id own (e ∷ es) apart = either (is_listed com_id e.object) refl (without_other t s h com_id own es apart)
-  where
-    either : (l : Bool) → is_listed com_id e.object ≡ l → without com_row_rank (com_rank own s h) (rows_in t com_id es) ≡ rows_in t com_id es → without com_row_rank (com_rank own s h) (rows_in t com_id (e ∷ es)) ≡ rows_in t com_id (e ∷ es)
-    either true listed rest =
-        rw (listed, other_slot (com_number com_id) (com_number own) t s e.handle h apart) (ap (λ (r : List ComRow). listed_as t com_id e ∷ r) rest)
-    either false listed rest = rw listed rest
-
-without-append : (k : Rank) (xs ys : List ComRow) → without com_row_rank k (xs ++ ys) ≡ without com_row_rank k xs ++ without com_row_rank k ys
-without-append k xs ys = filter-append (λ row. not (is_same (com_row_rank row) k)) xs ys
-
-without_later : (b s h : ℕ) (com_id own : Option ℕ) (slots : TableState) → s < b → without com_row_rank (com_rank own s h) (rows_from b com_id slots) ≡ rows_from b com_id slots
-without_later b s h com_id own [] lt = refl
-without_later b s h com_id own (x ∷ xs) lt =
-    without-append (com_rank own s h) (rows_in b com_id x.objects) (rows_from (b + 1) com_id xs)
-    ∙ rw (without_other b s h com_id own x.objects (λ e. absurd (omega (arith, e, lt))), without_later (b + 1) s h com_id own xs (omega (arith, lt))) refl
-
-withdrawn : (b i s h : ℕ) (com_id : Option ℕ) (of : Option (Option ℕ)) (slots : TableState) → s ≡ b + i → AreOf h of (slot_in i slots).objects → run_without of s h (rows_from b com_id slots) ≡ rows_from b com_id (set slots i (without_keyed h (slot_in i slots)))
-withdrawn b i s h com_id None [] is are = refl
-withdrawn b i s h com_id (Some own) [] is are = refl
-withdrawn b zero s h com_id None (x ∷ xs) is are =
-    ap (λ (zs : List ComRow). zs ++ rows_from (b + 1) com_id xs) (sym (without_none b h com_id x.objects are))
-withdrawn b zero s h com_id (Some own) (x ∷ xs) is are =
-    without-append (com_rank own s h) (rows_in b com_id x.objects) (rows_from (b + 1) com_id xs)
-    ∙ rw (without_later (b + 1) s h com_id own xs (omega (arith, is))) (ap (λ (zs : List ComRow). zs ++ rows_from (b + 1) com_id xs) (sym (without_one b s h com_id own x.objects (omega (arith, is)) are)))
-withdrawn b (suc i) s h com_id None (x ∷ xs) is are =
-    ap (λ (zs : List ComRow). rows_in b com_id x.objects ++ zs) (withdrawn (b + 1) i s h com_id None xs (omega (arith, is)) are)
-withdrawn b (suc i) s h com_id (Some own) (x ∷ xs) is are =
-    without-append (com_rank own s h) (rows_in b com_id x.objects) (rows_from (b + 1) com_id xs)
-    ∙ rw (without_other b s h com_id own x.objects (λ e. absurd (omega (arith, e, is)))) (ap (λ (zs : List ComRow). rows_in b com_id x.objects ++ zs) (withdrawn (b + 1) i s h com_id (Some own) xs (omega (arith, is)) are))
-
-pub runs_removed : (s h : ℕ) (of : Option (Option ℕ)) (table : TableState) (com_id : Option ℕ) → AreOf h of (slot_in s table).objects → run_without of s h (rows_from 0 com_id table) ≡ rows_from 0 com_id (set table s (without_keyed h (slot_in s table)))
-runs_removed s h of table com_id are = withdrawn 0 s s h com_id of table (omega arith) are
-
--- An object becomes another one, under the same comId.
-
-other_seen : (t h : ℕ) (com_id : Option ℕ) (w : AnyObject) (es : List Keyed) → AreOf h (com_of w) es → rows_in t com_id (map (other_by_handle h w) es) ≡ rows_in t com_id es
-other_seen t h com_id w [] are = refl
-other_seen t h com_id w (e ∷ es) are = either (e.handle == h) refl (is_listed com_id e.object) refl (other_seen t h com_id w es are.1)
-  where
-    either : (b : Bool) → (e.handle == h) ≡ b → (l : Bool) → is_listed com_id e.object ≡ l → rows_in t com_id (map (other_by_handle h w) es) ≡ rows_in t com_id es → rows_in t com_id (map (other_by_handle h w) (e ∷ es)) ≡ rows_in t com_id (e ∷ es)
-    either true is true listed rest =
-        let of : e.handle ≡ h = grind (arith, nat_tests) in
-        let too : is_listed com_id w ≡ true = sym (ap (is_com com_id) (are.0 of)) ∙ listed in
-        rw (is, listed, too) (ap (λ (r : List ComRow). listed_as t com_id e ∷ r) rest)
-    either true is false listed rest =
-        let of : e.handle ≡ h = grind (arith, nat_tests) in
-        let too : is_listed com_id w ≡ false = sym (ap (is_com com_id) (are.0 of)) ∙ listed in
-        rw (is, listed, too) rest
-    either false is true listed rest = rw (is, listed) (ap (λ (r : List ComRow). listed_as t com_id e ∷ r) rest)
-    either false is false listed rest = rw (is, listed) rest
-
-exchanged_rows : (b i h : ℕ) (com_id : Option ℕ) (w : AnyObject) (slots : TableState) → AreOf h (com_of w) (slot_in i slots).objects → rows_from b com_id (set slots i (with_other_by_handle h w (slot_in i slots))) ≡ rows_from b com_id slots
-exchanged_rows b i h com_id w [] are = refl
-exchanged_rows b zero h com_id w (x ∷ xs) are = ap (λ (zs : List ComRow). zs ++ rows_from (b + 1) com_id xs) (other_seen b h com_id w x.objects are)
-exchanged_rows b (suc i) h com_id w (x ∷ xs) are = ap (λ (zs : List ComRow). rows_in b com_id x.objects ++ zs) (exchanged_rows (b + 1) i h com_id w xs are)
-
-pub runs_exchanged : (s h : ℕ) (w : AnyObject) (table : TableState) (com_id : Option ℕ) → AreOf h (com_of w) (slot_in s table).objects → rows_from 0 com_id (set table s (with_other_by_handle h w (slot_in s table))) ≡ rows_from 0 com_id table
-runs_exchanged s h w table com_id are = exchanged_rows 0 s h com_id w table are
+            rw same (ap (λ (c : Option ℕ). let r : ComRow =
+            record { com_id = c; slot = s; handle = (slot_in s table).next; key = key } in
+            with_row com_row_rank r (rows_from 0 com_id table)) com_is
+            ∙ inserted 0 s s key com_id object
+            table (omega arith) lt below (ap (is_com com_id) is ∙ same))
+        here false same =
+            rw same (sym (passed_over 0 s key com_id object table (ap (is_com com_id) is ∙ same)))

@@ -1,5 +1,7 @@
 -- What is counted after many events.
-use Rattle.std.proofs.Common.{◌≡◌, ℕ, List, [], ◌∷◌, ◌++◌, length, true, is_some, refl, sym, ◌∙◌, ap, subst, append_assoc, Option, Some, None, Result, Ok, Err, OnOk, OnErr}
+use Rattle.std.proofs.Common.{◌≡◌, ℕ, List, [], ◌∷◌, ◌++◌, length, true}
+use Rattle.std.proofs.Common.{is_some, refl, sym, ◌∙◌, ap, subst, append_assoc}
+use Rattle.std.proofs.Common.{Option, Some, None, Result, Ok, Err, OnOk, OnErr}
 use Rattle.std.specs.Prelude.{slice_get}
 use Rattle.trdp_filter.specs.declared.globals.Globals.{Globals}
 use Rattle.trdp_engine.specs.declared.fault.NodeFault.{NodeFault}
@@ -14,29 +16,50 @@ use Rattle.trdp_engine.specs.Costs.{IsBounded}
 use Rattle.trdp_engine.proofs.Runs.{RunsAsAloneSoFar, so_far}
 
 -- the slots that the events led to
-pub has_come : (old now : NodeState) (records records_now : List RecordModel) (events : List EventModel) → length now.slots ≡ length old.slots → ((s : ℕ) (slot : SlotState) → slice_get old.slots s ≡ Some slot → RunsAsAloneSoFar old now records records_now events s slot) → HasCome old events now.slots
+pub has_come : (old now : NodeState) (records records_now : List RecordModel)
+    (events : List EventModel) → length now.slots ≡ length old.slots
+    → ((s : ℕ) (slot : SlotState) → slice_get old.slots s ≡ Some slot
+    → RunsAsAloneSoFar old now records records_now events s slot) → HasCome old events now.slots
 has_come old now records records_now events count runs = record {
   count = count;
-  is_alone = λ s slot at. (so_far old now records records_now events s slot (runs s slot at)).slot_is;
+  is_alone =
+      λ s slot at. (so_far old now records records_now events s slot (runs s slot at)).slot_is;
 }
 
-refused_more : (n : ℕ) (globals : Globals) (events : List EventModel) (event : EventModel) → AreRefused n globals events → is_some (refused_as n globals event) ≡ true → AreRefused n globals (events ++ event ∷ [])
+refused_more : (n : ℕ) (globals : Globals) (events : List EventModel) (event : EventModel)
+    → AreRefused n globals events → is_some (refused_as n globals event) ≡ true
+    → AreRefused n globals (events ++ event ∷ [])
 refused_more n globals [] event are is = (is, tt)
-refused_more n globals (e ∷ events) event are is = (are.0, refused_more n globals events event are.1 is)
+refused_more n globals (e ∷ events) event are is =
+    (are.0, refused_more n globals events event are.1 is)
 
 -- an event that is refused changes nothing
-latest_kept : (old now : NodeState) (events : List EventModel) (event : EventModel) → is_some (refused_as (length now.slots) now.globals event) ≡ true → CountsLatest old now events → CountsLatest old now (events ++ event ∷ [])
-latest_kept old now events event is (NoneTaken refused same) = NoneTaken (refused_more (length now.slots) now.globals events event refused is) same
+latest_kept : (old now : NodeState) (events : List EventModel) (event : EventModel)
+    → is_some (refused_as (length now.slots) now.globals event) ≡ true
+    → CountsLatest old now events → CountsLatest old now (events ++ event ∷ [])
+latest_kept old now events event is (NoneTaken refused same) =
+    NoneTaken (refused_more (length now.slots) now.globals events event refused is) same
 latest_kept old now events event is (Latest earlier latest later slots are refused come bounded) =
-    Latest earlier latest (later ++ event ∷ []) slots (ap (λ (es : List EventModel). es ++ event ∷ []) are ∙ append_assoc earlier (latest ∷ later) (event ∷ [])) (refused_more (length now.slots) now.globals later event refused is) come bounded
+    Latest earlier latest (later ++ event ∷ []) slots (ap (λ (es : List EventModel).
+    es ++ event ∷ []) are ∙ append_assoc earlier (latest ∷ later) (event ∷ []))
+    (refused_more (length now.slots) now.globals later event refused is) come bounded
 
-fault_there : (fault : Option NodeFault) (other : NodeFault) (result : Result (Unit {0}) NodeFault) → result ≡ Err other → FaultIs fault (Err other) → (result ≡ Err OutOfMemory → ⊥) → is_some fault ≡ true
+fault_there : (fault : Option NodeFault) (other : NodeFault) (result : Result (Unit {0}) NodeFault)
+    → result ≡ Err other → FaultIs fault (Err other)
+    → (result ≡ Err OutOfMemory → ⊥) → is_some fault ≡ true
 fault_there None other result is answer memory = absurd (memory (is ∙ ap Err answer))
 fault_there (Some fault) other result is answer memory = refl
 
 -- one more event, whatever the step answered but want of memory
-pub latest_next : (old now next : NodeState) (events : List EventModel) (event : EventModel) (result : Result (Unit {0}) NodeFault) → FaultIs (refused_as (length now.slots) now.globals event) result → (result ≡ Err OutOfMemory → ⊥) → HasCome old events now.slots → OnErr result (next ≡ now) → OnOk result (IsBounded now.slots event next.counts) → CountsLatest old now events → CountsLatest old next (events ++ event ∷ [])
-latest_next old now next events event (Ok done) answer memory come kept bounded latest = Latest events event [] now.slots refl tt come bounded
+pub latest_next : (old now next : NodeState) (events : List EventModel)
+    (event : EventModel) (result : Result (Unit {0}) NodeFault)
+    → FaultIs (refused_as (length now.slots) now.globals event) result
+    → (result ≡ Err OutOfMemory → ⊥) → HasCome old events now.slots
+    → OnErr result (next ≡ now) → OnOk result (IsBounded now.slots event next.counts)
+    → CountsLatest old now events → CountsLatest old next (events ++ event ∷ [])
+latest_next old now next events event (Ok done) answer memory come kept bounded latest =
+    Latest events event [] now.slots refl tt come bounded
 latest_next old now next events event (Err fault) answer memory come kept bounded latest =
     subst (λ (n : NodeState). CountsLatest old n (events ++ event ∷ [])) (sym kept)
-    (latest_kept old now events event (fault_there (refused_as (length now.slots) now.globals event) fault (Err fault) refl answer memory) latest)
+    (latest_kept old now events event (fault_there (refused_as (length now.slots) now.globals event)
+    fault (Err fault) refl answer memory) latest)

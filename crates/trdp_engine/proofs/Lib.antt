@@ -3,7 +3,9 @@ pub mod Tables
 pub mod Counted
 pub mod Found
 pub mod Indexed
+pub mod Delisted
 pub mod Stored
+pub mod RowCounts
 pub mod Apart
 pub mod Timed
 pub mod Untimed
@@ -12,6 +14,7 @@ pub mod Sizes
 pub mod Weighing
 pub mod NextDue
 pub mod InSession
+pub mod SessionKeys
 pub mod HasSession
 pub mod Asking
 pub mod Turns
@@ -19,6 +22,7 @@ pub mod Rooms
 pub mod Orders
 pub mod Firing
 pub mod Moving
+pub mod SlotMoves
 pub mod Counting
 pub mod Each
 pub mod Receiving
@@ -29,12 +33,16 @@ pub mod Meant
 pub mod Seeking
 pub mod Firsts
 pub mod Heard
+pub mod ListenersAlone
 pub mod Costs
+pub mod WithinCosts
+pub mod ObjectSums
 pub mod HeardCosts
 pub mod Latest
 pub mod Requesting
 pub mod Unasked
 pub mod Noted
+pub mod NotedTurns
 pub mod Rows
 pub mod Views
 pub mod Steps
@@ -43,4 +51,5 @@ pub mod Parts
 pub mod Runs
 pub mod Fitting
 pub mod FittingEvents
+pub mod FittingActs
 pub mod Showing

@@ -1,48 +1,48 @@
 -- The objects that were noted take the telegram, one after the other.
-use Rattle.std.proofs.Common.{zero, suc, ◌≡◌, ℕ, ◌+◌, ◌<◌, ◌≤◌, List, [], ◌∷◌, ◌++◌, length, get_or, drop, map, filter, drop-cons, Option, Some, None, Bool, true, false, refl, ◌∙◌, sym, ap, subst, arith, append_assoc}
-use Rattle.std.specs.Prelude.{slice_get, slice_set, ◌==◌, ◌&&◌, IfSome}
+use Rattle.std.proofs.Common.{zero, suc, ◌≡◌, ℕ, ◌+◌, ◌<◌, List, [], ◌∷◌, ◌++◌}
+use Rattle.std.proofs.Common.{length, map, filter, Option, Some, None, Bool, true}
+use Rattle.std.proofs.Common.{false, refl, ◌∙◌, sym, ap, arith, append_assoc}
+use Rattle.std.specs.Prelude.{slice_get, slice_set, ◌==◌, ◌&&◌}
 use Rattle.std.specs.List.{flat_map}
-use Rattle.std.proofs.lemmas.List.{map-append, append-nil, length-append, length-map, drop_all}
+use Rattle.std.proofs.lemmas.List.{map-append, append-nil, length-append}
 use Rattle.std.proofs.lemmas.List.Concat.{flat_map-cons}
 use Rattle.std.proofs.lemmas.List.Sums.{sum_by-cons, sum_by-append}
 use Rattle.std.proofs.lemmas.Bool.Decides.{nat_tests}
-use Rattle.std.proofs.lemmas.Option.{same_Some}
 use Rattle.trdp_filter.specs.declared.globals.Globals.{Globals}
 use Rattle.trdp_filter.specs.Telegrams.{TelegramModel}
 use Rattle.trdp_table.specs.declared.any_object.AnyObject.{AnyObject}
 use Rattle.trdp_table.specs.Kinds.{kind_of}
-use Rattle.trdp_table.specs.Tables.{TableState}
-use Rattle.trdp_table.specs.TableLaws.{IsTable}
 use Rattle.trdp_engine.specs.Configs.{NodeSetup}
 use Rattle.trdp_engine.specs.declared.addressees.Addressee.{Addressee}
 use Rattle.trdp_engine.specs.declared.room.Room.{Room}
 use Rattle.trdp_engine.specs.Records.{Content, RecordModel, labelled}
-use Rattle.trdp_engine.specs.Slots.{Entry, SlotState, Outcome, entry_of, slots_of}
+use Rattle.trdp_engine.specs.Slots.{Entry, SlotState, Outcome, entry_of}
 use Rattle.trdp_engine.specs.Acts.{Act, entry_left, left_at, acted}
 use Rattle.trdp_engine.proofs.Handles.{AllAbove, IsRising}
-use Rattle.trdp_engine.specs.Outboxes.{OutboxState}
-use Rattle.trdp_engine.specs.Rooms.{HasRoom, kind_room, entries_room}
-use Rattle.trdp_engine.specs.Acting.{slot_at, MayAct, ActsAt, act_of}
-use Rattle.trdp_engine.specs.Datagrams.{is_for_entry, is_acting, taking_act, acting, after_telegram, handed}
-use Rattle.trdp_engine.specs.NodeStates.{HasOutcome, Appends}
+use Rattle.trdp_engine.specs.Rooms.{kind_room, entries_room}
+use Rattle.trdp_engine.specs.Acting.{act_of}
+use Rattle.trdp_engine.specs.Datagrams.{is_for_entry, is_acting, taking_act}
+use Rattle.trdp_engine.specs.Datagrams.{acting, after_telegram, handed}
 use Rattle.trdp_engine.specs.Noted.{noted_as, noted_from}
-use Rattle.trdp_engine.proofs.Tables.{slots_length, slot_within, slot_is, rising as table_rising}
 use Rattle.trdp_engine.proofs.Noting.{same_room}
-use Rattle.trdp_engine.proofs.Sweeps.{all_records, each_part, each_appends}
+use Rattle.trdp_engine.proofs.Sweeps.{all_records}
 
 -- The object of a handle among others whose handles rise.
 
-AllAbove-there : (h : ℕ) (front es : List Entry) (e : Entry) → AllAbove h (front ++ e ∷ es) → h < e.handle
+AllAbove-there : (h : ℕ) (front es : List Entry) (e : Entry)
+    → AllAbove h (front ++ e ∷ es) → h < e.handle
 AllAbove-there h [] es e above = above.0
 AllAbove-there h (d ∷ front) es e above = AllAbove-there h front es e above.1
 
 -- an act at a handle above this one leaves the object of this one
-left_other : (h : ℕ) (left : Option AnyObject) (d : Entry) → d.handle < h → left_at h left d ≡ d ∷ []
+left_other : (h : ℕ) (left : Option AnyObject) (d : Entry)
+    → d.handle < h → left_at h left d ≡ d ∷ []
 left_other h left d lt =
     let other : (d.handle == h) ≡ false = grind (arith, nat_tests) in
     rw other refl
 
-acted_above : (h : ℕ) (left : Option AnyObject) (es : List Entry) → AllAbove h es → acted h left es ≡ es
+acted_above : (h : ℕ) (left : Option AnyObject) (es : List Entry)
+    → AllAbove h es → acted h left es ≡ es
 acted_above h left [] above = refl
 acted_above h left (e ∷ es) above =
     let lt : h < e.handle = above.0 in
@@ -50,21 +50,26 @@ acted_above h left (e ∷ es) above =
     flat_map-cons (left_at h left) e es
     ∙ rw other (ap (λ (xs : List Entry). e ∷ xs) (acted_above h left es above.1))
 
-acted_first : (left : Option AnyObject) (e : Entry) (es : List Entry) → AllAbove e.handle es → acted e.handle left (e ∷ es) ≡ entry_left e left ++ es
+acted_first : (left : Option AnyObject) (e : Entry) (es : List Entry)
+    → AllAbove e.handle es → acted e.handle left (e ∷ es) ≡ entry_left e left ++ es
 acted_first left e es above =
     let same : (e.handle == e.handle) ≡ true = grind (arith, nat_tests) in
     flat_map-cons (left_at e.handle left) e es
     ∙ rw (same, acted_above e.handle left es above) refl
 
 -- what is left of an object stands where the object stood
-acted_there : (left : Option AnyObject) (front es : List Entry) (e : Entry) → IsRising (front ++ e ∷ es) → acted e.handle left (front ++ e ∷ es) ≡ front ++ (entry_left e left ++ es)
+acted_there : (left : Option AnyObject) (front es : List Entry) (e : Entry)
+    → IsRising (front ++ e ∷ es)
+    → acted e.handle left (front ++ e ∷ es) ≡ front ++ (entry_left e left ++ es)
 acted_there left [] es e rising = acted_first left e es rising.0
 acted_there left (d ∷ front) es e rising =
     let lt : d.handle < e.handle = AllAbove-there d.handle front es e rising.0 in
     flat_map-cons (left_at e.handle left) d (front ++ e ∷ es)
-    ∙ rw (left_other e.handle left d lt) (ap (λ (xs : List Entry). d ∷ xs) (acted_there left front es e rising.1))
+    ∙ rw (left_other e.handle left d lt)
+    (ap (λ (xs : List Entry). d ∷ xs) (acted_there left front es e rising.1))
 
-found_there : (front es : List Entry) (e : Entry) → IsRising (front ++ e ∷ es) → entry_of e.handle (front ++ e ∷ es) ≡ Some e
+found_there : (front es : List Entry) (e : Entry)
+    → IsRising (front ++ e ∷ es) → entry_of e.handle (front ++ e ∷ es) ≡ Some e
 found_there [] es e rising =
     let same : (e.handle == e.handle) ≡ true = grind (arith, nat_tests) in
     rw same refl
@@ -74,29 +79,35 @@ found_there (d ∷ front) es e rising =
     rw other (found_there front es e rising.1)
 
 -- handles still rise once an object acted
-AllAbove-left : (h : ℕ) (left : Option AnyObject) (front es : List Entry) (e : Entry) → AllAbove h (front ++ e ∷ es) → AllAbove h (front ++ (entry_left e left ++ es))
+AllAbove-left : (h : ℕ) (left : Option AnyObject) (front es : List Entry) (e : Entry)
+    → AllAbove h (front ++ e ∷ es) → AllAbove h (front ++ (entry_left e left ++ es))
 AllAbove-left h None [] es e above = above.1
 AllAbove-left h (Some object) [] es e above = above
 AllAbove-left h left (d ∷ front) es e above = (above.0, AllAbove-left h left front es e above.1)
 
-IsRising-left : (left : Option AnyObject) (front es : List Entry) (e : Entry) → IsRising (front ++ e ∷ es) → IsRising (front ++ (entry_left e left ++ es))
+IsRising-left : (left : Option AnyObject) (front es : List Entry) (e : Entry)
+    → IsRising (front ++ e ∷ es) → IsRising (front ++ (entry_left e left ++ es))
 IsRising-left None [] es e rising = rising.1
 IsRising-left (Some object) [] es e rising = rising
-IsRising-left left (d ∷ front) es e rising = (AllAbove-left d.handle left front es e rising.0, IsRising-left left front es e rising.1)
+IsRising-left left (d ∷ front) es e rising =
+    (AllAbove-left d.handle left front es e rising.0, IsRising-left left front es e rising.1)
 
 -- A slot among others.
 
-slot_of_front : (front back : List SlotState) (x : SlotState) (s : ℕ) → length front ≡ s → slice_get (front ++ x ∷ back) s ≡ Some x
+slot_of_front : (front back : List SlotState) (x : SlotState) (s : ℕ)
+    → length front ≡ s → slice_get (front ++ x ∷ back) s ≡ Some x
 slot_of_front [] back x zero is = refl
 slot_of_front [] back x (suc s) is = absurd (omega (arith, is))
 slot_of_front (y ∷ front) back x zero is = absurd (omega (arith, is))
 slot_of_front (y ∷ front) back x (suc s) is = slot_of_front front back x s (omega (arith, is))
 
-set_front : (front back : List SlotState) (x y : SlotState) (s : ℕ) → length front ≡ s → slice_set (front ++ x ∷ back) s y ≡ front ++ y ∷ back
+set_front : (front back : List SlotState) (x y : SlotState) (s : ℕ)
+    → length front ≡ s → slice_set (front ++ x ∷ back) s y ≡ front ++ y ∷ back
 set_front [] back x y zero is = refl
 set_front [] back x y (suc s) is = absurd (omega (arith, is))
 set_front (z ∷ front) back x y zero is = absurd (omega (arith, is))
-set_front (z ∷ front) back x y (suc s) is = ap (λ (xs : List SlotState). z ∷ xs) (set_front front back x y s (omega (arith, is)))
+set_front (z ∷ front) back x y (suc s) is =
+    ap (λ (xs : List SlotState). z ∷ xs) (set_front front back x y s (omega (arith, is)))
 
 -- The noted objects, in turn.
 
@@ -121,7 +132,9 @@ and_left true b is = refl
 and_left false b is = absurd (cc)
 
 -- what acts is one that the telegram is for
-acting_is_for : (aim : Aim) (all : List Entry) (e : Entry) → is_acting aim.telegram aim.globals all e ≡ true → is_for_entry aim.telegram aim.globals e ≡ true
+acting_is_for : (aim : Aim) (all : List Entry) (e : Entry)
+    → is_acting aim.telegram aim.globals all e ≡ true
+    → is_for_entry aim.telegram aim.globals e ≡ true
 acting_is_for aim all e is = and_left (is_for_entry aim.telegram aim.globals e) _ is
 
 -- the records of objects that take it
@@ -134,7 +147,8 @@ after_in aim all entries = flat_map (after_telegram aim.setup aim.telegram aim.g
 
 -- the object that was noted is there, the telegram is for it, and of the room more than its own
 -- is left
-pub record IsNext (aim : Aim) (slots : List SlotState) (a : Addressee) (room : Room) (slot : SlotState) (entry : Entry) (more : Room) : Type 0 where
+pub record IsNext (aim : Aim) (slots : List SlotState)
+    (a : Addressee) (room : Room) (slot : SlotState) (entry : Entry) (more : Room) : Type 0 where
   pub at : slice_get slots a.slot ≡ Some slot
   pub found : entry_of a.handle slot.objects ≡ Some entry
   pub is_for : is_for_entry aim.telegram aim.globals entry ≡ true
@@ -147,7 +161,8 @@ Leads aim slots records room [] = (slots ≡ aim.slots) × (records ≡ aim.reco
 Leads aim slots records room (a ∷ rest) =
     (slot : SlotState) × (entry : Entry) × (more : Room)
     × IsNext aim slots a room slot entry more
-    × Leads aim (slice_set slots a.slot (act_of entry (act_in aim) slot).slot) (records ++ labelled a.slot (act_of entry (act_in aim) slot).records) more rest
+    × Leads aim (slice_set slots a.slot (act_of entry (act_in aim) slot).slot)
+    (records ++ labelled a.slot (act_of entry (act_in aim) slot).records) more rest
 
 -- a slot with these objects
 abbrev slot_with : SlotState → List Entry → SlotState
@@ -174,49 +189,78 @@ Led aim place es =
     (done : List Entry) (records : List RecordModel) (room : Room) → IsRising (done ++ es)
     → room.rows ≡ (entries_room (those_for aim place.slot.objects es)).rows + place.room.rows
     → room.bytes ≡ (entries_room (those_for aim place.slot.objects es)).bytes + place.room.bytes
-    → Leads aim (slots_with place (done ++ after_in aim place.slot.objects es)) (records ++ labelled place.s (records_for aim (those_for aim place.slot.objects es))) place.room place.rest
-    → Leads aim (slots_with place (done ++ es)) records room (noted_as place.s (those_for aim place.slot.objects es) ++ place.rest)
+    → Leads aim (slots_with place (done ++ after_in aim place.slot.objects es)) (records ++ labelled
+    place.s (records_for aim (those_for aim place.slot.objects es))) place.room place.rest
+    → Leads aim (slots_with place (done ++ es)) records
+    room (noted_as place.s (those_for aim place.slot.objects es) ++ place.rest)
 
 led_none : (aim : Aim) (place : Place) → Led aim place []
 led_none aim place done records room rising rows bytes leads =
-    let is : room ≡ place.room = same_room room place.room (omega (arith, rows)) (omega (arith, bytes)) in
+    let is : room ≡ place.room =
+    same_room room place.room (omega (arith, rows)) (omega (arith, bytes)) in
     rw is (rw (append-nil records) at leads)
 
 -- the next one doesn't act
-led_other : (aim : Aim) (place : Place) (e : Entry) (es : List Entry) → is_acting aim.telegram aim.globals place.slot.objects e ≡ false → Led aim place es → Led aim place (e ∷ es)
+led_other : (aim : Aim) (place : Place) (e : Entry) (es : List Entry)
+    → is_acting aim.telegram aim.globals place.slot.objects e ≡ false
+    → Led aim place es → Led aim place (e ∷ es)
 led_other aim place e es is others done records room rising rows bytes leads =
     let rows_is = rw is at rows in
     let bytes_is = rw is at bytes in
     let whole : (done ++ e ∷ []) ++ es ≡ done ++ e ∷ es = append_assoc done (e ∷ []) es in
-    let still : (done ++ e ∷ []) ++ after_in aim place.slot.objects es ≡ done ++ e ∷ after_in aim place.slot.objects es = append_assoc done (e ∷ []) (after_in aim place.slot.objects es) in
+    let still : (done ++ e ∷ []) ++ after_in aim place.slot.objects es ≡ done ++ e ∷ after_in aim
+    place.slot.objects es = append_assoc done (e ∷ []) (after_in aim place.slot.objects es) in
     let leads_then = rw is at leads in
-    let led = others (done ++ e ∷ []) records room (rw whole rising) rows_is bytes_is (rw still leads_then) in
+    let led = others (done ++ e ∷ []) records
+    room (rw whole rising) rows_is bytes_is (rw still leads_then) in
     rw is (rw whole at led)
 
 -- the next one takes it
-led_one : (aim : Aim) (place : Place) (e : Entry) (es : List Entry) → is_acting aim.telegram aim.globals place.slot.objects e ≡ true → Led aim place es → Led aim place (e ∷ es)
+led_one : (aim : Aim) (place : Place) (e : Entry) (es : List Entry)
+    → is_acting aim.telegram aim.globals place.slot.objects e ≡ true
+    → Led aim place es → Led aim place (e ∷ es)
 led_one aim place e es is others done records room rising rows bytes leads =
     let left : List Entry = entry_left e (act_in aim e).left in
-    let more : Room = record { rows = (entries_room (those_for aim place.slot.objects es)).rows + place.room.rows; bytes = (entries_room (those_for aim place.slot.objects es)).bytes + place.room.bytes } in
+    let more : Room =
+    record {
+      rows = (entries_room (those_for aim place.slot.objects es)).rows + place.room.rows;
+      bytes = (entries_room (those_for aim place.slot.objects es)).bytes + place.room.bytes;
+    } in
     let rows_is = rw is at rows in
     let bytes_is = rw is at bytes in
-    let rows_of = sum_by-cons (λ entry. (kind_room (kind_of entry.object)).rows) e (those_for aim place.slot.objects es) in
-    let bytes_of = sum_by-cons (λ entry. (kind_room (kind_of entry.object)).bytes) e (those_for aim place.slot.objects es) in
+    let rows_of = sum_by-cons (λ entry. (kind_room (kind_of entry.object)).rows)
+    e (those_for aim place.slot.objects es) in
+    let bytes_of = sum_by-cons (λ entry. (kind_room (kind_of entry.object)).bytes)
+    e (those_for aim place.slot.objects es) in
     let leads_then = rw is at leads in
-    let still : (done ++ left) ++ after_in aim place.slot.objects es ≡ done ++ (left ++ after_in aim place.slot.objects es) = append_assoc done left (after_in aim place.slot.objects es) in
-    let told : (records ++ labelled place.s (act_in aim e).records) ++ labelled place.s (records_for aim (those_for aim place.slot.objects es)) ≡ records ++ labelled place.s ((act_in aim e).records ++ records_for aim (those_for aim place.slot.objects es)) =
-    append_assoc records (labelled place.s (act_in aim e).records) (labelled place.s (records_for aim (those_for aim place.slot.objects es))) ∙ ap (λ (rs : List RecordModel). records ++ rs) (sym (map-append _ (act_in aim e).records (records_for aim (those_for aim place.slot.objects es)))) in
-    let rising_then : IsRising ((done ++ left) ++ es) = rw append_assoc (IsRising-left (act_in aim e).left done es e rising) in
-    let led = others (done ++ left) (records ++ labelled place.s (act_in aim e).records) more rising_then refl refl (rw (still, told) leads_then) in
-    let become : slice_set (slots_with place (done ++ e ∷ es)) place.s (act_of e (act_in aim) (slot_with place.slot (done ++ e ∷ es))).slot ≡ slots_with place ((done ++ left) ++ es) =
-    set_front place.front place.back (slot_with place.slot (done ++ e ∷ es)) (act_of e (act_in aim) (slot_with place.slot (done ++ e ∷ es))).slot place.s place.at
-    ∙ ap (slots_with place) (acted_there (act_in aim e).left done es e rising ∙ sym (append_assoc done left es)) in
+    let still : (done ++ left) ++ after_in aim place.slot.objects es
+    ≡ done ++ (left ++ after_in aim place.slot.objects es) =
+    append_assoc done left (after_in aim place.slot.objects es) in
+    let told : (records ++ labelled place.s (act_in aim e).records) ++ labelled place.s
+    (records_for aim (those_for aim place.slot.objects es)) ≡ records ++ labelled place.s
+    ((act_in aim e).records ++ records_for aim (those_for aim place.slot.objects es)) =
+    append_assoc records (labelled place.s (act_in aim e).records)
+    (labelled place.s (records_for aim (those_for aim place.slot.objects es)))
+    ∙ ap (λ (rs : List RecordModel). records ++ rs) (sym (map-append _
+    (act_in aim e).records (records_for aim (those_for aim place.slot.objects es)))) in
+    let rising_then : IsRising ((done ++ left) ++ es) =
+    rw append_assoc (IsRising-left (act_in aim e).left done es e rising) in
+    let led = others (done ++ left) (records ++ labelled place.s (act_in aim e).records)
+    more rising_then refl refl (rw (still, told) leads_then) in
+    let become : slice_set (slots_with place (done ++ e ∷ es)) place.s
+    (act_of e (act_in aim) (slot_with place.slot (done ++ e ∷ es))).slot
+    ≡ slots_with place ((done ++ left) ++ es) =
+    set_front place.front place.back (slot_with place.slot (done ++ e ∷ es))
+    (act_of e (act_in aim) (slot_with place.slot (done ++ e ∷ es))).slot place.s place.at
+    ∙ ap (slots_with place)
+    (acted_there (act_in aim e).left done es e rising ∙ sym (append_assoc done left es)) in
     rw is (
       slot_with place.slot (done ++ e ∷ es),
       e,
       more,
       record {
-        at = slot_of_front place.front place.back (slot_with place.slot (done ++ e ∷ es)) place.s place.at;
+        at = slot_of_front place.front place.back
+            (slot_with place.slot (done ++ e ∷ es)) place.s place.at;
         found = found_there done es e rising;
         is_for = acting_is_for aim place.slot.objects e is;
         rows = omega (arith, rows_is, rows_of);
@@ -227,9 +271,11 @@ led_one aim place e es is others done records room rising rows bytes leads =
 
 led_slot : (aim : Aim) (place : Place) (es : List Entry) → Led aim place es
 led_slot aim place [] = led_none aim place
-led_slot aim place (e ∷ es) = either (is_acting aim.telegram aim.globals place.slot.objects e) refl (led_slot aim place es)
+led_slot aim place (e ∷ es) =
+    either (is_acting aim.telegram aim.globals place.slot.objects e) refl (led_slot aim place es)
   where
-    either : (b : Bool) → is_acting aim.telegram aim.globals place.slot.objects e ≡ b → Led aim place es → Led aim place (e ∷ es)
+    either : (b : Bool) → is_acting aim.telegram aim.globals place.slot.objects e ≡ b
+        → Led aim place es → Led aim place (e ∷ es)
     either true is others = led_one aim place e es is others
     either false is others = led_other aim place e es is others
 
@@ -246,21 +292,46 @@ abbrev all_acting : Aim → List SlotState → List Entry
 all_acting aim slots = flat_map (λ slot. acting aim.telegram aim.globals slot.objects) slots
 
 -- those noted of all slots from number s on lead to what the telegram makes of the slots
-led_from : (aim : Aim) (slots : List SlotState) (s : ℕ) (front : List SlotState) (records : List RecordModel) (room : Room) → length front ≡ s → AreRising slots → room ≡ entries_room (all_acting aim slots) → front ++ map (λ slot. (outcome_in aim slot).slot) slots ≡ aim.slots → records ++ all_records s (outcome_in aim) slots ≡ aim.records → Leads aim (front ++ slots) records room (noted_from s aim.telegram aim.globals slots)
-led_from aim [] s front records room at rising within slots_are records_are = (slots_are, sym (append-nil records) ∙ records_are)
+led_from : (aim : Aim) (slots : List SlotState)
+    (s : ℕ) (front : List SlotState) (records : List RecordModel) (room : Room)
+    → length front ≡ s → AreRising slots → room ≡ entries_room (all_acting aim slots)
+    → front ++ map (λ slot. (outcome_in aim slot).slot) slots ≡ aim.slots
+    → records ++ all_records s (outcome_in aim) slots ≡ aim.records
+    → Leads aim (front ++ slots) records room (noted_from s aim.telegram aim.globals slots)
+led_from aim [] s front records room at rising within slots_are records_are =
+    (slots_are, sym (append-nil records) ∙ records_are)
 led_from aim (x ∷ slots) s front records room at rising within slots_are records_are =
     let then : SlotState = (outcome_in aim x).slot in
     let later : Room = entries_room (all_acting aim slots) in
-    let place : Place = record { s = s; front = front; slot = x; back = slots; at = at; rest = noted_from (s + 1) aim.telegram aim.globals slots; room = later } in
+    let place : Place = record {
+      s = s;
+      front = front;
+      slot = x;
+      back = slots;
+      at = at;
+      rest = noted_from (s + 1) aim.telegram aim.globals slots;
+      room = later;
+    } in
     let rows : room.rows ≡ (entries_room (those_for aim x.objects x.objects)).rows + later.rows =
-    ap (λ (r : Room). r.rows) within ∙ sum_by-append (λ entry. (kind_room (kind_of entry.object)).rows) (those_for aim x.objects x.objects) (all_acting aim slots) in
-    let bytes : room.bytes ≡ (entries_room (those_for aim x.objects x.objects)).bytes + later.bytes =
-    ap (λ (r : Room). r.bytes) within ∙ sum_by-append (λ entry. (kind_room (kind_of entry.object)).bytes) (those_for aim x.objects x.objects) (all_acting aim slots) in
-    let over : (front ++ then ∷ []) ++ slots ≡ front ++ then ∷ slots = append_assoc front (then ∷ []) slots in
-    let slots_then = append_assoc front (then ∷ []) (map (λ slot. (outcome_in aim slot).slot) slots) ∙ slots_are in
-    let records_then = append_assoc records (labelled s (outcome_in aim x).records) (all_records (s + 1) (outcome_in aim) slots) ∙ records_are in
-    let count : length (front ++ then ∷ []) ≡ s + 1 = length-append front (then ∷ []) ∙ omega (arith, at) in
-    let others = led_from aim slots (s + 1) (front ++ then ∷ []) (records ++ labelled s (outcome_in aim x).records) later count (λ i slot is. rising (suc i) slot is) refl slots_then records_then in
+    ap (λ (r : Room). r.rows) within
+    ∙ sum_by-append (λ entry. (kind_room (kind_of entry.object)).rows)
+    (those_for aim x.objects x.objects) (all_acting aim slots) in
+    let bytes :
+    room.bytes ≡ (entries_room (those_for aim x.objects x.objects)).bytes + later.bytes =
+    ap (λ (r : Room). r.bytes) within
+    ∙ sum_by-append (λ entry. (kind_room (kind_of entry.object)).bytes)
+    (those_for aim x.objects x.objects) (all_acting aim slots) in
+    let over : (front ++ then ∷ []) ++ slots ≡ front ++ then ∷ slots =
+    append_assoc front (then ∷ []) slots in
+    let slots_then = append_assoc front (then ∷ []) (map (λ slot. (outcome_in aim slot).slot) slots)
+    ∙ slots_are in
+    let records_then = append_assoc records (labelled s (outcome_in aim x).records)
+    (all_records (s + 1) (outcome_in aim) slots) ∙ records_are in
+    let count : length (front ++ then ∷ []) ≡ s + 1 = length-append front (then ∷ [])
+    ∙ omega (arith, at) in
+    let others = led_from aim
+    slots (s + 1) (front ++ then ∷ []) (records ++ labelled s (outcome_in aim x).records)
+    later count (λ i slot is. rising (suc i) slot is) refl slots_then records_then in
     led_slot aim place x.objects [] records room (rising 0 x refl) rows bytes (rw over at others)
 
 -- what a telegram is to lead to
@@ -274,90 +345,11 @@ aim_of setup telegram globals slots records = record {
 }
 
 -- those that were noted lead to what the telegram makes of the slots
-pub all_led : (setup : NodeSetup) (telegram : TelegramModel) (globals : Globals) (slots : List SlotState) (records : List RecordModel) → AreRising slots → Leads (aim_of setup telegram globals slots records) slots records (entries_room (flat_map (λ slot. acting telegram globals slot.objects) slots)) (noted_from 0 telegram globals slots)
+pub all_led : (setup : NodeSetup) (telegram : TelegramModel)
+    (globals : Globals) (slots : List SlotState) (records : List RecordModel)
+    → AreRising slots → Leads (aim_of setup telegram globals slots records)
+    slots records (entries_room (flat_map (λ slot. acting telegram globals slot.objects) slots))
+    (noted_from 0 telegram globals slots)
 all_led setup telegram globals slots records rising =
-    led_from (aim_of setup telegram globals slots records) slots 0 [] records _ refl rising refl refl refl
-
--- The loop over those that were noted.
-
--- what is left to do reaches the aim, within the outbox's room
-pub record Goes (aim : Aim) (table : TableState) (out : OutboxState) (rest : List Addressee) : Type 0 where
-  pub room : Room
-  pub has : HasRoom out room
-  pub leads : Leads aim (slots_of table) out.records room rest
-
-pub goes_within : (aim : Aim) (table : TableState) (out : OutboxState) (a : Addressee) (rest : List Addressee) → Goes aim table out (a ∷ rest) → a.slot < length table
-goes_within aim table out a rest goes = slot_within table a.slot goes.leads.0 goes.leads.3.at
-
-found_next : (aim : Aim) (table : TableState) (out : OutboxState) (a : Addressee) (rest : List Addressee) (goes : Goes aim table out (a ∷ rest)) → entry_of a.handle (slot_at a.slot table).objects ≡ Some goes.leads.1
-found_next aim table out a rest goes =
-    ap (λ (slot : SlotState). entry_of a.handle slot.objects) (sym (slot_is table a.slot goes.leads.0 goes.leads.3.at)) ∙ goes.leads.3.found
-
-pub goes_may : (aim : Aim) (table : TableState) (out : OutboxState) (a : Addressee) (rest : List Addressee) → Goes aim table out (a ∷ rest) → MayAct (slot_at a.slot table) a.handle out
-goes_may aim table out a rest goes =
-    let rows = goes.leads.3.rows in
-    let bytes = goes.leads.3.bytes in
-    let row_room = goes.has.rows in
-    let byte_room = goes.has.bytes in
-    record {
-      entry = goes.leads.1;
-      found = found_next aim table out a rest goes;
-      room = record { rows = omega (arith, rows, row_room); bytes = omega (arith, bytes, byte_room) };
-    }
-
-pub goes_addressed : (aim : Aim) (table : TableState) (out : OutboxState) (a : Addressee) (rest : List Addressee) → Goes aim table out (a ∷ rest) → IfSome (entry_of a.handle (slot_at a.slot table).objects) (λ entry. is_for_entry aim.telegram aim.globals entry ≡ true)
-goes_addressed aim table out a rest goes = rw (found_next aim table out a rest goes) goes.leads.3.is_for
-
--- one turn
-pub goes_on : (aim : Aim) (table table_then : TableState) (out out_then : OutboxState) (a : Addressee) (rest : List Addressee) → Goes aim table out (a ∷ rest) → ActsAt a.slot a.handle (act_in aim) table table_then out out_then → Goes aim table_then out_then rest
-goes_on aim table table_then out out_then a rest goes acts =
-    let is : goes.leads.0 ≡ slot_at a.slot table = slot_is table a.slot goes.leads.0 goes.leads.3.at in
-    let one : goes.leads.1 ≡ acts.entry = same_Some goes.leads.1 acts.entry (sym (found_next aim table out a rest goes) ∙ acts.found) in
-    let outcome : Outcome = act_of acts.entry (act_in aim) (slot_at a.slot table) in
-    let slots_are = acts.becomes.slots in
-    let records_are = acts.becomes.records in
-    let leads = rw (is, one) at goes.leads.4 in
-    let rows = rw one at goes.leads.3.rows in
-    let bytes = rw one at goes.leads.3.bytes in
-    let row_room = goes.has.rows in
-    let byte_room = goes.has.bytes in
-    let row_room_then = acts.within.rows in
-    let byte_room_then = acts.within.bytes in
-    record {
-      room = goes.leads.2;
-      has = record { rows = omega (arith, rows, row_room, row_room_then); bytes = omega (arith, bytes, byte_room, byte_room_then) };
-      leads = rw (slots_are, records_are) leads;
-    }
-
--- the first of those that are left
-pub goes_next : (aim : Aim) (table : TableState) (out : OutboxState) (noted : List Addressee) (i : ℕ) (a : Addressee) → i < length noted → Goes aim table out (drop i noted) → Goes aim table out (get_or noted i a ∷ drop (i + 1) noted)
-goes_next aim table out noted i a lt goes =
-    let split : drop i noted ≡ get_or noted i a ∷ drop (suc i) noted = drop-cons noted i a lt in
-    let one : i + 1 ≡ suc i = omega arith in
-    rw one (rw split at goes)
-
--- at the end the aim is reached
-pub goes_end : (aim : Aim) (table : TableState) (out : OutboxState) (noted : List Addressee) (i : ℕ) → length noted ≤ i → Goes aim table out (drop i noted) → (slots_of table ≡ aim.slots) × (out.records ≡ aim.records)
-goes_end aim table out noted i past goes =
-    let end : Goes aim table out [] = rw (drop_all i noted past) at goes in
-    end.leads
-
--- at the start all that were noted are left
-pub goes_first : (setup : NodeSetup) (telegram : TelegramModel) (globals : Globals) (table : TableState) (out : OutboxState) (noted : List Addressee) → IsTable table → noted ≡ noted_from 0 telegram globals (slots_of table) → HasRoom out (entries_room (flat_map (λ slot. acting telegram globals slot.objects) (slots_of table))) → Goes (aim_of setup telegram globals (slots_of table) out.records) table out noted
-goes_first setup telegram globals table out noted sound is has = record {
-  room = entries_room (flat_map (λ slot. acting telegram globals slot.objects) (slots_of table));
-  has = has;
-  leads = rw is (all_led setup telegram globals (slots_of table) out.records (λ i slot at. subst (λ (x : SlotState). IsRising x.objects) (sym (slot_is table i slot at)) (table_rising table i sound)));
-}
-
-pub reached_count : (setup : NodeSetup) (telegram : TelegramModel) (globals : Globals) (table table_then : TableState) (records : List RecordModel) → slots_of table_then ≡ (aim_of setup telegram globals (slots_of table) records).slots → length table_then ≡ length table
-reached_count setup telegram globals table table_then records are =
-    sym (slots_length table_then) ∙ (ap length are ∙ (length-map (slots_of table) _ ∙ slots_length table))
-
-pub reached_parts : (setup : NodeSetup) (telegram : TelegramModel) (globals : Globals) (slots slots_then : List SlotState) (records records_then : List RecordModel) → slots_then ≡ (aim_of setup telegram globals slots records).slots → records_then ≡ (aim_of setup telegram globals slots records).records → (s : ℕ) (slot : SlotState) → slice_get slots s ≡ Some slot → HasOutcome slots_then records records_then s (handed setup slot globals telegram)
-reached_parts setup telegram globals slots slots_then records records_then are told s slot at =
-    rw (are, told) (each_part (λ slot. handed setup slot globals telegram) slots records s slot at)
-
-pub reached_appends : (setup : NodeSetup) (telegram : TelegramModel) (globals : Globals) (slots : List SlotState) (records records_then : List RecordModel) → records_then ≡ (aim_of setup telegram globals slots records).records → Appends slots records records_then
-reached_appends setup telegram globals slots records records_then told =
-    rw told (each_appends (λ slot. handed setup slot globals telegram) slots records)
+    led_from (aim_of setup telegram globals slots records)
+    slots 0 [] records _ refl rising refl refl refl

@@ -1,5 +1,6 @@
 -- The objects that act at a telegram are noted, slot by slot, with the room for what they may give.
-use Rattle.std.proofs.Common.{zero, suc, ◌≡◌, ℕ, ◌+◌, ◌<◌, ◌≤◌, List, [], ◌∷◌, ◌++◌, length, drop, add-one, Some, refl, ◌∙◌, sym, ap, arith, append_assoc}
+use Rattle.std.proofs.Common.{zero, suc, ◌≡◌, ℕ, ◌+◌, ◌<◌, ◌≤◌, List, [], ◌∷◌, ◌++◌, length}
+use Rattle.std.proofs.Common.{drop, add-one, Some, refl, ◌∙◌, sym, ap, arith, append_assoc}
 use Rattle.std.specs.Prelude.{slice_get}
 use Rattle.std.specs.List.{flat_map}
 use Rattle.std.proofs.lemmas.List.{append-nil, drop_all}
@@ -32,10 +33,12 @@ split (x ∷ xs) (suc i) lt =
 abbrev pub both_rooms : Room → Room → Room
 both_rooms a b = record { rows = a.rows + b.rows; bytes = a.bytes + b.bytes }
 
-rows_of-append : (xs ys : List Entry) → (entries_room (xs ++ ys)).rows ≡ (entries_room xs).rows + (entries_room ys).rows
+rows_of-append : (xs ys : List Entry)
+    → (entries_room (xs ++ ys)).rows ≡ (entries_room xs).rows + (entries_room ys).rows
 rows_of-append xs ys = sum_by-append (λ entry. (kind_room (kind_of entry.object)).rows) xs ys
 
-bytes_of-append : (xs ys : List Entry) → (entries_room (xs ++ ys)).bytes ≡ (entries_room xs).bytes + (entries_room ys).bytes
+bytes_of-append : (xs ys : List Entry)
+    → (entries_room (xs ++ ys)).bytes ≡ (entries_room xs).bytes + (entries_room ys).bytes
 bytes_of-append xs ys = sum_by-append (λ entry. (kind_room (kind_of entry.object)).bytes) xs ys
 
 -- rooms of as many records and bytes are one
@@ -45,7 +48,8 @@ same_room a b rows bytes =
     ∙ ap (λ (n : ℕ). let r : Room = record { rows = b.rows; bytes = n } in r) bytes
 
 -- these and these entries still to come are all, noted behind what was noted and with their room
-pub record Notes (before noted : List Addressee) (room : Room) (next : List Addressee) (later : Room) (last : List Addressee) (all : Room) : Type 0 where
+pub record Notes (before noted : List Addressee) (room : Room) (next : List Addressee)
+    (later : Room) (last : List Addressee) (all : Room) : Type 0 where
   pub items : noted ++ next ≡ before ++ last
   pub rows : room.rows + later.rows ≡ all.rows
   pub bytes : room.bytes + later.bytes ≡ all.bytes
@@ -57,13 +61,23 @@ acting_in telegram globals slots = flat_map (λ slot. acting telegram globals sl
 -- those of the slots from a number on are still to come
 abbrev pub NotesAll : TelegramModel → Globals → List SlotState → List Addressee → Room → ℕ → Type 0
 NotesAll telegram globals slots noted room s =
-    Notes [] noted room (noted_from s telegram globals (drop s slots)) (entries_room (acting_in telegram globals (drop s slots))) (noted_from 0 telegram globals slots) (entries_room (acting_in telegram globals slots))
+    Notes [] noted room (noted_from s telegram globals (drop s slots))
+    (entries_room (acting_in telegram globals (drop s slots)))
+    (noted_from 0 telegram globals slots) (entries_room (acting_in telegram globals slots))
 
-pub notes_all_first : (telegram : TelegramModel) (globals : Globals) (slots : List SlotState) (noted : List Addressee) → noted ≡ [] → NotesAll telegram globals slots noted (record { rows = 0; bytes = 0 }) 0
-notes_all_first telegram globals slots noted empty = rw empty (record { items = refl; rows = omega arith; bytes = omega arith })
+pub notes_all_first :
+    (telegram : TelegramModel) (globals : Globals) (slots : List SlotState) (noted : List Addressee)
+    → noted ≡ [] → NotesAll telegram globals slots noted (record { rows = 0; bytes = 0 }) 0
+notes_all_first telegram globals slots noted empty =
+    rw empty (record { items = refl; rows = omega arith; bytes = omega arith })
 
 -- one turn over the slots
-pub notes_all_next : (telegram : TelegramModel) (globals : Globals) (slots : List SlotState) (slot : SlotState) (noted noted_then : List Addressee) (room more : Room) (s : ℕ) → s < length slots → slice_get slots s ≡ Some slot → NotesAll telegram globals slots noted room s → noted_then ≡ noted ++ noted_as s (acting telegram globals slot.objects) → more ≡ entries_room (acting telegram globals slot.objects) → NotesAll telegram globals slots noted_then (both_rooms room more) (s + 1)
+pub notes_all_next : (telegram : TelegramModel) (globals : Globals) (slots : List SlotState)
+    (slot : SlotState) (noted noted_then : List Addressee) (room more : Room) (s : ℕ) → s
+    < length slots → slice_get slots s ≡ Some slot → NotesAll telegram globals slots noted room s
+    → noted_then ≡ noted ++ noted_as s (acting telegram globals slot.objects)
+    → more ≡ entries_room (acting telegram globals slot.objects)
+    → NotesAll telegram globals slots noted_then (both_rooms room more) (s + 1)
 notes_all_next telegram globals slots slot noted noted_then room more s lt there notes told within =
     let one = split slots s lt in
     let is : one.item ≡ slot = same_Some one.item slot (sym one.at ∙ there) in
@@ -74,18 +88,25 @@ notes_all_next telegram globals slots slot noted noted_then room more s lt there
     let rows = rw left at notes.rows in
     let bytes = rw left at notes.bytes in
     record {
-      items = rw told (append_assoc noted (noted_as s own) (noted_from (s + 1) telegram globals (drop (s + 1) slots)) ∙ items);
+      items = rw told (append_assoc noted (noted_as s own)
+          (noted_from (s + 1) telegram globals (drop (s + 1) slots)) ∙ items);
       rows = omega (arith, rows, rows_of-append own others, ap (λ (r : Room). r.rows) within);
       bytes = omega (arith, bytes, bytes_of-append own others, ap (λ (r : Room). r.bytes) within);
     }
 
-pub notes_all_end_items : (telegram : TelegramModel) (globals : Globals) (slots : List SlotState) (noted : List Addressee) (room : Room) (s : ℕ) → length slots ≤ s → NotesAll telegram globals slots noted room s → noted ≡ noted_from 0 telegram globals slots
+pub notes_all_end_items : (telegram : TelegramModel) (globals : Globals) (slots : List SlotState)
+    (noted : List Addressee) (room : Room) (s : ℕ) → length slots ≤ s
+    → NotesAll telegram globals slots noted room s → noted ≡ noted_from 0 telegram globals slots
 notes_all_end_items telegram globals slots noted room s past notes =
     let items = rw (drop_all s slots past) at notes.items in
     sym (append-nil noted) ∙ items
 
-pub notes_all_end_room : (telegram : TelegramModel) (globals : Globals) (slots : List SlotState) (noted : List Addressee) (room : Room) (s : ℕ) → length slots ≤ s → NotesAll telegram globals slots noted room s → room ≡ entries_room (acting_in telegram globals slots)
+pub notes_all_end_room : (telegram : TelegramModel) (globals : Globals) (slots : List SlotState)
+    (noted : List Addressee) (room : Room) (s : ℕ)
+    → length slots ≤ s → NotesAll telegram globals slots noted room s
+    → room ≡ entries_room (acting_in telegram globals slots)
 notes_all_end_room telegram globals slots noted room s past notes =
     let rows = rw (drop_all s slots past) at notes.rows in
     let bytes = rw (drop_all s slots past) at notes.bytes in
-    same_room room (entries_room (acting_in telegram globals slots)) (omega (arith, rows)) (omega (arith, bytes))
+    same_room room (entries_room (acting_in telegram globals slots))
+    (omega (arith, rows)) (omega (arith, bytes))

@@ -1,5 +1,6 @@
 -- A telegram and the objects that act at it; one that concerns no object changes nothing.
-use Rattle.std.proofs.Common.{◌≡◌, ℕ, List, [], ◌∷◌, filter, Bool, true, false, Option, Some, None, Result, Ok, Err, OnErr, refl, ◌∙◌, ap, arith, inl, inr}
+use Rattle.std.proofs.Common.{◌≡◌, ℕ, List, [], ◌∷◌, filter, Bool, true, false, Option, Some}
+use Rattle.std.proofs.Common.{None, Result, Ok, Err, OnErr, refl, ◌∙◌, ap, arith, inl, inr}
 use Rattle.std.specs.Prelude.{◌&&◌, ◌||◌}
 use Rattle.std.specs.List.{flat_map, list_any}
 use Rattle.std.proofs.lemmas.List.Concat.{flat_map-cons}
@@ -10,26 +11,37 @@ use Rattle.trdp_base.specs.declared.place.Place.{Place}
 use Rattle.trdp_pd.specs.Publishers.{PublisherState, is_answered, publisher_taking}
 use Rattle.trdp_pd.specs.declared.terms.ValueState.{ValueState}
 use Rattle.trdp_pd.specs.declared.terms.ValueState.TheVariants.{Never, Valid, Silent}
-use Rattle.trdp_pd.specs.Subscriptions.{SubscriptionState, is_accepted, taken_in, subscription_taking}
+use Rattle.trdp_pd.specs.Subscriptions.{SubscriptionState, is_accepted}
+use Rattle.trdp_pd.specs.Subscriptions.{taken_in, subscription_taking}
 use Rattle.trdp_pd.specs.declared.object.Taken.{Taken}
-use Rattle.trdp_pd.specs.declared.object.Taken.TheVariants.{Nothing, Stored, Alive, Pulled, Heard, Replied, RepliedLast, Confirmed}
+use Rattle.trdp_pd.specs.declared.object.Taken.TheVariants.{Nothing, Stored, Alive, Pulled, Heard}
+use Rattle.trdp_pd.specs.declared.object.Taken.TheVariants.{Replied, RepliedLast, Confirmed}
 use Rattle.trdp_table.specs.declared.any_object.AnyObject.{AnyObject}
-use Rattle.trdp_table.specs.declared.any_object.AnyObject.TheVariants.{Publisher, Subscription, Requester, Listener, Caller, Replier}
+use Rattle.trdp_table.specs.declared.any_object.AnyObject.TheVariants.{Publisher, Subscription}
+use Rattle.trdp_table.specs.declared.any_object.AnyObject.TheVariants.{Requester, Listener}
+use Rattle.trdp_table.specs.declared.any_object.AnyObject.TheVariants.{Caller, Replier}
 use Rattle.trdp_table.specs.declared.kind.Kind.{Kind}
-use Rattle.trdp_table.specs.declared.kind.Kind.TheVariants.{Publisher as Publishing, Subscription as Subscribing, Listener as Listening, Caller as Calling, Replier as Replying}
+use Rattle.trdp_table.specs.declared.kind.Kind.TheVariants.{Publisher as Publishing}
+use Rattle.trdp_table.specs.declared.kind.Kind.TheVariants.{Subscription as Subscribing}
+use Rattle.trdp_table.specs.declared.kind.Kind.TheVariants.{Listener as Listening}
+use Rattle.trdp_table.specs.declared.kind.Kind.TheVariants.{Caller as Calling, Replier as Replying}
 use Rattle.trdp_table.specs.Kinds.{kind_of}
 use Rattle.trdp_md.specs.declared.listener.Listener.{Listener as AnyListener}
 use Rattle.trdp_md.specs.Listeners.{listener_addressed, listener_taking}
 use Rattle.trdp_md.specs.declared.caller.Caller.{Caller as AnyCaller}
 use Rattle.trdp_md.specs.declared.replier.Replier.{Replier as AnyReplier}
-use Rattle.trdp_md.specs.Callers.{is_accepted as is_taken, is_complete, answering, replied as replied_as, caller_taking}
+use Rattle.trdp_md.specs.Callers.{is_accepted as is_taken, is_complete, answering}
+use Rattle.trdp_md.specs.Callers.{replied as replied_as, caller_taking}
 use Rattle.trdp_md.specs.Repliers.{is_for_replier, replier_taking}
 use Rattle.trdp_head.specs.MdTelegrams.{MdTelegram}
 use Rattle.trdp_engine.specs.Requests.{asked_by_hearing}
 use Rattle.trdp_table.specs.Objects.{after_taking, taken}
 use Rattle.trdp_engine.specs.Configs.{NodeSetup}
 use Rattle.trdp_engine.specs.Slots.{Entry, SlotState, Outcome, unchanged}
-use Rattle.trdp_engine.specs.Datagrams.{is_listening, hearing, is_valid_at, handed, is_request, requested, received, received_if, concerns, is_for_entry, is_acting, acting, after_telegram, fits_object, taken_records, left_taking, taking_act}
+use Rattle.trdp_engine.specs.Datagrams.{is_listening, hearing, is_valid_at, handed, is_request}
+use Rattle.trdp_engine.specs.Datagrams.{requested, received, received_if, concerns}
+use Rattle.trdp_engine.specs.Datagrams.{is_for_entry, is_acting, acting, after_telegram}
+use Rattle.trdp_engine.specs.Datagrams.{fits_object, taken_records, left_taking, taking_act}
 use Rattle.trdp_engine.specs.Outboxes.{OutboxState}
 use Rattle.trdp_engine.specs.Rooms.{LacksRoom, entries_room}
 
@@ -42,28 +54,46 @@ or_right true b is = absurd (cc)
 or_right false b is = is
 
 -- what is left of an object is what its act leaves
-pub left_by_taking : (setup : NodeSetup) (telegram : TelegramModel) (globals : Globals) (entry : Entry) (object : AnyObject) (left : Option AnyObject) → object ≡ entry.object → left ≡ left_taking (taken object telegram globals (fits_object setup telegram object)) (after_taking object telegram globals (fits_object setup telegram object)) → left ≡ (taking_act setup telegram globals entry).left
+pub left_by_taking : (setup : NodeSetup) (telegram : TelegramModel) (globals : Globals)
+    (entry : Entry) (object : AnyObject) (left : Option AnyObject) → object ≡ entry.object
+    → left ≡ left_taking (taken object telegram globals (fits_object setup telegram object))
+    (after_taking object telegram globals (fits_object setup telegram object))
+    → left ≡ (taking_act setup telegram globals entry).left
 left_by_taking setup telegram globals entry object left same is = rw (is, same) refl
 
 -- and the records that it gave are those of its act
-pub gives_taking : (setup : NodeSetup) (telegram : TelegramModel) (globals : Globals) (entry : Entry) (handle : ℕ) (object : AnyObject) → handle ≡ entry.handle → object ≡ entry.object → taken_records setup telegram handle object (taken object telegram globals (fits_object setup telegram object)) ≡ (taking_act setup telegram globals entry).records
+pub gives_taking : (setup : NodeSetup) (telegram : TelegramModel)
+    (globals : Globals) (entry : Entry) (handle : ℕ) (object : AnyObject)
+    → handle ≡ entry.handle → object ≡ entry.object → taken_records setup
+    telegram handle object (taken object telegram globals (fits_object setup telegram object))
+    ≡ (taking_act setup telegram globals entry).records
 gives_taking setup telegram globals entry handle object number same = rw (number, same) refl
 
 -- a telegram that is for none of these objects leaves them all
-unconcerned_objects : (setup : NodeSetup) (telegram : TelegramModel) (globals : Globals) (all objects : List Entry) → list_any (is_for_entry telegram globals) objects ≡ false → flat_map (after_telegram setup telegram globals all) objects ≡ objects
+unconcerned_objects :
+    (setup : NodeSetup) (telegram : TelegramModel) (globals : Globals) (all objects : List Entry)
+    → list_any (is_for_entry telegram globals) objects ≡ false
+    → flat_map (after_telegram setup telegram globals all) objects ≡ objects
 unconcerned_objects setup telegram globals all [] none = refl
 unconcerned_objects setup telegram globals all (e ∷ objects) none =
-    let head : is_for_entry telegram globals e ≡ false = or_left (is_for_entry telegram globals e) (list_any (is_for_entry telegram globals) objects) none in
-    let rest : list_any (is_for_entry telegram globals) objects ≡ false = or_right (is_for_entry telegram globals e) (list_any (is_for_entry telegram globals) objects) none in
+    let head : is_for_entry telegram globals e ≡ false = or_left (is_for_entry telegram globals e)
+    (list_any (is_for_entry telegram globals) objects) none in
+    let rest : list_any (is_for_entry telegram globals) objects ≡ false = or_right
+    (is_for_entry telegram globals e) (list_any (is_for_entry telegram globals) objects) none in
     flat_map-cons (after_telegram setup telegram globals all) e objects
-    ∙ rw head (ap (λ (es : List Entry). e ∷ es) (unconcerned_objects setup telegram globals all objects rest))
+    ∙ rw head (ap (λ (es : List Entry). e ∷ es)
+    (unconcerned_objects setup telegram globals all objects rest))
 
 -- and none of them acts
-none_acts : (telegram : TelegramModel) (globals : Globals) (all objects : List Entry) → list_any (is_for_entry telegram globals) objects ≡ false → filter (is_acting telegram globals all) objects ≡ []
+none_acts : (telegram : TelegramModel) (globals : Globals) (all objects : List Entry)
+    → list_any (is_for_entry telegram globals) objects ≡ false
+    → filter (is_acting telegram globals all) objects ≡ []
 none_acts telegram globals all [] none = refl
 none_acts telegram globals all (e ∷ objects) none =
-    let head : is_for_entry telegram globals e ≡ false = or_left (is_for_entry telegram globals e) (list_any (is_for_entry telegram globals) objects) none in
-    let rest : list_any (is_for_entry telegram globals) objects ≡ false = or_right (is_for_entry telegram globals e) (list_any (is_for_entry telegram globals) objects) none in
+    let head : is_for_entry telegram globals e ≡ false = or_left (is_for_entry telegram globals e)
+    (list_any (is_for_entry telegram globals) objects) none in
+    let rest : list_any (is_for_entry telegram globals) objects ≡ false = or_right
+    (is_for_entry telegram globals e) (list_any (is_for_entry telegram globals) objects) none in
     rw head (none_acts telegram globals all objects rest)
 
 -- what is true is true of an error
@@ -72,11 +102,20 @@ of_an_error (Ok x) P holds = tt
 of_an_error (Err e) P holds = holds
 
 -- a telegram that is for none of a slot's objects does nothing to them
-nobody_acts : (setup : NodeSetup) (slot : SlotState) (globals : Globals) (telegram : TelegramModel) → list_any (is_for_entry telegram globals) slot.objects ≡ false → handed setup slot globals telegram ≡ unchanged slot
+nobody_acts : (setup : NodeSetup) (slot : SlotState) (globals : Globals) (telegram : TelegramModel)
+    → list_any (is_for_entry telegram globals) slot.objects ≡ false
+    → handed setup slot globals telegram ≡ unchanged slot
 nobody_acts setup slot globals telegram none =
-    ap (λ (es : List Entry). let o : Outcome = record { slot = record slot { objects = es }; records = flat_map (λ entry. (taking_act setup telegram globals entry).records) (acting telegram globals slot.objects) } in o)
+    ap (λ (es : List Entry). let o : Outcome = record {
+      slot = record slot { objects = es };
+      records = flat_map (λ entry. (taking_act setup telegram globals entry).records)
+          (acting telegram globals slot.objects);
+    } in o)
     (unconcerned_objects setup telegram globals slot.objects slot.objects none)
-    ∙ ap (λ (es : List Entry). let o : Outcome = record { slot = slot; records = flat_map (λ entry. (taking_act setup telegram globals entry).records) es } in o)
+    ∙ ap (λ (es : List Entry). let o : Outcome = record {
+      slot = slot;
+      records = flat_map (λ entry. (taking_act setup telegram globals entry).records) es;
+    } in o)
     (none_acts telegram globals slot.objects slot.objects none)
 
 and_false : (a : Bool) → (a && false) ≡ false
@@ -84,53 +123,83 @@ and_false true = refl
 and_false false = refl
 
 -- and no listener hears it
-nobody_hears : (telegram : TelegramModel) (globals : Globals) (objects : List Entry) → list_any (is_for_entry telegram globals) objects ≡ false → hearing telegram globals objects ≡ None
+nobody_hears : (telegram : TelegramModel) (globals : Globals) (objects : List Entry)
+    → list_any (is_for_entry telegram globals) objects ≡ false
+    → hearing telegram globals objects ≡ None
 nobody_hears telegram globals [] none = refl
 nobody_hears telegram globals (e ∷ objects) none =
-    let head : is_for_entry telegram globals e ≡ false = or_left (is_for_entry telegram globals e) (list_any (is_for_entry telegram globals) objects) none in
-    let rest : list_any (is_for_entry telegram globals) objects ≡ false = or_right (is_for_entry telegram globals e) (list_any (is_for_entry telegram globals) objects) none in
-    let not : (is_listening e && is_for_entry telegram globals e) ≡ false = ap (λ (b : Bool). is_listening e && b) head ∙ and_false (is_listening e) in
+    let head : is_for_entry telegram globals e ≡ false = or_left (is_for_entry telegram globals e)
+    (list_any (is_for_entry telegram globals) objects) none in
+    let rest : list_any (is_for_entry telegram globals) objects ≡ false = or_right
+    (is_for_entry telegram globals e) (list_any (is_for_entry telegram globals) objects) none in
+    let not : (is_listening e && is_for_entry telegram globals e) ≡ false =
+    ap (λ (b : Bool). is_listening e && b) head ∙ and_false (is_listening e) in
     rw not (nobody_hears telegram globals objects rest)
 
-nobody_asked : (slot : SlotState) (globals : Globals) (telegram : TelegramModel) → list_any (is_for_entry telegram globals) slot.objects ≡ false → requested slot globals telegram ≡ unchanged slot
+nobody_asked : (slot : SlotState) (globals : Globals) (telegram : TelegramModel)
+    → list_any (is_for_entry telegram globals) slot.objects ≡ false
+    → requested slot globals telegram ≡ unchanged slot
 nobody_asked slot globals (PdIs src dst telegram) none = refl
 nobody_asked slot globals (MdIs src dst telegram) none =
-    ap (λ (listener : Option ℕ). asked_by_hearing listener slot globals src telegram) (nobody_hears (MdIs src dst telegram) globals slot.objects none)
+    ap (λ (listener : Option ℕ). asked_by_hearing listener slot globals src telegram)
+    (nobody_hears (MdIs src dst telegram) globals slot.objects none)
 
 -- so it does nothing to the slot
-nobody : (setup : NodeSetup) (slot : SlotState) (globals : Globals) (telegram : TelegramModel) → list_any (is_for_entry telegram globals) slot.objects ≡ false → received setup slot globals telegram ≡ unchanged slot
+nobody : (setup : NodeSetup) (slot : SlotState) (globals : Globals) (telegram : TelegramModel)
+    → list_any (is_for_entry telegram globals) slot.objects ≡ false
+    → received setup slot globals telegram ≡ unchanged slot
 nobody setup slot globals telegram none = either (is_request telegram) refl
   where
-    either : (b : Bool) → is_request telegram ≡ b → received setup slot globals telegram ≡ unchanged slot
+    either : (b : Bool) → is_request telegram ≡ b
+        → received setup slot globals telegram ≡ unchanged slot
     either true is = rw is (nobody_asked slot globals telegram none)
     either false is = rw is (nobody_acts setup slot globals telegram none)
 
 -- a datagram that doesn't concern a slot changes nothing
-pub unconcerned : (setup : NodeSetup) (slot : SlotState) (globals : Globals) (telegram : Option TelegramModel) → concerns globals telegram slot ≡ false → received_if setup slot globals telegram ≡ unchanged slot
+pub unconcerned :
+    (setup : NodeSetup) (slot : SlotState) (globals : Globals) (telegram : Option TelegramModel)
+    → concerns globals telegram slot ≡ false
+    → received_if setup slot globals telegram ≡ unchanged slot
 unconcerned setup slot globals None none = refl
-unconcerned setup slot globals (Some telegram) none = either setup slot globals telegram (is_valid_at globals telegram) refl none
+unconcerned setup slot globals (Some telegram) none =
+    either setup slot globals telegram (is_valid_at globals telegram) refl none
   where
-    either : (setup : NodeSetup) (slot : SlotState) (globals : Globals) (telegram : TelegramModel) (b : Bool) → is_valid_at globals telegram ≡ b → concerns globals (Some telegram) slot ≡ false → received_if setup slot globals (Some telegram) ≡ unchanged slot
+    either : (setup : NodeSetup) (slot : SlotState) (globals : Globals) (telegram : TelegramModel)
+        (b : Bool) → is_valid_at globals telegram ≡ b → concerns globals (Some telegram) slot
+        ≡ false → received_if setup slot globals (Some telegram) ≡ unchanged slot
     either setup slot globals telegram true is none =
-        let none_of : list_any (is_for_entry telegram globals) slot.objects ≡ false = rw is at none in
+        let none_of : list_any (is_for_entry telegram globals) slot.objects
+        ≡ false = rw is at none in
         rw is (nobody setup slot globals telegram none_of)
     either setup slot globals telegram false is none = rw is refl
 
 -- where a telegram of matching counts concerns no slot, no object acts at it
-unconcerned_all : (telegram : TelegramModel) (globals : Globals) (slots : List SlotState) → is_valid_at globals telegram ≡ true → list_any (concerns globals (Some telegram)) slots ≡ false → flat_map (λ slot. acting telegram globals slot.objects) slots ≡ []
+unconcerned_all : (telegram : TelegramModel) (globals : Globals) (slots : List SlotState)
+    → is_valid_at globals telegram ≡ true → list_any (concerns globals (Some telegram)) slots
+    ≡ false → flat_map (λ slot. acting telegram globals slot.objects) slots ≡ []
 unconcerned_all telegram globals [] valid none = refl
 unconcerned_all telegram globals (x ∷ slots) valid none =
-    let head : concerns globals (Some telegram) x ≡ false = or_left (concerns globals (Some telegram) x) (list_any (concerns globals (Some telegram)) slots) none in
-    let rest : list_any (concerns globals (Some telegram)) slots ≡ false = or_right (concerns globals (Some telegram) x) (list_any (concerns globals (Some telegram)) slots) none in
+    let head : concerns globals (Some telegram) x ≡ false =
+    or_left (concerns globals (Some telegram) x)
+    (list_any (concerns globals (Some telegram)) slots) none in
+    let rest : list_any (concerns globals (Some telegram)) slots ≡ false =
+    or_right (concerns globals (Some telegram) x)
+    (list_any (concerns globals (Some telegram)) slots) none in
     let none_of : list_any (is_for_entry telegram globals) x.objects ≡ false = rw valid at head in
     flat_map-cons (λ slot. acting telegram globals slot.objects) x slots
-    ∙ rw (none_acts telegram globals x.objects x.objects none_of) (unconcerned_all telegram globals slots valid rest)
+    ∙ rw (none_acts telegram globals x.objects x.objects none_of)
+    (unconcerned_all telegram globals slots valid rest)
 
 -- where room may be wanting for a telegram, it concerns a slot
-pub lacking_concerns : (telegram : TelegramModel) (globals : Globals) (slots : List SlotState) (out : OutboxState) → is_valid_at globals telegram ≡ true → LacksRoom out (entries_room (flat_map (λ slot. acting telegram globals slot.objects) slots)) → list_any (concerns globals (Some telegram)) slots ≡ true
-lacking_concerns telegram globals slots out valid lacks = either (list_any (concerns globals (Some telegram)) slots) refl
+pub lacking_concerns : (telegram : TelegramModel) (globals : Globals) (slots : List SlotState)
+    (out : OutboxState) → is_valid_at globals telegram ≡ true
+    → LacksRoom out (entries_room (flat_map (λ slot. acting telegram globals slot.objects) slots))
+    → list_any (concerns globals (Some telegram)) slots ≡ true
+lacking_concerns telegram globals slots out valid lacks =
+    either (list_any (concerns globals (Some telegram)) slots) refl
   where
-    either : (b : Bool) → list_any (concerns globals (Some telegram)) slots ≡ b → list_any (concerns globals (Some telegram)) slots ≡ true
+    either : (b : Bool) → list_any (concerns globals (Some telegram)) slots ≡ b
+        → list_any (concerns globals (Some telegram)) slots ≡ true
     either true is = is
     either false is =
         let nothing = rw (unconcerned_all telegram globals slots valid is) at lacks in
@@ -161,46 +230,68 @@ replied_by c = either (is_complete c) refl
     either true is = rw is refl
     either false is = rw is refl
 
-publisher_takes : (p : PublisherState) (src dst : Place) (telegram : PdTelegram) (globals : Globals) (fits b : Bool) → is_answered p telegram.head globals ≡ b → IsTakenBy Publishing (publisher_taking p (PdIs src dst telegram) globals fits).taken
+publisher_takes : (p : PublisherState) (src dst : Place) (telegram : PdTelegram)
+    (globals : Globals) (fits b : Bool) → is_answered p telegram.head globals ≡ b
+    → IsTakenBy Publishing (publisher_taking p (PdIs src dst telegram) globals fits).taken
 publisher_takes p src dst telegram globals fits true is = rw is refl
 publisher_takes p src dst telegram globals fits false is = rw is tt
 
-subscription_takes : (s : SubscriptionState) (src dst : Place) (telegram : PdTelegram) (globals : Globals) (fits b : Bool) → is_accepted s src dst telegram.head globals fits ≡ b → IsTakenBy Subscribing (subscription_taking s (PdIs src dst telegram) globals fits).taken
+subscription_takes : (s : SubscriptionState) (src dst : Place) (telegram : PdTelegram)
+    (globals : Globals) (fits b : Bool) → is_accepted s src dst telegram.head globals fits ≡ b
+    → IsTakenBy Subscribing (subscription_taking s (PdIs src dst telegram) globals fits).taken
 subscription_takes s src dst telegram globals fits true is = rw is (taken_in_by s.state)
 subscription_takes s src dst telegram globals fits false is = rw is tt
 
-listener_takes : (l : AnyListener) (telegram : TelegramModel) (globals : Globals) (fits b : Bool) → listener_addressed l telegram globals ≡ b → IsTakenBy Listening (listener_taking l telegram globals fits).taken
+listener_takes : (l : AnyListener) (telegram : TelegramModel) (globals : Globals) (fits b : Bool)
+    → listener_addressed l telegram globals ≡ b
+    → IsTakenBy Listening (listener_taking l telegram globals fits).taken
 listener_takes l telegram globals fits true is = rw is refl
 listener_takes l telegram globals fits false is = rw is tt
 
-caller_takes : (c : AnyCaller) (src dst : Place) (telegram : MdTelegram) (globals : Globals) (fits b : Bool) → is_taken c src telegram.head ≡ b → IsTakenBy Calling (caller_taking c (MdIs src dst telegram) globals fits).taken
-caller_takes c src dst telegram globals fits true is = rw is (replied_by (answering c src telegram.head globals.now))
+caller_takes :
+    (c : AnyCaller) (src dst : Place) (telegram : MdTelegram) (globals : Globals) (fits b : Bool)
+    → is_taken c src telegram.head ≡ b
+    → IsTakenBy Calling (caller_taking c (MdIs src dst telegram) globals fits).taken
+caller_takes c src dst telegram globals fits true is =
+    rw is (replied_by (answering c src telegram.head globals.now))
 caller_takes c src dst telegram globals fits false is = rw is tt
 
-replier_takes : (r : AnyReplier) (src dst : Place) (telegram : MdTelegram) (globals : Globals) (fits b : Bool) → is_for_replier r src telegram.head ≡ b → IsTakenBy Replying (replier_taking r (MdIs src dst telegram) globals fits).taken
+replier_takes :
+    (r : AnyReplier) (src dst : Place) (telegram : MdTelegram) (globals : Globals) (fits b : Bool)
+    → is_for_replier r src telegram.head ≡ b
+    → IsTakenBy Replying (replier_taking r (MdIs src dst telegram) globals fits).taken
 replier_takes r src dst telegram globals fits true is = rw is refl
 replier_takes r src dst telegram globals fits false is = rw is tt
 
 -- what an object did with a telegram tells its kind
-pub taken_by : (object : AnyObject) (telegram : TelegramModel) (globals : Globals) (fits : Bool) → IsTakenBy (kind_of object) (taken object telegram globals fits)
-taken_by (Publisher p) (PdIs src dst telegram) globals fits = publisher_takes p src dst telegram globals fits _ refl
+pub taken_by : (object : AnyObject) (telegram : TelegramModel) (globals : Globals) (fits : Bool)
+    → IsTakenBy (kind_of object) (taken object telegram globals fits)
+taken_by (Publisher p) (PdIs src dst telegram) globals fits =
+    publisher_takes p src dst telegram globals fits _ refl
 taken_by (Publisher p) (MdIs src dst telegram) globals fits = tt
-taken_by (Subscription s) (PdIs src dst telegram) globals fits = subscription_takes s src dst telegram globals fits _ refl
+taken_by (Subscription s) (PdIs src dst telegram) globals fits =
+    subscription_takes s src dst telegram globals fits _ refl
 taken_by (Subscription s) (MdIs src dst telegram) globals fits = tt
 taken_by (Requester r) telegram globals fits = tt
 taken_by (Listener l) telegram globals fits = listener_takes l telegram globals fits _ refl
 taken_by (Caller c) (PdIs src dst telegram) globals fits = tt
-taken_by (Caller c) (MdIs src dst telegram) globals fits = caller_takes c src dst telegram globals fits _ refl
+taken_by (Caller c) (MdIs src dst telegram) globals fits =
+    caller_takes c src dst telegram globals fits _ refl
 taken_by (Replier r) (PdIs src dst telegram) globals fits = tt
-taken_by (Replier r) (MdIs src dst telegram) globals fits = replier_takes r src dst telegram globals fits _ refl
+taken_by (Replier r) (MdIs src dst telegram) globals fits =
+    replier_takes r src dst telegram globals fits _ refl
 
 -- the kind of an object that did this, so its room
-pub kind_taken : (object : AnyObject) (telegram : TelegramModel) (globals : Globals) (fits : Bool) (did : Taken) → did ≡ taken object telegram globals fits → IsTakenBy (kind_of object) did
+pub kind_taken :
+    (object : AnyObject) (telegram : TelegramModel) (globals : Globals) (fits : Bool) (did : Taken)
+    → did ≡ taken object telegram globals fits → IsTakenBy (kind_of object) did
 kind_taken object telegram globals fits did is = rw is (taken_by object telegram globals fits)
 
 -- No listener hears process data.
 
-no_listener : (src dst : Place) (telegram : PdTelegram) (globals : Globals) (entry : Entry) (object : AnyObject) → entry.object ≡ object → (is_listening entry && is_for_entry (PdIs src dst telegram) globals entry) ≡ false
+no_listener : (src dst : Place) (telegram : PdTelegram)
+    (globals : Globals) (entry : Entry) (object : AnyObject) → entry.object ≡ object
+    → (is_listening entry && is_for_entry (PdIs src dst telegram) globals entry) ≡ false
 no_listener src dst telegram globals entry (Publisher p) is = rw is refl
 no_listener src dst telegram globals entry (Subscription s) is = rw is refl
 no_listener src dst telegram globals entry (Requester r) is = rw is refl
@@ -208,7 +299,10 @@ no_listener src dst telegram globals entry (Listener l) is = rw is refl
 no_listener src dst telegram globals entry (Caller c) is = rw is refl
 no_listener src dst telegram globals entry (Replier r) is = rw is refl
 
-pub process_unheard : (src dst : Place) (telegram : PdTelegram) (globals : Globals) (objects : List Entry) → hearing (PdIs src dst telegram) globals objects ≡ None
+pub process_unheard :
+    (src dst : Place) (telegram : PdTelegram) (globals : Globals) (objects : List Entry)
+    → hearing (PdIs src dst telegram) globals objects ≡ None
 process_unheard src dst telegram globals [] = refl
 process_unheard src dst telegram globals (e ∷ es) =
-    rw (no_listener src dst telegram globals e e.object refl) (process_unheard src dst telegram globals es)
+    rw (no_listener src dst telegram globals e e.object refl)
+    (process_unheard src dst telegram globals es)

@@ -1,5 +1,7 @@
 -- Requests: one that a slot sends, and what a slot makes of one that its listener hears.
-use Rattle.std.proofs.Common.{◌≡◌, ℕ, ◌<◌, ◌≤◌, List, [], ◌∷◌, ◌++◌, length, filter, Option, Some, None, Bool, true, false, refl, ◌∙◌, sym, ap, subst, arith, append_assoc}
+use Rattle.std.proofs.Common.{◌≡◌, ℕ, ◌<◌, ◌≤◌, List, [], ◌∷◌, ◌++◌, length}
+use Rattle.std.proofs.Common.{filter, Option, Some, None, Bool, true, false}
+use Rattle.std.proofs.Common.{refl, ◌∙◌, sym, ap, subst, arith, append_assoc}
 use Rattle.std.specs.Prelude.{slice_set, ◌&&◌, not, nat_lt, if◌then◌else◌}
 use Rattle.std.proofs.lemmas.List.{append-nil}
 use Rattle.std.proofs.lemmas.List.Sums.{sum_by-cons}
@@ -21,14 +23,16 @@ use Rattle.trdp_table.specs.declared.kind.Kind.TheVariants as kind
 use Rattle.trdp_table.specs.Kinds.{kind_of, is_same_kind}
 use Rattle.trdp_table.specs.Tables.{TableState}
 use Rattle.trdp_engine.specs.declared.fault.Refusal.{Refusal}
-use Rattle.trdp_engine.specs.declared.fault.Refusal.TheVariants.{State, Timeout, Expected, TooLong, SessionOpen}
+use Rattle.trdp_engine.specs.declared.fault.Refusal.TheVariants.{State, Timeout, Expected}
+use Rattle.trdp_engine.specs.declared.fault.Refusal.TheVariants.{TooLong, SessionOpen}
 use Rattle.trdp_engine.specs.declared.room.Room.{Room}
 use Rattle.trdp_engine.specs.declared.record.Protocol.TheVariants.{Md}
 use Rattle.trdp_engine.specs.Records.{RecordModel, AnswerModel, HandleIs, Answers, Sends, labelled}
 use Rattle.trdp_engine.specs.Slots.{Entry, SlotState, Outcome, unchanged, with_object, slots_of}
 use Rattle.trdp_engine.specs.Openings.{answered, opening_refusal, opened_unless, opened_with}
 use Rattle.trdp_engine.specs.Requests.{has_session, request_refusal, request_sent, asked}
-use Rattle.trdp_engine.specs.Datagrams.{is_for_entry, is_listening, hearing, acts_where, acting, requested}
+use Rattle.trdp_engine.specs.Datagrams.{is_for_entry, is_listening, hearing}
+use Rattle.trdp_engine.specs.Datagrams.{acts_where, acting, requested}
 use Rattle.trdp_engine.specs.Outboxes.{OutboxState}
 use Rattle.trdp_engine.specs.Rooms.{kind_room, entries_room}
 use Rattle.trdp_engine.specs.Acting.{slot_at, Becomes}
@@ -39,7 +43,10 @@ use Rattle.trdp_engine.proofs.Turns.{same_number}
 -- A new object and its answer.
 
 -- where nothing refuses the object, its answer is the handle
-pub opened_none : (slot slot_then : SlotState) (object : AnyObject) (answer : AnswerModel) (refusal : Option Refusal) → refusal ≡ None → opened_unless refusal slot object ≡ answered slot_then answer → (slot_then ≡ with_object slot object) × (answer ≡ HandleIs slot.next)
+pub opened_none : (slot slot_then : SlotState)
+    (object : AnyObject) (answer : AnswerModel) (refusal : Option Refusal)
+    → refusal ≡ None → opened_unless refusal slot object ≡ answered slot_then answer
+    → (slot_then ≡ with_object slot object) × (answer ≡ HandleIs slot.next)
 opened_none slot slot_then object answer refusal none is =
     let opened : opened_unless None slot object ≡ answered slot_then answer = rw none at is in
     let told = ap (λ (o : Outcome). o.records) opened in
@@ -47,12 +54,14 @@ opened_none slot slot_then object answer refusal none is =
 
 -- A request that is sent.
 
-later : (b : Bool) (refusal : Refusal) (rest : Option Refusal) → (if b then Some refusal else rest) ≡ None → rest ≡ None
+later : (b : Bool) (refusal : Refusal) (rest : Option Refusal)
+    → (if b then Some refusal else rest) ≡ None → rest ≡ None
 later true refusal rest is = absurd (cc)
 later false refusal rest is = is
 
 -- a request that isn't refused finds a place for its caller
-pub request_opens : (slot : SlotState) (globals : Globals) (terms : CallerTerms) (payload : List ℕ) → request_refusal slot globals terms payload ≡ None → opening_refusal slot kind.Caller ≡ None
+pub request_opens : (slot : SlotState) (globals : Globals) (terms : CallerTerms) (payload : List ℕ)
+    → request_refusal slot globals terms payload ≡ None → opening_refusal slot kind.Caller ≡ None
 request_opens slot globals terms payload is =
     later (has_session kind.Caller terms.session slot.objects) SessionOpen _
     (later (nat_lt 65388 (length payload)) TooLong _
@@ -60,35 +69,65 @@ request_opens slot globals terms payload is =
     (later (nat_lt terms.timeout 1000) Timeout _
     (later (not (topo_valid terms.topo globals.topo)) State _ is))))
 
-pub sends_request : (table table_then : TableState) (s : ℕ) (globals : Globals) (terms : CallerTerms) (payload : List ℕ) (caller : AnyCaller) (answer : AnswerModel) (head : MdHead) (out out_between out_then : OutboxState) → request_refusal (slot_at s table) globals terms payload ≡ None → caller ≡ new_caller terms globals.now → head ≡ request_of terms → opened_unless (opening_refusal (slot_at s table) kind.Caller) (slot_at s table) (Caller caller) ≡ answered (slot_at s table_then) answer → slots_of table_then ≡ slice_set (slots_of table) s (slot_at s table_then) → out_between.records ≡ out.records ++ labelled s (Answers answer ∷ []) → out_then.records ≡ out_between.records ++ labelled s (Sends Md terms.to (md_bytes head payload) ∷ []) → Becomes s (opened_with (request_refusal (slot_at s table) globals terms payload) (slot_at s table) (Caller (new_caller terms globals.now)) (request_sent terms payload ∷ [])) table table_then out out_then
-sends_request table table_then s globals terms payload caller answer head out out_between out_then none made same is others told sent =
-    let opened = opened_none (slot_at s table) (slot_at s table_then) (Caller caller) answer (opening_refusal (slot_at s table) kind.Caller) (request_opens (slot_at s table) globals terms payload none) is in
+pub sends_request : (table table_then : TableState)
+    (s : ℕ) (globals : Globals) (terms : CallerTerms) (payload : List ℕ) (caller : AnyCaller)
+    (answer : AnswerModel) (head : MdHead) (out out_between out_then : OutboxState)
+    → request_refusal (slot_at s table) globals terms payload ≡ None
+    → caller ≡ new_caller terms globals.now → head ≡ request_of terms
+    → opened_unless (opening_refusal (slot_at s table) kind.Caller)
+    (slot_at s table) (Caller caller) ≡ answered (slot_at s table_then) answer
+    → slots_of table_then ≡ slice_set (slots_of table) s (slot_at s table_then)
+    → out_between.records ≡ out.records ++ labelled s (Answers answer ∷ []) → out_then.records
+    ≡ out_between.records ++ labelled s (Sends Md terms.to (md_bytes head payload) ∷ [])
+    → Becomes s (opened_with (request_refusal (slot_at s table) globals terms payload)
+    (slot_at s table) (Caller (new_caller terms globals.now)) (request_sent terms payload ∷ []))
+    table table_then out out_then
+sends_request table table_then s globals terms
+    payload caller answer head out out_between out_then none made same is others told sent =
+    let opened = opened_none (slot_at s table) (slot_at s table_then)
+    (Caller caller) answer (opening_refusal (slot_at s table) kind.Caller)
+    (request_opens (slot_at s table) globals terms payload none) is in
     rw none
     (record {
-      slots = others ∙ ap (slice_set (slots_of table) s) (opened.0 ∙ ap (λ (c : AnyCaller). with_object (slot_at s table) (Caller c)) made);
+      slots = others ∙ ap (slice_set (slots_of table) s)
+          (opened.0 ∙ ap (λ (c : AnyCaller). with_object (slot_at s table) (Caller c)) made);
       records =
           sent
-          ∙ (ap (λ (rs : List RecordModel). rs ++ labelled s (Sends Md terms.to (md_bytes head payload) ∷ [])) told
-          ∙ (append_assoc out.records (labelled s (Answers answer ∷ [])) (labelled s (Sends Md terms.to (md_bytes head payload) ∷ []))
-          ∙ (ap (λ (a : AnswerModel). out.records ++ labelled s (Answers a ∷ Sends Md terms.to (md_bytes head payload) ∷ [])) opened.1
-          ∙ ap (λ (h : MdHead). out.records ++ labelled s (Answers (HandleIs (slot_at s table).next) ∷ Sends Md terms.to (md_bytes h payload) ∷ [])) same)));
+          ∙ (ap (λ (rs : List RecordModel). rs
+          ++ labelled s (Sends Md terms.to (md_bytes head payload) ∷ [])) told
+          ∙ (append_assoc out.records (labelled s (Answers answer ∷ []))
+          (labelled s (Sends Md terms.to (md_bytes head payload) ∷ []))
+          ∙ (ap (λ (a : AnswerModel). out.records
+          ++ labelled s (Answers a ∷ Sends Md terms.to (md_bytes head payload) ∷ [])) opened.1
+          ∙ ap (λ (h : MdHead). out.records ++ labelled s (Answers (HandleIs (slot_at s table).next)
+          ∷ Sends Md terms.to (md_bytes h payload) ∷ [])) same)));
     })
 
 -- A request that comes in.
 
 -- nothing happens to a slot
-pub stays : (table : TableState) (s : ℕ) (out : OutboxState) → s < length table → Becomes s (unchanged (slot_at s table)) table table out out
-stays table s out lt = record { slots = sym (slots_kept table s lt); records = sym (append-nil out.records) }
+pub stays : (table : TableState) (s : ℕ) (out : OutboxState)
+    → s < length table → Becomes s (unchanged (slot_at s table)) table table out out
+stays table s out lt =
+    record { slots = sym (slots_kept table s lt); records = sym (append-nil out.records) }
 
-pub asked_again : (table : TableState) (s listener : ℕ) (globals : Globals) (src : Place) (telegram : MdTelegram) (out : OutboxState) → s < length table → has_session kind.Replier telegram.head.session (slot_at s table).objects ≡ true → Becomes s (asked (slot_at s table) listener globals src telegram) table table out out
+pub asked_again : (table : TableState) (s listener : ℕ)
+    (globals : Globals) (src : Place) (telegram : MdTelegram) (out : OutboxState) → s < length table
+    → has_session kind.Replier telegram.head.session (slot_at s table).objects ≡ true
+    → Becomes s (asked (slot_at s table) listener globals src telegram) table table out out
 asked_again table s listener globals src telegram out lt is = rw is (stays table s out lt)
 
 -- no request is process data
-pub unasked : (table : TableState) (s : ℕ) (src dst : Place) (telegram : PdTelegram) (globals : Globals) (out : OutboxState) → s < length table → Becomes s (requested (slot_at s table) globals (PdIs src dst telegram)) table table out out
+pub unasked : (table : TableState) (s : ℕ) (src dst : Place)
+    (telegram : PdTelegram) (globals : Globals) (out : OutboxState) → s < length table
+    → Becomes s (requested (slot_at s table) globals (PdIs src dst telegram)) table table out out
 unasked table s src dst telegram globals out lt = stays table s out lt
 
 -- where no listener hears it nothing happens
-pub unheard : (table : TableState) (s : ℕ) (telegram : TelegramModel) (globals : Globals) (out : OutboxState) → s < length table → hearing telegram globals (slot_at s table).objects ≡ None → Becomes s (requested (slot_at s table) globals telegram) table table out out
+pub unheard :
+    (table : TableState) (s : ℕ) (telegram : TelegramModel) (globals : Globals) (out : OutboxState)
+    → s < length table → hearing telegram globals (slot_at s table).objects ≡ None
+    → Becomes s (requested (slot_at s table) globals telegram) table table out out
 unheard table s (PdIs src dst telegram) globals out lt none = stays table s out lt
 unheard table s (MdIs src dst telegram) globals out lt none = rw none (stays table s out lt)
 
@@ -115,37 +154,55 @@ and_right : (a b : Bool) → (a && b) ≡ true → b ≡ true
 and_right true b is = is
 and_right false b is = absurd (cc)
 
-first_holds : (x : Entry) (xs : List Entry) → HoldsOne (kind_room (kind_of x.object)) → HoldsOne (entries_room (x ∷ xs))
+first_holds : (x : Entry) (xs : List Entry) → HoldsOne (kind_room (kind_of x.object))
+    → HoldsOne (entries_room (x ∷ xs))
 first_holds x xs one =
     let rows = sum_by-cons entry_rows x xs in
     let bytes = sum_by-cons entry_bytes x xs in
     record { rows = omega (arith, rows, one.rows); bytes = omega (arith, bytes, one.bytes) }
 
-rest_holds : (x : Entry) (xs : List Entry) → HoldsOne (entries_room xs) → HoldsOne (entries_room (x ∷ xs))
+rest_holds : (x : Entry) (xs : List Entry) → HoldsOne (entries_room xs)
+    → HoldsOne (entries_room (x ∷ xs))
 rest_holds x xs one =
     let rows = sum_by-cons entry_rows x xs in
     let bytes = sum_by-cons entry_bytes x xs in
     record { rows = omega (arith, rows, one.rows); bytes = omega (arith, bytes, one.bytes) }
 
-holds_from : (telegram : TelegramModel) (globals : Globals) (h : ℕ) (objects : List Entry) → hearing telegram globals objects ≡ Some h → HoldsOne (entries_room (filter (acts_where (Some h) telegram globals) objects))
+holds_from : (telegram : TelegramModel) (globals : Globals) (h : ℕ) (objects : List Entry)
+    → hearing telegram globals objects ≡ Some h
+    → HoldsOne (entries_room (filter (acts_where (Some h) telegram globals) objects))
 holds_from telegram globals h [] is = absurd (cc)
-holds_from telegram globals h (x ∷ xs) is = either (is_listening x && is_for_entry telegram globals x) refl (λ others. holds_from telegram globals h xs others)
+holds_from telegram globals h (x ∷ xs) is = either (is_listening x
+    && is_for_entry telegram globals x) refl (λ others. holds_from telegram globals h xs others)
   where
-    rest : (b : Bool) → acts_where (Some h) telegram globals x ≡ b → HoldsOne (entries_room (filter (acts_where (Some h) telegram globals) xs)) → HoldsOne (entries_room (filter (acts_where (Some h) telegram globals) (x ∷ xs)))
-    rest true acts one = rw acts (rest_holds x (filter (acts_where (Some h) telegram globals) xs) one)
+    rest : (b : Bool) → acts_where (Some h) telegram globals x ≡ b
+        → HoldsOne (entries_room (filter (acts_where (Some h) telegram globals) xs))
+        → HoldsOne (entries_room (filter (acts_where (Some h) telegram globals) (x ∷ xs)))
+    rest true acts one =
+        rw acts (rest_holds x (filter (acts_where (Some h) telegram globals) xs) one)
     rest false acts one = rw acts one
 
-    either : (b : Bool) → (is_listening x && is_for_entry telegram globals x) ≡ b → (hearing telegram globals xs ≡ Some h → HoldsOne (entries_room (filter (acts_where (Some h) telegram globals) xs))) → HoldsOne (entries_room (filter (acts_where (Some h) telegram globals) (x ∷ xs)))
+    either : (b : Bool) → (is_listening x && is_for_entry telegram globals x) ≡ b
+        → (hearing telegram globals xs ≡ Some h
+        → HoldsOne (entries_room (filter (acts_where (Some h) telegram globals) xs)))
+        → HoldsOne (entries_room (filter (acts_where (Some h) telegram globals) (x ∷ xs)))
     either true hears others =
         let same : Some x.handle ≡ Some h = rw hears at is in
         let number : x.handle ≡ h = cc in
         let listens = and_left (is_listening x) (is_for_entry telegram globals x) hears in
         let concerned = and_right (is_listening x) (is_for_entry telegram globals x) hears in
-        let acts : acts_where (Some h) telegram globals x ≡ true = rw (concerned, listens, number) (same_number h) in
-        rw acts (first_holds x (filter (acts_where (Some h) telegram globals) xs) (listening_room (kind_of x.object) listens))
-    either false silent others = rest (acts_where (Some h) telegram globals x) refl (others (rw silent at is))
+        let acts : acts_where (Some h) telegram globals x ≡ true =
+        rw (concerned, listens, number) (same_number h) in
+        rw acts (first_holds x (filter (acts_where (Some h) telegram globals) xs)
+        (listening_room (kind_of x.object) listens))
+    either false silent others =
+        rest (acts_where (Some h) telegram globals x) refl (others (rw silent at is))
 
 -- where a listener hears a telegram, there is room for it among those that act
-pub hearing_holds : (telegram : TelegramModel) (globals : Globals) (h : ℕ) (objects : List Entry) → hearing telegram globals objects ≡ Some h → HoldsOne (entries_room (acting telegram globals objects))
+pub hearing_holds : (telegram : TelegramModel) (globals : Globals) (h : ℕ) (objects : List Entry)
+    → hearing telegram globals objects ≡ Some h
+    → HoldsOne (entries_room (acting telegram globals objects))
 hearing_holds telegram globals h objects is =
-    subst (λ (listener : Option ℕ). HoldsOne (entries_room (filter (acts_where listener telegram globals) objects))) (sym is) (holds_from telegram globals h objects is)
+    subst (λ (listener : Option ℕ).
+    HoldsOne (entries_room (filter (acts_where listener telegram globals) objects)))
+    (sym is) (holds_from telegram globals h objects is)

@@ -1,5 +1,7 @@
 -- A change of each slot of a node, and a change of one slot after the other.
-use Rattle.std.proofs.Common.{zero, suc, ◌≡◌, ℕ, ◌+◌, ◌<◌, ◌≤◌, List, [], ◌∷◌, ◌++◌, length, map, refl, ◌∙◌, ap, sym, arith, append_assoc, Some, None, true, false, Bool}
+use Rattle.std.proofs.Common.{zero, suc, ◌≡◌, ℕ, ◌+◌, ◌<◌, ◌≤◌, List, [], ◌∷◌}
+use Rattle.std.proofs.Common.{◌++◌, length, map, refl, ◌∙◌, ap, sym, arith}
+use Rattle.std.proofs.Common.{append_assoc, Some, None, true, false, Bool}
 use Rattle.std.specs.Prelude.{slice_get, slice_set, ◌==◌, nat_lt, if◌then◌else◌}
 use Rattle.std.proofs.lemmas.Option.{slice_get_within}
 use Rattle.std.proofs.lemmas.Bool.Decides.{nat_tests}
@@ -9,14 +11,19 @@ use Rattle.trdp_engine.specs.Records.{Content, RecordModel, labelled, records_of
 use Rattle.trdp_engine.specs.Slots.{SlotState, Outcome, unchanged}
 use Rattle.trdp_engine.specs.NodeStates.{HasOutcome, Appends}
 
-pub records_of-append : (s : ℕ) (xs ys : List RecordModel) → records_of s (xs ++ ys) ≡ records_of s xs ++ records_of s ys
-records_of-append s xs ys = ap (map (λ r. r.content)) (filter-append (λ r. r.slot == s) xs ys) ∙ map-append _ _ _
+pub records_of-append : (s : ℕ) (xs ys : List RecordModel)
+    → records_of s (xs ++ ys) ≡ records_of s xs ++ records_of s ys
+records_of-append s xs ys =
+    ap (map (λ r. r.content)) (filter-append (λ r. r.slot == s) xs ys) ∙ map-append _ _ _
 
-pub records_of-labelled : (s : ℕ) (contents : List Content) → records_of s (labelled s contents) ≡ contents
+pub records_of-labelled : (s : ℕ) (contents : List Content)
+    → records_of s (labelled s contents) ≡ contents
 records_of-labelled s [] = refl
-records_of-labelled s (c ∷ contents) = let same : (s == s) ≡ true = grind (arith, nat_tests) in rw same (ap (λ (cs : List Content). c ∷ cs) (records_of-labelled s contents))
+records_of-labelled s (c ∷ contents) = let same : (s == s) ≡ true = grind (arith, nat_tests) in
+    rw same (ap (λ (cs : List Content). c ∷ cs) (records_of-labelled s contents))
 
-pub records_of-other : (s r : ℕ) (contents : List Content) → (r == s) ≡ false → records_of s (labelled r contents) ≡ []
+pub records_of-other : (s r : ℕ) (contents : List Content)
+    → (r == s) ≡ false → records_of s (labelled r contents) ≡ []
 records_of-other s r [] other = refl
 records_of-other s r (c ∷ contents) other = rw other (records_of-other s r contents other)
 
@@ -26,62 +33,84 @@ all_records k f [] = []
 all_records k f (slot ∷ slots) = labelled k (f slot).records ++ all_records (k + 1) f slots
 
 -- none of the records from number k on is for a slot below it
-below_all : (f : SlotState → Outcome) (s k : ℕ) (slots : List SlotState) → s < k → records_of s (all_records k f slots) ≡ []
+below_all : (f : SlotState → Outcome) (s k : ℕ) (slots : List SlotState)
+    → s < k → records_of s (all_records k f slots) ≡ []
 below_all f s k [] lt = refl
 below_all f s k (slot ∷ slots) lt =
     let other : (k == s) ≡ false = grind (arith, nat_tests) in
     records_of-append s (labelled k (f slot).records) (all_records (k + 1) f slots)
-    ∙ rw (records_of-other s k (f slot).records other, below_all f s (k + 1) slots (omega arith)) refl
+    ∙ rw (
+      records_of-other s k (f slot).records other,
+      below_all f s (k + 1) slots (omega arith),
+    ) refl
 
-own_of_all : (f : SlotState → Outcome) (i k n : ℕ) (slots : List SlotState) (slot : SlotState) → n ≡ k + i → slice_get slots i ≡ Some slot → records_of n (all_records k f slots) ≡ (f slot).records
+own_of_all : (f : SlotState → Outcome) (i k n : ℕ) (slots : List SlotState) (slot : SlotState)
+    → n ≡ k + i → slice_get slots i ≡ Some slot
+    → records_of n (all_records k f slots) ≡ (f slot).records
 own_of_all f i k n [] slot at is = absurd (cc)
 own_of_all f zero k n (x ∷ slots) slot at is =
     let same : x ≡ slot = cc in
     let here : n ≡ k = omega (arith, at) in
     rw here
     (records_of-append k (labelled k (f x).records) (all_records (k + 1) f slots)
-    ∙ rw (records_of-labelled k (f x).records, below_all f k (k + 1) slots (omega arith), append-nil, same) refl)
+    ∙ rw (
+      records_of-labelled k (f x).records,
+      below_all f k (k + 1) slots (omega arith),
+      append-nil,
+      same,
+    ) refl)
 own_of_all f (suc i) k n (x ∷ slots) slot at is =
     let other : (k == n) ≡ false = grind (arith, nat_tests) in
     records_of-append n (labelled k (f x).records) (all_records (k + 1) f slots)
-    ∙ rw (records_of-other n k (f x).records other) (own_of_all f i (k + 1) n slots slot (omega (arith, at)) is)
+    ∙ rw (records_of-other n k (f x).records other)
+    (own_of_all f i (k + 1) n slots slot (omega (arith, at)) is)
 
-none_of_all : (f : SlotState → Outcome) (i k n : ℕ) (slots : List SlotState) → n ≡ k + i → slice_get slots i ≡ None → records_of n (all_records k f slots) ≡ []
+none_of_all : (f : SlotState → Outcome) (i k n : ℕ) (slots : List SlotState)
+    → n ≡ k + i → slice_get slots i ≡ None → records_of n (all_records k f slots) ≡ []
 none_of_all f i k n [] at none = refl
 none_of_all f zero k n (x ∷ slots) at none = absurd (cc)
 none_of_all f (suc i) k n (x ∷ slots) at none =
     let other : (k == n) ≡ false = grind (arith, nat_tests) in
     records_of-append n (labelled k (f x).records) (all_records (k + 1) f slots)
-    ∙ rw (records_of-other n k (f x).records other) (none_of_all f i (k + 1) n slots (omega (arith, at)) none)
+    ∙ rw (records_of-other n k (f x).records other)
+    (none_of_all f i (k + 1) n slots (omega (arith, at)) none)
 
-pub get-map : (f : SlotState → SlotState) (slots : List SlotState) (s : ℕ) (slot : SlotState) → slice_get slots s ≡ Some slot → slice_get (map f slots) s ≡ Some (f slot)
+pub get-map : (f : SlotState → SlotState) (slots : List SlotState) (s : ℕ) (slot : SlotState)
+    → slice_get slots s ≡ Some slot → slice_get (map f slots) s ≡ Some (f slot)
 get-map f [] s slot is = absurd (cc)
 get-map f (x ∷ slots) zero slot is = let same : x ≡ slot = cc in rw same refl
 get-map f (x ∷ slots) (suc s) slot is = get-map f slots s slot is
 
 -- each slot has its outcome
-pub each_part : (f : SlotState → Outcome) (slots : List SlotState) (records : List RecordModel) (s : ℕ) (slot : SlotState) → slice_get slots s ≡ Some slot → HasOutcome (map (λ slot. (f slot).slot) slots) records (records ++ all_records 0 f slots) s (f slot)
+pub each_part : (f : SlotState → Outcome) (slots : List SlotState) (records : List RecordModel)
+    (s : ℕ) (slot : SlotState) → slice_get slots s ≡ Some slot → HasOutcome
+    (map (λ slot. (f slot).slot) slots) records (records ++ all_records 0 f slots) s (f slot)
 each_part f slots records s slot is = record {
   slot_is = get-map (λ slot. (f slot).slot) slots s slot is;
-  records_are = records_of-append s records (all_records 0 f slots) ∙ ap (λ (cs : List Content). records_of s records ++ cs) (own_of_all f s 0 s slots slot (omega arith) is);
+  records_are = records_of-append s records (all_records 0 f slots) ∙ ap (λ (cs : List Content).
+      records_of s records ++ cs) (own_of_all f s 0 s slots slot (omega arith) is);
 }
 
-pub each_appends : (f : SlotState → Outcome) (slots : List SlotState) (records : List RecordModel) → Appends slots records (records ++ all_records 0 f slots)
+pub each_appends : (f : SlotState → Outcome) (slots : List SlotState) (records : List RecordModel)
+    → Appends slots records (records ++ all_records 0 f slots)
 each_appends f slots records = record {
   more = all_records 0 f slots;
   front = refl;
   none_else = λ s none.
       records_of-append s records (all_records 0 f slots)
-      ∙ (ap (λ (cs : List Content). records_of s records ++ cs) (none_of_all f s 0 s slots (omega arith) none) ∙ append-nil (records_of s records));
+      ∙ (ap (λ (cs : List Content). records_of s records ++ cs)
+      (none_of_all f s 0 s slots (omega arith) none) ∙ append-nil (records_of s records));
 }
 
 -- a list of which one element was changed
-pub get-set : (xs : List SlotState) (i : ℕ) (x y : SlotState) → slice_get xs i ≡ Some x → slice_get (slice_set xs i y) i ≡ Some y
+pub get-set : (xs : List SlotState) (i : ℕ) (x y : SlotState)
+    → slice_get xs i ≡ Some x → slice_get (slice_set xs i y) i ≡ Some y
 get-set [] i x y is = absurd (cc)
 get-set (z ∷ xs) zero x y is = refl
 get-set (z ∷ xs) (suc i) x y is = get-set xs i x y is
 
-pub get-set_other : (xs : List SlotState) (i j : ℕ) (y : SlotState) → (i == j) ≡ false → slice_get (slice_set xs i y) j ≡ slice_get xs j
+pub get-set_other : (xs : List SlotState) (i j : ℕ) (y : SlotState)
+    → (i == j) ≡ false → slice_get (slice_set xs i y) j ≡ slice_get xs j
 get-set_other [] i j y differ = refl
 get-set_other (z ∷ xs) zero zero y differ = absurd (cc)
 get-set_other (z ∷ xs) zero (suc j) y differ = refl
@@ -92,62 +121,87 @@ same_some : {x y : SlotState} → Some x ≡ Some y → x ≡ y
 same_some is = cc
 
 -- one slot changed, and the others have stayed
-pub one_part : (f : SlotState → Outcome) (slots : List SlotState) (s : ℕ) (x : SlotState) (records : List RecordModel) → slice_get slots s ≡ Some x → (r : ℕ) (slot : SlotState) → slice_get slots r ≡ Some slot → HasOutcome (slice_set slots s (f x).slot) records (records ++ labelled s (f x).records) r (if s == r then f slot else unchanged slot)
+pub one_part : (f : SlotState → Outcome) (slots : List SlotState) (s : ℕ) (x : SlotState)
+    (records : List RecordModel) → slice_get slots s ≡ Some x → (r : ℕ) (slot : SlotState)
+    → slice_get slots r ≡ Some slot → HasOutcome (slice_set slots s (f x).slot)
+    records (records ++ labelled s (f x).records) r (if s == r then f slot else unchanged slot)
 one_part f slots s x records at r slot is = either (s == r) refl
   where
-    either : (b : Bool) → (s == r) ≡ b → HasOutcome (slice_set slots s (f x).slot) records (records ++ labelled s (f x).records) r (if s == r then f slot else unchanged slot)
+    either : (b : Bool) → (s == r) ≡ b → HasOutcome (slice_set slots s (f x).slot)
+        records (records ++ labelled s (f x).records) r (if s == r then f slot else unchanged slot)
     either true own =
         let same : s ≡ r = grind (arith, nat_tests) in
         let one : x ≡ slot = same_some (sym at ∙ (ap (slice_get slots) same ∙ is)) in
         rw own (record {
           slot_is = rw (← same, ← one) (get-set slots s x (f x).slot at);
-          records_are = rw (← same, ← one) (records_of-append s records (labelled s (f x).records) ∙ rw (records_of-labelled s (f x).records) refl);
+          records_are = rw (← same, ← one) (records_of-append s records (labelled s (f x).records)
+              ∙ rw (records_of-labelled s (f x).records) refl);
         })
     either false other =
         rw other (record {
           slot_is = get-set_other slots s r (f x).slot other ∙ is;
-          records_are = records_of-append r records (labelled s (f x).records) ∙ rw (records_of-other r s (f x).records other) refl;
+          records_are = records_of-append r records (labelled s (f x).records)
+              ∙ rw (records_of-other r s (f x).records other) refl;
         })
 
-pub one_appends : (f : SlotState → Outcome) (slots : List SlotState) (s : ℕ) (x : SlotState) (records : List RecordModel) → slice_get slots s ≡ Some x → Appends slots records (records ++ labelled s (f x).records)
+pub one_appends : (f : SlotState → Outcome) (slots : List SlotState)
+    (s : ℕ) (x : SlotState) (records : List RecordModel)
+    → slice_get slots s ≡ Some x → Appends slots records (records ++ labelled s (f x).records)
 one_appends f slots s x records at = record {
   more = labelled s (f x).records;
   front = refl;
-  none_else = λ r none. records_of-append r records (labelled s (f x).records) ∙ (ap (λ (cs : List Content). records_of r records ++ cs) (other r none (s == r) refl) ∙ append-nil (records_of r records));
+  none_else = λ r none. records_of-append r records (labelled s (f x).records)
+      ∙ (ap (λ (cs : List Content). records_of r records ++ cs) (other r none (s == r) refl)
+      ∙ append-nil (records_of r records));
 }
   where
-    other : (r : ℕ) → slice_get slots r ≡ None → (b : Bool) → (s == r) ≡ b → records_of r (labelled s (f x).records) ≡ []
-    other r none true own = let same : s ≡ r = grind (arith, nat_tests) in let both : Some x ≡ None = sym at ∙ (ap (slice_get slots) same ∙ none) in absurd (cc)
+    other : (r : ℕ) → slice_get slots r ≡ None
+        → (b : Bool) → (s == r) ≡ b → records_of r (labelled s (f x).records) ≡ []
+    other r none true own = let same : s ≡ r = grind (arith, nat_tests) in
+        let both : Some x ≡ None = sym at ∙ (ap (slice_get slots) same ∙ none) in absurd (cc)
     other r none false differ = records_of-other r s (f x).records differ
 
 -- One slot after the other comes to its outcome, in any order.
 
 -- the slot that comes to its outcome now
-pub own_next : (slots now : List SlotState) (records records_now : List RecordModel) (s : ℕ) (slot : SlotState) (outcome : Outcome) → HasOutcome now records records_now s (unchanged slot) → slots ≡ slice_set now s outcome.slot → HasOutcome slots records (records_now ++ labelled s outcome.records) s outcome
+pub own_next : (slots now : List SlotState) (records records_now : List RecordModel)
+    (s : ℕ) (slot : SlotState) (outcome : Outcome)
+    → HasOutcome now records records_now s (unchanged slot) → slots ≡ slice_set now s outcome.slot
+    → HasOutcome slots records (records_now ++ labelled s outcome.records) s outcome
 own_next slots now records records_now s slot outcome had is = record {
-  slot_is = ap (λ (xs : List SlotState). slice_get xs s) is ∙ get-set now s slot outcome.slot had.slot_is;
+  slot_is = ap (λ (xs : List SlotState). slice_get xs s) is
+      ∙ get-set now s slot outcome.slot had.slot_is;
   records_are =
       records_of-append s records_now (labelled s outcome.records)
       ∙ rw (records_of-labelled s outcome.records, had.records_are, append-nil) refl;
 }
 
 -- and another one, which keeps its own
-pub other_next : (slots now : List SlotState) (records records_now : List RecordModel) (s r : ℕ) (outcome own : Outcome) → (s == r) ≡ false → HasOutcome now records records_now r own → slots ≡ slice_set now s outcome.slot → HasOutcome slots records (records_now ++ labelled s outcome.records) r own
+pub other_next : (slots now : List SlotState)
+    (records records_now : List RecordModel) (s r : ℕ) (outcome own : Outcome) → (s == r) ≡ false
+    → HasOutcome now records records_now r own → slots ≡ slice_set now s outcome.slot
+    → HasOutcome slots records (records_now ++ labelled s outcome.records) r own
 other_next slots now records records_now s r outcome own differ had is = record {
-  slot_is = ap (λ (xs : List SlotState). slice_get xs r) is ∙ (get-set_other now s r outcome.slot differ ∙ had.slot_is);
+  slot_is = ap (λ (xs : List SlotState). slice_get xs r) is
+      ∙ (get-set_other now s r outcome.slot differ ∙ had.slot_is);
   records_are =
       records_of-append r records_now (labelled s outcome.records)
-      ∙ (rw (records_of-other r s outcome.records differ) (append-nil (records_of r records_now)) ∙ had.records_are);
+      ∙ (rw (records_of-other r s outcome.records differ) (append-nil (records_of r records_now))
+      ∙ had.records_are);
 }
 
 -- records of a slot that is there are added
-pub appends_next : (slots : List SlotState) (records records_now : List RecordModel) (s : ℕ) (slot : SlotState) (contents : List Content) → slice_get slots s ≡ Some slot → Appends slots records records_now → Appends slots records (records_now ++ labelled s contents)
+pub appends_next : (slots : List SlotState) (records records_now : List RecordModel)
+    (s : ℕ) (slot : SlotState) (contents : List Content) → slice_get slots s ≡ Some slot
+    → Appends slots records records_now → Appends slots records (records_now ++ labelled s contents)
 appends_next slots records records_now s slot contents at before = record {
   more = before.more ++ labelled s contents;
-  front = ap (λ (rs : List RecordModel). rs ++ labelled s contents) before.front ∙ append_assoc records before.more (labelled s contents);
+  front = ap (λ (rs : List RecordModel). rs ++ labelled s contents) before.front
+      ∙ append_assoc records before.more (labelled s contents);
   none_else = λ r none.
       records_of-append r records_now (labelled s contents)
-      ∙ (rw (records_of-other r s contents (other r none (s == r) refl)) (append-nil (records_of r records_now)) ∙ before.none_else r none);
+      ∙ (rw (records_of-other r s contents (other r none (s == r) refl))
+      (append-nil (records_of r records_now)) ∙ before.none_else r none);
 }
   where
     other : (r : ℕ) → slice_get slots r ≡ None → (b : Bool) → (s == r) ≡ b → (s == r) ≡ false
@@ -162,37 +216,56 @@ abbrev pub outcome_below : (SlotState → Outcome) → ℕ → ℕ → SlotState
 outcome_below f k s slot = if nat_lt s k then f slot else unchanged slot
 
 -- the slots of numbers below k have come to their outcomes
-pub record HaveMoved (f : SlotState → Outcome) (k : ℕ) (slots now : List SlotState) (records records_now : List RecordModel) : Type 0 where
-  pub parts : (s : ℕ) (slot : SlotState) → slice_get slots s ≡ Some slot → HasOutcome now records records_now s (outcome_below f k s slot)
+pub record HaveMoved (f : SlotState → Outcome) (k : ℕ) (slots now : List SlotState)
+    (records records_now : List RecordModel) : Type 0 where
+  pub parts : (s : ℕ) (slot : SlotState) → slice_get slots s ≡ Some slot
+      → HasOutcome now records records_now s (outcome_below f k s slot)
   pub appends : Appends slots records records_now
   pub count : length now ≡ length slots
 
 -- the slot whose turn it is hasn't moved yet
-pub not_yet : (f : SlotState → Outcome) (k : ℕ) (slots now : List SlotState) (records records_now : List RecordModel) (slot : SlotState) → HaveMoved f k slots now records records_now → slice_get slots k ≡ Some slot → HasOutcome now records records_now k (unchanged slot)
+pub not_yet : (f : SlotState → Outcome) (k : ℕ) (slots now : List SlotState)
+    (records records_now : List RecordModel) (slot : SlotState)
+    → HaveMoved f k slots now records records_now
+    → slice_get slots k ≡ Some slot → HasOutcome now records records_now k (unchanged slot)
 not_yet f k slots now records records_now slot moved at =
     let none : nat_lt k k ≡ false = grind (arith, nat_tests) in
     rw none at (moved.parts k slot at)
 
-pub moved_next : (f : SlotState → Outcome) (k : ℕ) (slots now then_slots : List SlotState) (records records_now records_then : List RecordModel) (slot : SlotState) → HaveMoved f k slots now records records_now → slice_get slots k ≡ Some slot → then_slots ≡ slice_set now k (f slot).slot → records_then ≡ records_now ++ labelled k (f slot).records → HaveMoved f (k + 1) slots then_slots records records_then
-moved_next f k slots now then_slots records records_now records_then slot moved at is told = record {
-  parts = λ s other there. rw told (part s other there (k == s) refl);
-  appends = rw told (appends_next slots records records_now k slot (f slot).records at moved.appends);
-  count = rw is (length-set now k (f slot).slot ∙ moved.count);
-}
+pub moved_next : (f : SlotState → Outcome) (k : ℕ) (slots now then_slots : List SlotState)
+    (records records_now records_then : List RecordModel) (slot : SlotState)
+    → HaveMoved f k slots now records records_now → slice_get slots k ≡ Some slot → then_slots
+    ≡ slice_set now k (f slot).slot → records_then ≡ records_now ++ labelled k (f slot).records
+    → HaveMoved f (k + 1) slots then_slots records records_then
+moved_next f k slots now then_slots records records_now records_then slot moved at is told =
+    record {
+      parts = λ s other there. rw told (part s other there (k == s) refl);
+      appends =
+          rw told (appends_next slots records records_now k slot (f slot).records at moved.appends);
+      count = rw is (length-set now k (f slot).slot ∙ moved.count);
+    }
   where
-    part : (s : ℕ) (other : SlotState) → slice_get slots s ≡ Some other → (b : Bool) → (k == s) ≡ b → HasOutcome then_slots records (records_now ++ labelled k (f slot).records) s (outcome_below f (k + 1) s other)
+    part : (s : ℕ) (other : SlotState) → slice_get slots s ≡ Some other
+        → (b : Bool) → (k == s) ≡ b → HasOutcome then_slots
+        records (records_now ++ labelled k (f slot).records) s (outcome_below f (k + 1) s other)
     part s other there true own =
         let same : k ≡ s = grind (arith, nat_tests) in
         let one : slot ≡ other = same_some (sym at ∙ (ap (slice_get slots) same ∙ there)) in
         let below : nat_lt k (k + 1) ≡ true = grind (arith, nat_tests) in
-        rw (← same, ← one, below) (own_next then_slots now records records_now k slot (f slot) (not_yet f k slots now records records_now slot moved at) is)
+        rw (← same, ← one, below) (own_next then_slots now records records_now
+        k slot (f slot) (not_yet f k slots now records records_now slot moved at) is)
     part s other there false differ =
         let same : nat_lt s (k + 1) ≡ nat_lt s k = grind (arith, nat_tests) in
-        rw same (other_next then_slots now records records_now k s (f slot) (outcome_below f k s other) differ (moved.parts s other there) is)
+        rw same (other_next then_slots now records records_now
+        k s (f slot) (outcome_below f k s other) differ (moved.parts s other there) is)
 
 -- all have moved
-pub all_moved : (f : SlotState → Outcome) (k : ℕ) (slots now : List SlotState) (records records_now : List RecordModel) → length slots ≤ k → HaveMoved f k slots now records records_now → (s : ℕ) (slot : SlotState) → slice_get slots s ≡ Some slot → HasOutcome now records records_now s (f slot)
+pub all_moved : (f : SlotState → Outcome) (k : ℕ) (slots now : List SlotState)
+    (records records_now : List RecordModel) → length slots ≤ k
+    → HaveMoved f k slots now records records_now → (s : ℕ) (slot : SlotState)
+    → slice_get slots s ≡ Some slot → HasOutcome now records records_now s (f slot)
 all_moved f k slots now records records_now past moved s slot at =
     let lt : s < length slots = slice_get_within slots s slot at in
-    let below : nat_lt s k ≡ true = let within : s < k = omega (arith, lt, past) in grind (arith, nat_tests) in
+    let below : nat_lt s k ≡ true = let within : s < k = omega (arith, lt, past) in
+    grind (arith, nat_tests) in
     rw below at (moved.parts s slot at)

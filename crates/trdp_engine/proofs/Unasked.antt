@@ -4,7 +4,8 @@ use Rattle.std.specs.Prelude.{◌==◌, ◌&&◌}
 use Rattle.trdp_base.specs.declared.place.Place.{Place}
 use Rattle.trdp_head.specs.declared.md.MdHead.{MdHead}
 use Rattle.trdp_head.specs.declared.md.MdKind.{MdKind}
-use Rattle.trdp_head.specs.declared.md.MdKind.TheVariants.{Notify, Request, Reply, Query, Confirm, Error}
+use Rattle.trdp_head.specs.declared.md.MdKind.TheVariants.{Notify, Request, Reply}
+use Rattle.trdp_head.specs.declared.md.MdKind.TheVariants.{Query, Confirm, Error}
 use Rattle.trdp_filter.specs.declared.globals.Globals.{Globals}
 use Rattle.trdp_filter.specs.Counts.{topo_valid}
 use Rattle.trdp_filter.specs.Telegrams.{TelegramModel, PdIs, MdIs}
@@ -13,7 +14,9 @@ use Rattle.trdp_md.specs.declared.replier.Replier.{Replier as AnyReplier}
 use Rattle.trdp_md.specs.Callers.{is_answer, is_for_caller}
 use Rattle.trdp_md.specs.Repliers.{awaits_confirm, is_confirm, is_for_replier}
 use Rattle.trdp_table.specs.declared.any_object.AnyObject.{AnyObject}
-use Rattle.trdp_table.specs.declared.any_object.AnyObject.TheVariants.{Publisher, Subscription, Requester, Listener, Caller, Replier}
+use Rattle.trdp_table.specs.declared.any_object.AnyObject.TheVariants.{Publisher, Subscription}
+use Rattle.trdp_table.specs.declared.any_object.AnyObject.TheVariants.{Requester, Listener}
+use Rattle.trdp_table.specs.declared.any_object.AnyObject.TheVariants.{Caller, Replier}
 use Rattle.trdp_table.specs.declared.kind.Kind.TheVariants as kind
 use Rattle.trdp_table.specs.Kinds.{kind_of}
 use Rattle.trdp_table.specs.Objects.{is_addressed}
@@ -38,7 +41,8 @@ confirms_none Confirm asks = absurd (cc)
 confirms_none Error asks = refl
 
 -- a request answers none
-not_for_caller : (c : AnyCaller) (head : MdHead) → is_request_kind head.kind ≡ true → is_for_caller c head ≡ false
+not_for_caller : (c : AnyCaller) (head : MdHead)
+    → is_request_kind head.kind ≡ true → is_for_caller c head ≡ false
 unfolding is_for_caller
 not_for_caller c head asks = rw (answers_none head.kind asks) refl
 
@@ -47,12 +51,16 @@ second_fails true b c d e none = rw none refl
 second_fails false b c d e none = refl
 
 -- nor confirms it one
-not_for_replier : (r : AnyReplier) (src : Place) (head : MdHead) → is_request_kind head.kind ≡ true → is_for_replier r src head ≡ false
+not_for_replier : (r : AnyReplier) (src : Place) (head : MdHead)
+    → is_request_kind head.kind ≡ true → is_for_replier r src head ≡ false
 unfolding is_for_replier
 not_for_replier r src head asks =
-    second_fails (awaits_confirm r.stage) (is_confirm head.kind) (head.session.0 == r.session.0) (src.ip.0 == r.peer.ip.0) (topo_valid head.topo r.topo) (confirms_none head.kind asks)
+    second_fails (awaits_confirm r.stage) (is_confirm head.kind) (head.session.0 == r.session.0)
+    (src.ip.0 == r.peer.ip.0) (topo_valid head.topo r.topo) (confirms_none head.kind asks)
 
-pub for_listeners : (object : AnyObject) (telegram : TelegramModel) (globals : Globals) → is_request telegram ≡ true → is_addressed object telegram globals ≡ true → kind_of object ≡ kind.Listener
+pub for_listeners : (object : AnyObject) (telegram : TelegramModel) (globals : Globals)
+    → is_request telegram ≡ true → is_addressed object telegram globals ≡ true
+    → kind_of object ≡ kind.Listener
 for_listeners (Publisher p) (PdIs src dst telegram) globals asks is = absurd (cc)
 for_listeners (Publisher p) (MdIs src dst telegram) globals asks is = absurd (cc)
 for_listeners (Subscription s) (PdIs src dst telegram) globals asks is = absurd (cc)

@@ -1,54 +1,86 @@
 -- One event of the node, as a slot run by itself sees it.
-use Rattle.std.proofs.Common.{◌≡◌, ℕ, ◌<◌, List, ◌∷◌, ◌++◌, Some, None, Option, Bool, true, false, [], refl, ap, sym, arith, append_assoc}
+use Rattle.std.proofs.Common.{◌≡◌, ℕ, ◌<◌, List, ◌∷◌, ◌++◌, Some, None, Option, Bool}
+use Rattle.std.proofs.Common.{true, false, [], refl, ap, sym, arith, append_assoc}
 use Rattle.std.specs.Prelude.{◌==◌, ◌&&◌, not, nat_le, if◌then◌else◌}
 use Rattle.std.proofs.lemmas.Bool.Decides.{nat_tests}
 use Rattle.trdp_engine.specs.Configs.{NodeSetup}
 use Rattle.trdp_filter.specs.declared.globals.Globals.{Globals}
 use Rattle.trdp_engine.specs.declared.fault.NodeFault.{NodeFault}
 use Rattle.trdp_engine.specs.Records.{Content}
-use Rattle.trdp_engine.specs.Events.{EventModel, MomentIs, TopologyIs, RoleIs, DatagramIs, CallIs, CallModel}
+use Rattle.trdp_engine.specs.Events.{EventModel, MomentIs, TopologyIs}
+use Rattle.trdp_engine.specs.Events.{RoleIs, DatagramIs, CallIs, CallModel}
 use Rattle.trdp_base.specs.Moments.{last_moment}
 use Rattle.trdp_filter.specs.Telegrams.{TelegramModel}
 use Rattle.trdp_engine.specs.Slots.{SlotState, unchanged}
 use Rattle.trdp_engine.specs.Calls.{called}
 use Rattle.trdp_engine.specs.Datagrams.{telegram_of, received_if, concerns}
 use Rattle.trdp_engine.proofs.Receiving.{unconcerned}
-use Rattle.trdp_engine.specs.Alone.{refused_as, globals_after, is_in_view, plain_effect, Run, prepend, alone_in_view, slot_after, records_after}
+use Rattle.trdp_engine.specs.Alone.{refused_as, globals_after, is_in_view, plain_effect}
+use Rattle.trdp_engine.specs.Alone.{Run, prepend, alone_in_view, slot_after, records_after}
 
 -- an admitted event that a slot doesn't see leaves the globals
-globals_after-unseen : (s n : ℕ) (slot : SlotState) (globals : Globals) (event : EventModel) → refused_as n globals event ≡ None → is_in_view s slot globals event ≡ false → globals_after globals event ≡ globals
-globals_after-unseen s n slot globals (MomentIs t) admitted unseen = absurd (grind (arith, nat_tests))
+globals_after-unseen : (s n : ℕ) (slot : SlotState) (globals : Globals) (event : EventModel)
+    → refused_as n globals event ≡ None → is_in_view s slot globals event ≡ false
+    → globals_after globals event ≡ globals
+globals_after-unseen s n slot globals (MomentIs t) admitted unseen =
+    absurd (grind (arith, nat_tests))
 globals_after-unseen s n slot globals (TopologyIs topo) admitted unseen = absurd (cc)
-globals_after-unseen s n slot globals (RoleIs group leader) admitted unseen = absurd (grind (arith, nat_tests))
+globals_after-unseen s n slot globals (RoleIs group leader) admitted unseen =
+    absurd (grind (arith, nat_tests))
 globals_after-unseen s n slot globals (DatagramIs protocol src dst bytes) admitted unseen = refl
 globals_after-unseen s n slot globals (CallIs r call) admitted unseen = refl
 
 -- no slot sees an event that isn't admitted
-refused_is_unseen : (s n : ℕ) (slot : SlotState) (globals : Globals) (event : EventModel) (fault : NodeFault) → s < n → refused_as n globals event ≡ Some fault → is_in_view s slot globals event ≡ false
+refused_is_unseen :
+    (s n : ℕ) (slot : SlotState) (globals : Globals) (event : EventModel) (fault : NodeFault)
+    → s < n → refused_as n globals event ≡ Some fault → is_in_view s slot globals event ≡ false
 refused_is_unseen s n slot globals (MomentIs t) fault within bad = grind (arith, nat_tests)
 refused_is_unseen s n slot globals (TopologyIs topo) fault within bad = absurd (cc)
 refused_is_unseen s n slot globals (RoleIs group leader) fault within bad = grind (arith, nat_tests)
-refused_is_unseen s n slot globals (DatagramIs protocol src dst bytes) fault within bad = absurd (cc)
+refused_is_unseen s n slot globals (DatagramIs protocol src dst bytes) fault within bad =
+    absurd (cc)
 refused_is_unseen s n slot globals (CallIs r call) fault within bad = grind (arith, nat_tests)
 
 -- an admitted event comes first in the run
-pub admitted_first : (setup : NodeSetup) (s n : ℕ) (slot : SlotState) (globals : Globals) (event : EventModel) (later : List EventModel) → refused_as n globals event ≡ None → alone_in_view setup s slot globals (event ∷ later) ≡ prepend (records_after setup s slot globals event) (alone_in_view setup s (slot_after setup s slot globals event) (globals_after globals event) later)
+pub admitted_first : (setup : NodeSetup) (s n : ℕ)
+    (slot : SlotState) (globals : Globals) (event : EventModel) (later : List EventModel)
+    → refused_as n globals event ≡ None → alone_in_view setup s slot globals (event ∷ later)
+    ≡ prepend (records_after setup s slot globals event) (alone_in_view setup
+    s (slot_after setup s slot globals event) (globals_after globals event) later)
 admitted_first setup s n slot globals event later admitted =
     seen_or_not (is_in_view s slot globals event) refl
   where
-    seen_or_not : (seen : Bool) → is_in_view s slot globals event ≡ seen → alone_in_view setup s slot globals (event ∷ later) ≡ prepend (records_after setup s slot globals event) (alone_in_view setup s (slot_after setup s slot globals event) (globals_after globals event) later)
+    seen_or_not : (seen : Bool) → is_in_view s slot globals event ≡ seen
+        → alone_in_view setup s slot globals (event ∷ later)
+        ≡ prepend (records_after setup s slot globals event) (alone_in_view setup
+        s (slot_after setup s slot globals event) (globals_after globals event) later)
     seen_or_not true is = rw is refl
     seen_or_not false is = rw (is, globals_after-unseen s n slot globals event admitted is) refl
 
 -- an event that isn't admitted leaves the run
-pub refused_first : (setup : NodeSetup) (s n : ℕ) (slot : SlotState) (globals : Globals) (event : EventModel) (later : List EventModel) (fault : NodeFault) → s < n → refused_as n globals event ≡ Some fault → alone_in_view setup s slot globals (event ∷ later) ≡ alone_in_view setup s slot globals later
-refused_first setup s n slot globals event later fault within bad = rw (refused_is_unseen s n slot globals event fault within bad) refl
+pub refused_first : (setup : NodeSetup) (s n : ℕ) (slot : SlotState)
+    (globals : Globals) (event : EventModel) (later : List EventModel) (fault : NodeFault)
+    → s < n → refused_as n globals event ≡ Some fault
+    → alone_in_view setup s slot globals (event ∷ later) ≡ alone_in_view setup s slot globals later
+refused_first setup s n slot globals event later fault within bad =
+    rw (refused_is_unseen s n slot globals event fault within bad) refl
 
-pub prepend-prepend : (xs ys : List Content) (run : Run) → prepend xs (prepend ys run) ≡ prepend (xs ++ ys) run
-prepend-prepend xs ys run = ap (λ (records : List Content). let r : Run = record { slot = run.slot; globals = run.globals; records = records } in r) (sym (append_assoc xs ys run.records))
+pub prepend-prepend : (xs ys : List Content) (run : Run)
+    → prepend xs (prepend ys run) ≡ prepend (xs ++ ys) run
+prepend-prepend xs ys run = ap (λ (records : List Content). let r : Run = record {
+  slot = run.slot;
+  globals = run.globals;
+  records = records;
+} in r) (sym (append_assoc xs ys run.records))
 
 -- an admitted event that a slot doesn't see does nothing in its own model
-pub view_is_plain : (setup : NodeSetup) (s n : ℕ) (slot : SlotState) (globals : Globals) (event : EventModel) → refused_as n globals event ≡ None → plain_effect setup s slot globals event ≡ record { slot = slot_after setup s slot globals event; records = records_after setup s slot globals event }
+pub view_is_plain :
+    (setup : NodeSetup) (s n : ℕ) (slot : SlotState) (globals : Globals) (event : EventModel)
+    → refused_as n globals event ≡ None → plain_effect setup s slot globals event ≡ record {
+      slot =
+          slot_after setup s slot globals event;
+      records = records_after setup s slot globals event;
+    }
 view_is_plain setup s n slot globals (MomentIs t) admitted =
     let seen : (nat_le globals.now t && nat_le t last_moment) ≡ true = grind (arith, nat_tests) in
     rw seen refl
@@ -56,13 +88,28 @@ view_is_plain setup s n slot globals (TopologyIs topo) admitted = refl
 view_is_plain setup s n slot globals (RoleIs group leader) admitted =
     let seen : not (group == 0) ≡ true = grind (arith, nat_tests) in
     rw seen refl
-view_is_plain setup s n slot globals (DatagramIs protocol src dst bytes) admitted = either setup slot globals (telegram_of protocol src dst bytes) (concerns globals (telegram_of protocol src dst bytes) slot) refl
+view_is_plain setup s n slot globals (DatagramIs protocol src dst bytes) admitted =
+    either setup slot globals (telegram_of protocol src dst bytes)
+    (concerns globals (telegram_of protocol src dst bytes) slot) refl
   where
-    either : (setup : NodeSetup) (slot : SlotState) (globals : Globals) (telegram : Option TelegramModel) (b : Bool) → concerns globals telegram slot ≡ b → received_if setup slot globals telegram ≡ record { slot = if b then (received_if setup slot globals telegram).slot else slot; records = if b then (received_if setup slot globals telegram).records else [] }
+    either : (setup : NodeSetup) (slot : SlotState)
+        (globals : Globals) (telegram : Option TelegramModel) (b : Bool)
+        → concerns globals telegram slot ≡ b → received_if setup slot globals telegram
+        ≡ record {
+          slot = if b then (received_if setup slot globals telegram).slot else slot;
+          records = if b then (received_if setup slot globals telegram).records else [];
+        }
     either setup slot globals telegram true is = refl
     either setup slot globals telegram false is = unconcerned setup slot globals telegram is
-view_is_plain setup s n slot globals (CallIs r call) admitted = either setup slot globals call (r == s)
+view_is_plain setup s n slot globals (CallIs r call) admitted =
+    either setup slot globals call (r == s)
   where
-    either : (setup : NodeSetup) (slot : SlotState) (globals : Globals) (call : CallModel) (b : Bool) → (if b then called setup slot globals call else unchanged slot) ≡ record { slot = if b then (called setup slot globals call).slot else slot; records = if b then (called setup slot globals call).records else [] }
+    either :
+        (setup : NodeSetup) (slot : SlotState) (globals : Globals) (call : CallModel) (b : Bool)
+        → (if b then called setup slot globals call else unchanged slot)
+        ≡ record {
+          slot = if b then (called setup slot globals call).slot else slot;
+          records = if b then (called setup slot globals call).records else [];
+        }
     either setup slot globals call true = refl
     either setup slot globals call false = refl

@@ -1,5 +1,6 @@
 -- A number is read back from its bytes.
-use Rattle.std.proofs.Common.{◌≡◌, ℕ, zero, suc, ◌^◌, ◌<◌, List, [], length, refl, sym, ap, ◌∙◌, arith}
+use Rattle.std.proofs.Common.{◌≡◌, ℕ, zero, suc, ◌^◌, ◌<◌, List, []}
+use Rattle.std.proofs.Common.{length, refl, sym, ap, ◌∙◌, arith}
 use Rattle.std.proofs.lemmas.List.{reverse-reverse}
 use Rattle.std.specs.Int.{bytes_high_first}
 use Rattle.byteorder.specs.Endian.{big_from}
@@ -21,7 +22,8 @@ be-be_bytes n number h =
     let len : length bytes ≡ n = length-be_bytes n number in
     let whole = ap be (take_all n bytes (omega (arith, len))) in
     sym whole ∙ sym (big_number-be n bytes (omega (arith, len)))
-    ∙ ap (big_from 0 n) (be_bytes-is n number ∙ sym (append-nil (bytes_high_first n number))) ∙ big_number-reads_back n number [] h
+    ∙ ap (big_from 0 n) (be_bytes-is n number ∙ sym (append-nil (bytes_high_first n number)))
+    ∙ big_number-reads_back n number [] h
 
 -- the little-endian value of a number's n bytes
 pub le-le_bytes : (n number : ℕ) → number < 256 ^ n → le (le_bytes n number) ≡ number

@@ -1,5 +1,6 @@
 -- The numbers of a header's fields are those that `byteorder` reads and writes.
-use Rattle.std.proofs.Common.{◌≡◌, ℕ, zero, suc, ◌+◌, ◌*◌, ◌/◌, ◌%◌, ◌^◌, ◌≤◌, List, [], ◌∷◌, ◌++◌, length, take, reverse, refl, sym, ap, ◌∙◌, arith, length-append}
+use Rattle.std.proofs.Common.{◌≡◌, ℕ, zero, suc, ◌+◌, ◌*◌, ◌/◌, ◌%◌, ◌^◌, ◌≤◌, List, [], ◌∷◌, ◌++◌}
+use Rattle.std.proofs.Common.{length, take, reverse, refl, sym, ap, ◌∙◌, arith, length-append}
 use Rattle.std.proofs.Math.Nat.{div-one, pow-succ'}
 use Rattle.std.proofs.lemmas.List.{length-take-le, reverse-append}
 use Rattle.std.specs.Int.{byte_at, bytes_high_first, bytes_low_first}
@@ -31,7 +32,8 @@ little_number-le (suc n) [] h = absurd (omega arith)
 little_number-le (suc n) (x ∷ xs) h =
     let fits : n ≤ length xs = omega arith in
     let rest = little_from-cons 0 n x xs ∙ little_number-le n xs fits in
-    let pushed : le (x ∷ take n xs) ≡ 256 * le (take n xs) + x = ap be (reverse-append (x ∷ []) (take n xs)) ∙ be-push (reverse (take n xs)) x in
+    let pushed : le (x ∷ take n xs) ≡ 256 * le (take n xs) + x =
+    ap be (reverse-append (x ∷ []) (take n xs)) ∙ be-push (reverse (take n xs)) x in
     omega (arith, rest, pushed)
 
 byte_at-is : (n number : ℕ) → byte_at n number ≡ number / 256 ^ n % 256
@@ -44,7 +46,8 @@ be_bytes-is zero number = refl
 be_bytes-is (suc n) number = rw (byte_at-is n number, be_bytes-is n number) refl
 
 -- the byte of the highest place is the last
-low_first-more : (k i number : ℕ) → bytes_low_first i (suc k) number ≡ bytes_low_first i k number ++ byte_at (i + k) number ∷ []
+low_first-more : (k i number : ℕ)
+    → bytes_low_first i (suc k) number ≡ bytes_low_first i k number ++ byte_at (i + k) number ∷ []
 low_first-more zero i number = let e : i + 0 ≡ i = omega arith in rw e refl
 low_first-more (suc k) i number =
     let e : i + suc k ≡ suc i + k = omega arith in
@@ -57,5 +60,7 @@ le_bytes-is (suc n) number =
     let e : 0 + n ≡ n = omega arith in
     let last : byte_at (0 + n) number ≡ number / 256 ^ n % 256 = rw e (byte_at-is n number) in
     let top : ℕ = number / 256 ^ n % 256 in
-    reverse-append (top ∷ []) (be_bytes n number) ∙ ap (λ (bytes : List ℕ). bytes ++ top ∷ []) (le_bytes-is n number)
-    ∙ ap (λ (b : ℕ). bytes_low_first 0 n number ++ b ∷ []) (sym last) ∙ sym (low_first-more n 0 number)
+    reverse-append (top ∷ []) (be_bytes n number)
+    ∙ ap (λ (bytes : List ℕ). bytes ++ top ∷ []) (le_bytes-is n number)
+    ∙ ap (λ (b : ℕ). bytes_low_first 0 n number ++ b ∷ []) (sym last)
+    ∙ sym (low_first-more n 0 number)

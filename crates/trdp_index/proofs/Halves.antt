@@ -2,7 +2,8 @@
 use Rattle.std.proofs.Common.{◌≤◌, ◌<◌, ◌+◌, ◌/◌, ◌^◌, ℕ, zero, suc, arith}
 use Rattle.std.proofs.Math.Nat.{pow-succ'}
 
-pub step_bound : (p q b d e : ℕ) → ((j : ℕ) × (p + j ≤ q + b) × (d < 2 ^ j)) → 0 < d → e ≤ d / 2 → (j : ℕ) × (p + 1 + j ≤ q + b) × (e < 2 ^ j)
+pub step_bound : (p q b d e : ℕ) → ((j : ℕ) × (p + j ≤ q + b) × (d < 2 ^ j))
+    → 0 < d → e ≤ d / 2 → (j : ℕ) × (p + 1 + j ≤ q + b) × (e < 2 ^ j)
 step_bound p q b d e (zero, sum, small) some half = absurd (omega arith)
 step_bound p q b d e (suc j, sum, small) some half = (j, omega arith, omega (arith, pow-succ' 2 j))
 

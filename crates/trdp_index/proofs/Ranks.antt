@@ -4,12 +4,14 @@ use Rattle.std.proofs.lemmas.Bool.Decides.{nat_tests}
 use Rattle.trdp_index.specs.declared.rank.Rank.{Rank}
 use Rattle.trdp_index.specs.Ranks.{is_before, is_same}
 
-pub before-trans : (a b c : Rank) → is_before a b ≡ true → is_before b c ≡ true → is_before a c ≡ true
+pub before-trans : (a b c : Rank) → is_before a b ≡ true
+    → is_before b c ≡ true → is_before a c ≡ true
 unfolding is_before
 before-trans a b c ab bc = grind (arith, nat_tests)
 
 -- what comes after a rank doesn't come before one that the rank doesn't come before
-pub not_sooner : (a b c : Rank) → is_before a b ≡ true → is_before a c ≡ false → is_before b c ≡ false
+pub not_sooner : (a b c : Rank) → is_before a b ≡ true
+    → is_before a c ≡ false → is_before b c ≡ false
 unfolding is_before
 not_sooner a b c ab ac = grind (arith, nat_tests)
 

@@ -1,5 +1,6 @@
 pub mod Numbers
 pub mod Codecs
+pub mod DatasetCodecs
 pub mod Spellings
 pub mod Steps
 pub mod Fixed

@@ -1,7 +1,9 @@
 -- The bytes of a number that was read.
-use Rattle.std.proofs.Common.{◌≡◌, ◌<◌, ◌≤◌, ◌+◌, ◌*◌, ◌/◌, ◌%◌, ◌^◌, ℕ, zero, suc, List, [], ◌∷◌, ◌++◌, length, drop, get_or, subst, refl, sym, ap, ◌∙◌, arith}
+use Rattle.std.proofs.Common.{◌≡◌, ◌<◌, ◌≤◌, ◌+◌, ◌*◌, ◌/◌, ◌%◌, ◌^◌, ℕ, zero, suc, List, []}
+use Rattle.std.proofs.Common.{◌∷◌, ◌++◌, length, drop, get_or, subst, refl, sym, ap, ◌∙◌, arith}
 use Rattle.std.specs.Int.{byte_at, bytes_high_first}
-use Rattle.std.proofs.Math.Nat.{mod-lt, mul-add-mod_self_right, mul-add-div_right, div-one, mod-eq_of_lt, div-eq_of_lt, mul_assoc, one-le-pow, pow-succ'}
+use Rattle.std.proofs.Math.Nat.{mod-lt, mul-add-mod_self_right, mul-add-div_right, div-one}
+use Rattle.std.proofs.Math.Nat.{mod-eq_of_lt, div-eq_of_lt, mul_assoc, one-le-pow, pow-succ'}
 use Rattle.byteorder.specs.Endian.{big_from, big_number, big_bytes}
 use Rattle.trdp_marshal.specs.Numbers.{IsBytes}
 use Rattle.byteorder.specs.Numbers.{big_from-cons, big_from-lt}
@@ -17,20 +19,25 @@ pow_pos256 n = let h = one-le-pow n 256 (omega arith) in omega arith
 low_bytes_of : (m q r : ℕ) → bytes_high_first m (q * 256 ^ m + r) ≡ bytes_high_first m r
 low_bytes_of zero q r = refl
 low_bytes_of (suc m) q r =
-    let moved : q * 256 ^ (suc m) ≡ (q * 256) * 256 ^ m = ap (λ (p : ℕ). q * p) (pow-succ' 256 m) ∙ sym (mul_assoc q 256 (256 ^ m)) in
+    let moved : q * 256 ^ (suc m) ≡ (q * 256) * 256 ^ m = ap (λ (p : ℕ). q * p) (pow-succ' 256 m)
+    ∙ sym (mul_assoc q 256 (256 ^ m)) in
     let divided = mul-add-div_right {m = 256 ^ m} (pow_pos256 m) (q * 256) r in
-    let byte : byte_at m ((q * 256) * 256 ^ m + r) ≡ byte_at m r = byte_at-pow m ((q * 256) * 256 ^ m + r) ∙ ap (λ (x : ℕ). x % 256) divided ∙ mul-add-mod_self_right q 256 (r / 256 ^ m) ∙ sym (byte_at-pow m r) in
+    let byte : byte_at m ((q * 256) * 256 ^ m + r) ≡ byte_at m r =
+    byte_at-pow m ((q * 256) * 256 ^ m + r) ∙ ap (λ (x : ℕ). x % 256) divided
+    ∙ mul-add-mod_self_right q 256 (r / 256 ^ m) ∙ sym (byte_at-pow m r) in
     let rest = low_bytes_of m (q * 256) r in
     rw (moved, byte, rest) refl
 
 top_byte_of : (m b r : ℕ) → b < 256 → r < 256 ^ m → byte_at m (b * 256 ^ m + r) ≡ b
 top_byte_of m b r small low =
     let none : r / 256 ^ m ≡ 0 = div-eq_of_lt low in
-    let whole : (b * 256 ^ m + r) / 256 ^ m ≡ b = mul-add-div_right {m = 256 ^ m} (pow_pos256 m) b r ∙ omega arith in
+    let whole : (b * 256 ^ m + r) / 256 ^ m ≡ b =
+    mul-add-div_right {m = 256 ^ m} (pow_pos256 m) b r ∙ omega arith in
     byte_at-pow m (b * 256 ^ m + r) ∙ ap (λ (x : ℕ). x % 256) whole ∙ mod-eq_of_lt small
 
 -- the number in k bytes is spelled by them
-pub bytes_of_number : (k : ℕ) (bytes : List ℕ) → IsBytes bytes → k ≤ length bytes → big_bytes k (big_number k bytes) ++ drop k bytes ≡ bytes
+pub bytes_of_number : (k : ℕ) (bytes : List ℕ)
+    → IsBytes bytes → k ≤ length bytes → big_bytes k (big_number k bytes) ++ drop k bytes ≡ bytes
 bytes_of_number zero bytes fits room = refl
 bytes_of_number (suc k) [] fits room = absurd (omega arith)
 bytes_of_number (suc k) (b ∷ bs) fits room =
@@ -45,7 +52,8 @@ pub number_fits : (k : ℕ) (bytes : List ℕ) → IsBytes bytes → big_number 
 number_fits k bytes fits = big_from-lt 0 k bytes fits
 
 byte_at-bound : (k x : ℕ) → byte_at k x < 256
-byte_at-bound k x = subst (λ (y : ℕ). y < 256) (sym (byte_at-pow k x)) (mod-lt (x / 256 ^ k) (omega arith))
+byte_at-bound k x =
+    subst (λ (y : ℕ). y < 256) (sym (byte_at-pow k x)) (mod-lt (x / 256 ^ k) (omega arith))
 
 number_byte : (k x i : ℕ) → get_or (bytes_high_first k x) i 0 < 256
 number_byte zero x i = omega arith

@@ -12,14 +12,16 @@ use Rattle.trdp_script.specs.declared.form.Form.TheVariants.{Moment}
 -- a form whose keywords the words have is the first that is found
 pub found_here : (items : List Form) (index : ℕ) (words : List (List ℕ)) → index < length items
     → true ≡ has_keywords (line_form (get_or items index Moment)).parts words
-    → find (λ form. has_keywords form.parts words) (map line_form (drop index items)) ≡ Some (line_form (get_or items index Moment))
+    → find (λ form. has_keywords form.parts words) (map line_form (drop index items))
+    ≡ Some (line_form (get_or items index Moment))
 found_here items index words inside told =
     rw (drop_more items index Moment inside, sym told) refl
 
 -- a form whose keywords the words don't have is passed over
 pub passed_here : (items : List Form) (index : ℕ) (words : List (List ℕ)) → index < length items
     → false ≡ has_keywords (line_form (get_or items index Moment)).parts words
-    → find (λ form. has_keywords form.parts words) (map line_form (drop index items)) ≡ find (λ form. has_keywords form.parts words) (map line_form (drop (index + 1) items))
+    → find (λ form. has_keywords form.parts words) (map line_form (drop index items))
+    ≡ find (λ form. has_keywords form.parts words) (map line_form (drop (index + 1) items))
 passed_here items index words inside told =
     rw (drop_more items index Moment inside, sym told) refl
 

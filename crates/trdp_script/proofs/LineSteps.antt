@@ -1,35 +1,47 @@
 -- A script on its way: one line.
-use Rattle.std.proofs.Common.{◌≡◌, suc, ◌+◌, ◌<◌, ℕ, Bool, true, false, List, [], ◌∷◌, ◌++◌, length, Some, None, Ok, Err, Option, Result, refl, sym, ◌∙◌, ap, arith, append-nil, subst}
+use Rattle.std.proofs.Common.{◌≡◌, suc, ◌+◌, ◌<◌, ℕ, Bool, true, false, List, []}
+use Rattle.std.proofs.Common.{◌∷◌, ◌++◌, length, Some, None, Ok, Err, Option}
+use Rattle.std.proofs.Common.{Result, refl, sym, ◌∙◌, ap, arith, append-nil, subst}
 use Rattle.std.specs.Prelude.{nat_eq, nat_lt, if◌then◌else◌, IfErr, OnOk}
 use Rattle.std.specs.Str.Lines.{lines, strip_carriage_return}
 use Rattle.trdp_engine.specs.Events.{EventModel}
 use Rattle.trdp_script.specs.declared.fault.LineFault.{LineFault}
-use Rattle.trdp_script.specs.declared.fault.LineFault.TheVariants.{TooLong, Count, OutOfMemory as NoMemory}
+use Rattle.trdp_script.specs.declared.fault.LineFault.TheVariants.{TooLong, Count}
+use Rattle.trdp_script.specs.declared.fault.LineFault.TheVariants.{OutOfMemory as NoMemory}
 use Rattle.trdp_script.specs.declared.script.Player.{Player}
 use Rattle.trdp_script.specs.declared.script.Script.{Script}
 use Rattle.trdp_script.specs.declared.script.ScriptFault.{ScriptFault}
-use Rattle.trdp_script.specs.declared.script.ScriptFault.TheVariants.{Line, Read, Write, OutOfMemory}
+use Rattle.trdp_script.specs.declared.script.ScriptFault.TheVariants.{Line, Read, Write}
+use Rattle.trdp_script.specs.declared.script.ScriptFault.TheVariants.{OutOfMemory}
 use Rattle.trdp_script.specs.Forms.{LineForm, forms, event_in}
 use Rattle.trdp_script.specs.Words.{words_of}
-use Rattle.trdp_script.specs.Lines.{Reads, event_or_fault, form_among, is_skipped, line_among, line_of, words_say}
+use Rattle.trdp_script.specs.Lines.{Reads, event_or_fault, form_among}
+use Rattle.trdp_script.specs.Lines.{is_skipped, line_among, line_of, words_say}
 use Rattle.trdp_script.specs.Pieces.{IsBare}
-use Rattle.trdp_script.specs.ScriptText.{after_line, events_of, events_text, fault_from, fault_or, nodes_after}
-use Rattle.trdp_script.specs.ScriptSteps.{node_of, Ends, LineComesTo, Plays, PlaysLine, Stops, StopsAt, line_events}
+use Rattle.trdp_script.specs.ScriptText.{after_line, events_of, events_text}
+use Rattle.trdp_script.specs.ScriptText.{fault_from, fault_or, nodes_after}
+use Rattle.trdp_script.specs.ScriptSteps.{node_of, Ends, LineComesTo, Plays}
+use Rattle.trdp_script.specs.ScriptSteps.{PlaysLine, Stops, StopsAt, line_events}
 use Rattle.trdp_script.specs.Writes.{PassesOn, PassesSome}
 use Rattle.trdp_script.proofs.LineLists.{lines_first, lines_last}
 use Rattle.trdp_script.proofs.Writing.{passes_some_of}
 use Rattle.trdp_script.proofs.Steps.{text_append, stops_here, passes_nothing}
 
 -- events of a line without a fault come first
-line_then : (line : List ℕ) (event : Option EventModel) (later : List (List ℕ)) → line_of line ≡ Ok event → events_of (line ∷ later) ≡ line_events (Ok event) ++ events_of later
+line_then : (line : List ℕ) (event : Option EventModel) (later : List (List ℕ))
+    → line_of line ≡ Ok event → events_of (line ∷ later) ≡ line_events (Ok event) ++ events_of later
 line_then line None later is = rw is refl
 line_then line (Some event) later is = rw is refl
 
 -- a line without a fault before its newline
-pub line_plays : (old new : Script) (v w : Option (List ℕ)) (event : Option EventModel) → IsBare old.line.items → line_of (strip_carriage_return old.line.items) ≡ Ok event
-    → PlaysLine old.player new.player v w (line_events (Ok event)) → new.line.items ≡ [] → new.number ≡ old.number + 1 → Plays old new v w (10 ∷ [])
+pub line_plays : (old new : Script) (v w : Option (List ℕ)) (event : Option EventModel)
+    → IsBare old.line.items → line_of (strip_carriage_return old.line.items) ≡ Ok event
+    → PlaysLine old.player new.player v w (line_events (Ok event))
+    → new.line.items ≡ [] → new.number ≡ old.number + 1 → Plays old new v w (10 ∷ [])
 line_plays old new v w event bare is played empty next =
-    let first : (later : List ℕ) → lines (old.line.items ++ 10 ∷ later) ≡ strip_carriage_return old.line.items ∷ lines later = λ later. lines_first old.line.items later bare in
+    let first : (later : List ℕ) → lines (old.line.items ++ 10 ∷ later)
+    ≡ strip_carriage_return old.line.items ∷ lines later =
+    λ later. lines_first old.line.items later bare in
     let number : suc old.number ≡ new.number = omega (arith, next) in
     record {
       text = events_text (node_of old.player) (line_events (Ok event));
@@ -38,88 +50,129 @@ line_plays old new v w event bare is played empty next =
         events = line_events (Ok event);
         node_is = played.node_is;
         text_is = refl;
-        later_events = λ later. ap events_of (first later) ∙ line_then (strip_carriage_return old.line.items) event (lines later) is
+        later_events = λ later. ap events_of (first later)
+            ∙ line_then (strip_carriage_return old.line.items) event (lines later) is
             ∙ ap (λ l. line_events (Ok event) ++ events_of (lines (l ++ later))) (sym empty);
-        later_fault = λ later. ap (fault_from old.number) (first later) ∙ ap (λ m. fault_or old.number m (fault_from (suc old.number) (lines later))) is
-            ∙ ap (λ n. fault_from n (lines later)) number ∙ ap (λ l. fault_from new.number (lines (l ++ later))) (sym empty);
+        later_fault = λ later. ap (fault_from old.number) (first later)
+            ∙ ap (λ m. fault_or old.number m (fault_from (suc old.number) (lines later))) is
+            ∙ ap (λ n. fault_from n (lines later)) number
+            ∙ ap (λ l. fault_from new.number (lines (l ++ later))) (sym empty);
       };
     }
 
-bad_stops : (old new : Script) (v w : Option (List ℕ)) (line rest : List ℕ) (later : List (List ℕ)) (bad : LineFault) (n : ℕ) (fault : LineFault) → line_of line ≡ Err bad → lines (old.line.items ++ rest) ≡ line ∷ later
-    → (n ≡ old.number) × (fault ≡ bad) × PassesOn v w old.player.output.items new.player.output.items [] → StopsAt old new v w rest n fault
+bad_stops : (old new : Script) (v w : Option (List ℕ))
+    (line rest : List ℕ) (later : List (List ℕ)) (bad : LineFault) (n : ℕ) (fault : LineFault)
+    → line_of line ≡ Err bad → lines (old.line.items ++ rest) ≡ line ∷ later
+    → (n ≡ old.number) × (fault ≡ bad) × PassesOn v
+    w old.player.output.items new.player.output.items [] → StopsAt old new v w rest n fault
 bad_stops old new v w line rest later bad n fault is first came = record {
   text = [];
   passed = came.2;
-  first = ap (fault_from old.number) first ∙ ap (λ m. fault_or old.number m (fault_from (suc old.number) later)) is ∙ ap (λ k. Some (k, bad)) (sym came.0) ∙ ap (λ f. Some (n, f)) (sym came.1);
-  text_is = ap (events_text (node_of old.player)) (sym (ap events_of first ∙ ap (λ m. after_line m (events_of later)) is));
+  first = ap (fault_from old.number) first
+      ∙ ap (λ m. fault_or old.number m (fault_from (suc old.number) later)) is
+      ∙ ap (λ k. Some (k, bad)) (sym came.0) ∙ ap (λ f. Some (n, f)) (sym came.1);
+  text_is = ap (events_text (node_of old.player))
+      (sym (ap events_of first ∙ ap (λ m. after_line m (events_of later)) is));
 }
 
-line_stops_as : (old new : Script) (v w : Option (List ℕ)) (line rest : List ℕ) (later : List (List ℕ)) (meaning : Result (Option EventModel) LineFault) (r : Result (Unit {0}) ScriptFault) → line_of line ≡ meaning → lines (old.line.items ++ rest) ≡ line ∷ later
-    → LineComesTo old.player new.player v w old.number meaning r → IfErr r (λ fault. Stops old new v w rest fault)
+line_stops_as :
+    (old new : Script) (v w : Option (List ℕ)) (line rest : List ℕ) (later : List (List ℕ))
+    (meaning : Result (Option EventModel) LineFault) (r : Result (Unit {0}) ScriptFault)
+    → line_of line ≡ meaning → lines (old.line.items ++ rest) ≡ line ∷ later
+    → LineComesTo old.player new.player v w old.number meaning r
+    → IfErr r (λ fault. Stops old new v w rest fault)
 unfolding LineComesTo Stops
 line_stops_as old new v w line rest later (Err bad) (Ok done) is first came = tt
-line_stops_as old new v w line rest later (Err bad) (Err (Line n fault)) is first came = bad_stops old new v w line rest later bad n fault is first came
+line_stops_as old new v w line rest later (Err bad) (Err (Line n fault)) is first came =
+    bad_stops old new v w line rest later bad n fault is first came
 line_stops_as old new v w line rest later (Err bad) (Err Read) is first came = absurd came
 line_stops_as old new v w line rest later (Err bad) (Err Write) is first came = absurd came
 line_stops_as old new v w line rest later (Err bad) (Err OutOfMemory) is first came = absurd came
 line_stops_as old new v w line rest later (Ok event) (Ok done) is first came = tt
-line_stops_as old new v w line rest later (Ok event) (Err (Line n fault)) is first came = absurd came
+line_stops_as old new v w line rest later (Ok event) (Err (Line n fault)) is first came =
+    absurd came
 line_stops_as old new v w line rest later (Ok event) (Err Read) is first came = absurd came
 line_stops_as old new v w line rest later (Ok event) (Err Write) is first came =
     subst (λ (l : List ℕ). PassesSome v w old.player.output.items l)
-    (sym (ap (events_text (node_of old.player)) (ap events_of first ∙ line_then line event later is) ∙ text_append (node_of old.player) (line_events (Ok event)) (events_of later)))
-    (passes_some_of (events_text (nodes_after (node_of old.player) (line_events (Ok event))) (events_of later)) came)
-line_stops_as old new v w line rest later (Ok event) (Err OutOfMemory) is first came = stops_here rest came
+    (sym (ap (events_text (node_of old.player)) (ap events_of first ∙ line_then line event later is)
+    ∙ text_append (node_of old.player) (line_events (Ok event)) (events_of later)))
+    (passes_some_of (events_text (nodes_after (node_of old.player) (line_events (Ok event)))
+    (events_of later)) came)
+line_stops_as old new v w line rest later (Ok event) (Err OutOfMemory) is first came =
+    stops_here rest came
 
 -- a line that stops the script
-pub line_stops : (old new : Script) (v w : Option (List ℕ)) (line rest : List ℕ) (later : List (List ℕ)) (r : Result (Unit {0}) ScriptFault) → lines (old.line.items ++ rest) ≡ line ∷ later
-    → LineComesTo old.player new.player v w old.number (line_of line) r → IfErr r (λ fault. Stops old new v w rest fault)
-line_stops old new v w line rest later r first came = line_stops_as old new v w line rest later (line_of line) r refl first came
+pub line_stops : (old new : Script) (v w : Option (List ℕ))
+    (line rest : List ℕ) (later : List (List ℕ)) (r : Result (Unit {0}) ScriptFault)
+    → lines (old.line.items ++ rest) ≡ line ∷ later
+    → LineComesTo old.player new.player v w old.number (line_of line) r
+    → IfErr r (λ fault. Stops old new v w rest fault)
+line_stops old new v w line rest later r first came =
+    line_stops_as old new v w line rest later (line_of line) r refl first came
 
 -- the last line, without a fault and without a newline
-pub line_ends : (old new : Script) (v w : Option (List ℕ)) (event : Option EventModel) → lines (old.line.items ++ []) ≡ old.line.items ∷ [] → line_of old.line.items ≡ Ok event
+pub line_ends : (old new : Script) (v w : Option (List ℕ)) (event : Option EventModel)
+    → lines (old.line.items ++ []) ≡ old.line.items ∷ [] → line_of old.line.items ≡ Ok event
     → PlaysLine old.player new.player v w (line_events (Ok event)) → Ends old new v w []
 line_ends old new v w event first is played = record {
   text = events_text (node_of old.player) (line_events (Ok event));
   passed = played.passed;
   no_fault = ap (fault_from old.number) first ∙ ap (λ m. fault_or old.number m None) is;
-  text_is = ap (events_text (node_of old.player)) (sym (ap events_of first ∙ line_then old.line.items event [] is ∙ append-nil (line_events (Ok event))));
+  text_is = ap (events_text (node_of old.player)) (sym (ap events_of first
+      ∙ line_then old.line.items event [] is ∙ append-nil (line_events (Ok event))));
 }
 
 -- a line that was played, by what came of it
-came_good : (old new : Script) (v w : Option (List ℕ)) (n : ℕ) (meaning : Result (Option EventModel) LineFault) → LineComesTo old.player new.player v w n meaning (Ok tt)
-    → (event : Option EventModel) × (meaning ≡ Ok event) × PlaysLine old.player new.player v w (line_events (Ok event))
+came_good : (old new : Script) (v w : Option (List ℕ))
+    (n : ℕ) (meaning : Result (Option EventModel) LineFault)
+    → LineComesTo old.player new.player v w n meaning (Ok tt)
+    → (event : Option EventModel) × (meaning ≡ Ok event)
+    × PlaysLine old.player new.player v w (line_events (Ok event))
 unfolding LineComesTo
 came_good old new v w n (Ok event) came = (event, refl, came)
 came_good old new v w n (Err fault) came = absurd came
 
 -- a line before its newline was played
-pub line_came : (old new : Script) (v w : Option (List ℕ)) (text : List ℕ) → text ≡ strip_carriage_return old.line.items → IsBare old.line.items
-    → LineComesTo old.player new.player v w old.number (line_of text) (Ok tt) → new.line.items ≡ [] → new.number ≡ old.number + 1 → Plays old new v w (10 ∷ [])
+pub line_came : (old new : Script) (v w : Option (List ℕ)) (text : List ℕ)
+    → text ≡ strip_carriage_return old.line.items → IsBare old.line.items
+    → LineComesTo old.player new.player v w old.number (line_of text) (Ok tt)
+    → new.line.items ≡ [] → new.number ≡ old.number + 1 → Plays old new v w (10 ∷ [])
 line_came old new v w text is bare came empty next =
     let good = came_good old new v w old.number (line_of text) came in
     line_plays old new v w good.0 bare (ap line_of (sym is) ∙ good.1) good.2 empty next
 
 -- a line before its newline stops the script
-pub line_bad : (old new : Script) (v w : Option (List ℕ)) (text : List ℕ) (fault : ScriptFault) → text ≡ strip_carriage_return old.line.items → IsBare old.line.items
-    → LineComesTo old.player new.player v w old.number (line_of text) (Err fault) → (later : List ℕ) → Stops old new v w (10 ∷ later) fault
+pub line_bad : (old new : Script) (v w : Option (List ℕ)) (text : List ℕ) (fault : ScriptFault)
+    → text ≡ strip_carriage_return old.line.items → IsBare old.line.items
+    → LineComesTo old.player new.player v w old.number (line_of text) (Err fault)
+    → (later : List ℕ) → Stops old new v w (10 ∷ later) fault
 line_bad old new v w text fault is bare came later =
-    line_stops old new v w (strip_carriage_return old.line.items) (10 ∷ later) (lines later) (Err fault) (lines_first old.line.items later bare)
-    (subst (λ (l : List ℕ). LineComesTo old.player new.player v w old.number (line_of l) (Err fault)) is came)
+    line_stops old new v w (strip_carriage_return old.line.items)
+    (10 ∷ later) (lines later) (Err fault) (lines_first old.line.items later bare)
+    (subst (λ (l : List ℕ).
+    LineComesTo old.player new.player v w old.number (line_of l) (Err fault)) is came)
 
 -- the last line was played
-pub last_came : (old new : Script) (v w : Option (List ℕ)) (text : List ℕ) (r : Result (Unit {0}) ScriptFault) → text ≡ old.line.items → IsBare old.line.items → 0 < length old.line.items
-    → LineComesTo old.player new.player v w old.number (line_of text) r → OnOk r (Ends old new v w [])
+pub last_came :
+    (old new : Script) (v w : Option (List ℕ)) (text : List ℕ) (r : Result (Unit {0}) ScriptFault)
+    → text ≡ old.line.items → IsBare old.line.items → 0 < length old.line.items
+    → LineComesTo old.player new.player v w old.number (line_of text) r
+    → OnOk r (Ends old new v w [])
 last_came old new v w text (Ok done) is bare some came =
     let good = came_good old new v w old.number (line_of text) came in
-    line_ends old new v w good.0 (ap lines (append-nil old.line.items) ∙ lines_last old.line.items bare some) (ap line_of (sym is) ∙ good.1) good.2
+    line_ends old new v w good.0 (ap lines (append-nil old.line.items)
+    ∙ lines_last old.line.items bare some) (ap line_of (sym is) ∙ good.1) good.2
 last_came old new v w text (Err fault) is bare some came = tt
 
 -- the last line stops the script
-pub last_bad : (old new : Script) (v w : Option (List ℕ)) (text : List ℕ) (r : Result (Unit {0}) ScriptFault) → text ≡ old.line.items → IsBare old.line.items → 0 < length old.line.items
-    → LineComesTo old.player new.player v w old.number (line_of text) r → IfErr r (λ fault. Stops old new v w [] fault)
+pub last_bad :
+    (old new : Script) (v w : Option (List ℕ)) (text : List ℕ) (r : Result (Unit {0}) ScriptFault)
+    → text ≡ old.line.items → IsBare old.line.items → 0 < length old.line.items
+    → LineComesTo old.player new.player v w old.number (line_of text) r
+    → IfErr r (λ fault. Stops old new v w [] fault)
 last_bad old new v w text r is bare some came =
-    line_stops old new v w old.line.items [] [] r (ap lines (append-nil old.line.items) ∙ lines_last old.line.items bare some)
+    line_stops old new v w old.line.items [] []
+    r (ap lines (append-nil old.line.items) ∙ lines_last old.line.items bare some)
     (subst (λ (l : List ℕ). LineComesTo old.player new.player v w old.number (line_of l) r) is came)
 
 -- a line's fault is never want of memory
@@ -129,9 +182,11 @@ NeverMemory meaning = meaning ≡ Err NoMemory → ⊥
 never_said : (form : Option LineForm) (words : List (List ℕ)) → NeverMemory (words_say form words)
 unfolding words_say
 never_said None words is = absurd (cc)
-never_said (Some form) words is = never_counted (nat_eq (length words) (length form.parts)) (event_in form words) is
+never_said (Some form) words is =
+    never_counted (nat_eq (length words) (length form.parts)) (event_in form words) is
   where
-    never_counted : (b : Bool) (event : Option EventModel) → NeverMemory (if b then event_or_fault event else Err Count)
+    never_counted : (b : Bool) (event : Option EventModel)
+        → NeverMemory (if b then event_or_fault event else Err Count)
     never_counted true None is = absurd (cc)
     never_counted true (Some event) is = absurd (cc)
     never_counted false event is = absurd (cc)
@@ -140,16 +195,20 @@ never_memory : (text : List ℕ) → NeverMemory (line_of text)
 unfolding line_among
 never_memory text is = never_long (nat_lt 140000 (length text)) (is_skipped text) is
   where
-    never_long : (a b : Bool) → NeverMemory (if a then Err TooLong else (if b then Ok None else words_say (form_among forms (words_of text)) (words_of text)))
+    never_long : (a b : Bool) → NeverMemory (if a then Err TooLong
+        else (if b then Ok None else words_say (form_among forms (words_of text)) (words_of text)))
     never_long true b is = absurd (cc)
     never_long false true is = absurd (cc)
     never_long false false is = never_said (form_among forms (words_of text)) (words_of text) is
 
 -- a good line for which there is no memory
-pub memory_came : (p : Player) (w : Option (List ℕ)) (n : ℕ) (text : List ℕ) (bad : LineFault) → bad ≡ NoMemory → Reads (line_of text) (Err bad) → LineComesTo p p w w n (line_of text) (Err OutOfMemory)
+pub memory_came : (p : Player) (w : Option (List ℕ)) (n : ℕ) (text : List ℕ) (bad : LineFault)
+    → bad ≡ NoMemory → Reads (line_of text) (Err bad)
+    → LineComesTo p p w w n (line_of text) (Err OutOfMemory)
 unfolding LineComesTo
 memory_came p w n text bad is reads = memory_of (line_of text) (never_memory text) reads
   where
-    memory_of : (meaning : Result (Option EventModel) LineFault) → NeverMemory meaning → Reads meaning (Err bad) → LineComesTo p p w w n meaning (Err OutOfMemory)
+    memory_of : (meaning : Result (Option EventModel) LineFault) → NeverMemory meaning
+        → Reads meaning (Err bad) → LineComesTo p p w w n meaning (Err OutOfMemory)
     memory_of (Ok event) never reads = passes_nothing w p.output.items
     memory_of (Err fault) never reads = absurd (never (ap (λ f. Err f) (sym reads ∙ is)))

@@ -9,7 +9,8 @@ pub on_err : {A E : Type 0} {P Q : Type 0} (r : Result A E) → (P → Q) → On
 on_err (Ok x) f p = tt
 on_err (Err e) f p = f p
 
-pub if_err : {A E : Type 0} {P Q : E → Type 0} (r : Result A E) → ((e : E) → P e → Q e) → IfErr r P → IfErr r Q
+pub if_err : {A E : Type 0} {P Q : E → Type 0} (r : Result A E)
+    → ((e : E) → P e → Q e) → IfErr r P → IfErr r Q
 if_err (Ok x) f p = tt
 if_err (Err e) f p = f e p
 

@@ -10,7 +10,8 @@ no_space : (word : List ℕ) → All (λ byte. byte ≢ 32) word → All (λ byt
 no_space word none = λ k d inside. ne_eqb _ 32 (none k d inside)
 
 -- what stands before the first space is the first word
-pub split_word : (text word behind : List ℕ) → text ≡ word ++ 32 ∷ behind → All (λ byte. byte ≢ 32) word → words_of text ≡ word ∷ words_of behind
+pub split_word : (text word behind : List ℕ) → text ≡ word ++ 32 ∷ behind
+    → All (λ byte. byte ≢ 32) word → words_of text ≡ word ∷ words_of behind
 unfolding words_of
 split_word text word behind parts none =
     rw parts (slice_split_at (λ byte. byte == 32) word 32 behind (no_space word none) refl)

@@ -2,9 +2,11 @@ pub mod Objects
 pub mod Searching
 pub mod Slots
 pub mod Pools
+pub mod PoolChanges
 pub mod Seen
 pub mod Keys
 pub mod Entries
 pub mod Tables
 pub mod Changes
+pub mod SeenChanges
 pub mod Known

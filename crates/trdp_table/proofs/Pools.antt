@@ -1,64 +1,88 @@
 -- A pool's keys: each has a place of its own in the slab, or is free.
-use Rattle.std.proofs.Common.{◌≡◌, ◌≢◌, ◌≤◌, ◌<◌, ◌+◌, inl, inr, ℕ, zero, suc, List, [], ◌∷◌, ◌++◌, length, map, get_or, set, Option, Some, None, Bool, true, cond, is_some, IsSome, count_by, refl, sym, ap, ◌∙◌, arith}
-use Rattle.std.specs.Prelude.{slice_get, replicate, option_map, ◌⊎◌}
-use Rattle.std.proofs.lemmas.List.{get_or-set_same, get_or-set_other, length-set, map-set, length-map}
+use Rattle.std.proofs.Common.{◌≡◌, ◌≢◌, ◌≤◌, ◌<◌, ◌+◌, inl, inr, ℕ, zero, suc, List, [], ◌∷◌}
+use Rattle.std.proofs.Common.{◌++◌, length, map, get_or, set, Option, Some, None, Bool, true}
+use Rattle.std.proofs.Common.{cond, is_some, IsSome, count_by, refl, sym, ap, ◌∙◌, arith}
+use Rattle.std.specs.Prelude.{slice_get, replicate, ◌⊎◌}
 use Rattle.std.proofs.lemmas.List.Sums.{sum_by-cons}
-use Rattle.std.proofs.lemmas.Bool.{false≢true, cases_eq}
 use Rattle.std.proofs.lemmas.Option.{same_Some, none-some, slice_get_within}
 use Rattle.std.proofs.Math.ListN.{get_or-map}
-use Rattle.slab.specs.Slab.{Slab, get, slab_len, Updates, with_value}
-use Rattle.trdp_table.specs.declared.any_object.AnyObject.{AnyObject}
+use Rattle.slab.specs.Slab.{Slab, get, Updates}
 use Rattle.trdp_table.specs.declared.held.Held.{Held}
-use Rattle.trdp_table.specs.Pools.{PoolState, held_in, held_count, pool_with, with_other_held, placed, IsKeptPool, AreAllKeys}
+use Rattle.trdp_table.specs.Pools.{PoolState, held_in}
+use Rattle.trdp_table.specs.Pools.{placed, IsKeptPool, AreAllKeys}
 
-count_by-cons : {X : Type 0} (p : X → Bool) (x : X) (xs : List X) → count_by p (x ∷ xs) ≡ cond {A = ℕ} (p x) 1 0 + count_by p xs
+count_by-cons : {X : Type 0} (p : X → Bool) (x : X) (xs : List X)
+    → count_by p (x ∷ xs) ≡ cond {A = ℕ} (p x) 1 0 + count_by p xs
 count_by-cons p x xs = sum_by-cons (λ y. cond {A = ℕ} (p y) 1 0) x xs
 
-abbrev Places : Type 0
+abbrev pub Places : Type 0
 Places = List (Option ℕ)
 
 -- What is seen of the pool.
 
 -- there are as many objects as keys that have a place
-pub count_placed : (s : Slab Held) (ps : Places) → ((i k : ℕ) → get_or ps i None ≡ Some k → IsSome (get s k)) → count_by is_some (map (placed s) ps) ≡ count_by is_some ps
+pub count_placed : (s : Slab Held) (ps : Places)
+    → ((i k : ℕ) → get_or ps i None ≡ Some k → IsSome (get s k))
+    → count_by is_some (map (placed s) ps) ≡ count_by is_some ps
 count_placed s [] h = refl
 count_placed s (None ∷ ps) h =
     let rest = count_placed s ps (λ i k e. h (suc i) k e) in
-    omega (arith, rest, count_by-cons is_some None ps, count_by-cons is_some None (map (placed s) ps))
+    omega (
+      arith,
+      rest,
+      count_by-cons is_some None ps,
+      count_by-cons is_some None (map (placed s) ps),
+    )
 count_placed s (Some k ∷ ps) h =
     let some : is_some (get s k) ≡ true = h 0 k refl in
     let rest = count_placed s ps (λ i j e. h (suc i) j e) in
-    let here : cond {A = ℕ} (is_some (get s k)) 1 0 ≡ 1 = ap (λ (b : Bool). cond {A = ℕ} b 1 0) some in
-    omega (arith, rest, here, count_by-cons is_some (Some k) ps, count_by-cons is_some (get s k) (map (placed s) ps))
+    let here : cond {A = ℕ} (is_some (get s k)) 1 0 ≡ 1 =
+    ap (λ (b : Bool). cond {A = ℕ} b 1 0) some in
+    omega (
+      arith,
+      rest,
+      here,
+      count_by-cons is_some (Some k) ps,
+      count_by-cons is_some (get s k) (map (placed s) ps),
+    )
 
-pub held_at : (s : Slab Held) (ps : Places) (key : ℕ) → held_in (map (placed s) ps) key ≡ placed s (get_or ps key None)
+pub held_at : (s : Slab Held) (ps : Places) (key : ℕ)
+    → held_in (map (placed s) ps) key ≡ placed s (get_or ps key None)
 held_at s ps key = get_or-map (placed s) ps key None
 
 -- a change at a place that no key has changes nothing that is seen
-seen_same : (s t : Slab Held) (k : ℕ) (v : Option Held) (ps : Places) → Updates s t k v → ((i : ℕ) → get_or ps i None ≢ Some k) → map (placed t) ps ≡ map (placed s) ps
+pub seen_same : (s t : Slab Held) (k : ℕ) (v : Option Held) (ps : Places) → Updates s t k v
+    → ((i : ℕ) → get_or ps i None ≢ Some k) → map (placed t) ps ≡ map (placed s) ps
 seen_same s t k v [] u h = refl
-seen_same s t k v (None ∷ ps) u h = ap (λ (r : PoolState). None ∷ r) (seen_same s t k v ps u (λ i. h (suc i)))
+seen_same s t k v (None ∷ ps) u h =
+    ap (λ (r : PoolState). None ∷ r) (seen_same s t k v ps u (λ i. h (suc i)))
 seen_same s t k v (Some j ∷ ps) u h =
     let apart : j ≢ k = λ e. h 0 (ap Some e) in
     let here : get t j ≡ get s j = u.others j apart in
     rw here (ap (λ (r : PoolState). get s j ∷ r) (seen_same s t k v ps u (λ i. h (suc i))))
 
 -- a change at the place of one key alone is seen at that key
-seen_changed : (s t : Slab Held) (k key : ℕ) (v : Option Held) (ps : Places) → Updates s t k v → get_or ps key None ≡ Some k → ((i : ℕ) → i ≢ key → get_or ps i None ≢ Some k) → map (placed t) ps ≡ set (map (placed s) ps) key v
+pub seen_changed : (s t : Slab Held) (k key : ℕ) (v : Option Held) (ps : Places) → Updates s t k v
+    → get_or ps key None ≡ Some k → ((i : ℕ) → i ≢ key → get_or ps i None ≢ Some k)
+    → map (placed t) ps ≡ set (map (placed s) ps) key v
 seen_changed s t k key v [] u at h = refl
 seen_changed s t k zero v (p ∷ ps) u at h =
     let here : placed t p ≡ v = ap (placed t) at ∙ u.changed in
-    rw here (ap (λ (r : PoolState). v ∷ r) (seen_same s t k v ps u (λ i. h (suc i) (λ e. absurd (omega arith)))))
+    rw here (ap (λ (r : PoolState). v ∷ r)
+    (seen_same s t k v ps u (λ i. h (suc i) (λ e. absurd (omega arith)))))
 seen_changed s t k (suc key) v (None ∷ ps) u at h =
-    ap (λ (r : PoolState). None ∷ r) (seen_changed s t k key v ps u at (λ i ne. h (suc i) (λ e. ne (omega arith))))
+    ap (λ (r : PoolState). None ∷ r)
+    (seen_changed s t k key v ps u at (λ i ne. h (suc i) (λ e. ne (omega arith))))
 seen_changed s t k (suc key) v (Some j ∷ ps) u at h =
     let apart : j ≢ k = λ e. h 0 (λ z. absurd (omega arith)) (ap Some e) in
     let here : get t j ≡ get s j = u.others j apart in
-    rw here (ap (λ (r : PoolState). get s j ∷ r) (seen_changed s t k key v ps u at (λ i ne. h (suc i) (λ e. ne (omega arith)))))
+    rw here (ap (λ (r : PoolState). get s j ∷ r)
+    (seen_changed s t k key v ps u at (λ i ne. h (suc i) (λ e. ne (omega arith)))))
 
 -- The free keys.
 
-at_push : (xs : List ℕ) (x i y : ℕ) → slice_get (xs ++ x ∷ []) i ≡ Some y → ((i < length xs) × (slice_get xs i ≡ Some y)) ⊎ ((i ≡ length xs) × (y ≡ x))
+pub at_push : (xs : List ℕ) (x i y : ℕ) → slice_get (xs ++ x ∷ []) i ≡ Some y
+    → ((i < length xs) × (slice_get xs i ≡ Some y)) ⊎ ((i ≡ length xs) × (y ≡ x))
 at_push [] x zero y at = inr (refl, sym (same_Some x y at))
 at_push [] x (suc i) y at = absurd (none-some y at)
 at_push (z ∷ xs) x zero y at = inl (omega arith, at)
@@ -67,7 +91,8 @@ at_push (z ∷ xs) x (suc i) y at = elim (at_push xs x i y at) [
   | inr last ↦ inr (omega (arith, last.0), last.1)
 ]
 
-pub at_front : (xs : List ℕ) (x i y : ℕ) → slice_get xs i ≡ Some y → slice_get (xs ++ x ∷ []) i ≡ Some y
+pub at_front : (xs : List ℕ) (x i y : ℕ) → slice_get xs i ≡ Some y
+    → slice_get (xs ++ x ∷ []) i ≡ Some y
 at_front [] x i y at = absurd (none-some y at)
 at_front (z ∷ xs) x zero y at = at
 at_front (z ∷ xs) x (suc i) y at = at_front xs x i y at
@@ -76,11 +101,12 @@ pub at_last : (xs : List ℕ) (x : ℕ) → slice_get (xs ++ x ∷ []) (length x
 at_last [] x = refl
 at_last (z ∷ xs) x = at_last xs x
 
-length_push : (xs : List ℕ) (x : ℕ) → length (xs ++ x ∷ []) ≡ length xs + 1
+pub length_push : (xs : List ℕ) (x : ℕ) → length (xs ++ x ∷ []) ≡ length xs + 1
 length_push [] x = refl
 length_push (z ∷ xs) x = let rest = length_push xs x in omega (arith, rest)
 
-pub keys_push : (n capacity : ℕ) (xs : List ℕ) → AreAllKeys n xs capacity → n + 1 ≤ capacity → AreAllKeys (n + 1) (xs ++ n ∷ []) capacity
+pub keys_push : (n capacity : ℕ) (xs : List ℕ)
+    → AreAllKeys n xs capacity → n + 1 ≤ capacity → AreAllKeys (n + 1) (xs ++ n ∷ []) capacity
 keys_push n capacity xs are le = record {
   count = omega (arith, length_push xs n, are.count);
   each = λ i key at. elim (at_push xs n i key at) [
@@ -92,27 +118,47 @@ keys_push n capacity xs are le = record {
 
 -- The number of keys that have a place.
 
-pub count_set : {X : Type 0} (ps : List (Option X)) (i : ℕ) (k : X) → i < length ps → get_or ps i None ≡ None → count_by is_some (set ps i (Some k)) ≡ count_by is_some ps + 1
+pub count_set : {X : Type 0} (ps : List (Option X)) (i : ℕ) (k : X) → i < length ps
+    → get_or ps i None ≡ None → count_by is_some (set ps i (Some k)) ≡ count_by is_some ps + 1
 count_set [] i k h e = absurd (omega arith)
-count_set (None ∷ ps) zero k h e = omega (arith, count_by-cons is_some None ps, count_by-cons is_some (Some k) ps)
+count_set (None ∷ ps) zero k h e =
+    omega (arith, count_by-cons is_some None ps, count_by-cons is_some (Some k) ps)
 count_set (Some j ∷ ps) zero k h e = absurd (none-some j (sym e))
-count_set (None ∷ ps) (suc i) k h e = let r = count_set ps i k (omega arith) e in omega (arith, r, count_by-cons is_some None ps, count_by-cons is_some None (set ps i (Some k)))
-count_set (Some j ∷ ps) (suc i) k h e = let r = count_set ps i k (omega arith) e in omega (arith, r, count_by-cons is_some (Some j) ps, count_by-cons is_some (Some j) (set ps i (Some k)))
+count_set (None ∷ ps) (suc i) k h e = let r = count_set ps i k (omega arith) e in
+    omega (arith, r, count_by-cons is_some None ps, count_by-cons is_some None (set ps i (Some k)))
+count_set (Some j ∷ ps) (suc i) k h e = let r = count_set ps i k (omega arith) e in omega (
+  arith,
+  r,
+  count_by-cons is_some (Some j) ps,
+  count_by-cons is_some (Some j) (set ps i (Some k)),
+)
 
-pub count_unset : {X : Type 0} (ps : List (Option X)) (i : ℕ) (k : X) → get_or ps i None ≡ Some k → count_by is_some (set ps i None) + 1 ≡ count_by is_some ps
+pub count_unset : {X : Type 0} (ps : List (Option X)) (i : ℕ) (k : X)
+    → get_or ps i None ≡ Some k → count_by is_some (set ps i None) + 1 ≡ count_by is_some ps
 count_unset [] i k e = absurd (none-some k e)
 count_unset (None ∷ ps) zero k e = absurd (none-some k e)
-count_unset (Some j ∷ ps) zero k e = omega (arith, count_by-cons is_some None ps, count_by-cons is_some (Some j) ps)
-count_unset (None ∷ ps) (suc i) k e = let r = count_unset ps i k e in omega (arith, r, count_by-cons is_some None ps, count_by-cons is_some None (set ps i None))
-count_unset (Some j ∷ ps) (suc i) k e = let r = count_unset ps i k e in omega (arith, r, count_by-cons is_some (Some j) ps, count_by-cons is_some (Some j) (set ps i None))
+count_unset (Some j ∷ ps) zero k e =
+    omega (arith, count_by-cons is_some None ps, count_by-cons is_some (Some j) ps)
+count_unset (None ∷ ps) (suc i) k e = let r = count_unset ps i k e in
+    omega (arith, r, count_by-cons is_some None ps, count_by-cons is_some None (set ps i None))
+count_unset (Some j ∷ ps) (suc i) k e = let r = count_unset ps i k e in omega (
+  arith,
+  r,
+  count_by-cons is_some (Some j) ps,
+  count_by-cons is_some (Some j) (set ps i None),
+)
 
-pub count_kept : {X : Type 0} (xs : List (Option X)) (i : ℕ) (x y : X) → get_or xs i None ≡ Some x → count_by is_some (set xs i (Some y)) ≡ count_by is_some xs
+pub count_kept : {X : Type 0} (xs : List (Option X)) (i : ℕ) (x y : X)
+    → get_or xs i None ≡ Some x → count_by is_some (set xs i (Some y)) ≡ count_by is_some xs
 count_kept [] i x y at = absurd (none-some x at)
 count_kept (None ∷ xs) zero x y at = absurd (none-some x at)
-count_kept (Some z ∷ xs) zero x y at = omega (arith, count_by-cons is_some (Some z) xs, count_by-cons is_some (Some y) xs)
-count_kept (z ∷ xs) (suc i) x y at = let r = count_kept xs i x y at in omega (arith, r, count_by-cons is_some z xs, count_by-cons is_some z (set xs i (Some y)))
+count_kept (Some z ∷ xs) zero x y at =
+    omega (arith, count_by-cons is_some (Some z) xs, count_by-cons is_some (Some y) xs)
+count_kept (z ∷ xs) (suc i) x y at = let r = count_kept xs i x y at in
+    omega (arith, r, count_by-cons is_some z xs, count_by-cons is_some z (set xs i (Some y)))
 
-place_within : {X : Type 0} (xs : List (Option X)) (i : ℕ) (x : X) → get_or xs i None ≡ Some x → i < length xs
+pub place_within : {X : Type 0} (xs : List (Option X)) (i : ℕ) (x : X)
+    → get_or xs i None ≡ Some x → i < length xs
 place_within [] i x at = absurd (none-some x at)
 place_within (z ∷ xs) zero x at = omega arith
 place_within (z ∷ xs) (suc i) x at = omega (arith, place_within xs i x at)
@@ -145,11 +191,21 @@ length_none : (n : ℕ) → length (replicate n no_key) ≡ n
 length_none zero = refl
 length_none (suc n) = omega (arith, length_none n)
 
-pub kept_new : (s : Slab Held) (n capacity : ℕ) (free : List ℕ) → s.slots ≡ [] → n ≤ s.capacity → AreAllKeys n free capacity → IsKeptPool s (replicate n None) free capacity
+pub kept_new : (s : Slab Held) (n capacity : ℕ) (free : List ℕ) → s.slots ≡ []
+    → n ≤ s.capacity → AreAllKeys n free capacity → IsKeptPool s (replicate n None) free capacity
 kept_new s n capacity free empty room are = record {
   filled = λ key place at. absurd (no_place n key place at);
   apart = λ a b place at there. absurd (no_place n a place at);
-  vacant = λ i key at. (omega (arith, are.each i key at, slice_get_within free i key at, are.count, length_none n), free_at n key);
+  vacant = λ i key at. (
+    omega (
+      arith,
+      are.each i key at,
+      slice_get_within free i key at,
+      are.count,
+      length_none n,
+    ),
+    free_at n key,
+  );
   once = λ i j key at there. omega (arith, are.each i key at, are.each j key there);
   count = ap (count_by is_some) empty ∙ sym (none_placed n);
   all = omega (arith, none_placed n, length_none n, are.count);
@@ -160,152 +216,3 @@ kept_new s n capacity free empty room are = record {
 pub seen_new : (s : Slab Held) (n : ℕ) → map (placed s) (replicate n None) ≡ replicate n None
 seen_new s zero = refl
 seen_new s (suc n) = ap (λ (r : PoolState). None ∷ r) (seen_new s n)
-
--- A key is given.
-
--- where fewer objects than keys are held, a key is free
-pub some_free : (s : Slab Held) (ps : Places) (free : List ℕ) (capacity : ℕ) → IsKeptPool s ps free capacity → held_count (map (placed s) ps) < length (map (placed s) ps) → 0 < length free
-some_free s ps free capacity is lt = omega (arith, lt, count_placed s ps is.filled, length-map ps (placed s), is.all)
-
-pub slab_room : (s : Slab Held) (ps : Places) (free : List ℕ) (capacity : ℕ) → IsKeptPool s ps free capacity → 0 < length free → slab_len s + 1 ≤ s.capacity
-slab_room s ps free capacity is lt = omega (arith, lt, is.all, is.count, is.room)
-
--- no key has a place that has no value
-unnamed : (s : Slab Held) (ps : Places) (free : List ℕ) (capacity k : ℕ) → IsKeptPool s ps free capacity → get s k ≡ None → (i : ℕ) → get_or ps i None ≢ Some k
-unnamed s ps free capacity k is vacant i at = false≢true (ap is_some (sym vacant) ∙ is.filled i k at)
-
-pub last_free : (s : Slab Held) (ps : Places) (xs : List ℕ) (capacity key : ℕ) → IsKeptPool s ps (xs ++ key ∷ []) capacity → (key < length ps) × (get_or ps key None ≡ None)
-last_free s ps xs capacity key is = is.vacant (length xs) key (at_last xs key)
-
-pub kept_insert : (s t : Slab Held) (ps : Places) (xs : List ℕ) (capacity key k : ℕ) (x : Held) → IsKeptPool s ps (xs ++ key ∷ []) capacity → get s k ≡ None → Updates s t k (Some x) → slab_len t ≡ slab_len s + 1 → t.capacity ≡ s.capacity → IsKeptPool t (set ps key (Some k)) xs capacity
-kept_insert s t ps xs capacity key k x is vacant u len cap =
-    let within = (last_free s ps xs capacity key is).0 in
-    let free = (last_free s ps xs capacity key is).1 in
-    let named : (i j : ℕ) → i ≡ key → get_or (set ps key (Some k)) i None ≡ Some j → j ≡ k =
-    λ i j same at. same_Some j k (sym at ∙ ap (λ (n : ℕ). get_or (set ps key (Some k)) n None) same ∙ get_or-set_same ps key (Some k) None within) in
-    let other : (i j : ℕ) → i ≢ key → get_or (set ps key (Some k)) i None ≡ Some j → get_or ps i None ≡ Some j =
-    λ i j apart at. sym (get_or-set_other ps key i (Some k) None apart) ∙ at in
-    let not_k : (i : ℕ) → get_or ps i None ≢ Some k = unnamed s ps (xs ++ key ∷ []) capacity k is vacant in
-    record {
-      filled = λ i j at. elim (cases_eq i key) [
-        | inl same ↦ ap is_some (ap (get t) (named i j same at) ∙ u.changed)
-        | inr apart ↦
-            let old = other i j apart at in
-            ap is_some (u.others j (λ e. not_k i (old ∙ ap Some e))) ∙ is.filled i j old
-      ];
-      apart = λ a b n at there. elim (cases_eq a key) [
-        | inl sa ↦ elim (cases_eq b key) [
-          | inl sb ↦ sa ∙ sym sb
-          | inr ob ↦ absurd (not_k b (other b n ob there ∙ ap Some (named a n sa at)))
-        ]
-        | inr oa ↦ elim (cases_eq b key) [
-          | inl sb ↦ absurd (not_k a (other a n oa at ∙ ap Some (named b n sb there)))
-          | inr ob ↦ is.apart a b n (other a n oa at) (other b n ob there)
-        ]
-      ];
-      vacant = λ i n at.
-          let old = is.vacant i n (at_front xs key i n at) in
-          let lt = slice_get_within xs i n at in
-          let apart : n ≢ key = λ e. absurd (omega (arith, lt, is.once i (length xs) n (at_front xs key i n at) (at_last xs key ∙ ap Some (sym e)))) in
-          (omega (arith, old.0, length-set ps key (Some k)), get_or-set_other ps key n (Some k) None apart ∙ old.1);
-      once = λ i j n at there. is.once i j n (at_front xs key i n at) (at_front xs key j n there);
-      count = omega (arith, count_set ps key k within free, len, is.count);
-      all = omega (arith, count_set ps key k within free, is.all, length_push xs key, length-set ps key (Some k));
-      room = omega (arith, length-set ps key (Some k), cap, is.room);
-      reserved = omega (arith, length-set ps key (Some k), is.reserved);
-    }
-
-pub seen_insert : (s t : Slab Held) (ps : Places) (free : List ℕ) (capacity key k : ℕ) (x : Held) → IsKeptPool s ps free capacity → get s k ≡ None → Updates s t k (Some x) → map (placed t) (set ps key (Some k)) ≡ set (map (placed s) ps) key (Some x)
-seen_insert s t ps free capacity key k x is vacant u =
-    map-set (placed t) ps key (Some k)
-    ∙ ap (λ (v : Option Held). set (map (placed t) ps) key v) u.changed
-    ∙ ap (λ (r : PoolState). set r key (Some x)) (seen_same s t k (Some x) ps u (unnamed s ps free capacity k is vacant))
-
--- A key is taken back.
-
--- a key under which something is held has a place
-pub place_there : (s : Slab Held) (ps : Places) (key : ℕ) → IsSome (held_in (map (placed s) ps) key) → IsSome (get_or ps key None)
-place_there s ps key some = either (get_or ps key None) refl
-  where
-    either : (o : Option ℕ) → get_or ps key None ≡ o → IsSome o
-    either None at = absurd (false≢true (sym (ap is_some (held_at s ps key ∙ ap (placed s) at)) ∙ some))
-    either (Some k) at = refl
-
-pub list_room : (s : Slab Held) (ps : Places) (free : List ℕ) (capacity key k : ℕ) → IsKeptPool s ps free capacity → get_or ps key None ≡ Some k → length free < capacity
-list_room s ps free capacity key k is at = omega (arith, count_unset ps key k at, is.all, is.reserved)
-
-pub kept_remove : (s t : Slab Held) (ps : Places) (free : List ℕ) (capacity key k : ℕ) → IsKeptPool s ps free capacity → get_or ps key None ≡ Some k → Updates s t k None → slab_len t + 1 ≡ slab_len s → t.capacity ≡ s.capacity → IsKeptPool t (set ps key None) (free ++ key ∷ []) capacity
-kept_remove s t ps free capacity key k is named u len cap =
-    let within = place_within ps key k named in
-    let old : (i j : ℕ) → get_or (set ps key None) i None ≡ Some j → (i ≢ key) × (get_or ps i None ≡ Some j) =
-    λ i j at. elim (cases_eq i key) [
-      | inl same ↦ absurd (none-some j (sym (get_or-set_same ps key None None within) ∙ ap (λ (n : ℕ). get_or (set ps key None) n None) (sym same) ∙ at))
-      | inr apart ↦ (apart, sym (get_or-set_other ps key i None None apart) ∙ at)
-    ] in
-    let taken : (i : ℕ) → slice_get free i ≢ Some key = λ i at. none-some k (sym (is.vacant i key at).1 ∙ named) in
-    record {
-      filled = λ i j at.
-          let o = old i j at in
-          ap is_some (u.others j (λ e. o.0 (is.apart i key k (o.1 ∙ ap Some e) named))) ∙ is.filled i j o.1;
-      apart = λ a b n at there. is.apart a b n (old a n at).1 (old b n there).1;
-      vacant = λ i n at. elim (at_push free key i n at) [
-        | inl there ↦
-            let was = is.vacant i n there.1 in
-            (omega (arith, was.0, length-set ps key None), get_or-set_other ps key n None None (λ e. taken i (there.1 ∙ ap Some e)) ∙ was.1)
-        | inr last ↦
-            (omega (arith, last.1, within, length-set ps key None), ap (λ (m : ℕ). get_or (set ps key None) m None) last.1 ∙ get_or-set_same ps key None None within)
-      ];
-      once = λ i j n at there. elim (at_push free key i n at) [
-        | inl early ↦ elim (at_push free key j n there) [
-          | inl too ↦ is.once i j n early.1 too.1
-          | inr late ↦ absurd (taken i (early.1 ∙ ap Some late.1))
-        ]
-        | inr last ↦ elim (at_push free key j n there) [
-          | inl too ↦ absurd (taken j (too.1 ∙ ap Some last.1))
-          | inr late ↦ last.0 ∙ sym late.0
-        ]
-      ];
-      count = omega (arith, count_unset ps key k named, len, is.count);
-      all = omega (arith, count_unset ps key k named, is.all, length_push free key, length-set ps key None);
-      room = omega (arith, length-set ps key None, cap, is.room);
-      reserved = omega (arith, length-set ps key None, is.reserved);
-    }
-
-pub seen_remove : (s t : Slab Held) (ps : Places) (free : List ℕ) (capacity key k : ℕ) → IsKeptPool s ps free capacity → get_or ps key None ≡ Some k → Updates s t k None → map (placed t) (set ps key None) ≡ set (map (placed s) ps) key None
-seen_remove s t ps free capacity key k is named u =
-    map-set (placed t) ps key None
-    ∙ (ap (λ (r : PoolState). set r key None) (seen_changed s t k key None ps u named (λ i apart at. apart (is.apart i key k at named)))
-    ∙ set_again (map (placed s) ps) key)
-  where
-    set_again : (xs : PoolState) (i : ℕ) → set (set xs i None) i None ≡ set xs i None
-    set_again [] i = refl
-    set_again (x ∷ xs) zero = refl
-    set_again (x ∷ xs) (suc i) = ap (λ (r : PoolState). x ∷ r) (set_again xs i)
-
--- An object is lent.
-
-value_updates : (s : Slab Held) (k : ℕ) (x y : Held) → get s k ≡ Some x → Updates s (with_value s k y) k (Some y)
-value_updates s k x y at = record {
-  changed = get_or-set_same s.slots k (Some y) None (place_within s.slots k x at);
-  others = λ other apart. get_or-set_other s.slots k other (Some y) None apart;
-}
-
-pub kept_lent : (s : Slab Held) (ps : Places) (free : List ℕ) (capacity k : ℕ) (x y : Held) → IsKeptPool s ps free capacity → get s k ≡ Some x → IsKeptPool (with_value s k y) ps free capacity
-kept_lent s ps free capacity k x y is at = record {
-  filled = λ i j named. elim (cases_eq j k) [
-    | inl same ↦ ap is_some (ap (get (with_value s k y)) same ∙ (value_updates s k x y at).changed)
-    | inr apart ↦ ap is_some ((value_updates s k x y at).others j apart) ∙ is.filled i j named
-  ];
-  apart = is.apart;
-  vacant = is.vacant;
-  once = is.once;
-  count = count_kept s.slots k x y at ∙ is.count;
-  all = is.all;
-  room = is.room;
-  reserved = is.reserved;
-}
-
-pub seen_lent : (s : Slab Held) (ps : Places) (free : List ℕ) (capacity key k : ℕ) (x : Held) (w : AnyObject) → IsKeptPool s ps free capacity → get_or ps key None ≡ Some k → get s k ≡ Some x → map (placed (with_value s k (with_other_held x w))) ps ≡ pool_with key (map (placed s) ps) w
-seen_lent s ps free capacity key k x w is named at =
-    seen_changed s (with_value s k (with_other_held x w)) k key (Some (with_other_held x w)) ps (value_updates s k x (with_other_held x w) at) named (λ i apart there. apart (is.apart i key k there named))
-    ∙ ap (λ (v : Option Held). set (map (placed s) ps) key v) (sym (ap (option_map (λ held. with_other_held held w)) (held_at s ps key ∙ ap (placed s) named ∙ at)))

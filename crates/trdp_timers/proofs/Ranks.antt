@@ -7,7 +7,8 @@ use Rattle.trdp_timers.specs.Orders.{is_sooner, goes_before, Leads}
 sooner_asym : (a b : Order) → is_sooner a b ≡ true → is_sooner b a ≡ false
 sooner_asym a b h = grind (arith, nat_tests)
 
-sooner_trans : (a b c : Order) → is_sooner b a ≡ false → is_sooner c b ≡ false → is_sooner c a ≡ false
+sooner_trans : (a b c : Order) → is_sooner b a ≡ false
+    → is_sooner c b ≡ false → is_sooner c a ≡ false
 sooner_trans a b c h k = grind (arith, nat_tests)
 
 pub leads_refl : (a : Option Order) → Leads a a

@@ -10,13 +10,19 @@ use Rattle.trdp_timers.proofs.Weights.{weighs}
 use Rattle.trdp_timers.proofs.DueSizes.{length_sizes, unset_size, unset_one, sum_ones}
 
 -- by its sizes
-pub sizes_weigh : (t : ℕ) (orders : List (Option Order)) (sizes keys places : List ℕ) → IsPlaced orders keys places → length orders ≤ length sizes
-    → (d : ℕ) → length keys < 2 ^ d → below (weight_at (due_sizes t orders sizes) keys) d 0 ≡ sum (due_sizes t orders sizes)
+pub sizes_weigh : (t : ℕ) (orders : List (Option Order)) (sizes keys places : List ℕ)
+    → IsPlaced orders keys places → length orders ≤ length sizes
+    → (d : ℕ) → length keys < 2 ^ d
+    → below (weight_at (due_sizes t orders sizes) keys) d 0 ≡ sum (due_sizes t orders sizes)
 sizes_weigh t orders sizes keys places placed long d deep =
-    weighs orders keys places (due_sizes t orders sizes) placed (length_sizes t orders sizes long) (λ k e. unset_size t orders sizes k long (ap (is_due_by t) e)) d deep
+    weighs orders keys places (due_sizes t orders sizes) placed (length_sizes t orders sizes long)
+    (λ k e. unset_size t orders sizes k long (ap (is_due_by t) e)) d deep
 
 -- by number
-pub ones_weigh : (t : ℕ) (orders : List (Option Order)) (keys places : List ℕ) → IsPlaced orders keys places
-    → (d : ℕ) → length keys < 2 ^ d → below (weight_at (due_ones t orders) keys) d 0 ≡ count_by (is_due_by t) orders
+pub ones_weigh : (t : ℕ) (orders : List (Option Order)) (keys places : List ℕ)
+    → IsPlaced orders keys places
+    → (d : ℕ) → length keys < 2 ^ d
+    → below (weight_at (due_ones t orders) keys) d 0 ≡ count_by (is_due_by t) orders
 ones_weigh t orders keys places placed d deep =
-    weighs orders keys places (due_ones t orders) placed (length-map orders _) (λ k e. unset_one t orders k (ap (is_due_by t) e)) d deep ∙ sum_ones t orders
+    weighs orders keys places (due_ones t orders) placed (length-map orders _)
+    (λ k e. unset_one t orders k (ap (is_due_by t) e)) d deep ∙ sum_ones t orders

@@ -3,7 +3,16 @@ use Rattle.trdp_base.proofs.NumberLemmas.{length-text_of_octet}
 use Rattle.trdp_base.proofs.address.put_octet.Goals as goal
 
 pub put_number-requires : goal.put_number-requires
-put_number-requires c = record { room = omega (arith, length-text_of_octet c.from.result (omega (arith, c.from.ensures, c.ranges.octet.fits))) }
+put_number-requires c = record {
+  room = omega (
+    arith,
+    length-text_of_octet c.from.result (omega (arith, c.from.ensures, c.ranges.octet.fits)),
+  );
+}
 
 pub returns-clause-length : goal.returns-clause-length
-returns-clause-length c = omega (arith, c.put_number.ensures.len, length-text_of_octet c.from.result (omega (arith, c.from.ensures, c.ranges.octet.fits)))
+returns-clause-length c = omega (
+  arith,
+  c.put_number.ensures.len,
+  length-text_of_octet c.from.result (omega (arith, c.from.ensures, c.ranges.octet.fits)),
+)

@@ -8,8 +8,10 @@ returns-in-Ok-clause-value c =
 
 pub returns-in-Ok-clause-found : goal.returns-in-Ok-clause-found
 returns-in-Ok-clause-found c = λ ip small e.
-    let bits = c.to_bits.ensures ∙ bits_of_text c.args.text.now ip c.in-Ok.address small e c.in-Ok.ensures in
+    let bits = c.to_bits.ensures
+    ∙ bits_of_text c.args.text.now ip c.in-Ok.address small e c.in-Ok.ensures in
     λ i. Ok (record { 0 = bits i })
 
 pub returns-in-Err-clause-found : goal.returns-in-Err-clause-found
-returns-in-Err-clause-found c = λ ip small e. absurd (c.in-Err.ensures (address_of ip) (text_is_read c.args.text.now ip e))
+returns-in-Err-clause-found c = λ ip small e.
+    absurd (c.in-Err.ensures (address_of ip) (text_is_read c.args.text.now ip e))

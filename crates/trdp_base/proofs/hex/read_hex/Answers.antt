@@ -6,13 +6,16 @@ use Rattle.trdp_base.proofs.hex.read_hex.Goals as goal
 pub returns-then-not-is_in_pairs-clause-bad : goal.returns-then-not-is_in_pairs-clause-bad
 returns-then-not-is_in_pairs-clause-bad c =
     let dash = c.if-is_dash.ensures.1 in
-    let pairs = c.if-not-is_in_pairs.ensures.1 in
-    (λ _ hex. no_text c.args.text.now (λ e. false≢true (dash e)) (λ e. false≢true (pairs e)) hex, λ _. refl)
+    let pairs = c.if-not-is_in_pairs.ensures.1 in (
+      λ _ hex. no_text c.args.text.now (λ e. false≢true (dash e)) (λ e. false≢true (pairs e)) hex,
+      λ _. refl,
+    )
 
 pub returns-clause-found : goal.returns-clause-found
 returns-clause-found c = λ bytes fits e.
     let pairs = c.if-not-is_in_pairs.ensures.0 refl in
-    read_alone c.args.text.now _ bytes pairs c.in_ok-bytes_of_pairs.ensures.pairs c.in_ok-bytes_of_pairs.ensures.bytes fits e
+    read_alone c.args.text.now _ bytes pairs c.in_ok-bytes_of_pairs.ensures.pairs
+    c.in_ok-bytes_of_pairs.ensures.bytes fits e
 
 pub returns-in_err-bytes_of_pairs-clause-bad : goal.returns-in_err-bytes_of_pairs-clause-bad
 returns-in_err-bytes_of_pairs-clause-bad c =

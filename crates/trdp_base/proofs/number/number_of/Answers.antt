@@ -12,12 +12,16 @@ returns-then-has_needless_start-clause-found c =
 
 pub returns-in-Ok-clause-value : goal.returns-in-Ok-clause-value
 returns-in-Ok-clause-value c =
-    let parsed = subst (λ text. ParsesUnsigned 64 10 text c.parse.result) c.in-Ok.ensures.cases.0 c.parse.ensures.value.0 in
-    rw c.ok.ensures.value (parsed_text c.args.text.now c.parse.result (λ needless. false≢true (c.if-has_needless_start.ensures.1 needless)) parsed)
+    let parsed = subst (λ text. ParsesUnsigned 64 10 text c.parse.result)
+    c.in-Ok.ensures.cases.0 c.parse.ensures.value.0 in
+    rw c.ok.ensures.value (parsed_text c.args.text.now
+    c.parse.result (λ needless. false≢true (c.if-has_needless_start.ensures.1 needless)) parsed)
 
 pub returns-in-Ok-clause-found : goal.returns-in-Ok-clause-found
 returns-in-Ok-clause-found c = λ number small e.
-    c.ok.ensures.value ∙ parsed_number _ c.parse.result number small (c.in-Ok.ensures.cases.0 ∙ e) c.parse.ensures.value.0
+    c.ok.ensures.value ∙ parsed_number _ c.parse.result
+    number small (c.in-Ok.ensures.cases.0 ∙ e) c.parse.ensures.value.0
 
 pub returns-in-Err-clause-found : goal.returns-in-Err-clause-found
-returns-in-Err-clause-found c = λ number small e. absurd (c.in-Err.ensures.cases.0 (utf8_of_number _ number small e))
+returns-in-Err-clause-found c = λ number small e.
+    absurd (c.in-Err.ensures.cases.0 (utf8_of_number _ number small e))

@@ -3,7 +3,13 @@ use Rattle.trdp_base.proofs.NumberLemmas.{length-text_of_number}
 use Rattle.trdp_base.proofs.number.push_number.Goals as goal
 
 pub put_number-requires : goal.put_number-requires
-put_number-requires c = record { room = omega (arith, length-text_of_number c.args.number c.ranges.number.fits, c.in_ok-reserve.ensures.ok) }
+put_number-requires c = record {
+  room = omega (
+    arith,
+    length-text_of_number c.args.number c.ranges.number.fits,
+    c.in_ok-reserve.ensures.ok,
+  );
+}
 
 pub returns-clause-length : goal.returns-clause-length
 returns-clause-length c =

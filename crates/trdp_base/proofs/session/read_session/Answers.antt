@@ -4,4 +4,5 @@ use Rattle.trdp_base.proofs.SessionLemmas.{unread}
 use Rattle.trdp_base.proofs.session.read_session.Goals as goal
 
 pub returns-in-Err-clause-bad : goal.returns-in-Err-clause-bad
-returns-in-Err-clause-bad c = (refl, unread c.args.text.now (λ found. false≢true (c.in-Err.ensures.ok.1 found)))
+returns-in-Err-clause-bad c =
+    (refl, unread c.args.text.now (λ found. false≢true (c.in-Err.ensures.ok.1 found)))

@@ -8,4 +8,5 @@ pub returns-clause-none : goal.returns-clause-none
 returns-clause-none c =
     let read = c.fill_from_pairs.ensures in
     if_none c.new.result (λ none uri good fits e.
-    none (c.new.ensures.valid.1 (subst IsUri (pairs_alone uri _ fits read.bytes (e ∙ sym read.pairs)) good)))
+    none (c.new.ensures.valid.1
+    (subst IsUri (pairs_alone uri _ fits read.bytes (e ∙ sym read.pairs)) good)))

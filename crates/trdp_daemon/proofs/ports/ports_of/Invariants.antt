@@ -4,4 +4,5 @@ use Rattle.trdp_daemon.proofs.ports.ports_of.Given as goal
 
 -- the ports so far and those of the slots to come are all
 abbrev pub invariant-loop-slot : goal.invariant-loop-slot
-invariant-loop-slot l = l.ports.items ++ control_ports l.slot (drop l.slot l.config.slots) ≡ ports_of l.config
+invariant-loop-slot l =
+    l.ports.items ++ control_ports l.slot (drop l.slot l.config.slots) ≡ ports_of l.config

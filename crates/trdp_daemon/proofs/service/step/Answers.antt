@@ -6,13 +6,18 @@ use Rattle.trdp_daemon.proofs.Services.{no_records}
 use Rattle.trdp_daemon.proofs.service.step.Goals as goal
 
 pub returns-in-Ok-clause-node : goal.returns-in-Ok-clause-node
-returns-in-Ok-clause-node c = node_played c.args.node.now c.step.new.self _ _ _ c.in-Ok.ensures.fault c.step.ensures.config c.in-Ok.ensures.globals c.step.ensures.count c.in-Ok.ensures.steps
+returns-in-Ok-clause-node c =
+    node_played c.args.node.now c.step.new.self _ _ _ c.in-Ok.ensures.fault
+    c.step.ensures.config c.in-Ok.ensures.globals c.step.ensures.count c.in-Ok.ensures.steps
 
 pub returns-in-Ok-clause-records : goal.returns-in-Ok-clause-records
-returns-in-Ok-clause-records c = records_played 16 c.args.node.now c.step.new.self _ _ _ c.in-Ok.ensures.fault c.requires.slots c.clear.ensures.records c.in-Ok.ensures.steps c.step.ensures.appends
+returns-in-Ok-clause-records c =
+    records_played 16 c.args.node.now c.step.new.self _ _ _ c.in-Ok.ensures.fault
+    c.requires.slots c.clear.ensures.records c.in-Ok.ensures.steps c.step.ensures.appends
 
 pub returns-in-Some-clause-records : goal.returns-in-Some-clause-records
 returns-in-Some-clause-records c =
     let own = c.in-Some.ensures.own in
     no_records 16 _ (c.in-Err.ensures.unrecorded ∙ c.clear.ensures.records)
-    ∙ sym (records_refused c.in-Err.fault c.args.node.now (event_model c.args.event.now) c.in-Err.ensures.fault own.1)
+    ∙ sym (records_refused c.in-Err.fault c.args.node.now
+    (event_model c.args.event.now) c.in-Err.ensures.fault own.1)

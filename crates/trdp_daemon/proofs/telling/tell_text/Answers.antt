@@ -12,9 +12,11 @@ returns-in_default g c = text_dropped _ _ _ _ c.args.to _ c.in_default.is
 
 pub returns-in-Ok : goal.returns-in-Ok
 returns-in-Ok g c =
-    let printed = c.deref.ensures.value ∙ c.in-Ok.ensures.ok ∙ ap (λ l. l ++ text_of_record (record_model c.args.record.now)) c.clear.ensures.items in
+    let printed = c.deref.ensures.value ∙ c.in-Ok.ensures.ok
+    ∙ ap (λ l. l ++ text_of_record (record_model c.args.record.now)) c.clear.ensures.items in
     text_given _ c.in-Some.to c.args.to _ c.in-Some.is
-    (subst (λ (l : List ℕ). Carries g.W.Wire.takings g.W.Wire.gives c.args.link.now c.give.new.self [] (offering (Control c.args.record.now.slot) c.in-Some.to l)) printed c.give.ensures)
+    (subst (λ (l : List ℕ). Carries g.W.Wire.takings g.W.Wire.gives c.args.link.now c.give.new.self
+    [] (offering (Control c.args.record.now.slot) c.in-Some.to l)) printed c.give.ensures)
 
 pub returns-in-Err : goal.returns-in-Err
 returns-in-Err g c = text_lost _ c.in-Some.to c.args.to _ c.in-Some.is c.miss.ensures

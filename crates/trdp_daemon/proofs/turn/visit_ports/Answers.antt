@@ -5,7 +5,11 @@ use Rattle.trdp_daemon.proofs.Turns.{visits_none, visits_next}
 use Rattle.trdp_daemon.proofs.turn.visit_ports.Goals as goal
 
 pub loop-i-init : goal.loop-i-init
-loop-i-init g c = record { is_sound = c.requires.sound; config_is = refl; taken = visits_none _ _ c.args.service.now c.args.link.now }
+loop-i-init g c = record {
+  is_sound = c.requires.sound;
+  config_is = refl;
+  taken = visits_none _ _ c.args.service.now c.args.link.now;
+}
 
 pub loop-i-preserved : goal.loop-i-preserved
 loop-i-preserved g c =

@@ -9,4 +9,6 @@ pub record Visited (sound config takes : Type 0) : Type 0 where
   pub taken : takes
 
 abbrev pub invariant-loop-i : goal.invariant-loop-i
-invariant-loop-i g l = Visited (IsSound l.service) (l.service.node.config ≡ l.fn.service.node.config) (TakesAtPorts g.W.Wire.takings g.W.Wire.gives l.fn.service l.service l.fn.link l.link (take l.i l.ports))
+invariant-loop-i g l =
+    Visited (IsSound l.service) (l.service.node.config ≡ l.fn.service.node.config) (TakesAtPorts
+    g.W.Wire.takings g.W.Wire.gives l.fn.service l.service l.fn.link l.link (take l.i l.ports))

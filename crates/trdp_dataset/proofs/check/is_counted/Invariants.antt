@@ -3,4 +3,5 @@ use Rattle.trdp_dataset.specs.Datasets.{all_counted}
 use Rattle.trdp_dataset.proofs.check.is_counted.Given as goal
 
 abbrev pub invariant-loop-element : goal.invariant-loop-element
-invariant-loop-element l = all_counted l.counted (drop l.element-index l.elements) ≡ all_counted false l.elements
+invariant-loop-element l = all_counted l.counted (drop l.element-index l.elements)
+    ≡ all_counted false l.elements

@@ -9,8 +9,11 @@ pub returns-then-not-is_counted : goal.returns-then-not-is_counted
 unfolding no_count_in
 returns-then-not-is_counted c = record {
   value = ap (λ b. if b then None else Some NoCount)
-      (each_failed (all_counted false) c.args.datasets.now c.loop-i.i c.elements_at.result.now c.elements_at.ensures.value c.if-not-is_counted.ensures.value c.loop-i.invariant);
+      (each_failed (all_counted false) c.args.datasets.now c.loop-i.i c.elements_at.result.now
+      c.elements_at.ensures.value c.if-not-is_counted.ensures.value c.loop-i.invariant);
 }
 
 pub loop-i-preserved : goal.loop-i-preserved
-loop-i-preserved c = each_passed (all_counted false) c.args.datasets.now c.loop-i.i c.elements_at.result.now c.elements_at.ensures.value c.if-not-is_counted.ensures.value c.loop-i.invariant
+loop-i-preserved c =
+    each_passed (all_counted false) c.args.datasets.now c.loop-i.i c.elements_at.result.now
+    c.elements_at.ensures.value c.if-not-is_counted.ensures.value c.loop-i.invariant

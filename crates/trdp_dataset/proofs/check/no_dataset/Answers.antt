@@ -9,8 +9,12 @@ pub returns-in-Some : goal.returns-in-Some
 unfolding no_dataset_in
 returns-in-Some c = record {
   value = ap (λ o. option_map (λ (id : ℕ). NoDataset id) o)
-      (first_made (λ id. not (is_known c.args.datasets.now id)) nested_ids c.args.datasets.now c.loop-i.i c.elements_at.result.now c.in-Some.id c.elements_at.ensures.value c.in-Some.ensures.value c.loop-i.invariant);
+      (first_made (λ id. not (is_known c.args.datasets.now id))
+      nested_ids c.args.datasets.now c.loop-i.i c.elements_at.result.now
+      c.in-Some.id c.elements_at.ensures.value c.in-Some.ensures.value c.loop-i.invariant);
 }
 
 pub loop-i-preserved : goal.loop-i-preserved
-loop-i-preserved c = none_made (λ id. not (is_known c.args.datasets.now id)) nested_ids c.args.datasets.now c.loop-i.i c.elements_at.result.now c.elements_at.ensures.value c.in-None.ensures.value c.loop-i.invariant
+loop-i-preserved c = none_made (λ id. not (is_known c.args.datasets.now id))
+    nested_ids c.args.datasets.now c.loop-i.i
+    c.elements_at.result.now c.elements_at.ensures.value c.in-None.ensures.value c.loop-i.invariant

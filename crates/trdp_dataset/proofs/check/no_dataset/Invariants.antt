@@ -7,4 +7,6 @@ use Rattle.trdp_dataset.proofs.check.no_dataset.Given as goal
 
 abbrev pub invariant-loop-i : goal.invariant-loop-i
 invariant-loop-i l =
-    find (λ id. not (is_known l.datasets id)) (flat_map (λ d. nested_ids d.elements) (drop l.i l.datasets)) ≡ find (λ id. not (is_known l.datasets id)) (flat_map (λ d. nested_ids d.elements) l.datasets)
+    find (λ id. not (is_known l.datasets id))
+    (flat_map (λ d. nested_ids d.elements) (drop l.i l.datasets)) ≡ find
+    (λ id. not (is_known l.datasets id)) (flat_map (λ d. nested_ids d.elements) l.datasets)

@@ -6,4 +6,5 @@ use Rattle.trdp_dataset.specs.StoredSlots.{slots_of}
 use Rattle.trdp_dataset.proofs.config.slots_in.Given as goal
 
 abbrev pub invariant-loop-member : goal.invariant-loop-member
-invariant-loop-member l = slots_of l.slots.items ++ map slot_in (tables_seen (drop l.member-index l.member-items)) ≡ slots_in (table_view l.top)
+invariant-loop-member l = slots_of l.slots.items
+    ++ map slot_in (tables_seen (drop l.member-index l.member-items)) ≡ slots_in (table_view l.top)

@@ -6,5 +6,8 @@ use Rattle.trdp_dataset.proofs.fixed.one_deeper.Goals as goal
 pub loop-i-preserved : goal.loop-i-preserved
 loop-i-preserved c = record {
   len = search rules;
-  row = λ depth h. row_turn (is_fixed c.args.datasets.now (suc depth)) c.args.datasets.now c.loop-i.i c.id_at.result c.is_fixed.result c.loop-i.next.items c.push.new.self.items c.id_at.ensures.value (c.is_fixed.ensures depth h) (c.loop-i.invariant.row depth h) c.in_ok-push.ensures.items;
+  row = λ depth h. row_turn (is_fixed c.args.datasets.now (suc depth))
+      c.args.datasets.now c.loop-i.i c.id_at.result
+      c.is_fixed.result c.loop-i.next.items c.push.new.self.items c.id_at.ensures.value
+      (c.is_fixed.ensures depth h) (c.loop-i.invariant.row depth h) c.in_ok-push.ensures.items;
 }

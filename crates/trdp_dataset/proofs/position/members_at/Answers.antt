@@ -6,5 +6,6 @@ use Rattle.trdp_dataset.proofs.position.members_at.Goals as goal
 pub returns-in-Some : goal.returns-in-Some
 unfolding tables_at
 returns-in-Some c = record {
-  value = members_seen (value_at c.args.key (table_view c.args.table.now)) (view c.in-Some.value.now) c.items.result.now c.in-Some.ensures.value c.items.ensures.value;
+  value = members_seen (value_at c.args.key (table_view c.args.table.now))
+      (view c.in-Some.value.now) c.items.result.now c.in-Some.ensures.value c.items.ensures.value;
 }

@@ -5,4 +5,6 @@ use Rattle.trdp_dataset.proofs.position.push_elements.Given as goal
 
 abbrev pub invariant-loop-dataset : goal.invariant-loop-dataset
 invariant-loop-dataset l =
-    positions_seen l.positions.items ++ element_positions (tables_seen (drop l.dataset-index l.datasets)) ≡ positions_seen l.fn.positions.items ++ element_positions (tables_seen l.datasets)
+    positions_seen l.positions.items
+    ++ element_positions (tables_seen (drop l.dataset-index l.datasets))
+    ≡ positions_seen l.fn.positions.items ++ element_positions (tables_seen l.datasets)

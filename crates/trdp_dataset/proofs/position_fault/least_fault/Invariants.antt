@@ -5,4 +5,5 @@ use Rattle.trdp_dataset.proofs.Least.{least_from}
 use Rattle.trdp_dataset.proofs.position_fault.least_fault.Given as goal
 
 abbrev pub invariant-loop-position : goal.invariant-loop-position
-invariant-loop-position l = least_of_two l.least (least_from l.positions l.position-index) ≡ least_fault (map fault_at (positions_seen l.positions))
+invariant-loop-position l = least_of_two l.least (least_from l.positions l.position-index)
+    ≡ least_fault (map fault_at (positions_seen l.positions))

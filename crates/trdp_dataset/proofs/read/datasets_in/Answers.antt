@@ -13,16 +13,25 @@ pub returns-in_err-push_dataset-clause-fault : goal.returns-in_err-push_dataset-
 returns-in_err-push_dataset-clause-fault c =
     let xs = c.members_at-member-items.result.now in
     let x = c.member-item.result in
-    let step = next_dataset xs c.loop-member.member-index x c.loop-member-test.true c.member-item.is in
-    let h = taken_twice c.loop-member.datasets (option_and_then dataset_in (as_table (view x))) (filter_map dataset_in (tables_seen (drop (c.loop-member.member-index + 1) xs))) (datasets_in (table_view c.args.top.now)) c.in_err-push_dataset.field-0.0
-    (sym (ap (λ ds. c.loop-member.datasets ++ ds) step) ∙ c.loop-member.invariant.rest) c.in_err-push_dataset.ensures.fault in
+    let step =
+    next_dataset xs c.loop-member.member-index x c.loop-member-test.true c.member-item.is in
+    let h = taken_twice c.loop-member.datasets (option_and_then dataset_in (as_table (view x)))
+    (filter_map dataset_in (tables_seen (drop (c.loop-member.member-index + 1) xs)))
+    (datasets_in (table_view c.args.top.now)) c.in_err-push_dataset.field-0.0
+    (sym (ap (λ ds. c.loop-member.datasets ++ ds) step)
+    ∙ c.loop-member.invariant.rest) c.in_err-push_dataset.ensures.fault in
     err_passes c.from_residual.result c.in_err-push_dataset.field-0.0 _ c.from_residual.ensures.1 h
 
 pub loop-member-preserved : goal.loop-member-preserved
 loop-member-preserved c =
     let xs = c.members_at-member-items.result.now in
     let x = c.member-item.result in
-    let step = next_dataset xs c.loop-member.member-index x c.loop-member-test.true c.member-item.is in
-    let turn = taken_up c.loop-member.datasets c.push_dataset.new.datasets (option_and_then dataset_in (as_table (view x))) (filter_map dataset_in (tables_seen (drop (c.loop-member.member-index + 1) xs))) (datasets_in (table_view c.args.top.now)) c.loop-member.invariant.once c.in_ok-push_dataset.ensures.added
+    let step =
+    next_dataset xs c.loop-member.member-index x c.loop-member-test.true c.member-item.is in
+    let turn = taken_up c.loop-member.datasets
+    c.push_dataset.new.datasets (option_and_then dataset_in (as_table (view x)))
+    (filter_map dataset_in (tables_seen (drop (c.loop-member.member-index + 1) xs)))
+    (datasets_in (table_view c.args.top.now))
+    c.loop-member.invariant.once c.in_ok-push_dataset.ensures.added
     (sym (ap (λ ds. c.loop-member.datasets ++ ds) step) ∙ c.loop-member.invariant.rest) in
     record { once = turn.0; rest = turn.1 }

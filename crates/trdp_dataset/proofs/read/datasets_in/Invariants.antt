@@ -8,4 +8,8 @@ use Rattle.trdp_dataset.proofs.read.datasets_in.Given as goal
 
 abbrev pub invariant-loop-member : goal.invariant-loop-member
 invariant-loop-member l =
-    record { once : has_twice l.datasets ≡ false; rest : l.datasets ++ filter_map dataset_in (tables_seen (drop l.member-index l.member-items)) ≡ datasets_in (table_view l.top) }
+    record {
+      once : has_twice l.datasets ≡ false;
+      rest : l.datasets ++ filter_map dataset_in
+          (tables_seen (drop l.member-index l.member-items)) ≡ datasets_in (table_view l.top);
+    }

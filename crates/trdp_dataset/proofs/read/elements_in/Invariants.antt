@@ -6,4 +6,5 @@ use Rattle.trdp_dataset.specs.Configs.{element_in, elements_in}
 use Rattle.trdp_dataset.proofs.read.elements_in.Given as goal
 
 abbrev pub invariant-loop-member : goal.invariant-loop-member
-invariant-loop-member l = l.elements.items ++ filter_map element_in (tables_seen (drop l.member-index l.member-items)) ≡ elements_in (table_view l.dataset)
+invariant-loop-member l = l.elements.items ++ filter_map element_in
+    (tables_seen (drop l.member-index l.member-items)) ≡ elements_in (table_view l.dataset)

@@ -5,4 +5,6 @@ use Rattle.trdp_dataset.proofs.size.dataset_size.Goals as goal
 
 pub returns-in-None : goal.returns-in-None
 unfolding dataset_size entries_size
-returns-in-None c = λ depth row. ap (λ o. min (entries_size (form_size (dataset_size c.args.datasets.now depth)) (unwrap_or o [])) 65389) c.in-None.ensures.value
+returns-in-None c = λ depth row. ap (λ o.
+    min (entries_size (form_size (dataset_size c.args.datasets.now depth)) (unwrap_or o [])) 65389)
+    c.in-None.ensures.value

@@ -8,5 +8,7 @@ abbrev pub invariant-loop-element : goal.invariant-loop-element
 invariant-loop-element l = record {
   bound : l.total ≤ 65389;
   sum : (depth : ℕ) → l.sizes ≡ size_row l.datasets depth
-      → min (l.total + entries_size (form_size (dataset_size l.datasets depth)) (drop l.element-index l.elements)) 65389 ≡ min (entries_size (form_size (dataset_size l.datasets depth)) l.elements) 65389;
+      → min (l.total + entries_size (form_size (dataset_size l.datasets depth))
+      (drop l.element-index l.elements)) 65389
+      ≡ min (entries_size (form_size (dataset_size l.datasets depth)) l.elements) 65389;
 }

@@ -7,5 +7,7 @@ use Rattle.trdp_dataset.proofs.size.form_size.Goals as goal
 pub returns-in-None : goal.returns-in-None
 unfolding form_size
 returns-in-None c = λ depth row.
-    ap (λ n. min n 65389) (sym (unknown_size c.args.datasets.now depth c.in-Nested.id c.in-None.ensures.found))
-    ∙ ap (λ form. min (form_size (dataset_size c.args.datasets.now depth) form) 65389) (sym c.in-Nested.is)
+    ap (λ n. min n 65389)
+    (sym (unknown_size c.args.datasets.now depth c.in-Nested.id c.in-None.ensures.found))
+    ∙ ap (λ form. min (form_size (dataset_size c.args.datasets.now depth) form) 65389)
+    (sym c.in-Nested.is)

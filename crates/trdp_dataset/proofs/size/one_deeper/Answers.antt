@@ -7,5 +7,8 @@ use Rattle.trdp_dataset.proofs.size.one_deeper.Goals as goal
 pub loop-i-preserved : goal.loop-i-preserved
 loop-i-preserved c = record {
   len = search rules;
-  row = λ depth h. row_turn (λ id. min (dataset_size c.args.datasets.now (suc depth) id) 65389) c.args.datasets.now c.loop-i.i c.id_at.result c.dataset_size.result c.loop-i.next.items c.push.new.self.items c.id_at.ensures.value (c.dataset_size.ensures depth h) (c.loop-i.invariant.row depth h) c.in_ok-push.ensures.items;
+  row = λ depth h. row_turn (λ id. min (dataset_size c.args.datasets.now (suc depth) id) 65389)
+      c.args.datasets.now c.loop-i.i c.id_at.result
+      c.dataset_size.result c.loop-i.next.items c.push.new.self.items c.id_at.ensures.value
+      (c.dataset_size.ensures depth h) (c.loop-i.invariant.row depth h) c.in_ok-push.ensures.items;
 }

@@ -7,5 +7,6 @@ use Rattle.trdp_dataset.proofs.size.one_deeper.Given as goal
 abbrev pub invariant-loop-i : goal.invariant-loop-i
 invariant-loop-i l = record {
   len : length l.next.items ≡ l.i;
-  row : (depth : ℕ) → l.sizes ≡ size_row l.datasets depth → l.next.items ≡ map (λ d. min (dataset_size l.datasets (suc depth) d.id) 65389) (take l.i l.datasets);
+  row : (depth : ℕ) → l.sizes ≡ size_row l.datasets depth → l.next.items
+      ≡ map (λ d. min (dataset_size l.datasets (suc depth) d.id) 65389) (take l.i l.datasets);
 }

@@ -5,5 +5,6 @@ use Rattle.trdp_dataset.proofs.value.is_tables.Goals as goal
 
 pub returns-then-is_array : goal.returns-then-is_array
 returns-then-is_array c = record {
-  value = c.all_tables.ensures.value ∙ tables_tested (view c.args.value.now) c.items.result.now (sym c.if-is_array.true ∙ c.is_array.ensures) c.items.ensures.value;
+  value = c.all_tables.ensures.value ∙ tables_tested (view c.args.value.now)
+      c.items.result.now (sym c.if-is_array.true ∙ c.is_array.ensures) c.items.ensures.value;
 }

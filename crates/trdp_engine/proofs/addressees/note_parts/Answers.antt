@@ -9,13 +9,23 @@ use Rattle.trdp_engine.proofs.addressees.note_parts.Goals as goal
 
 pub loop-s-preserved : goal.loop-s-preserved
 loop-s-preserved c =
-    let there : c.loop-s.s < length c.args.store.now = omega (arith, c.loop-s-test.true, c.slots-s-end.ensures.count) in
-    let lt : c.loop-s.s < length (slots_of c.args.store.now) = omega (arith, there, slots_length c.args.store.now) in
-    let left = meant_of-drop (telegram_model c.args.telegram.now) (slots_of c.args.store.now) (slot_at c.loop-s.s c.args.store.now) c.loop-s.s lt (slot_there c.args.store.now c.loop-s.s there) in
+    let there : c.loop-s.s < length c.args.store.now =
+    omega (arith, c.loop-s-test.true, c.slots-s-end.ensures.count) in
+    let lt : c.loop-s.s < length (slots_of c.args.store.now) =
+    omega (arith, there, slots_length c.args.store.now) in
+    let left = meant_of-drop (telegram_model c.args.telegram.now)
+    (slots_of c.args.store.now) (slot_at c.loop-s.s c.args.store.now)
+    c.loop-s.s lt (slot_there c.args.store.now c.loop-s.s there) in
     record {
-      notes = rw c.plus-room.ensures (notes_all_next (telegram_model c.args.telegram.now) c.args.globals.now (slots_of c.args.store.now) (slot_at c.loop-s.s c.args.store.now) c.loop-s.noted.items c.note_part-own.new.noted.items c.loop-s.room c.note_part-own.result c.loop-s.s lt (slot_there c.args.store.now c.loop-s.s there) c.loop-s.invariant.notes c.note_part-own.ensures.noted c.note_part-own.ensures.room);
-      rows = rw c.plus-room.ensures (omega (arith, c.loop-s.invariant.rows, c.note_part-own.ensures.rows));
-      bytes = rw c.plus-room.ensures (omega (arith, c.loop-s.invariant.bytes, c.note_part-own.ensures.bytes));
+      notes = rw c.plus-room.ensures (notes_all_next (telegram_model c.args.telegram.now)
+          c.args.globals.now (slots_of c.args.store.now) (slot_at c.loop-s.s c.args.store.now)
+          c.loop-s.noted.items c.note_part-own.new.noted.items c.loop-s.room
+          c.note_part-own.result c.loop-s.s lt (slot_there c.args.store.now c.loop-s.s there)
+          c.loop-s.invariant.notes c.note_part-own.ensures.noted c.note_part-own.ensures.room);
+      rows = rw c.plus-room.ensures
+          (omega (arith, c.loop-s.invariant.rows, c.note_part-own.ensures.rows));
+      bytes = rw c.plus-room.ensures
+          (omega (arith, c.loop-s.invariant.bytes, c.note_part-own.ensures.bytes));
       capacity = c.note_part-own.ensures.capacity ∙ c.loop-s.invariant.capacity;
       length = omega (arith, c.note_part-own.ensures.length, c.loop-s.invariant.length);
       comparisons = c.note_part-own.ensures.comparisons ∙ c.loop-s.invariant.comparisons;
@@ -26,11 +36,25 @@ loop-s-preserved c =
 
 pub returns-clause-noted : goal.returns-clause-noted
 returns-clause-noted c =
-    notes_all_end_items (telegram_model c.args.telegram.now) c.args.globals.now (slots_of c.args.store.now) c.loop-s.noted.items c.loop-s.room c.loop-s.s (omega (arith, c.loop-s-test.false, c.slots-s-end.ensures.count, slots_length c.args.store.now)) c.loop-s.invariant.notes
+    notes_all_end_items (telegram_model c.args.telegram.now)
+    c.args.globals.now (slots_of c.args.store.now)
+    c.loop-s.noted.items c.loop-s.room c.loop-s.s (omega (
+      arith,
+      c.loop-s-test.false,
+      c.slots-s-end.ensures.count,
+      slots_length c.args.store.now,
+    )) c.loop-s.invariant.notes
 
 pub returns-clause-room : goal.returns-clause-room
 returns-clause-room c =
-    notes_all_end_room (telegram_model c.args.telegram.now) c.args.globals.now (slots_of c.args.store.now) c.loop-s.noted.items c.loop-s.room c.loop-s.s (omega (arith, c.loop-s-test.false, c.slots-s-end.ensures.count, slots_length c.args.store.now)) c.loop-s.invariant.notes
+    notes_all_end_room (telegram_model c.args.telegram.now)
+    c.args.globals.now (slots_of c.args.store.now)
+    c.loop-s.noted.items c.loop-s.room c.loop-s.s (omega (
+      arith,
+      c.loop-s-test.false,
+      c.slots-s-end.ensures.count,
+      slots_length c.args.store.now,
+    )) c.loop-s.invariant.notes
 
 pub returns-clause-few : goal.returns-clause-few
 returns-clause-few c = omega (arith, c.loop-s.invariant.few)

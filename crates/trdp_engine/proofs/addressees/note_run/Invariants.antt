@@ -5,7 +5,8 @@ use Rattle.trdp_engine.proofs.addressees.note_run.Given as goal
 
 abbrev pub invariant-loop-row : goal.invariant-loop-row
 invariant-loop-row l = record {
-  notes : NotesRun (telegram_model l.telegram) l.globals l.store l.rows l.fn.noted.items l.noted.items l.room l.row-index;
+  notes : NotesRun (telegram_model l.telegram)
+      l.globals l.store l.rows l.fn.noted.items l.noted.items l.room l.row-index;
   rows : l.room.rows ≤ 2 * l.row-index;
   bytes : l.room.bytes ≤ 65388 * l.row-index;
   capacity : vec_capacity l.noted ≡ vec_capacity l.fn.noted;

@@ -6,8 +6,15 @@ use Rattle.trdp_engine.proofs.callers.request.Goals as goal
 pub returns-in-Some : goal.returns-in-Some
 returns-in-Some c =
     rw (← c.in-Some.ensures)
-    (record { slots = sym (slots_kept c.args.store.now c.args.s c.requires.slot); records = c.push_plain_answer.ensures.records })
+    (record {
+      slots = sym (slots_kept c.args.store.now c.args.s c.requires.slot);
+      records = c.push_plain_answer.ensures.records;
+    })
 
 pub returns : goal.returns
 returns c =
-    sends_request c.args.store.now c.open-answer.new.store c.args.s c.args.globals.now c.args.terms.now c.args.payload.now c.new-caller.result _ c.request_head.result c.args.out.now c.push_plain_answer-2.new.self c.push_md.new.self (sym c.in_default.ensures) c.new-caller.ensures c.request_head.ensures c.open-answer.ensures.outcome c.open-answer.ensures.others c.push_plain_answer-2.ensures.records c.push_md.ensures.records
+    sends_request c.args.store.now c.open-answer.new.store c.args.s c.args.globals.now
+    c.args.terms.now c.args.payload.now c.new-caller.result _ c.request_head.result
+    c.args.out.now c.push_plain_answer-2.new.self c.push_md.new.self (sym c.in_default.ensures)
+    c.new-caller.ensures c.request_head.ensures c.open-answer.ensures.outcome
+    c.open-answer.ensures.others c.push_plain_answer-2.ensures.records c.push_md.ensures.records

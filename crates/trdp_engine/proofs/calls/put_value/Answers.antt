@@ -6,7 +6,9 @@ use Rattle.trdp_engine.proofs.calls.put_value.Goals as goal
 
 pub returns-in-Err-Refused-clause-becomes : goal.returns-in-Err-Refused-clause-becomes
 returns-in-Err-Refused-clause-becomes c =
-    asked_refused (setup_of c.args.config.now) (model_of c.args.item.now) c.args.store.now c.args.s c.args.handle c.in-Err-Refused.refusal c.args.out.now c.push_plain_answer.new.self c.requires.slot
+    asked_refused (setup_of c.args.config.now)
+    (model_of c.args.item.now) c.args.store.now c.args.s c.args.handle
+    c.in-Err-Refused.refusal c.args.out.now c.push_plain_answer.new.self c.requires.slot
     (rising c.args.store.now c.args.s c.sound.ensures.sound)
     (rw c.in-Err-Refused.field-0-is at c.in-Err-Refused.ensures.refused)
     (rw c.in_ok-reserve.ensures.records at c.push_plain_answer.ensures.records)

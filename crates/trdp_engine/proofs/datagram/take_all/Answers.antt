@@ -4,12 +4,16 @@ use Rattle.trdp_engine.proofs.Counting.{room_stays, one_taker, all_takers}
 use Rattle.trdp_filter.specs.Telegrams.{telegram_model}
 use Rattle.trdp_engine.specs.Configs.{setup_of}
 use Rattle.trdp_engine.specs.Slots.{slots_of}
-use Rattle.trdp_engine.proofs.Noted.{goes_first, goes_next, goes_within, goes_may, goes_addressed, goes_on, goes_end, reached_count, reached_parts, reached_appends}
+use Rattle.trdp_engine.proofs.NotedTurns.{goes_first, goes_next, goes_within, goes_may}
+use Rattle.trdp_engine.proofs.NotedTurns.{goes_addressed, goes_on, goes_end}
+use Rattle.trdp_engine.proofs.NotedTurns.{reached_count, reached_parts, reached_appends}
 use Rattle.trdp_engine.proofs.datagram.take_all.Goals as goal
 
 pub loop-addressee-init : goal.loop-addressee-init
 loop-addressee-init c = record {
-  goes = goes_first (setup_of c.args.config.now) (telegram_model c.args.telegram.now) c.args.globals.now c.args.store.now c.args.out.now c.args.noted.now c.sound.ensures.sound c.requires.noted c.requires.room;
+  goes = goes_first (setup_of c.args.config.now)
+      (telegram_model c.args.telegram.now) c.args.globals.now c.args.store.now
+      c.args.out.now c.args.noted.now c.sound.ensures.sound c.requires.noted c.requires.room;
   room_is = refl;
   comparisons = λ b within. omega arith;
   tests = omega arith;
@@ -18,35 +22,61 @@ loop-addressee-init c = record {
 
 pub take-requires-clause-slot : goal.take-requires-clause-slot
 take-requires-clause-slot c =
-    goes_within _ _ _ _ _ (goes_next _ _ _ c.args.noted.now c.loop-addressee.addressee-index (record { slot = 0; handle = 0 }) c.loop-addressee-test.true c.loop-addressee.invariant.goes)
+    goes_within _ _ _ _ _ (goes_next _ _ _ c.args.noted.now c.loop-addressee.addressee-index
+    (record { slot = 0; handle = 0 })
+    c.loop-addressee-test.true c.loop-addressee.invariant.goes)
 
 pub take-requires-clause-may : goal.take-requires-clause-may
 take-requires-clause-may c =
-    goes_may _ _ _ _ _ (goes_next _ _ _ c.args.noted.now c.loop-addressee.addressee-index (record { slot = 0; handle = 0 }) c.loop-addressee-test.true c.loop-addressee.invariant.goes)
+    goes_may _ _ _ _ _ (goes_next _ _ _ c.args.noted.now c.loop-addressee.addressee-index
+    (record { slot = 0; handle = 0 })
+    c.loop-addressee-test.true c.loop-addressee.invariant.goes)
 
 pub take-requires-clause-addressed : goal.take-requires-clause-addressed
 take-requires-clause-addressed c =
-    goes_addressed _ _ _ _ _ (goes_next _ _ _ c.args.noted.now c.loop-addressee.addressee-index (record { slot = 0; handle = 0 }) c.loop-addressee-test.true c.loop-addressee.invariant.goes)
+    goes_addressed _ _ _ _ _ (goes_next _ _ _
+    c.args.noted.now c.loop-addressee.addressee-index (record { slot = 0; handle = 0 })
+    c.loop-addressee-test.true c.loop-addressee.invariant.goes)
 
 pub loop-addressee-preserved : goal.loop-addressee-preserved
 loop-addressee-preserved c =
-    let next = goes_next _ _ _ c.args.noted.now c.loop-addressee.addressee-index (record { slot = 0; handle = 0 }) c.loop-addressee-test.true c.loop-addressee.invariant.goes in
+    let next = goes_next _ _ _ c.args.noted.now
+    c.loop-addressee.addressee-index (record { slot = 0; handle = 0 })
+    c.loop-addressee-test.true c.loop-addressee.invariant.goes in
     let lt = goes_within _ _ _ _ _ next in
     record {
       goes = goes_on _ _ _ _ _ _ _ next c.take.ensures.acts;
-      room_is = room_stays (taking_act (setup_of c.args.config.now) (telegram_model c.args.telegram.now) c.args.globals.now) _ _ c.loop-addressee.store c.take.new.self c.loop-addressee.out c.take.new.out lt c.take.ensures.acts ∙ c.loop-addressee.invariant.room_is;
+      room_is = room_stays (taking_act (setup_of c.args.config.now)
+          (telegram_model c.args.telegram.now) c.args.globals.now) _ _ c.loop-addressee.store
+          c.take.new.self c.loop-addressee.out c.take.new.out lt c.take.ensures.acts
+          ∙ c.loop-addressee.invariant.room_is;
       comparisons = λ b within.
-          one_taker c.take.new.counts.comparisons c.tested.new.self.comparisons c.loop-addressee.counts.comparisons c.args.counts.now.comparisons c.loop-addressee.addressee-index b
-          (c.take.ensures.comparisons b (subst (λ (n : ℕ). n < 2 ^ b) (sym c.loop-addressee.invariant.room_is) within))
+          one_taker c.take.new.counts.comparisons
+          c.tested.new.self.comparisons c.loop-addressee.counts.comparisons
+          c.args.counts.now.comparisons c.loop-addressee.addressee-index b
+          (c.take.ensures.comparisons b
+          (subst (λ (n : ℕ). n < 2 ^ b) (sym c.loop-addressee.invariant.room_is) within))
           c.tested.ensures.comparisons
           (c.loop-addressee.invariant.comparisons b within);
-      tests = omega (arith, c.take.ensures.tests, c.tested.ensures.tests, c.loop-addressee.invariant.tests);
-      look_ups = omega (arith, c.take.ensures.look_ups, c.tested.ensures.look_ups, c.loop-addressee.invariant.look_ups);
+      tests = omega (
+        arith,
+        c.take.ensures.tests,
+        c.tested.ensures.tests,
+        c.loop-addressee.invariant.tests,
+      );
+      look_ups = omega (
+        arith,
+        c.take.ensures.look_ups,
+        c.tested.ensures.look_ups,
+        c.loop-addressee.invariant.look_ups,
+      );
     }
 
 pub returns-clause-comparisons : goal.returns-clause-comparisons
 returns-clause-comparisons c = λ b within.
-    all_takers c.loop-addressee.counts.comparisons c.args.counts.now.comparisons c.loop-addressee.addressee-index _ b (c.loop-addressee.invariant.comparisons b within) (omega arith)
+    all_takers c.loop-addressee.counts.comparisons
+    c.args.counts.now.comparisons c.loop-addressee.addressee-index
+    _ b (c.loop-addressee.invariant.comparisons b within) (omega arith)
 
 pub returns-clause-look_ups : goal.returns-clause-look_ups
 returns-clause-look_ups c = omega (arith, c.loop-addressee.invariant.look_ups)
@@ -56,15 +86,23 @@ returns-clause-tests c = omega (arith, c.loop-addressee.invariant.tests)
 
 pub returns-clause-count : goal.returns-clause-count
 returns-clause-count c =
-    let end = goes_end _ _ _ c.args.noted.now c.loop-addressee.addressee-index c.loop-addressee-test.false c.loop-addressee.invariant.goes in
-    reached_count (setup_of c.args.config.now) (telegram_model c.args.telegram.now) c.args.globals.now c.args.store.now c.loop-addressee.store c.args.out.now.records end.0
+    let end = goes_end _ _ _ c.args.noted.now c.loop-addressee.addressee-index
+    c.loop-addressee-test.false c.loop-addressee.invariant.goes in
+    reached_count (setup_of c.args.config.now) (telegram_model c.args.telegram.now)
+    c.args.globals.now c.args.store.now c.loop-addressee.store c.args.out.now.records end.0
 
 pub returns-clause-parts : goal.returns-clause-parts
 returns-clause-parts c =
-    let end = goes_end _ _ _ c.args.noted.now c.loop-addressee.addressee-index c.loop-addressee-test.false c.loop-addressee.invariant.goes in
-    reached_parts (setup_of c.args.config.now) (telegram_model c.args.telegram.now) c.args.globals.now (slots_of c.args.store.now) (slots_of c.loop-addressee.store) c.args.out.now.records c.loop-addressee.out.records end.0 end.1
+    let end = goes_end _ _ _ c.args.noted.now c.loop-addressee.addressee-index
+    c.loop-addressee-test.false c.loop-addressee.invariant.goes in
+    reached_parts (setup_of c.args.config.now) (telegram_model c.args.telegram.now)
+    c.args.globals.now (slots_of c.args.store.now) (slots_of c.loop-addressee.store)
+    c.args.out.now.records c.loop-addressee.out.records end.0 end.1
 
 pub returns-clause-appends : goal.returns-clause-appends
 returns-clause-appends c =
-    let end = goes_end _ _ _ c.args.noted.now c.loop-addressee.addressee-index c.loop-addressee-test.false c.loop-addressee.invariant.goes in
-    reached_appends (setup_of c.args.config.now) (telegram_model c.args.telegram.now) c.args.globals.now (slots_of c.args.store.now) c.args.out.now.records c.loop-addressee.out.records end.1
+    let end = goes_end _ _ _ c.args.noted.now c.loop-addressee.addressee-index
+    c.loop-addressee-test.false c.loop-addressee.invariant.goes in
+    reached_appends (setup_of c.args.config.now)
+    (telegram_model c.args.telegram.now) c.args.globals.now
+    (slots_of c.args.store.now) c.args.out.now.records c.loop-addressee.out.records end.1

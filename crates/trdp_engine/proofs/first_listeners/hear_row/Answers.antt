@@ -5,4 +5,5 @@ use Rattle.trdp_engine.proofs.first_listeners.hear_row.Goals as goal
 pub returns-clause-heard : goal.returns-clause-heard
 returns-clause-heard c = λ s.
     rw (c.earlier.ensures, c.handle_hit-found.ensures.found, c.from-slot.ensures)
-    (heard_row (telegram_model c.args.telegram.now) c.args.globals.now c.args.store.now c.args.heard.now c.args.row.now s c.requires)
+    (heard_row (telegram_model c.args.telegram.now)
+    c.args.globals.now c.args.store.now c.args.heard.now c.args.row.now s c.requires)

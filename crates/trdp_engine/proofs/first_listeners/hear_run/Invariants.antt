@@ -5,7 +5,8 @@ use Rattle.trdp_engine.proofs.first_listeners.hear_run.Given as goal
 
 abbrev pub invariant-loop-row : goal.invariant-loop-row
 invariant-loop-row l = record {
-  heard : HearsRun (telegram_model l.telegram) l.globals l.store l.rows l.fn.heard l.heard l.row-index;
+  heard :
+      HearsRun (telegram_model l.telegram) l.globals l.store l.rows l.fn.heard l.heard l.row-index;
   length : length l.heard ≡ 16;
   comparisons : l.counts.comparisons ≡ l.fn.counts.comparisons;
   tests : l.counts.tests ≤ l.fn.counts.tests + l.row-index;

@@ -6,15 +6,19 @@ use Rattle.trdp_engine.proofs.first_listeners.hearers.Goals as goal
 
 pub returns-in-Md-clause-heard : goal.returns-in-Md-clause-heard
 returns-in-Md-clause-heard c = λ s lt.
-    let tell : KeysTell c.args.store.now = record { found = c.sound.ensures.found; listed = c.sound.ensures.listed } in
+    let tell : KeysTell c.args.store.now =
+    record { found = c.sound.ensures.found; listed = c.sound.ensures.listed } in
     let first = rw c.in-Md.is at c.hear_run.ensures.heard s in
     let second = rw c.in-Md.is at c.hear_run-in-Md.ensures.heard s in
     rw c.in-Md.is
-    (heard_by_both c.args.store.now s c.in-Md.src c.in-Md.dst _ c.args.globals.now tell (c.sound.ensures.sound.slots s).rising sixteen c.hear_run.new.heard c.hear_run-in-Md.new.heard (none_of_sixteen s) first second)
+    (heard_by_both c.args.store.now s c.in-Md.src
+    c.in-Md.dst _ c.args.globals.now tell (c.sound.ensures.sound.slots s).rising
+    sixteen c.hear_run.new.heard c.hear_run-in-Md.new.heard (none_of_sixteen s) first second)
 
 pub returns-in_default-clause-heard : goal.returns-in_default-clause-heard
 returns-in_default-clause-heard c = λ s lt.
-    rw c.in_default.is (none_of_sixteen s ∙ sym (nobody_hears _ _ _ c.args.globals.now (slot_at s c.args.store.now).objects))
+    rw c.in_default.is (none_of_sixteen s
+    ∙ sym (nobody_hears _ _ _ c.args.globals.now (slot_at s c.args.store.now).objects))
 
 pub returns-in-Md-clause-comparisons : goal.returns-in-Md-clause-comparisons
 returns-in-Md-clause-comparisons c = λ b lt.

@@ -4,8 +4,10 @@ use Rattle.trdp_engine.proofs.opening.open.Goals as goal
 
 pub returns-clause-others : goal.returns-clause-others
 returns-clause-others c =
-    slots_of_added c.args.store.now c.add.new.self c.args.s c.args.object c.add.result c.requires.slot c.add.ensures.added c.add.ensures.kept
+    slots_of_added c.args.store.now c.add.new.self
+    c.args.s c.args.object c.add.result c.requires.slot c.add.ensures.added c.add.ensures.kept
 
 pub returns-clause-room : goal.returns-clause-room
 returns-clause-room c =
-    room_added c.args.store.now c.add.new.self c.args.s c.args.object c.add.result c.requires.slot c.add.ensures.added c.add.ensures.kept
+    room_added c.args.store.now c.add.new.self
+    c.args.s c.args.object c.add.result c.requires.slot c.add.ensures.added c.add.ensures.kept

@@ -3,4 +3,5 @@ use Rattle.trdp_engine.proofs.Parts.{opened_slots}
 use Rattle.trdp_engine.proofs.start.open_slots.Goals as goal
 
 pub returns : goal.returns
-returns c = opened_slots c.new.result _ c.args.config.now.slots c.new.ensures (c.deref.ensures.value ∙ c.in_ok-quotas.ensures.quotas)
+returns c = opened_slots c.new.result _ c.args.config.now.slots
+    c.new.ensures (c.deref.ensures.value ∙ c.in_ok-quotas.ensures.quotas)

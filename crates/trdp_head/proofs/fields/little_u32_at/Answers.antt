@@ -7,5 +7,6 @@ use Rattle.trdp_head.proofs.fields.little_u32_at.Goals as goal
 pub returns : goal.returns
 unfolding little_field
 returns c =
-    c.read_u32.ensures ∙ little_number-le 4 c.split_at.result.1.now (omega (arith, c.split_at.ensures.back_len))
+    c.read_u32.ensures
+    ∙ little_number-le 4 c.split_at.result.1.now (omega (arith, c.split_at.ensures.back_len))
     ∙ ap (λ (rest : List ℕ). le (take 4 rest)) c.split_at.ensures.back

@@ -6,8 +6,11 @@ use Rattle.trdp_head.proofs.fields.put_u32.Goals as goal
 
 pub returns-clause-front : goal.returns-clause-front
 returns-clause-front c =
-    front_written c.args.offset 4 c.args.room.now (bytes_high_first 4 c.args.number) c.write_u32.new.buf c.requires refl c.write_u32.ensures
-    ∙ ap (λ (r : List ℕ). take c.args.offset c.args.room.now ++ r) (sym (be_bytes-is 4 c.args.number))
+    front_written c.args.offset 4 c.args.room.now
+    (bytes_high_first 4 c.args.number) c.write_u32.new.buf c.requires refl c.write_u32.ensures
+    ∙ ap (λ (r : List ℕ). take c.args.offset c.args.room.now ++ r)
+    (sym (be_bytes-is 4 c.args.number))
 
 pub returns-clause-rest : goal.returns-clause-rest
-returns-clause-rest c = rest_kept c.args.offset 4 c.args.room.now (bytes_high_first 4 c.args.number) c.write_u32.new.buf c.requires refl c.write_u32.ensures
+returns-clause-rest c = rest_kept c.args.offset 4 c.args.room.now
+    (bytes_high_first 4 c.args.number) c.write_u32.new.buf c.requires refl c.write_u32.ensures

@@ -7,5 +7,6 @@ use Rattle.trdp_head.proofs.fields.u128_at.Goals as goal
 pub returns : goal.returns
 unfolding field
 returns c =
-    c.read_u128.ensures ∙ big_number-be 16 c.split_at.result.1.now (omega (arith, c.split_at.ensures.back_len))
+    c.read_u128.ensures
+    ∙ big_number-be 16 c.split_at.result.1.now (omega (arith, c.split_at.ensures.back_len))
     ∙ ap (λ (rest : List ℕ). be (take 16 rest)) c.split_at.ensures.back

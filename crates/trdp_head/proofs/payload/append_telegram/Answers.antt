@@ -1,4 +1,5 @@
-use Rattle.std.proofs.Common.{ℕ, zero, suc, List, ◌≡◌, ◌≤◌, ◌++◌, ◌-◌, length, take, replicate, [], ◌∷◌, refl, ap, ◌∙◌, arith, append_assoc}
+use Rattle.std.proofs.Common.{ℕ, zero, suc, List, ◌≡◌, ◌≤◌, ◌++◌, ◌-◌, length, take}
+use Rattle.std.proofs.Common.{replicate, [], ◌∷◌, refl, ap, ◌∙◌, arith, append_assoc}
 use Rattle.trdp_head.specs.TelegramBytes.{rounded_of}
 use Rattle.trdp_head.proofs.payload.append_telegram.Goals as goal
 
@@ -19,7 +20,8 @@ returns-clause-items c =
     let before : List ℕ = c.args.list.now.items in
     let head : List ℕ = c.args.header.now in
     let more : ℕ = rounded_of size - size in
-    let same : c.rounded-filled.result - size ≡ more = ap (λ (n : ℕ). n - size) c.rounded-filled.ensures in
+    let same : c.rounded-filled.result - size ≡ more =
+    ap (λ (n : ℕ). n - size) c.rounded-filled.ensures in
     let padding : c.split_at.result.0.now ≡ replicate more 0 =
     c.split_at.ensures.front ∙ ap (λ (n : ℕ). take n three) same ∙ zeros more (omega arith) in
     rw (c.append-3.ensures.items, c.append-2.ensures.items, c.append.ensures.items, padding)

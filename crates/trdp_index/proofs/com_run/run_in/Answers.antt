@@ -4,7 +4,8 @@ use Rattle.trdp_index.proofs.Runs.{run_is}
 use Rattle.trdp_index.proofs.com_run.run_in.Goals as goal
 
 pub lower_bound-count-requires-clause-rising : goal.lower_bound-count-requires-clause-rising
-lower_bound-count-requires-clause-rising c = rw c.split_at.ensures.back (IsRising-drop com_row_rank c.lower_bound-start.result c.args.rows.now c.requires.rising)
+lower_bound-count-requires-clause-rising c = rw c.split_at.ensures.back
+    (IsRising-drop com_row_rank c.lower_bound-start.result c.args.rows.now c.requires.rising)
 
 pub returns-clause-rows : goal.returns-clause-rows
 returns-clause-rows c =

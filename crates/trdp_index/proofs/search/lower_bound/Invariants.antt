@@ -2,14 +2,16 @@ use Rattle.std.proofs.Common.{◌≡◌, ◌≤◌, ◌<◌, ◌-◌, ◌+◌, �
 use Rattle.trdp_index.specs.Rows.{AllBefore, NoneBefore}
 use Rattle.trdp_index.proofs.search.lower_bound.Given as goal
 
--- what stands before `low` comes before the rank, nothing from `high` on does, and each comparison halved what is between
+-- what stands before `low` comes before the rank, nothing from `high` on does, and each comparison
+-- halved what is between
 abbrev pub invariant-loop-low : goal.invariant-loop-low
 invariant-loop-low g l = record {
   order : l.low ≤ l.high;
   within : l.high ≤ length l.rows;
   before : AllBefore g.R.Ranked.rank_of l.rank (take l.low l.rows);
   after : NoneBefore g.R.Ranked.rank_of l.rank (drop l.high l.rows);
-  cost : (b : ℕ) → length l.rows < 2 ^ b → (j : ℕ) × (l.comparisons + j ≤ l.fn.comparisons + b) × (l.high - l.low < 2 ^ j);
+  cost : (b : ℕ) → length l.rows < 2 ^ b → (j : ℕ)
+      × (l.comparisons + j ≤ l.fn.comparisons + b) × (l.high - l.low < 2 ^ j);
   fits : length l.rows < 2 ^ 64;
   few : l.comparisons ≤ l.fn.comparisons + 64;
   kept : l.fn.comparisons ≤ l.comparisons;

@@ -9,5 +9,7 @@ returns-clause-place g c = λ row is.
     let rows = c.args.rows.now in
     let place = c.lower_bound.result in
     insert_between g.R.Ranked.rank_of row place rows
-    (subst (λ (r : Rank). AllBefore g.R.Ranked.rank_of r (take place rows)) (sym is) c.lower_bound.ensures.before)
-    (subst (λ (r : Rank). NoneBefore g.R.Ranked.rank_of r (drop place rows)) (sym is) c.lower_bound.ensures.after)
+    (subst (λ (r : Rank). AllBefore g.R.Ranked.rank_of r (take place rows))
+    (sym is) c.lower_bound.ensures.before)
+    (subst (λ (r : Rank). NoneBefore g.R.Ranked.rank_of r (drop place rows))
+    (sym is) c.lower_bound.ensures.after)

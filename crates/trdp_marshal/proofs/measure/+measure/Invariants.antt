@@ -1,6 +1,7 @@
 use Rattle.std.proofs.Common.{◌≡◌, ◌≤◌, ◌+◌, ◌-◌, ◌*◌, drop}
 use Rattle.trdp_marshal.specs.Items.{models_in}
-use Rattle.trdp_marshal.specs.Spelling.{form_spelling, repeated_spelling, entries_spelling, dataset_spelling}
+use Rattle.trdp_marshal.specs.Spelling.{form_spelling, repeated_spelling}
+use Rattle.trdp_marshal.specs.Spelling.{entries_spelling, dataset_spelling}
 use Rattle.trdp_marshal.specs.Lengths.{measured}
 use Rattle.trdp_marshal.proofs.Measuring.{plus}
 use Rattle.trdp_marshal.proofs.measure.+measure.Given as goal
@@ -22,10 +23,15 @@ decreases-measure_entries l = 5 * l.depth + 4
 
 abbrev pub invariant-measure_entries-loop-i : goal.invariant-measure_entries-loop-i
 invariant-measure_entries-loop-i l =
-    (plus l.total (measured (entries_spelling (form_spelling (dataset_spelling l.registry l.depth)) (drop l.i l.elements) l.count (models_in (drop l.i l.items)))) ≡ measured (entries_spelling (form_spelling (dataset_spelling l.registry l.depth)) l.elements 0 (models_in l.items)))
+    (plus l.total (measured (entries_spelling (form_spelling (dataset_spelling l.registry l.depth))
+    (drop l.i l.elements) l.count (models_in (drop l.i l.items)))) ≡ measured (entries_spelling
+    (form_spelling (dataset_spelling l.registry l.depth)) l.elements 0 (models_in l.items)))
     × (l.total ≤ 65389)
 
 abbrev pub invariant-measure_repeated-loop-item : goal.invariant-measure_repeated-loop-item
 invariant-measure_repeated-loop-item l =
-    (plus l.total (measured (repeated_spelling (form_spelling (dataset_spelling l.registry l.depth) l.form) (l.count - l.item-index) (models_in (drop l.item-index l.items)))) ≡ measured (repeated_spelling (form_spelling (dataset_spelling l.registry l.depth) l.form) l.count (models_in l.items)))
+    (plus l.total (measured (repeated_spelling (form_spelling (dataset_spelling l.registry l.depth)
+    l.form) (l.count - l.item-index) (models_in (drop l.item-index l.items))))
+    ≡ measured (repeated_spelling (form_spelling (dataset_spelling l.registry l.depth) l.form)
+    l.count (models_in l.items)))
     × (l.total ≤ 65389)

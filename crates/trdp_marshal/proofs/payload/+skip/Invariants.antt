@@ -13,7 +13,8 @@ decreases-skip_elements l = 3 * l.depth + 2
 
 abbrev pub invariant-skip_elements-loop-i : goal.invariant-skip_elements-loop-i
 invariant-skip_elements-loop-i l =
-    skipped (entries_at (form_at (dataset_at l.registry l.depth)) (drop l.i l.elements) l.count l.rest)
+    skipped
+    (entries_at (form_at (dataset_at l.registry l.depth)) (drop l.i l.elements) l.count l.rest)
     ≡ skipped (entries_at (form_at (dataset_at l.registry l.depth)) l.elements 0 l.bytes)
 
 abbrev pub invariant-skip_datasets-loop : goal.invariant-skip_datasets-loop

@@ -20,8 +20,12 @@ decreases-read_entries l = 5 * l.depth + 4
 
 abbrev pub invariant-read_entries-loop-element : goal.invariant-read_entries-loop-element
 invariant-read_entries-loop-element l =
-    with_front l.items.items (entries_at (form_at (dataset_at l.registry l.depth)) (drop l.element-index l.elements) l.count l.rest) ≡ entries_at (form_at (dataset_at l.registry l.depth)) l.elements 0 l.bytes
+    with_front l.items.items (entries_at (form_at (dataset_at l.registry l.depth))
+    (drop l.element-index l.elements) l.count l.rest)
+    ≡ entries_at (form_at (dataset_at l.registry l.depth)) l.elements 0 l.bytes
 
 abbrev pub invariant-read_repeated-loop : goal.invariant-read_repeated-loop
 invariant-read_repeated-loop l =
-    with_front l.items.items (repeated_at (form_at (dataset_at l.registry l.depth) l.form) (l.count - l.counter) l.rest) ≡ repeated_at (form_at (dataset_at l.registry l.depth) l.form) l.count l.bytes
+    with_front l.items.items
+    (repeated_at (form_at (dataset_at l.registry l.depth) l.form) (l.count - l.counter) l.rest)
+    ≡ repeated_at (form_at (dataset_at l.registry l.depth) l.form) l.count l.bytes

@@ -3,8 +3,10 @@ use Rattle.trdp_marshal.proofs.Refusing.{tells_undecoded_unknown, tells_undecode
 use Rattle.trdp_marshal.proofs.reader.decode.Goals as goal
 
 pub returns-clause-unknown : goal.returns-clause-unknown
-returns-clause-unknown c = tells_undecoded_unknown c.args.registry.now c.args.id c.args.bytes.now c.decoded.result c.decoded.ensures.fault
+returns-clause-unknown c = tells_undecoded_unknown c.args.registry.now
+    c.args.id c.args.bytes.now c.decoded.result c.decoded.ensures.fault
 
 pub returns-clause-shape : goal.returns-clause-shape
 returns-clause-shape c =
-    tells_undecoded_shape c.args.registry.now c.args.id c.args.bytes.now c.decoded.result c.decoded.ensures.fault (λ i. omega (arith, c.type_inv.bytes i))
+    tells_undecoded_shape c.args.registry.now c.args.id c.args.bytes.now
+    c.decoded.result c.decoded.ensures.fault (λ i. omega (arith, c.type_inv.bytes i))

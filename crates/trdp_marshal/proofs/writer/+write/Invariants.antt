@@ -1,6 +1,7 @@
 use Rattle.std.proofs.Common.{◌+◌, ◌-◌, ◌*◌, drop}
 use Rattle.trdp_marshal.specs.Items.{models_in}
-use Rattle.trdp_marshal.specs.Spelling.{form_spelling, repeated_spelling, entries_spelling, dataset_spelling}
+use Rattle.trdp_marshal.specs.Spelling.{form_spelling, repeated_spelling}
+use Rattle.trdp_marshal.specs.Spelling.{entries_spelling, dataset_spelling}
 use Rattle.trdp_marshal.proofs.Writing.{Continues}
 use Rattle.trdp_marshal.proofs.writer.+write.Given as goal
 
@@ -21,8 +22,14 @@ decreases-write_entries l = 5 * l.depth + 4
 
 abbrev pub invariant-write_entries-loop-i : goal.invariant-write_entries-loop-i
 invariant-write_entries-loop-i l =
-    Continues (entries_spelling (form_spelling (dataset_spelling l.registry l.depth)) l.elements 0 (models_in l.items)) l.fn.out.items (entries_spelling (form_spelling (dataset_spelling l.registry l.depth)) (drop l.i l.elements) l.count (models_in (drop l.i l.items))) l.out.items
+    Continues (entries_spelling (form_spelling (dataset_spelling l.registry l.depth))
+    l.elements 0 (models_in l.items)) l.fn.out.items
+    (entries_spelling (form_spelling (dataset_spelling l.registry l.depth))
+    (drop l.i l.elements) l.count (models_in (drop l.i l.items))) l.out.items
 
 abbrev pub invariant-write_repeated-loop-item : goal.invariant-write_repeated-loop-item
 invariant-write_repeated-loop-item l =
-    Continues (repeated_spelling (form_spelling (dataset_spelling l.registry l.depth) l.form) l.count (models_in l.items)) l.fn.out.items (repeated_spelling (form_spelling (dataset_spelling l.registry l.depth) l.form) (l.count - l.item-index) (models_in (drop l.item-index l.items))) l.out.items
+    Continues (repeated_spelling (form_spelling (dataset_spelling l.registry l.depth) l.form)
+    l.count (models_in l.items)) l.fn.out.items
+    (repeated_spelling (form_spelling (dataset_spelling l.registry l.depth) l.form)
+    (l.count - l.item-index) (models_in (drop l.item-index l.items))) l.out.items

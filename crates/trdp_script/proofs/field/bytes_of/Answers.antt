@@ -4,7 +4,8 @@ use Rattle.trdp_script.proofs.field.bytes_of.Goals as goal
 
 pub returns-in-Ok-clause-value : goal.returns-in-Ok-clause-value
 returns-in-Ok-clause-value c =
-    bytes_read c.args.word.now c.in-Ok.bytes.items c.in-Ok.ensures.found (λ bad. let e = c.in-Ok.ensures.bad.1 bad in search rules)
+    bytes_read c.args.word.now c.in-Ok.bytes.items
+    c.in-Ok.ensures.found (λ bad. let e = c.in-Ok.ensures.bad.1 bad in search rules)
 
 pub returns-in-Err-BadText-clause-fault : goal.returns-in-Err-BadText-clause-fault
 returns-in-Err-BadText-clause-fault c =
@@ -12,4 +13,5 @@ returns-in-Err-BadText-clause-fault c =
 
 pub returns-in-Err-OutOfMemory-clause-fault : goal.returns-in-Err-OutOfMemory-clause-fault
 returns-in-Err-OutOfMemory-clause-fault c =
-    memory_ran_out c.args.word.now _ (λ bad. let e = c.in-Err-OutOfMemory.ensures.bad.1 bad in search rules) refl
+    memory_ran_out c.args.word.now
+    _ (λ bad. let e = c.in-Err-OutOfMemory.ensures.bad.1 bad in search rules) refl

@@ -10,4 +10,5 @@ returns-in-Ok-clause-value c =
 
 pub returns-in-Err-clause-value : goal.returns-in-Err-clause-value
 returns-in-Err-clause-value c =
-    place_lacks c.args.word.now (λ place small port is. err_not_ok place _ (c.in-Err.ensures.found place small port is))
+    place_lacks c.args.word.now
+    (λ place small port is. err_not_ok place _ (c.in-Err.ensures.found place small port is))

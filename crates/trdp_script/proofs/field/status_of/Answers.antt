@@ -9,8 +9,10 @@ use Rattle.trdp_script.proofs.field.status_of.Goals as goal
 pub returns-in-Ok-clause-value : goal.returns-in-Ok-clause-value
 returns-in-Ok-clause-value c =
     let fits : FitsSigned w32 c.in-Ok.status = assumption in
-    ap Some (to_z-of_z w32 c.in-Ok.status fits) ∙ status_found c.args.word.now c.in-Ok.status fits c.in-Ok.ensures.value
+    ap Some (to_z-of_z w32 c.in-Ok.status fits)
+    ∙ status_found c.args.word.now c.in-Ok.status fits c.in-Ok.ensures.value
 
 pub returns-in-Err-clause-value : goal.returns-in-Err-clause-value
 returns-in-Err-clause-value c =
-    status_lacks c.args.word.now (λ status fits is. err_not_ok status _ (c.in-Err.ensures.found status fits is))
+    status_lacks c.args.word.now
+    (λ status fits is. err_not_ok status _ (c.in-Err.ensures.found status fits is))

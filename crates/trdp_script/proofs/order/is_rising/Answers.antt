@@ -10,7 +10,8 @@ loop-i-preserved c =
     let r = record_model c.in-Some.record in
     let here = sym c.get.ensures ∙ ap (option_map record_model) c.in-Some.is in (
       λ rises. (rising_less all c.loop-i.i r c.loop-i.slot 16 here (c.loop-i.invariant.0 rises)).2,
-      λ rest. c.loop-i.invariant.1 (rising_more all c.loop-i.i r c.loop-i.slot 16 here c.if-record-slot.false c.if-record-ge-SLOTS_MAX.false rest),
+      λ rest. c.loop-i.invariant.1 (rising_more all c.loop-i.i
+          r c.loop-i.slot 16 here c.if-record-slot.false c.if-record-ge-SLOTS_MAX.false rest),
     )
 
 pub returns-then-record-slot : goal.returns-then-record-slot
@@ -20,7 +21,8 @@ returns-then-record-slot c =
     let here = sym c.get.ensures ∙ ap (option_map record_model) c.in-Some.is in (
       λ yes. absurd (cc),
       λ rises.
-          let rest = rising_less all c.loop-i.i r c.loop-i.slot 16 here (c.loop-i.invariant.0 rises) in
+          let rest =
+          rising_less all c.loop-i.i r c.loop-i.slot 16 here (c.loop-i.invariant.0 rises) in
           let higher : c.loop-i.slot ≤ c.in-Some.record.slot = rest.0 in
           let below : c.in-Some.record.slot < 16 = rest.1 in
           elim c.then-record-slot.either [

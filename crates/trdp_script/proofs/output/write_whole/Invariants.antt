@@ -6,5 +6,6 @@ use Rattle.trdp_script.proofs.output.write_whole.Given as goal
 abbrev pub invariant-loop : goal.invariant-loop
 invariant-loop g l = record {
   within : l.done ≤ length l.bytes;
-  so_far : Appends (g.W.Write.contents l.fn.writer) (g.W.Write.contents l.writer) (take l.done l.bytes);
+  so_far :
+      Appends (g.W.Write.contents l.fn.writer) (g.W.Write.contents l.writer) (take l.done l.bytes);
 }

@@ -16,10 +16,14 @@ all_ok (Err e) q = tt
 
 pub returns-in-Ok-clause-node : goal.returns-in-Ok-clause-node
 returns-in-Ok-clause-node c =
-    all_ok c.push_records.result (node_played c.args.node.now c.step.new.self _ _ _ c.in-Ok.ensures.fault c.step.ensures.config c.in-Ok.ensures.globals c.step.ensures.count c.in-Ok.ensures.steps)
+    all_ok c.push_records.result
+    (node_played c.args.node.now c.step.new.self _ _ _ c.in-Ok.ensures.fault
+    c.step.ensures.config c.in-Ok.ensures.globals c.step.ensures.count c.in-Ok.ensures.steps)
 
 pub returns-in-Ok-clause-text : goal.returns-in-Ok-clause-text
 returns-in-Ok-clause-text c =
     on_ok c.push_records.result (λ told.
-    text_played 16 c.args.node.now c.step.new.self _ _ _ _ c.in-Ok.ensures.fault c.requires.slots c.clear.ensures.records c.in-Ok.ensures.steps c.step.ensures.appends
-    (told ∙ ap (λ l. l ++ flat_map text_of_record (by_slot 16 c.step.new.out.records)) c.clear-2.ensures.items)) c.push_records.ensures
+    text_played 16 c.args.node.now c.step.new.self _ _ _ _ c.in-Ok.ensures.fault
+    c.requires.slots c.clear.ensures.records c.in-Ok.ensures.steps c.step.ensures.appends
+    (told ∙ ap (λ l. l ++ flat_map text_of_record (by_slot 16 c.step.new.out.records))
+    c.clear-2.ensures.items)) c.push_records.ensures

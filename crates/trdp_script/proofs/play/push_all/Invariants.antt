@@ -5,4 +5,5 @@ use Rattle.trdp_script.proofs.play.push_all.Given as goal
 
 -- the text so far and that of the rest are all
 abbrev pub invariant-loop-i : goal.invariant-loop-i
-invariant-loop-i l = l.text.items ++ flat_map text_of_record (drop l.i l.records.records) ≡ l.fn.text.items ++ flat_map text_of_record l.records.records
+invariant-loop-i l = l.text.items ++ flat_map text_of_record (drop l.i l.records.records)
+    ≡ l.fn.text.items ++ flat_map text_of_record l.records.records

@@ -8,5 +8,7 @@ use Rattle.trdp_script.proofs.play.push_records.Goals as goal
 
 pub returns-then-is_rising : goal.returns-then-is_rising
 returns-then-is_rising c =
-    let order = sym (rising_by_slot 16 0 c.args.records.now.records (c.if-is_rising.ensures.0 refl)) in
-    subst (λ (rs : List RecordModel). OnOk c.push_all.result (c.push_all.new.text.items ≡ c.args.text.now.items ++ flat_map text_of_record rs)) order c.push_all.ensures
+    let order =
+    sym (rising_by_slot 16 0 c.args.records.now.records (c.if-is_rising.ensures.0 refl)) in
+    subst (λ (rs : List RecordModel). OnOk c.push_all.result (c.push_all.new.text.items
+    ≡ c.args.text.now.items ++ flat_map text_of_record rs)) order c.push_all.ensures

@@ -13,7 +13,9 @@ loop-i-preserved c =
     elim c.match-get.branch [
       | in-Some+in_ok-print_of_slot-in-Some w ↦
           let here = sym c.get.ensures ∙ ap (option_map record_model) w.in-Some.is in
-          told_one (slot_text c.args.slot) all c.loop-i.i (record_model w.in-Some.record) _ _ _ here (ap (λ v. v.items) w.text-is ∙ w.in_ok-print_of_slot-in-Some.ensures) c.loop-i.invariant
+          told_one (slot_text c.args.slot) all
+          c.loop-i.i (record_model w.in-Some.record) _ _ _ here (ap (λ v. v.items) w.text-is
+          ∙ w.in_ok-print_of_slot-in-Some.ensures) c.loop-i.invariant
       | in-None w ↦
           let none = sym c.get.ensures ∙ ap (option_map record_model) w.in-None.is in
           absurd (some_within all c.loop-i.i _ c.loop-i-test.true c.len-i-end.ensures none)
@@ -21,5 +23,6 @@ loop-i-preserved c =
 
 pub returns : goal.returns
 returns c =
-    told_all (slot_text c.args.slot) c.args.records.now.records c.loop-i.i _ _ _ c.loop-i-test.false c.len-i-end.ensures c.loop-i.invariant
+    told_all (slot_text c.args.slot) c.args.records.now.records
+    c.loop-i.i _ _ _ c.loop-i-test.false c.len-i-end.ensures c.loop-i.invariant
     ∙ ap (λ l. c.args.text.now.items ++ l) (own_text c.args.slot c.args.records.now.records)

@@ -8,7 +8,8 @@ pub returns-then-slot-text-gt-LINE_MAX : goal.returns-then-slot-text-gt-LINE_MAX
 returns-then-slot-text-gt-LINE_MAX c =
     let shown = c.as_bytes-slot.ensures.value ∙ c.format.ensures.text in
     let some = rw c.is_skipped.ensures at c.if-is_skipped.false in
-    let is = control_too_long c.args.slot _ _ c.args.bytes.now shown c.without_end-text.ensures some c.if-slot-text-gt-LINE_MAX.true in
+    let is = control_too_long c.args.slot _ _
+    c.args.bytes.now shown c.without_end-text.ensures some c.if-slot-text-gt-LINE_MAX.true in
     record { meaning = rw is refl }
 
 pub returns : goal.returns
@@ -16,5 +17,9 @@ unfolding forms
 returns c =
     let shown = c.as_bytes-slot.ensures.value ∙ c.format.ensures.text in
     let some = rw c.is_skipped.ensures at c.if-is_skipped.false in
-    let is = control_says c.args.slot _ _ c.args.bytes.now shown c.ranges.slot.fits c.without_end-text.ensures some c.if-slot-text-gt-LINE_MAX.false in
-    record { meaning = rw is (subst (λ words. Reads (words_say (form_among forms words) words) c.read_words.result) c.of_call.ensures c.read_words.ensures) }
+    let is = control_says c.args.slot _ _ c.args.bytes.now
+    shown c.ranges.slot.fits c.without_end-text.ensures some c.if-slot-text-gt-LINE_MAX.false in
+    record {
+      meaning = rw is (subst (λ words. Reads (words_say (form_among forms words) words)
+          c.read_words.result) c.of_call.ensures c.read_words.ensures);
+    }

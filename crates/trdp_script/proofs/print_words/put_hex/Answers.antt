@@ -7,4 +7,11 @@ pub returns-clause-len : goal.returns-clause-len
 returns-clause-len c =
     let told = rw c.unwrap.ensures at c.push_hex.ensures.ok in
     let digits = text_of_hex c.args.bytes.now in
-    omega (arith, ap length told, length-append c.args.text.now.items digits, hex_length c.args.bytes.now, c.push_hex.new.out.ok, c.args.text.now.ok)
+    omega (
+      arith,
+      ap length told,
+      length-append c.args.text.now.items digits,
+      hex_length c.args.bytes.now,
+      c.push_hex.new.out.ok,
+      c.args.text.now.ok,
+    )

@@ -7,5 +7,6 @@ pub returns-in-Some-split_at_space-clause-word : goal.returns-in-Some-split_at_s
 unfolding first_word
 returns-in-Some-split_at_space-clause-word c =
     let found = c.in-Some-split_at_space in
-    let split = split_word c.in-Some.text.now found.word.now found.behind.now found.ensures.parts found.ensures.first in
+    let split = split_word c.in-Some.text.now
+    found.word.now found.behind.now found.ensures.parts found.ensures.first in
     rw (c.in-Some.is, split) refl

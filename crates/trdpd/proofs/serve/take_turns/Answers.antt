@@ -3,7 +3,8 @@ use Rattle.trdpd.proofs.serve.take_turns.Goals as goal
 
 pub returns-in-Ok : goal.returns-in-Ok
 returns-in-Ok g c =
-    let s = c.run.ensures.served c.args.config c.in_ok-wire.wire c.new.result 0 c.in-Ok.ensures.served in
+    let s = c.run.ensures.served c.args.config
+    c.in_ok-wire.wire c.new.result 0 c.in-Ok.ensures.served in
     record {
       turns = s.turns;
       gives = s.gives;

@@ -9,5 +9,6 @@ returns g c = record {
   offers = refl;
   takes = adds_none _;
   given = adds_none _;
-  totals = ap (λ m. let t : Totals = record c.args.self.now.totals { memory = m } in t) c.one_more-self.ensures;
+  totals = ap (λ m. let t : Totals = record c.args.self.now.totals { memory = m } in
+      t) c.one_more-self.ensures;
 }

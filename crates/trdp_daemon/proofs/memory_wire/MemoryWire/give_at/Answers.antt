@@ -7,6 +7,8 @@ use Rattle.trdp_daemon.proofs.memory_wire.MemoryWire.give_at.Goals as goal
 
 pub returns : goal.returns
 returns c =
-    c.given_at.ensures ∙ ap (λ l. option_map row_to (slice_get l c.args.index)) c.deref.ensures.value
-    ∙ sym (gives_at c.self.inside.given.items c.self.inside.bytes.items c.args.index c.self.invariant.0)
+    c.given_at.ensures
+    ∙ ap (λ l. option_map row_to (slice_get l c.args.index)) c.deref.ensures.value
+    ∙ sym (gives_at c.self.inside.given.items
+    c.self.inside.bytes.items c.args.index c.self.invariant.0)
     ∙ ap (λ w. option_map given_to (slice_get w.gives c.args.index)) c.self.view_is

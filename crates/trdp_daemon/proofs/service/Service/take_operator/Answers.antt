@@ -8,12 +8,16 @@ use Rattle.trdp_daemon.proofs.service.Service.take_operator.Goals as goal
 pub returns-in-Some-clause-comes : goal.returns-in-Some-clause-comes
 returns-in-Some-clause-comes g c =
     let said = sym c.event.ensures ∙ ap (option_map event_model) c.in-Some.is in
-    operator_took c.args.self.now _ c.args.from (operator_line_of c.args.bytes.now) (event_model c.in-Some.event) (reads_ok _ c.in-Ok.line _ c.in-Ok.ensures.meaning said) c.take_operator_event.ensures.comes
+    operator_took c.args.self.now _ c.args.from
+    (operator_line_of c.args.bytes.now) (event_model c.in-Some.event)
+    (reads_ok _ c.in-Ok.line _ c.in-Ok.ensures.meaning said) c.take_operator_event.ensures.comes
 
 pub returns-in-Ok-clause-comes : goal.returns-in-Ok-clause-comes
 returns-in-Ok-clause-comes g c =
     let said = sym c.event.ensures ∙ ap (option_map event_model) c.in-None.is in
-    operator_skipped _ _ c.args.link.now c.args.self.now c.args.from (operator_line_of c.args.bytes.now) (reads_ok _ c.in-Ok.line _ c.in-Ok.ensures.meaning said)
+    operator_skipped _ _ c.args.link.now c.args.self.now c.args.from
+    (operator_line_of c.args.bytes.now) (reads_ok _ c.in-Ok.line _ c.in-Ok.ensures.meaning said)
 
 pub returns-clause-comes : goal.returns-clause-comes
-returns-clause-comes g c = operator_refused c.args.self.now c.args.from (operator_line_of c.args.bytes.now) c.in-Err.fault c.in-Err.ensures.meaning c.refuse.ensures
+returns-clause-comes g c = operator_refused c.args.self.now c.args.from
+    (operator_line_of c.args.bytes.now) c.in-Err.fault c.in-Err.ensures.meaning c.refuse.ensures

@@ -14,9 +14,12 @@ returns c =
     let ds = datasets_in top in
     let same = ap positions_seen c.deref.ensures.value ∙ c.in_ok-positions.ensures in
     record {
-      reads = reads registry_of (dataset_positions top) ds ds c.args.bytes.now top c.load.result c.in_ok-top.ensures.0 c.in_ok-top.ensures.1 refl c.load.ensures.value
-          (subst (λ (positions : List PositionModel). Answers (fault_in positions ds) c.load.result) same c.load.ensures.answers);
+      reads = reads registry_of (dataset_positions top) ds ds c.args.bytes.now
+          top c.load.result c.in_ok-top.ensures.0 c.in_ok-top.ensures.1 refl c.load.ensures.value
+          (subst (λ (positions : List PositionModel). Answers (fault_in positions ds) c.load.result)
+          same c.load.ensures.answers);
     }
 
 pub load-requires : goal.load-requires
-load-requires c = record { covers = ([], ap positions_seen c.deref.ensures.value ∙ c.in_ok-positions.ensures) }
+load-requires c =
+    record { covers = ([], ap positions_seen c.deref.ensures.value ∙ c.in_ok-positions.ensures) }

@@ -4,5 +4,10 @@ use Rattle.trdp_engine.proofs.Steps.{opened_fit}
 use Rattle.trdp_engine.proofs.node.Node.new.Goals as goal
 
 pub invariant_of-result : goal.invariant_of-result
-invariant_of-result c =
-    (omega arith, rw (← c.registry.ensures.value) c.sound.ensures.sound, rw c.in-Ok.ensures.slots (opened_fit (setup_of c.args.config) c.args.config.slots), c.in-Ok.ensures.capacity)
+invariant_of-result c = (
+  omega arith,
+  rw (← c.registry.ensures.value) c.sound.ensures.sound,
+  rw c.in-Ok.ensures.slots
+      (opened_fit (setup_of c.args.config) c.args.config.slots),
+  c.in-Ok.ensures.capacity,
+)

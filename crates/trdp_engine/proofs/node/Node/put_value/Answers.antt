@@ -12,18 +12,29 @@ pub returns-clause-values : goal.returns-clause-values
 returns-clause-values c =
     let there : c.args.slot < length c.self.inside.store = omega arith in
     rw (← c.self.view_is)
-    (became_parts (λ slot. valued (setup_of c.self.inside.config) slot c.args.handle (model_of c.args.item.now)) c.args.slot c.self.inside.store c.put_value.new.store c.args.out.now c.put_value.new.out there c.in_ok-put_value.ensures.becomes)
+    (became_parts (λ slot. valued (setup_of c.self.inside.config) slot c.args.handle
+    (model_of c.args.item.now)) c.args.slot c.self.inside.store c.put_value.new.store
+    c.args.out.now c.put_value.new.out there c.in_ok-put_value.ensures.becomes)
 
 pub returns-clause-appends : goal.returns-clause-appends
 returns-clause-appends c =
     let there : c.args.slot < length c.self.inside.store = omega arith in
     rw (← c.self.view_is)
-    (became_appends (λ slot. valued (setup_of c.self.inside.config) slot c.args.handle (model_of c.args.item.now)) c.args.slot c.self.inside.store c.put_value.new.store c.args.out.now c.put_value.new.out there c.in_ok-put_value.ensures.becomes)
+    (became_appends (λ slot. valued (setup_of c.self.inside.config) slot c.args.handle
+    (model_of c.args.item.now)) c.args.slot c.self.inside.store c.put_value.new.store
+    c.args.out.now c.put_value.new.out there c.in_ok-put_value.ensures.becomes)
 
 pub invariant_of-self-2 : goal.invariant_of-self-2
 invariant_of-self-2 c =
     let there : c.args.slot < length c.self.inside.store = omega arith in
-    let parts = became_parts (λ slot. valued (setup_of c.self.inside.config) slot c.args.handle (model_of c.args.item.now)) c.args.slot c.self.inside.store c.put_value.new.store c.args.out.now c.put_value.new.out there c.in_ok-put_value.ensures.becomes in
-    let count = became_count c.args.slot _ c.self.inside.store c.put_value.new.store c.args.out.now c.put_value.new.out c.in_ok-put_value.ensures.becomes in
-    let fits = outcomes_fit (setup_of c.self.inside.config) (λ r slot. valued_at (setup_of c.self.inside.config) c.args.slot r slot c.args.handle (model_of c.args.item.now)) (slots_of c.self.inside.store) (slots_of c.put_value.new.store) _ _ count parts (λ r slot fit. valued_at_fits (setup_of c.self.inside.config) c.args.slot r slot c.args.handle (model_of c.args.item.now) fit) c.self.invariant.2 in
+    let parts = became_parts (λ slot. valued (setup_of c.self.inside.config) slot c.args.handle
+    (model_of c.args.item.now)) c.args.slot c.self.inside.store c.put_value.new.store
+    c.args.out.now c.put_value.new.out there c.in_ok-put_value.ensures.becomes in
+    let count = became_count c.args.slot _ c.self.inside.store c.put_value.new.store
+    c.args.out.now c.put_value.new.out c.in_ok-put_value.ensures.becomes in
+    let fits = outcomes_fit (setup_of c.self.inside.config)
+    (λ r slot. valued_at (setup_of c.self.inside.config) c.args.slot r slot c.args.handle
+    (model_of c.args.item.now)) (slots_of c.self.inside.store) (slots_of c.put_value.new.store)
+    _ _ count parts (λ r slot fit. valued_at_fits (setup_of c.self.inside.config)
+    c.args.slot r slot c.args.handle (model_of c.args.item.now) fit) c.self.invariant.2 in
     (c.self.invariant.0, c.self.invariant.1, fits, c.self.invariant.3)

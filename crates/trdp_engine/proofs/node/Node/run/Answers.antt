@@ -22,12 +22,30 @@ loop-event-preserved c = record {
   config = c.step-result.ensures.config ∙ c.loop-event.invariant.config;
   count = c.step-result.ensures.count ∙ c.loop-event.invariant.count;
   runs = λ s slot is.
-      rw (one_more c.args.events.now c.loop-event.event-index c.event-item.result c.loop-event-test.true, ← c.event-item.is)
-      (one_event c.args.self.now c.loop-event.self c.step-result.new.self c.args.out.now.records c.loop-event.out.records c.step-result.new.out.records _ _ s slot _ c.step-result.result c.loop-event.invariant.config refl c.step-result.ensures.fault (c.is_out_of_memory.ensures.no c.if-is_out_of_memory.false) c.step-result.ensures.kept c.step-result.ensures.unrecorded c.step-result.ensures.globals c.step-result.ensures.steps (c.loop-event.invariant.runs s slot is));
-  appends = appends_more c.args.self.now.slots c.loop-event.self.slots _ _ _ c.loop-event.invariant.count c.loop-event.invariant.appends c.step-result.ensures.appends;
+      rw (
+        one_more c.args.events.now c.loop-event.event-index
+            c.event-item.result c.loop-event-test.true,
+        ← c.event-item.is,
+      )
+      (one_event c.args.self.now c.loop-event.self c.step-result.new.self
+      c.args.out.now.records c.loop-event.out.records c.step-result.new.out.records
+      _ _ s slot _ c.step-result.result c.loop-event.invariant.config refl
+      c.step-result.ensures.fault (c.is_out_of_memory.ensures.no c.if-is_out_of_memory.false)
+      c.step-result.ensures.kept c.step-result.ensures.unrecorded c.step-result.ensures.globals
+      c.step-result.ensures.steps (c.loop-event.invariant.runs s slot is));
+  appends = appends_more c.args.self.now.slots c.loop-event.self.slots _
+      _ _ c.loop-event.invariant.count c.loop-event.invariant.appends c.step-result.ensures.appends;
   counted =
-      rw (one_more c.args.events.now c.loop-event.event-index c.event-item.result c.loop-event-test.true, ← c.event-item.is)
-      (latest_next c.args.self.now c.loop-event.self c.step-result.new.self _ _ c.step-result.result c.step-result.ensures.fault (c.is_out_of_memory.ensures.no c.if-is_out_of_memory.false) (has_come c.args.self.now c.loop-event.self c.args.out.now.records c.loop-event.out.records _ c.loop-event.invariant.count c.loop-event.invariant.runs) c.step-result.ensures.kept c.step-result.ensures.cost c.loop-event.invariant.counted);
+      rw (
+        one_more c.args.events.now c.loop-event.event-index
+            c.event-item.result c.loop-event-test.true,
+        ← c.event-item.is,
+      )
+      (latest_next c.args.self.now c.loop-event.self c.step-result.new.self _ _ c.step-result.result
+      c.step-result.ensures.fault (c.is_out_of_memory.ensures.no c.if-is_out_of_memory.false)
+      (has_come c.args.self.now c.loop-event.self c.args.out.now.records
+      c.loop-event.out.records _ c.loop-event.invariant.count c.loop-event.invariant.runs)
+      c.step-result.ensures.kept c.step-result.ensures.cost c.loop-event.invariant.counted);
 }
 
 pub returns-then-is_out_of_memory-clause-alone : goal.returns-then-is_out_of_memory-clause-alone
@@ -35,28 +53,50 @@ returns-then-is_out_of_memory-clause-alone c = λ s slot is.
     let memory = c.is_out_of_memory.ensures.yes c.if-is_out_of_memory.true in
     let kept = rw memory at c.step-result.ensures.kept in
     let unrecorded = rw memory at c.step-result.ensures.unrecorded in
-    rw (c.loop-event.invariant.taken, kept, unrecorded) (so_far _ _ _ _ _ s slot (c.loop-event.invariant.runs s slot is))
+    rw (c.loop-event.invariant.taken, kept, unrecorded)
+    (so_far _ _ _ _ _ s slot (c.loop-event.invariant.runs s slot is))
 
 pub returns-clause-alone : goal.returns-clause-alone
-returns-clause-alone c = λ s slot is. rw c.loop-event.invariant.taken (so_far _ _ _ _ _ s slot (c.loop-event.invariant.runs s slot is))
+returns-clause-alone c = λ s slot is. rw c.loop-event.invariant.taken
+    (so_far _ _ _ _ _ s slot (c.loop-event.invariant.runs s slot is))
 
 pub returns-then-is_out_of_memory-clause-stops : goal.returns-then-is_out_of_memory-clause-stops
 returns-then-is_out_of_memory-clause-stops c =
     let memory = c.is_out_of_memory.ensures.yes c.if-is_out_of_memory.true in
     let kept = rw memory at c.step-result.ensures.kept in
-    rw (c.loop-event.invariant.taken, kept, slice_get-get_or c.args.events.now c.loop-event.event-index c.event-item.result c.loop-event-test.true, ← c.event-item.is) (c.step-result.ensures.memory memory)
+    rw (
+      c.loop-event.invariant.taken,
+      kept,
+      slice_get-get_or c.args.events.now
+          c.loop-event.event-index c.event-item.result c.loop-event-test.true,
+      ← c.event-item.is,
+    )
+    (c.step-result.ensures.memory memory)
 
 pub returns-clause-stops : goal.returns-clause-stops
-returns-clause-stops c = rw (c.loop-event.invariant.taken, slice_get_past c.args.events.now c.loop-event.event-index (omega arith)) tt
+returns-clause-stops c = rw (
+  c.loop-event.invariant.taken,
+  slice_get_past c.args.events.now c.loop-event.event-index (omega arith),
+) tt
 
 pub returns-then-is_out_of_memory-clause-lacks : goal.returns-then-is_out_of_memory-clause-lacks
 returns-then-is_out_of_memory-clause-lacks c =
     let memory = c.is_out_of_memory.ensures.yes c.if-is_out_of_memory.true in
     let kept = rw memory at c.step-result.ensures.kept in
-    rw (c.loop-event.invariant.taken, kept, slice_get-get_or c.args.events.now c.loop-event.event-index c.event-item.result c.loop-event-test.true, ← c.event-item.is) (c.step-result.ensures.still memory)
+    rw (
+      c.loop-event.invariant.taken,
+      kept,
+      slice_get-get_or c.args.events.now
+          c.loop-event.event-index c.event-item.result c.loop-event-test.true,
+      ← c.event-item.is,
+    )
+    (c.step-result.ensures.still memory)
 
 pub returns-clause-lacks : goal.returns-clause-lacks
-returns-clause-lacks c = rw (c.loop-event.invariant.taken, slice_get_past c.args.events.now c.loop-event.event-index (omega arith)) tt
+returns-clause-lacks c = rw (
+  c.loop-event.invariant.taken,
+  slice_get_past c.args.events.now c.loop-event.event-index (omega arith),
+) tt
 
 pub returns-then-is_out_of_memory-clause-counted : goal.returns-then-is_out_of_memory-clause-counted
 returns-then-is_out_of_memory-clause-counted c =

@@ -13,7 +13,9 @@ invariant-loop-event l = record {
   taken : l.taken ≡ l.event-index;
   config : l.self.config ≡ l.fn.self.config;
   count : length l.self.slots ≡ length l.fn.self.slots;
-  runs : (s : ℕ) (slot : SlotState) → slice_get l.fn.self.slots s ≡ Some slot → RunsAsAloneSoFar l.fn.self l.self l.fn.out.records l.out.records (map event_model (take l.event-index l.events)) s slot;
+  runs : (s : ℕ) (slot : SlotState) → slice_get l.fn.self.slots s ≡ Some slot
+      → RunsAsAloneSoFar l.fn.self l.self l.fn.out.records
+      l.out.records (map event_model (take l.event-index l.events)) s slot;
   appends : Appends l.fn.self.slots l.fn.out.records l.out.records;
   counted : CountsLatest l.fn.self l.self (map event_model (take l.event-index l.events));
 }

@@ -1,5 +1,5 @@
 use Rattle.trdp_engine.specs.Events.{event_model}
-use Rattle.trdp_engine.proofs.Costs.{bounded_none, bounded_if}
+use Rattle.trdp_engine.proofs.WithinCosts.{bounded_none, bounded_if}
 use Rattle.trdp_engine.proofs.node.Node.step.Goals as goal
 
 pub returns-in-Moment-clause-steps : goal.returns-in-Moment-clause-steps
@@ -15,13 +15,16 @@ pub returns-in-Moment-clause-cost : goal.returns-in-Moment-clause-cost
 returns-in-Moment-clause-cost c = rw c.in-Moment.is c.step_moment.ensures.cost
 
 pub returns-in-Topology-clause-cost : goal.returns-in-Topology-clause-cost
-returns-in-Topology-clause-cost c = bounded_none c.args.self.now.slots (event_model c.args.event.now) c.step_topology.new.self.counts c.step_topology.ensures.counts
+returns-in-Topology-clause-cost c = bounded_none c.args.self.now.slots
+    (event_model c.args.event.now) c.step_topology.new.self.counts c.step_topology.ensures.counts
 
 pub returns-in-Role-clause-cost : goal.returns-in-Role-clause-cost
-returns-in-Role-clause-cost c = bounded_if c.step_role.result c.args.self.now.slots (event_model c.args.event.now) c.step_role.new.self.counts c.step_role.ensures.counts
+returns-in-Role-clause-cost c = bounded_if c.step_role.result c.args.self.now.slots
+    (event_model c.args.event.now) c.step_role.new.self.counts c.step_role.ensures.counts
 
 pub returns-in-Datagram-clause-cost : goal.returns-in-Datagram-clause-cost
 returns-in-Datagram-clause-cost c = rw c.in-Datagram.is c.step_datagram.ensures.cost
 
 pub returns-in-Call-clause-cost : goal.returns-in-Call-clause-cost
-returns-in-Call-clause-cost c = bounded_if c.step_call.result c.args.self.now.slots (event_model c.args.event.now) c.step_call.new.self.counts c.step_call.ensures.counts
+returns-in-Call-clause-cost c = bounded_if c.step_call.result c.args.self.now.slots
+    (event_model c.args.event.now) c.step_call.new.self.counts c.step_call.ensures.counts

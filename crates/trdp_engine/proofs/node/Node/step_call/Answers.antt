@@ -15,19 +15,33 @@ returns-clause-steps c =
     let there : c.args.s < length c.self.inside.store = omega arith in
     rw (← c.self.view_is)
     (λ s slot is.
-    plain_steps _ _ c.args.out.now.records c.serve.new.out.records (CallIs c.args.s (call_model c.args.call.now)) s slot (call_admitted (length (slots_of c.self.inside.store)) c.self.inside.globals c.args.s (call_model c.args.call.now) (rw slots_length there))
-    (became_parts (λ slot. called (setup_of c.self.inside.config) slot c.self.inside.globals (call_model c.args.call.now)) c.args.s c.self.inside.store c.serve.new.store c.args.out.now c.serve.new.out there c.in_ok-serve.ensures.becomes s slot is))
+    plain_steps _ _ c.args.out.now.records c.serve.new.out.records (CallIs c.args.s
+    (call_model c.args.call.now)) s slot (call_admitted (length (slots_of c.self.inside.store))
+    c.self.inside.globals c.args.s (call_model c.args.call.now) (rw slots_length there))
+    (became_parts (λ slot. called (setup_of c.self.inside.config) slot c.self.inside.globals
+    (call_model c.args.call.now)) c.args.s c.self.inside.store c.serve.new.store
+    c.args.out.now c.serve.new.out there c.in_ok-serve.ensures.becomes s slot is))
 
 pub returns-clause-appends : goal.returns-clause-appends
 returns-clause-appends c =
     let there : c.args.s < length c.self.inside.store = omega arith in
     rw (← c.self.view_is)
-    (became_appends (λ slot. called (setup_of c.self.inside.config) slot c.self.inside.globals (call_model c.args.call.now)) c.args.s c.self.inside.store c.serve.new.store c.args.out.now c.serve.new.out there c.in_ok-serve.ensures.becomes)
+    (became_appends (λ slot. called (setup_of c.self.inside.config)
+    slot c.self.inside.globals (call_model c.args.call.now)) c.args.s c.self.inside.store
+    c.serve.new.store c.args.out.now c.serve.new.out there c.in_ok-serve.ensures.becomes)
 
 pub invariant_of-self-2 : goal.invariant_of-self-2
 invariant_of-self-2 c =
     let there : c.args.s < length c.self.inside.store = omega arith in
-    let parts = became_parts (λ slot. called (setup_of c.self.inside.config) slot c.self.inside.globals (call_model c.args.call.now)) c.args.s c.self.inside.store c.serve.new.store c.args.out.now c.serve.new.out there c.in_ok-serve.ensures.becomes in
-    let count = became_count c.args.s _ c.self.inside.store c.serve.new.store c.args.out.now c.serve.new.out c.in_ok-serve.ensures.becomes in
-    let fits = outcomes_fit (setup_of c.self.inside.config) (λ r slot. plain_effect (setup_of c.self.inside.config) r slot c.self.inside.globals (CallIs c.args.s (call_model c.args.call.now))) (slots_of c.self.inside.store) (slots_of c.serve.new.store) _ _ count parts (λ r slot fit. plain_call_fits (setup_of c.self.inside.config) c.args.s r slot c.self.inside.globals (call_model c.args.call.now) c.self.invariant.1 fit) c.self.invariant.2 in
+    let parts = became_parts (λ slot. called (setup_of c.self.inside.config)
+    slot c.self.inside.globals (call_model c.args.call.now)) c.args.s c.self.inside.store
+    c.serve.new.store c.args.out.now c.serve.new.out there c.in_ok-serve.ensures.becomes in
+    let count = became_count c.args.s _ c.self.inside.store
+    c.serve.new.store c.args.out.now c.serve.new.out c.in_ok-serve.ensures.becomes in
+    let fits = outcomes_fit (setup_of c.self.inside.config)
+    (λ r slot. plain_effect (setup_of c.self.inside.config)
+    r slot c.self.inside.globals (CallIs c.args.s (call_model c.args.call.now)))
+    (slots_of c.self.inside.store) (slots_of c.serve.new.store) _ _ count parts (λ r slot fit.
+    plain_call_fits (setup_of c.self.inside.config) c.args.s r slot c.self.inside.globals
+    (call_model c.args.call.now) c.self.invariant.1 fit) c.self.invariant.2 in
     (c.self.invariant.0, c.self.invariant.1, fits, c.self.invariant.3)

@@ -3,7 +3,7 @@ use Rattle.trdp_engine.specs.Configs.{setup_of}
 use Rattle.trdp_engine.specs.Events.{DatagramIs}
 use Rattle.trdp_engine.specs.Slots.{slots_of}
 use Rattle.trdp_engine.specs.Datagrams.{telegram_of, received_if}
-use Rattle.trdp_engine.proofs.Costs.{within_costs}
+use Rattle.trdp_engine.proofs.WithinCosts.{within_costs}
 use Rattle.trdp_engine.proofs.FittingEvents.{received_fits}
 use Rattle.trdp_engine.proofs.Parts.{same_count}
 use Rattle.trdp_engine.proofs.Steps.{plain_steps, outcomes_fit}
@@ -13,13 +13,24 @@ pub returns-clause-steps : goal.returns-clause-steps
 returns-clause-steps c =
     rw (← c.self.view_is)
     (λ s slot is.
-    plain_steps _ _ c.args.out.now.records c.hear.new.out.records (DatagramIs c.args.protocol c.args.src c.args.dst c.args.bytes.now) s slot refl (c.in_ok-hear.ensures.parts s slot is))
+    plain_steps _ _ c.args.out.now.records c.hear.new.out.records (DatagramIs c.args.protocol
+    c.args.src c.args.dst c.args.bytes.now) s slot refl (c.in_ok-hear.ensures.parts s slot is))
 
 pub invariant_of-self-2 : goal.invariant_of-self-2
 invariant_of-self-2 c =
     let count = same_count c.self.inside.store c.hear.new.store c.in_ok-hear.ensures.count in
-    let fits = outcomes_fit (setup_of c.self.inside.config) (λ s slot. received_if (setup_of c.self.inside.config) slot c.self.inside.globals (telegram_of c.args.protocol c.args.src c.args.dst c.args.bytes.now)) (slots_of c.self.inside.store) (slots_of c.hear.new.store) _ _ count c.in_ok-hear.ensures.parts (λ s slot fit. received_fits (setup_of c.self.inside.config) slot c.self.inside.globals (telegram_of c.args.protocol c.args.src c.args.dst c.args.bytes.now) fit) c.self.invariant.2 in
-    (c.self.invariant.0, c.self.invariant.1, fits, rw c.in_ok-hear.ensures.capacity c.self.invariant.3)
+    let fits = outcomes_fit (setup_of c.self.inside.config)
+    (λ s slot. received_if (setup_of c.self.inside.config) slot
+    c.self.inside.globals (telegram_of c.args.protocol c.args.src c.args.dst c.args.bytes.now))
+    (slots_of c.self.inside.store) (slots_of c.hear.new.store) _ _ count
+    c.in_ok-hear.ensures.parts (λ s slot fit. received_fits (setup_of c.self.inside.config) slot
+    c.self.inside.globals (telegram_of c.args.protocol c.args.src c.args.dst c.args.bytes.now)
+    fit) c.self.invariant.2 in (
+      c.self.invariant.0,
+      c.self.invariant.1,
+      fits,
+      rw c.in_ok-hear.ensures.capacity c.self.invariant.3,
+    )
 
 pub returns-clause-cost : goal.returns-clause-cost
 returns-clause-cost c =

@@ -5,4 +5,5 @@ pub due_total-rows-requires-clause-fits : goal.due_total-rows-requires-clause-fi
 due_total-rows-requires-clause-fits c = rw c.deref.ensures.value (rows_fit _ _ _ c.self.invariant)
 
 pub due_total-bytes-requires-clause-fits : goal.due_total-bytes-requires-clause-fits
-due_total-bytes-requires-clause-fits c = rw c.deref-2.ensures.value (bytes_fit _ _ _ c.self.invariant)
+due_total-bytes-requires-clause-fits c =
+    rw c.deref-2.ensures.value (bytes_fit _ _ _ c.self.invariant)

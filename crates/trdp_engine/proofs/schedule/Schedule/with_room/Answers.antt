@@ -5,4 +5,5 @@ use Rattle.trdp_engine.proofs.schedule.Schedule.with_room.Goals as goal
 
 pub invariant_of-result : goal.invariant_of-result
 invariant_of-result c =
-    schedule_new _ _ _ c.args.room c.requires (ap length c.in_ok-timers.ensures.room ∙ length-replicate c.args.room _) c.in_ok-rows.ensures c.in_ok-bytes.ensures
+    schedule_new _ _ _ c.args.room c.requires (ap length c.in_ok-timers.ensures.room
+    ∙ length-replicate c.args.room _) c.in_ok-rows.ensures c.in_ok-bytes.ensures

@@ -10,24 +10,32 @@ use Rattle.trdp_engine.proofs.store.Store.add.Goals as goal
 pub enlist-requires-clause-spare : goal.enlist-requires-clause-spare
 enlist-requires-clause-spare c =
     has_spare c.self.inside.table c.self.inside.coms c.com_of-sought.result c.self.invariant.by_com
-    (c.sound.ensures.spare c.args.slot _ (rw (← c.self.view_is) at c.requires.slot) c.in-Ok.ensures.granted)
+    (c.sound.ensures.spare c.args.slot _ (rw (← c.self.view_is) at c.requires.slot)
+    c.in-Ok.ensures.granted)
 
 pub enlist-requires-clause-fresh : goal.enlist-requires-clause-fresh
 enlist-requires-clause-fresh c =
-    rw c.in-Ok.ensures.handle (is_fresh c.self.inside.table c.self.inside.coms c.com_of-sought.result c.args.slot c.self.invariant.by_com c.sound.ensures.sound)
+    rw c.in-Ok.ensures.handle (is_fresh c.self.inside.table c.self.inside.coms
+    c.com_of-sought.result c.args.slot c.self.invariant.by_com c.sound.ensures.sound)
 
 pub enter-requires-clause-spare : goal.enter-requires-clause-spare
 enter-requires-clause-spare c =
-    session_spare c.self.inside.table c.self.inside.sessions c.session_of-own.result c.self.invariant.by_session
-    (c.sound.ensures.spare c.args.slot _ (rw (← c.self.view_is) at c.requires.slot) c.in-Ok.ensures.granted)
+    session_spare c.self.inside.table c.self.inside.sessions
+    c.session_of-own.result c.self.invariant.by_session
+    (c.sound.ensures.spare c.args.slot _ (rw (← c.self.view_is) at c.requires.slot)
+    c.in-Ok.ensures.granted)
 
 pub enter-requires-clause-fresh : goal.enter-requires-clause-fresh
 enter-requires-clause-fresh c =
-    rw c.session_of-own.ensures (session_fresh c.self.inside.table c.self.inside.sessions c.args.slot c.args.object c.self.invariant.by_session (rw (← c.self.view_is) at c.requires.fresh))
+    rw c.session_of-own.ensures
+    (session_fresh c.self.inside.table c.self.inside.sessions c.args.slot
+    c.args.object c.self.invariant.by_session (rw (← c.self.view_is) at c.requires.fresh))
 
 pub admit-requires-clause-key : goal.admit-requires-clause-key
 admit-requires-clause-key c =
-    let within = added_within c.self.inside.table c.add.new.self c.args.slot c.in-Ok.handle c.in-Some.key c.args.object c.sound-in-Ok.ensures.sound c.sound-in-Ok.ensures.found (rw (← c.self.view_is) at c.requires.slot) c.in-Ok.ensures.added c.in-Some.ensures in
+    let within = added_within c.self.inside.table c.add.new.self c.args.slot c.in-Ok.handle
+    c.in-Some.key c.args.object c.sound-in-Ok.ensures.sound c.sound-in-Ok.ensures.found
+    (rw (← c.self.view_is) at c.requires.slot) c.in-Ok.ensures.added c.in-Some.ensures in
     omega (arith, within, c.self.invariant.by_moment.room)
 
 pub admit-requires-clause-rows : goal.admit-requires-clause-rows
@@ -38,25 +46,37 @@ admit-requires-clause-bytes c = rw c.of-room.ensures (kind_bytes (kind_of c.args
 
 pub set-requires : goal.set-requires
 set-requires c =
-    let within = added_within c.self.inside.table c.add.new.self c.args.slot c.in-Ok.handle c.in-Some.key c.args.object c.sound-in-Ok.ensures.sound c.sound-in-Ok.ensures.found (rw (← c.self.view_is) at c.requires.slot) c.in-Ok.ensures.added c.in-Some.ensures in
+    let within = added_within c.self.inside.table c.add.new.self c.args.slot c.in-Ok.handle
+    c.in-Some.key c.args.object c.sound-in-Ok.ensures.sound c.sound-in-Ok.ensures.found
+    (rw (← c.self.view_is) at c.requires.slot) c.in-Ok.ensures.added c.in-Some.ensures in
     rw c.admit.ensures.orders (omega (arith, within, c.self.invariant.by_moment.room))
 
 pub invariant_of-self-in-Some : goal.invariant_of-self-in-Some
 invariant_of-self-in-Some c = record {
-  by_com = added_index c.self.inside.table c.add.new.self c.self.inside.coms c.enlist.new.coms c.args.slot c.in-Ok.handle c.in-Some.key c.args.object c.self.invariant.by_com c.sound.ensures.sound (rw (← c.self.view_is) at c.requires.slot)
+  by_com = added_index c.self.inside.table c.add.new.self
+      c.self.inside.coms c.enlist.new.coms c.args.slot c.in-Ok.handle c.in-Some.key c.args.object
+      c.self.invariant.by_com c.sound.ensures.sound (rw (← c.self.view_is) at c.requires.slot)
       c.in-Ok.ensures.added c.in-Ok.ensures.handle c.in-Some.ensures
       (rw c.com_of-sought.ensures at c.enlist.ensures.runs)
       (rw c.com_of-sought.ensures at c.enlist.ensures.count)
       c.enlist.ensures.room;
-  by_session = added_session c.self.inside.table c.add.new.self c.self.inside.sessions c.enter.new.sessions c.args.slot c.in-Ok.handle c.in-Some.key c.args.object c.self.invariant.by_session c.sound.ensures.sound (rw (← c.self.view_is) at c.requires.slot)
+  by_session = added_session c.self.inside.table c.add.new.self c.self.inside.sessions
+      c.enter.new.sessions c.args.slot c.in-Ok.handle c.in-Some.key c.args.object
+      c.self.invariant.by_session c.sound.ensures.sound (rw (← c.self.view_is) at c.requires.slot)
       c.in-Ok.ensures.added c.in-Ok.ensures.handle c.in-Some.ensures
-      (session_fresh c.self.inside.table c.self.inside.sessions c.args.slot c.args.object c.self.invariant.by_session (rw (← c.self.view_is) at c.requires.fresh))
+      (session_fresh c.self.inside.table c.self.inside.sessions c.args.slot
+      c.args.object c.self.invariant.by_session (rw (← c.self.view_is) at c.requires.fresh))
       (rw c.session_of-own.ensures at c.enter.ensures.keys)
       (rw c.session_of-own.ensures at c.enter.ensures.count)
       c.enter.ensures.room;
-  by_moment = added_scheduled c.self.inside.table c.add.new.self c.self.inside.schedule c.set.new.self c.args.slot c.in-Ok.handle c.in-Some.key c.args.object c.self.invariant.by_moment c.sound.ensures.sound c.sound.ensures.found (rw (← c.self.view_is) at c.requires.slot)
+  by_moment =
+      added_scheduled c.self.inside.table c.add.new.self c.self.inside.schedule c.set.new.self
+      c.args.slot c.in-Ok.handle c.in-Some.key c.args.object c.self.invariant.by_moment
+      c.sound.ensures.sound c.sound.ensures.found (rw (← c.self.view_is) at c.requires.slot)
       c.in-Ok.ensures.added c.in-Ok.ensures.handle c.in-Some.ensures
-      (added_within c.self.inside.table c.add.new.self c.args.slot c.in-Ok.handle c.in-Some.key c.args.object c.sound-in-Ok.ensures.sound c.sound-in-Ok.ensures.found (rw (← c.self.view_is) at c.requires.slot) c.in-Ok.ensures.added c.in-Some.ensures)
+      (added_within c.self.inside.table c.add.new.self c.args.slot c.in-Ok.handle
+      c.in-Some.key c.args.object c.sound-in-Ok.ensures.sound c.sound-in-Ok.ensures.found
+      (rw (← c.self.view_is) at c.requires.slot) c.in-Ok.ensures.added c.in-Some.ensures)
       (record {
         orders = c.set.ensures.orders ∙ rw (c.admit.ensures.orders, c.due-due.ensures) refl;
         rows = c.set.ensures.rows ∙ (c.admit.ensures.rows ∙ rw c.of-room.ensures refl);
@@ -66,4 +86,6 @@ invariant_of-self-in-Some c = record {
 
 pub invariant_of-self-in_default : goal.invariant_of-self-in_default
 invariant_of-self-in_default c =
-    absurd (added_there c.self.inside.table c.add.new.self c.args.slot c.in-Ok.handle c.args.object c.sound.ensures.sound (rw (← c.self.view_is) at c.requires.slot) c.in-Ok.ensures.added c.in-Ok.ensures.handle (sym c.find.ensures ∙ c.in_default.is))
+    absurd (added_there c.self.inside.table c.add.new.self c.args.slot c.in-Ok.handle
+    c.args.object c.sound.ensures.sound (rw (← c.self.view_is) at c.requires.slot)
+    c.in-Ok.ensures.added c.in-Ok.ensures.handle (sym c.find.ensures ∙ c.in_default.is))

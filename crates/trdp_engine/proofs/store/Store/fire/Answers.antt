@@ -8,40 +8,71 @@ use Rattle.trdp_engine.specs.Records.{Content, labelled}
 use Rattle.trdp_engine.specs.Slots.{entry_of_keyed}
 use Rattle.trdp_engine.specs.Acting.{slot_at}
 use Rattle.trdp_engine.proofs.Tables.{reached, reached_entry, none_found, none_reached}
-use Rattle.trdp_engine.proofs.Turns.{reached_is, reached_handle, acts_reached, acts_removed, nobody_acts}
+use Rattle.trdp_engine.proofs.Turns.{reached_is, reached_handle}
+use Rattle.trdp_engine.proofs.Turns.{acts_reached, acts_removed, nobody_acts}
 use Rattle.trdp_engine.proofs.Stored.{indexed_reached}
 use Rattle.trdp_engine.proofs.InSession.{session_reached}
 use Rattle.trdp_engine.proofs.Retimed.{room_exchanged, reached_within, scheduled_reached}
 use Rattle.trdp_engine.proofs.Asking.{stayed}
 use Rattle.trdp_engine.proofs.store.Store.fire.Goals as goal
-use Rattle.trdp_engine.proofs.store.Store.fire.Goals.{in-None, in-Some+in-None-get_mut, in-Some+in-Some-get_mut}
+use Rattle.trdp_engine.proofs.store.Store.fire.Goals.{in-None, in-Some+in-None-get_mut}
+use Rattle.trdp_engine.proofs.store.Store.fire.Goals.{in-Some+in-Some-get_mut}
 
 pub fire_object-left-requires-clause-due : goal.fire_object-left-requires-clause-due
 fire_object-left-requires-clause-due c =
-    let r = reached c.self.inside.table c.args.s c.args.handle c.in-Some.key c.in-Some-get_mut.object.now c.sound.ensures.found c.in-Some.ensures c.in-Some-get_mut.ensures.value in
-    let due = rw (← c.self.view_is, reached_entry c.self.inside.table c.args.s c.args.handle c.in-Some.key c.in-Some-get_mut.object.now r) at c.requires.due in
+    let r = reached c.self.inside.table c.args.s
+    c.args.handle c.in-Some.key c.in-Some-get_mut.object.now
+    c.sound.ensures.found c.in-Some.ensures c.in-Some-get_mut.ensures.value in
+    let due = rw (
+      ← c.self.view_is,
+      reached_entry c.self.inside.table
+          c.args.s c.args.handle c.in-Some.key c.in-Some-get_mut.object.now r,
+    ) at c.requires.due in
     rw r.object_is due
 
 pub fire_object-left-requires-clause-room : goal.fire_object-left-requires-clause-room
 fire_object-left-requires-clause-room c =
-    let r = reached c.self.inside.table c.args.s c.args.handle c.in-Some.key c.in-Some-get_mut.object.now c.sound.ensures.found c.in-Some.ensures c.in-Some-get_mut.ensures.value in
+    let r = reached c.self.inside.table c.args.s
+    c.args.handle c.in-Some.key c.in-Some-get_mut.object.now
+    c.sound.ensures.found c.in-Some.ensures c.in-Some-get_mut.ensures.value in
     let may = rw (← c.self.view_is) at c.requires.may in
-    rw (← reached_is c.self.inside.table c.args.s c.args.handle c.in-Some.key c.in-Some-get_mut.object.now c.args.out.now r may) may.room
+    rw (← reached_is c.self.inside.table c.args.s
+    c.args.handle c.in-Some.key c.in-Some-get_mut.object.now c.args.out.now r may) may.room
 
 pub set-requires : goal.set-requires
 set-requires c =
-    let r = reached c.self.inside.table c.args.s c.args.handle c.in-Some.key c.in-Some-get_mut.object.now c.sound.ensures.found c.in-Some.ensures c.in-Some-get_mut.ensures.value in
-    let within = reached_within c.self.inside.table c.args.s c.args.handle c.in-Some.key c.in-Some-get_mut.object.now c.sound.ensures.sound c.sound.ensures.found r in
+    let r = reached c.self.inside.table c.args.s
+    c.args.handle c.in-Some.key c.in-Some-get_mut.object.now
+    c.sound.ensures.found c.in-Some.ensures c.in-Some-get_mut.ensures.value in
+    let within = reached_within c.self.inside.table c.args.s c.args.handle
+    c.in-Some.key c.in-Some-get_mut.object.now c.sound.ensures.sound c.sound.ensures.found r in
     omega (arith, within, c.self.invariant.by_moment.room)
 
 pub invariant_of-self-in-Some-get_mut : goal.invariant_of-self-in-Some-get_mut
 invariant_of-self-in-Some-get_mut c =
-    let r = reached c.self.inside.table c.args.s c.args.handle c.in-Some.key c.in-Some-get_mut.object.now c.sound.ensures.found c.in-Some.ensures c.in-Some-get_mut.ensures.value in
+    let r = reached c.self.inside.table c.args.s
+    c.args.handle c.in-Some.key c.in-Some-get_mut.object.now
+    c.sound.ensures.found c.in-Some.ensures c.in-Some-get_mut.ensures.value in
     record {
-      by_com = indexed_reached c.self.inside.table c.self.inside.coms c.args.s c.args.handle c.in-Some.key c.in-Some-get_mut.object.now c.fire_object-left.new.object c.self.invariant.by_com c.sound.ensures.sound (rw (← c.self.view_is) at c.requires.slot) c.sound.ensures.exchanged r c.fire_object-left.ensures.sought;
-      by_session = session_reached c.self.inside.table c.self.inside.sessions c.args.s c.args.handle c.in-Some.key c.in-Some-get_mut.object.now c.fire_object-left.new.object c.self.invariant.by_session c.sound.ensures.sound (rw (← c.self.view_is) at c.requires.slot) c.sound.ensures.exchanged r c.fire_object-left.ensures.session;
-      by_moment = scheduled_reached c.self.inside.table c.self.inside.schedule c.set.new.self c.args.s c.args.handle c.in-Some.key c.in-Some-get_mut.object.now c.fire_object-left.new.object c.self.invariant.by_moment c.sound.ensures.sound c.sound.ensures.found (rw (← c.self.view_is) at c.requires.slot) c.sound.ensures.exchanged r c.fire_object-left.ensures.kind
-          (record { orders = rw c.due.ensures at c.set.ensures.orders; rows = c.set.ensures.rows; bytes = c.set.ensures.bytes });
+      by_com = indexed_reached c.self.inside.table c.self.inside.coms c.args.s
+          c.args.handle c.in-Some.key c.in-Some-get_mut.object.now c.fire_object-left.new.object
+          c.self.invariant.by_com c.sound.ensures.sound (rw (← c.self.view_is) at c.requires.slot)
+          c.sound.ensures.exchanged r c.fire_object-left.ensures.sought;
+      by_session = session_reached c.self.inside.table
+          c.self.inside.sessions c.args.s c.args.handle c.in-Some.key
+          c.in-Some-get_mut.object.now c.fire_object-left.new.object c.self.invariant.by_session
+          c.sound.ensures.sound (rw (← c.self.view_is) at c.requires.slot)
+          c.sound.ensures.exchanged r c.fire_object-left.ensures.session;
+      by_moment = scheduled_reached c.self.inside.table
+          c.self.inside.schedule c.set.new.self c.args.s c.args.handle c.in-Some.key
+          c.in-Some-get_mut.object.now c.fire_object-left.new.object c.self.invariant.by_moment
+          c.sound.ensures.sound c.sound.ensures.found (rw (← c.self.view_is) at c.requires.slot)
+          c.sound.ensures.exchanged r c.fire_object-left.ensures.kind
+          (record {
+            orders = rw c.due.ensures at c.set.ensures.orders;
+            rows = c.set.ensures.rows;
+            bytes = c.set.ensures.bytes;
+          });
     }
 
 pub returns-in-Ended : goal.returns-in-Ended
@@ -50,58 +81,102 @@ returns-in-Ended c = elim c.match-find.branch [
   | in-Some+in-None-get_mut w ↦ absurd (cc)
   | in-Some+in-Some-get_mut w ↦
       let ended : w.fire_object-left.result ≡ Ended = cc in
-      let r = reached c.self.inside.table c.args.s c.args.handle w.in-Some.key w.in-Some-get_mut.object.now c.sound.ensures.found w.in-Some.ensures w.in-Some-get_mut.ensures.value in
+      let r = reached c.self.inside.table c.args.s
+      c.args.handle w.in-Some.key w.in-Some-get_mut.object.now
+      c.sound.ensures.found w.in-Some.ensures w.in-Some-get_mut.ensures.value in
       record {
         acts =
             rw (← c.self.view_is, c.remove.ensures.table, w.self-is, w.out-is)
-            (acts_removed c.self.inside.table c.args.s c.args.handle w.in-Some.key w.in-Some-get_mut.object.now w.fire_object-left.new.object (firing_act c.args.globals.now) c.args.out.now w.fire_object-left.new.out (rw (← c.self.view_is) at c.requires.slot) c.sound.ensures.exchanged r
-            (left_by_firing c.args.globals.now (entry_of_keyed r.keyed) w.in-Some-get_mut.object.now (None) r.object_is (rw ended at w.fire_object-left.ensures.left))
+            (acts_removed c.self.inside.table c.args.s c.args.handle
+            w.in-Some.key w.in-Some-get_mut.object.now w.fire_object-left.new.object
+            (firing_act c.args.globals.now) c.args.out.now w.fire_object-left.new.out
+            (rw (← c.self.view_is) at c.requires.slot) c.sound.ensures.exchanged r
+            (left_by_firing c.args.globals.now (entry_of_keyed r.keyed) w.in-Some-get_mut.object.now
+            (None) r.object_is (rw ended at w.fire_object-left.ensures.left))
             (w.fire_object-left.ensures.records
             ∙ ap (λ (cs : List Content). c.args.out.now.records ++ labelled c.args.s cs)
-            (gives_firing c.args.globals.now (entry_of_keyed r.keyed) c.args.handle w.in-Some-get_mut.object.now
-            (reached_handle c.self.inside.table c.args.s c.args.handle w.in-Some.key w.in-Some-get_mut.object.now r)
+            (gives_firing c.args.globals.now (entry_of_keyed r.keyed)
+            c.args.handle w.in-Some-get_mut.object.now
+            (reached_handle c.self.inside.table
+            c.args.s c.args.handle w.in-Some.key w.in-Some-get_mut.object.now r)
             r.object_is))
             w.fire_object-left.ensures.within);
         comparisons = λ b lt.
             let within : room_of c.self.inside.table < 2 ^ b = rw (← c.self.view_is) at lt in
-            let set = w.set.ensures.cost b (omega (arith, within, c.self.invariant.by_moment.room)) in
-            let there : room_of (exchanged w.in-Some.key c.self.inside.table w.fire_object-left.new.object) < 2 ^ b =
-            omega (arith, within, room_exchanged w.in-Some.key c.self.inside.table w.fire_object-left.new.object) in
+            let set =
+            w.set.ensures.cost b (omega (arith, within, c.self.invariant.by_moment.room)) in
+            let there :
+            room_of (exchanged w.in-Some.key c.self.inside.table w.fire_object-left.new.object)
+            < 2 ^ b =
+            omega (
+              arith,
+              within,
+              room_exchanged w.in-Some.key c.self.inside.table w.fire_object-left.new.object,
+            ) in
             let gone = (rw w.self-is at c.remove.ensures.cost) b there in
             let counted = ap (λ (k : Counts). k.comparisons) w.counts-is in
-            omega (arith, set, gone, w.compared.ensures.comparisons, c.looked_up.ensures.comparisons, c.compared-in-Ended.ensures.comparisons, counted);
-        tests = c.compared-in-Ended.ensures.tests ∙ (c.looked_up.ensures.tests ∙ (ap (λ (k : Counts). k.tests) w.counts-is ∙ w.compared.ensures.tests));
+            omega (
+              arith,
+              set,
+              gone,
+              w.compared.ensures.comparisons,
+              c.looked_up.ensures.comparisons,
+              c.compared-in-Ended.ensures.comparisons,
+              counted,
+            );
+        tests = c.compared-in-Ended.ensures.tests ∙ (c.looked_up.ensures.tests
+            ∙ (ap (λ (k : Counts). k.tests) w.counts-is ∙ w.compared.ensures.tests));
         look_ups =
             let counted = ap (λ (k : Counts). k.look_ups) w.counts-is in
-            omega (arith, c.compared-in-Ended.ensures.look_ups, c.looked_up.ensures.look_ups, counted, w.compared.ensures.look_ups);
+            omega (
+              arith,
+              c.compared-in-Ended.ensures.look_ups,
+              c.looked_up.ensures.look_ups,
+              counted,
+              w.compared.ensures.look_ups,
+            );
       }
 ]
 
 pub returns-in_default : goal.returns-in_default
 returns-in_default c = elim c.match-find.branch [
   | in-None w ↦
-      nobody_acts _ (slot_at c.args.s c.self.inside.table) c.args.handle c.args.out.now (rw (← c.self.view_is) at c.requires.may)
+      nobody_acts _ (slot_at c.args.s c.self.inside.table)
+      c.args.handle c.args.out.now (rw (← c.self.view_is) at c.requires.may)
       (none_found c.self.inside.table c.args.s c.args.handle w.in-None.ensures)
   | in-Some+in-None-get_mut w ↦
-      nobody_acts _ (slot_at c.args.s c.self.inside.table) c.args.handle c.args.out.now (rw (← c.self.view_is) at c.requires.may)
-      (none_reached c.self.inside.table c.args.s c.args.handle w.in-Some.key c.sound.ensures.found w.in-Some.ensures w.in-None-get_mut.ensures.value)
+      nobody_acts _ (slot_at c.args.s c.self.inside.table)
+      c.args.handle c.args.out.now (rw (← c.self.view_is) at c.requires.may)
+      (none_reached c.self.inside.table c.args.s c.args.handle
+      w.in-Some.key c.sound.ensures.found w.in-Some.ensures w.in-None-get_mut.ensures.value)
   | in-Some+in-Some-get_mut w ↦
-      let stays : w.fire_object-left.result ≡ Stays = stayed w.fire_object-left.result (λ is. c.in_default.not-Ended (cc)) in
-      let r = reached c.self.inside.table c.args.s c.args.handle w.in-Some.key w.in-Some-get_mut.object.now c.sound.ensures.found w.in-Some.ensures w.in-Some-get_mut.ensures.value in
+      let stays : w.fire_object-left.result ≡ Stays =
+      stayed w.fire_object-left.result (λ is. c.in_default.not-Ended (cc)) in
+      let r = reached c.self.inside.table c.args.s
+      c.args.handle w.in-Some.key w.in-Some-get_mut.object.now
+      c.sound.ensures.found w.in-Some.ensures w.in-Some-get_mut.ensures.value in
       record {
         acts =
             rw (← c.self.view_is, w.self-is, w.out-is)
-            (acts_reached c.self.inside.table c.args.s c.args.handle w.in-Some.key w.in-Some-get_mut.object.now w.fire_object-left.new.object (firing_act c.args.globals.now) c.args.out.now w.fire_object-left.new.out c.sound.ensures.exchanged r
-            (left_by_firing c.args.globals.now (entry_of_keyed r.keyed) w.in-Some-get_mut.object.now (Some w.fire_object-left.new.object) r.object_is (rw stays at w.fire_object-left.ensures.left))
+            (acts_reached c.self.inside.table
+            c.args.s c.args.handle w.in-Some.key w.in-Some-get_mut.object.now
+            w.fire_object-left.new.object (firing_act c.args.globals.now)
+            c.args.out.now w.fire_object-left.new.out c.sound.ensures.exchanged r
+            (left_by_firing c.args.globals.now (entry_of_keyed r.keyed)
+            w.in-Some-get_mut.object.now (Some w.fire_object-left.new.object)
+            r.object_is (rw stays at w.fire_object-left.ensures.left))
             (w.fire_object-left.ensures.records
             ∙ ap (λ (cs : List Content). c.args.out.now.records ++ labelled c.args.s cs)
-            (gives_firing c.args.globals.now (entry_of_keyed r.keyed) c.args.handle w.in-Some-get_mut.object.now
-            (reached_handle c.self.inside.table c.args.s c.args.handle w.in-Some.key w.in-Some-get_mut.object.now r)
+            (gives_firing c.args.globals.now (entry_of_keyed r.keyed)
+            c.args.handle w.in-Some-get_mut.object.now
+            (reached_handle c.self.inside.table
+            c.args.s c.args.handle w.in-Some.key w.in-Some-get_mut.object.now r)
             r.object_is))
             w.fire_object-left.ensures.within);
         comparisons = λ b lt.
             let within : room_of c.self.inside.table < 2 ^ b = rw (← c.self.view_is) at lt in
-            let set = w.set.ensures.cost b (omega (arith, within, c.self.invariant.by_moment.room)) in
+            let set =
+            w.set.ensures.cost b (omega (arith, within, c.self.invariant.by_moment.room)) in
             let counted = ap (λ (k : Counts). k.comparisons) w.counts-is in
             omega (arith, set, w.compared.ensures.comparisons, counted);
         tests = ap (λ (k : Counts). k.tests) w.counts-is ∙ w.compared.ensures.tests;

@@ -6,11 +6,18 @@ use Rattle.trdp_engine.proofs.Sizes.{room_limited}
 use Rattle.trdp_engine.proofs.store.Store.new.Goals as goal
 
 pub with_room-requires-3 : goal.with_room-requires-3
-with_room-requires-3 c = omega (arith, c.room-room.ensures, room_limited c.in_ok-table.table c.sound.ensures.sound)
+with_room-requires-3 c =
+    omega (arith, c.room-room.ensures, room_limited c.in_ok-table.table c.sound.ensures.sound)
 
 pub invariant_of-result : goal.invariant_of-result
 invariant_of-result c =
-    rw (c.in_ok-coms.ensures, c.in_ok-sessions.ensures, c.in_ok-schedule.ensures, c.room-room.ensures, c.in_ok-table.ensures)
+    rw (
+      c.in_ok-coms.ensures,
+      c.in_ok-sessions.ensures,
+      c.in_ok-schedule.ensures,
+      c.room-room.ensures,
+      c.in_ok-table.ensures,
+    )
     (record {
       by_com = indexed_new c.args.quotas.now _ (omega arith);
       by_session = session_new c.args.quotas.now _ (omega arith);

@@ -10,27 +10,35 @@ use Rattle.trdp_engine.proofs.store.Store.remove.Goals as goal
 
 pub delist-requires : goal.delist-requires
 delist-requires c = record {
-  there = rw (c.com_at-sought.ensures, ← c.self.view_is) (is_there c.self.inside.table c.self.inside.coms c.args.slot c.args.handle c.self.invariant.by_com);
+  there = rw (c.com_at-sought.ensures, ← c.self.view_is) (is_there c.self.inside.table
+      c.self.inside.coms c.args.slot c.args.handle c.self.invariant.by_com);
 }
 
 pub leave-requires : goal.leave-requires
 leave-requires c = record {
-  there = rw (c.session_at-own.ensures, ← c.self.view_is) (session_there c.self.inside.table c.self.inside.sessions c.args.slot c.args.handle c.self.invariant.by_session);
+  there = rw (c.session_at-own.ensures, ← c.self.view_is) (session_there c.self.inside.table
+      c.self.inside.sessions c.args.slot c.args.handle c.self.invariant.by_session);
 }
 
 pub invariant_of-self : goal.invariant_of-self
 invariant_of-self c =
     rw c.remove.ensures.table
     (record {
-      by_com = indexed_removed c.self.inside.table c.self.inside.coms c.delist.new.coms c.args.slot c.args.handle c.self.invariant.by_com c.sound.ensures.sound (rw (← c.self.view_is) at c.requires)
+      by_com = indexed_removed c.self.inside.table
+          c.self.inside.coms c.delist.new.coms c.args.slot c.args.handle
+          c.self.invariant.by_com c.sound.ensures.sound (rw (← c.self.view_is) at c.requires)
           (rw (c.com_at-sought.ensures, ← c.self.view_is) at c.delist.ensures.runs)
           (rw (c.com_at-sought.ensures, ← c.self.view_is) at c.delist.ensures.count)
           c.delist.ensures.room;
-      by_session = session_removed c.self.inside.table c.self.inside.sessions c.leave.new.sessions c.args.slot c.args.handle c.self.invariant.by_session c.sound.ensures.sound c.sound.ensures.found (rw (← c.self.view_is) at c.requires)
+      by_session = session_removed c.self.inside.table c.self.inside.sessions
+          c.leave.new.sessions c.args.slot c.args.handle c.self.invariant.by_session
+          c.sound.ensures.sound c.sound.ensures.found (rw (← c.self.view_is) at c.requires)
           (rw (c.session_at-own.ensures, ← c.self.view_is) at c.leave.ensures.keys)
           (rw (c.session_at-own.ensures, ← c.self.view_is) at c.leave.ensures.count)
           c.leave.ensures.room;
-      by_moment = scheduled_without c.self.inside.table c.self.inside.schedule c.dismiss-comparisons.new.self c.args.slot c.args.handle c.self.invariant.by_moment c.sound.ensures.sound c.sound.ensures.found (rw (← c.self.view_is) at c.requires)
+      by_moment = scheduled_without c.self.inside.table c.self.inside.schedule
+          c.dismiss-comparisons.new.self c.args.slot c.args.handle c.self.invariant.by_moment
+          c.sound.ensures.sound c.sound.ensures.found (rw (← c.self.view_is) at c.requires)
           (rw c.find-key.ensures at c.dismiss-comparisons.ensures.orders)
           c.dismiss-comparisons.ensures.rows
           c.dismiss-comparisons.ensures.bytes;
@@ -38,7 +46,8 @@ invariant_of-self c =
 
 pub returns-clause-idle : goal.returns-clause-idle
 returns-clause-idle c = λ keyed at none.
-    let found : by_handle c.args.handle (slot_in c.args.slot c.self.inside.table).objects ≡ Some keyed = rw (← c.self.view_is) at at in
+    let found : by_handle c.args.handle (slot_in c.args.slot c.self.inside.table).objects
+    ≡ Some keyed = rw (← c.self.view_is) at at in
     let order = (c.self.invariant.by_moment.timed c.args.slot c.args.handle keyed found).order in
     let key_is = c.find-key.ensures ∙ ap (option_map (λ (k : Keyed). k.key)) found in
     let idle = rw key_is at c.dismiss-comparisons.ensures.idle in

@@ -5,11 +5,16 @@ use Rattle.trdp_head.specs.declared.fault.HeadFault.TheVariants.{Kind}
 use Rattle.trdp_head.specs.MdKinds.{md_kind_of}
 use Rattle.trdp_head.specs.MdFaults.{md_fault_of}
 use Rattle.trdp_head.proofs.TelegramFacts.{err_answers}
-use Rattle.trdp_head.proofs.MdTelegramFacts.{md-no_fault, md-telegram, md_fault-prefix, md_fault-kind, md_fault-payload, md_telegram_of-fault, md_telegram-is}
+use Rattle.trdp_head.proofs.MdTelegramFacts.{md-no_fault, md-telegram, md_fault-prefix}
+use Rattle.trdp_head.proofs.MdTelegramFacts.{md_fault-kind, md_fault-payload}
+use Rattle.trdp_head.proofs.MdTelegramFacts.{md_telegram_of-fault, md_telegram-is}
 use Rattle.trdp_head.proofs.md.reading.read_md.Goals as goal
-use Rattle.trdp_head.proofs.md.reading.read_md.Goals.{After-from_residual, After-from_residual-in_err-payload, In_default}
+use Rattle.trdp_head.proofs.md.reading.read_md.Goals.{After-from_residual}
+use Rattle.trdp_head.proofs.md.reading.read_md.Goals.{After-from_residual-in_err-payload}
+use Rattle.trdp_head.proofs.md.reading.read_md.Goals.{In_default}
 
-bad_prefix : (c : After-from_residual) → md_fault_of c.args.bytes.now ≡ Some c.in_err-prefix.field-0.0
+bad_prefix : (c : After-from_residual)
+    → md_fault_of c.args.bytes.now ≡ Some c.in_err-prefix.field-0.0
 bad_prefix c = md_fault-prefix c.args.bytes.now _ c.in_err-prefix.ensures.fault
 
 pub returns-in_err-prefix-clause-fault : goal.returns-in_err-prefix-clause-fault
@@ -18,15 +23,18 @@ returns-in_err-prefix-clause-fault c =
 
 pub returns-in_err-prefix-clause-none_found : goal.returns-in_err-prefix-clause-none_found
 returns-in_err-prefix-clause-none_found c =
-    err_answers c.from_residual.result _ _ c.from_residual.ensures.1 (md_telegram_of-fault c.args.bytes.now _ (bad_prefix c))
+    err_answers c.from_residual.result _ _ c.from_residual.ensures.1
+    (md_telegram_of-fault c.args.bytes.now _ (bad_prefix c))
 
 pub returns-in_err-prefix-clause-exact : goal.returns-in_err-prefix-clause-exact
-returns-in_err-prefix-clause-exact c = λ head payload telegram. absurd (none-some _ (sym (md-no_fault telegram) ∙ bad_prefix c))
+returns-in_err-prefix-clause-exact c = λ head payload telegram.
+    absurd (none-some _ (sym (md-no_fault telegram) ∙ bad_prefix c))
 
 unknown : (c : In_default) → md_fault_of c.args.bytes.now ≡ Some Kind
 unknown c =
     md_fault-kind c.args.bytes.now c.in_ok-prefix.ensures.none
-    (ap (λ (p : Prefix). md_kind_of p.code) (sym c.in_ok-prefix.ensures.value) ∙ sym c.kind_of_code.ensures ∙ c.in_default.is)
+    (ap (λ (p : Prefix). md_kind_of p.code) (sym c.in_ok-prefix.ensures.value)
+    ∙ sym c.kind_of_code.ensures ∙ c.in_default.is)
 
 pub returns-in_default-clause-fault : goal.returns-in_default-clause-fault
 returns-in_default-clause-fault c = unknown c
@@ -34,26 +42,33 @@ returns-in_default-clause-fault c = unknown c
 pub returns-in_default-clause-none_found : goal.returns-in_default-clause-none_found
 returns-in_default-clause-none_found c = md_telegram_of-fault c.args.bytes.now _ (unknown c)
 
-bad_payload : (c : After-from_residual-in_err-payload) → md_fault_of c.args.bytes.now ≡ Some c.in_err-payload.field-0.0
+bad_payload : (c : After-from_residual-in_err-payload)
+    → md_fault_of c.args.bytes.now ≡ Some c.in_err-payload.field-0.0
 bad_payload c =
     md_fault-payload c.args.bytes.now c.in-Some.kind c.in_ok-prefix.ensures.none
-    (ap (λ (p : Prefix). md_kind_of p.code) (sym c.in_ok-prefix.ensures.value) ∙ sym c.kind_of_code.ensures ∙ c.in-Some.is) ∙ c.in_err-payload.ensures.fault
+    (ap (λ (p : Prefix). md_kind_of p.code) (sym c.in_ok-prefix.ensures.value)
+    ∙ sym c.kind_of_code.ensures ∙ c.in-Some.is) ∙ c.in_err-payload.ensures.fault
 
 pub returns-in_err-payload-clause-fault : goal.returns-in_err-payload-clause-fault
 returns-in_err-payload-clause-fault c =
-    err_answers c.from_residual-in_err-payload.result _ _ c.from_residual-in_err-payload.ensures.1 (bad_payload c)
+    err_answers c.from_residual-in_err-payload.result
+    _ _ c.from_residual-in_err-payload.ensures.1 (bad_payload c)
 
 pub returns-in_err-payload-clause-none_found : goal.returns-in_err-payload-clause-none_found
 returns-in_err-payload-clause-none_found c =
-    err_answers c.from_residual-in_err-payload.result _ _ c.from_residual-in_err-payload.ensures.1 (md_telegram_of-fault c.args.bytes.now _ (bad_payload c))
+    err_answers c.from_residual-in_err-payload.result _ _ c.from_residual-in_err-payload.ensures.1
+    (md_telegram_of-fault c.args.bytes.now _ (bad_payload c))
 
 pub returns-in_err-payload-clause-exact : goal.returns-in_err-payload-clause-exact
-returns-in_err-payload-clause-exact c = λ head payload telegram. absurd (none-some _ (sym (md-no_fault telegram) ∙ bad_payload c))
+returns-in_err-payload-clause-exact c = λ head payload telegram.
+    absurd (none-some _ (sym (md-no_fault telegram) ∙ bad_payload c))
 
 pub returns-clause-telegram : goal.returns-clause-telegram
 returns-clause-telegram c =
-    md-telegram c.args.bytes.now c.in-Some.kind _ c.in_ok-payload.payload.now c.in_ok-prefix.ensures.none c.in_ok-payload.ensures.none
-    (ap (λ (p : Prefix). md_kind_of p.code) (sym c.in_ok-prefix.ensures.value) ∙ sym c.kind_of_code.ensures ∙ c.in-Some.is)
+    md-telegram c.args.bytes.now c.in-Some.kind
+    _ c.in_ok-payload.payload.now c.in_ok-prefix.ensures.none c.in_ok-payload.ensures.none
+    (ap (λ (p : Prefix). md_kind_of p.code) (sym c.in_ok-prefix.ensures.value)
+    ∙ sym c.kind_of_code.ensures ∙ c.in-Some.is)
     c.head_of.ensures c.in_ok-payload.ensures.value
 
 pub returns-clause-no_fault : goal.returns-clause-no_fault

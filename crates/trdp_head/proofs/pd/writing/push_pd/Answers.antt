@@ -8,4 +8,5 @@ unfolding pd_bytes telegram_bytes
 returns-clause-items c =
     let payload : List ℕ = c.args.payload.now in
     c.append_telegram.ensures.items
-    ∙ ap (λ (header : List ℕ). c.args.list.now.items ++ (header ++ payload ++ padding_of (length payload))) c.header.ensures
+    ∙ ap (λ (header : List ℕ). c.args.list.now.items
+    ++ (header ++ payload ++ padding_of (length payload))) c.header.ensures

@@ -9,6 +9,9 @@ pub returns-clause-front : goal.returns-clause-front
 unfolding pd_head_bytes
 returns-clause-front c =
     let head = c.args.head in
-    let prefix : ℕ → Prefix = λ code. record { counter = head.counter; code = code; com_id = head.com_id; topo = head.topo } in
-    let front = c.put_prefix.ensures.front ∙ ap (λ (code : ℕ). prefix_bytes (prefix code) c.args.payload) c.code_of_kind.ensures in
-    more _ c.put_u32-3.ensures.front (more _ c.put_u32-2.ensures.front (more _ c.put_u32.ensures.front front))
+    let prefix : ℕ → Prefix = λ code.
+    record { counter = head.counter; code = code; com_id = head.com_id; topo = head.topo } in
+    let front = c.put_prefix.ensures.front
+    ∙ ap (λ (code : ℕ). prefix_bytes (prefix code) c.args.payload) c.code_of_kind.ensures in
+    more _ c.put_u32-3.ensures.front
+    (more _ c.put_u32-2.ensures.front (more _ c.put_u32.ensures.front front))

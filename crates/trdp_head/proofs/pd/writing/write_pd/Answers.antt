@@ -10,8 +10,11 @@ returns-clause-written c =
     let payload : List ℕ = c.args.payload.now in
     let end : ℕ = pd_length_of (length payload) in
     c.complete.ensures.written
-    ∙ ap (λ (header : List ℕ). telegram_bytes header payload ++ drop end c.put_head.new.room) c.put_head.ensures.front
-    ∙ ap (λ (rest : List ℕ). pd_bytes c.args.head.now payload ++ rest) (c.put_head.ensures.rest end (omega arith))
+    ∙ ap (λ (header : List ℕ). telegram_bytes header payload ++ drop end c.put_head.new.room)
+    c.put_head.ensures.front
+    ∙ ap (λ (rest : List ℕ). pd_bytes c.args.head.now payload ++ rest)
+    (c.put_head.ensures.rest end (omega arith))
 
 pub returns-clause-read_back : goal.returns-clause-read_back
-returns-clause-read_back c = IsPdTelegram-pd_bytes c.args.head.now c.args.payload.now c.put_head.ensures.ranges c.requires.payload
+returns-clause-read_back c = IsPdTelegram-pd_bytes c.args.head.now
+    c.args.payload.now c.put_head.ensures.ranges c.requires.payload

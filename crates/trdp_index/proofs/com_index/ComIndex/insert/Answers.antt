@@ -8,14 +8,19 @@ pub invariant_of-self : goal.invariant_of-self
 invariant_of-self c =
     let rows = c.self.inside.rows.items in
     let items = rw c.unwrap.ensures at c.insert.ensures.items in
-    let place = rw c.deref.ensures.value at c.place_for-place.ensures.place c.args.row (sym c.rank.ensures) in
+    let place = rw c.deref.ensures.value at c.place_for-place.ensures.place
+    c.args.row (sym c.rank.ensures) in
     let spare = rw (← c.self.view_is) at c.requires.spare in
-    let fresh = none_from_is_some (row_of com_row_rank (com_row_rank c.args.row) rows) (rw (← c.self.view_is) at c.requires.fresh) in
-    rw (items, place) (IsKept-with_row com_row_rank c.args.row rows c.self.inside.room (vec_capacity c.self.inside.rows) _ c.self.invariant c.insert.ensures.capacity spare fresh)
+    let fresh = none_from_is_some (row_of com_row_rank (com_row_rank c.args.row) rows)
+    (rw (← c.self.view_is) at c.requires.fresh) in
+    rw (items, place) (IsKept-with_row com_row_rank c.args.row rows c.self.inside.room
+    (vec_capacity c.self.inside.rows) _ c.self.invariant c.insert.ensures.capacity spare fresh)
 
 pub returns-clause-runs : goal.returns-clause-runs
 returns-clause-runs c = λ com_id.
     let rows = c.self.inside.rows.items in
     let items = rw c.unwrap.ensures at c.insert.ensures.items in
-    let place = rw c.deref.ensures.value at c.place_for-place.ensures.place c.args.row (sym c.rank.ensures) in
-    rw (items, place, ← c.self.view_is) (filter-with_row com_row_rank (λ row. is_same_com row.com_id com_id) c.args.row rows c.self.invariant.rising)
+    let place = rw c.deref.ensures.value at c.place_for-place.ensures.place
+    c.args.row (sym c.rank.ensures) in
+    rw (items, place, ← c.self.view_is) (filter-with_row com_row_rank
+    (λ row. is_same_com row.com_id com_id) c.args.row rows c.self.invariant.rising)

@@ -9,19 +9,22 @@ pub invariant_of-self : goal.invariant_of-self
 invariant_of-self c =
     let found = rw (c.deref.ensures.value, c.com_rank.ensures) at c.in-Some.ensures.found in
     rw (c.remove.ensures.items, c.remove.ensures.capacity, found.others)
-    (IsKept-without com_row_rank (com_rank c.args.com_id c.args.slot c.args.handle) c.self.inside.rows.items c.self.inside.room _ c.self.invariant)
+    (IsKept-without com_row_rank (com_rank c.args.com_id c.args.slot c.args.handle)
+    c.self.inside.rows.items c.self.inside.room _ c.self.invariant)
 
 pub returns-in-Some-clause-there : goal.returns-in-Some-clause-there
 returns-in-Some-clause-there c =
     let found = rw (c.deref.ensures.value, c.com_rank.ensures) at c.in-Some.ensures.found in
-    rw (← c.self.view_is) (sym (has_found com_row_rank (com_rank c.args.com_id c.args.slot c.args.handle) c.self.inside.rows.items c.in-Some.index found))
+    rw (← c.self.view_is) (sym (has_found com_row_rank (com_rank c.args.com_id
+    c.args.slot c.args.handle) c.self.inside.rows.items c.in-Some.index found))
 
 pub returns-in-Some-clause-runs : goal.returns-in-Some-clause-runs
 returns-in-Some-clause-runs c = λ other.
     let rank = com_rank c.args.com_id c.args.slot c.args.handle in
     let found = rw (c.deref.ensures.value, c.com_rank.ensures) at c.in-Some.ensures.found in
     rw (c.remove.ensures.items, found.others, ← c.self.view_is)
-    (filter-swap (λ row. is_same_com row.com_id other) (λ row. not (is_same (com_row_rank row) rank)) c.self.inside.rows.items)
+    (filter-swap (λ row. is_same_com row.com_id other)
+    (λ row. not (is_same (com_row_rank row) rank)) c.self.inside.rows.items)
 
 pub returns-in-None-clause-runs : goal.returns-in-None-clause-runs
 returns-in-None-clause-runs c = λ other.
@@ -30,4 +33,5 @@ returns-in-None-clause-runs c = λ other.
     let absent = rw (c.deref.ensures.value, c.com_rank.ensures) at c.in-None.ensures.absent in
     rw (← c.self.view_is)
     (ap (run_of other) (sym (absent refl).others)
-    ∙ filter-swap (λ row. is_same_com row.com_id other) (λ row. not (is_same (com_row_rank row) rank)) rows)
+    ∙ filter-swap (λ row. is_same_com row.com_id other)
+    (λ row. not (is_same (com_row_rank row) rank)) rows)

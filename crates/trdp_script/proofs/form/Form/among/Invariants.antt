@@ -8,5 +8,6 @@ use Rattle.trdp_script.proofs.form.Form.among.Given as goal
 
 abbrev pub invariant-loop-form : goal.invariant-loop-form
 invariant-loop-form l =
-    find (λ form. has_keywords form.parts (words_left l.fn.words)) (map line_form (drop l.form-index l.fn.forms))
+    find (λ form. has_keywords form.parts (words_left l.fn.words))
+    (map line_form (drop l.form-index l.fn.forms))
     ≡ form_among (map line_form l.fn.forms) (words_left l.fn.words)

@@ -10,7 +10,13 @@ returns c =
     let slots = c.self.inside.slots.items in
     let pool = c.self.inside.pool in
     let lt = within_slots slots pool c.args.self.now c.args.slot c.self.view_is c.requires in
-    let row = slot_read slots c.args.slot c.index.result.now lt (rw c.from.ensures at c.index.ensures) in
-    let at : slice_get (entries_in c.args.slot slots).entries c.args.index ≡ Some c.in_ok-entry.entry = rw row (sym c.entry_at.ensures ∙ c.in_ok-entry.was) in
-    rw (← c.self.view_is, c.object.ensures, object_there slots pool c.args.slot c.args.index c.in_ok-entry.entry c.self.invariant at)
+    let row =
+    slot_read slots c.args.slot c.index.result.now lt (rw c.from.ensures at c.index.ensures) in
+    let at : slice_get (entries_in c.args.slot slots).entries c.args.index
+    ≡ Some c.in_ok-entry.entry = rw row (sym c.entry_at.ensures ∙ c.in_ok-entry.was) in
+    rw (
+      ← c.self.view_is,
+      c.object.ensures,
+      object_there slots pool c.args.slot c.args.index c.in_ok-entry.entry c.self.invariant at,
+    )
     (entry_held slots pool c.args.slot c.args.index c.in_ok-entry.entry c.self.invariant at)

@@ -4,9 +4,11 @@ use Rattle.trdp_table.proofs.table.Table.owner.Goals as goal
 
 pub returns-clause-owner : goal.returns-clause-owner
 returns-clause-owner c =
-    rw (← c.self.view_is, c.owner.ensures) (owner_is c.self.inside.slots.items c.self.inside.pool c.args.key c.self.invariant)
+    rw (← c.self.view_is, c.owner.ensures)
+    (owner_is c.self.inside.slots.items c.self.inside.pool c.args.key c.self.invariant)
 
 pub returns-clause-variant : goal.returns-clause-variant
 returns-clause-variant c =
     rw (← c.self.view_is, c.owner.ensures)
-    (owner_there c.self.inside.pool c.args.key ∙ some_held c.self.inside.slots.items c.self.inside.pool c.args.key c.self.invariant)
+    (owner_there c.self.inside.pool c.args.key
+    ∙ some_held c.self.inside.slots.items c.self.inside.pool c.args.key c.self.invariant)

@@ -1,12 +1,20 @@
 use Rattle.std.proofs.Common.{length, sym, arith}
-use Rattle.trdp_timers.proofs.DueSizes.{none_below, unset_size, unset_one, least_due, add_left, add_right, total_is, total_fits, count_due_left, count_due_right, costs_due}
+use Rattle.trdp_timers.proofs.DueSizes.{none_below, unset_size, unset_one, least_due}
+use Rattle.trdp_timers.proofs.DueSizes.{add_left, add_right, total_is, total_fits}
+use Rattle.trdp_timers.proofs.DueSizes.{count_due_left, count_due_right, costs_due}
 use Rattle.trdp_timers.proofs.heap.Heap.+due_below.Goals as goal
 
 pub returns-then-place-len-clause-total : goal.returns-then-place-len-clause-total
-returns-then-place-len-clause-total t c = λ d deep. sym (none_below c.args.t c.args.orders.now.items c.args.self.now.keys.items _ (λ k. unset_size c.args.t c.args.orders.now.items c.args.sizes.now k c.requires.sizes) c.requires.order d c.args.place (λ h. absurd (omega arith)))
+returns-then-place-len-clause-total t c = λ d deep.
+    sym (none_below c.args.t c.args.orders.now.items c.args.self.now.keys.items
+    _ (λ k. unset_size c.args.t c.args.orders.now.items c.args.sizes.now k c.requires.sizes)
+    c.requires.order d c.args.place (λ h. absurd (omega arith)))
 
 pub returns-in-None-clause-total : goal.returns-in-None-clause-total
-returns-in-None-clause-total t c = λ d deep. sym (none_below c.args.t c.args.orders.now.items c.args.self.now.keys.items _ (λ k. unset_size c.args.t c.args.orders.now.items c.args.sizes.now k c.requires.sizes) c.requires.order d c.args.place (λ h. c.in-None.ensures.none))
+returns-in-None-clause-total t c =
+    λ d deep. sym (none_below c.args.t c.args.orders.now.items c.args.self.now.keys.items
+    _ (λ k. unset_size c.args.t c.args.orders.now.items c.args.sizes.now k c.requires.sizes)
+    c.requires.order d c.args.place (λ h. c.in-None.ensures.none))
 
 pub due_below-left-requires : goal.due_below-left-requires
 due_below-left-requires t c =
@@ -20,7 +28,8 @@ due_below-left-requires t c =
             c.requires.sizes,
             (
               add_left n c.args.place _ (omega arith) c.requires.fits,
-              count_due_left n c.args.place c.args.probes.now c.due_at.new.probes _ (omega arith) c.in-Some.ensures.one c.due_at.ensures.counted c.requires.probes,
+              count_due_left n c.args.place c.args.probes.now c.due_at.new.probes
+                  _ (omega arith) c.in-Some.ensures.one c.due_at.ensures.counted c.requires.probes,
             ),
           ),
         ),
@@ -39,7 +48,9 @@ due_below-right-requires t c =
             c.requires.sizes,
             (
               add_right n c.args.place _ (omega arith) c.requires.fits,
-              count_due_right n c.args.place c.args.probes.now c.due_at.new.probes c.due_below-left.new.probes _ (omega arith) c.in-Some.ensures.one c.due_at.ensures.counted c.due_below-left.ensures.cost c.requires.probes,
+              count_due_right n c.args.place c.args.probes.now c.due_at.new.probes
+                  c.due_below-left.new.probes _ (omega arith) c.in-Some.ensures.one
+                  c.due_at.ensures.counted c.due_below-left.ensures.cost c.requires.probes,
             ),
           ),
         ),
@@ -48,30 +59,45 @@ due_below-right-requires t c =
 
 pub overflow_add-result : goal.overflow_add-result
 overflow_add-result t c =
-    let all = total_fits (length c.args.self.now.keys.items) c.args.place c.in-Some.size c.due_below-left.result c.due_below-right.result _ (omega arith) c.in-Some.ensures.size c.due_below-left.ensures.total c.due_below-right.ensures.total c.requires.fits in
+    let all = total_fits (length c.args.self.now.keys.items) c.args.place c.in-Some.size
+    c.due_below-left.result c.due_below-right.result _ (omega arith) c.in-Some.ensures.size
+    c.due_below-left.ensures.total c.due_below-right.ensures.total c.requires.fits in
     omega arith
 
 pub overflow_add-result-in-Some : goal.overflow_add-result-in-Some
 overflow_add-result-in-Some t c =
-    let all = total_fits (length c.args.self.now.keys.items) c.args.place c.in-Some.size c.due_below-left.result c.due_below-right.result _ (omega arith) c.in-Some.ensures.size c.due_below-left.ensures.total c.due_below-right.ensures.total c.requires.fits in
+    let all = total_fits (length c.args.self.now.keys.items) c.args.place c.in-Some.size
+    c.due_below-left.result c.due_below-right.result _ (omega arith) c.in-Some.ensures.size
+    c.due_below-left.ensures.total c.due_below-right.ensures.total c.requires.fits in
     omega arith
 
 pub returns-in-Some-clause-total : goal.returns-in-Some-clause-total
 returns-in-Some-clause-total t c =
-    total_is (length c.args.self.now.keys.items) c.args.place c.in-Some.size c.due_below-left.result c.due_below-right.result _ (omega arith) c.in-Some.ensures.size c.due_below-left.ensures.total c.due_below-right.ensures.total
+    total_is (length c.args.self.now.keys.items)
+    c.args.place c.in-Some.size c.due_below-left.result c.due_below-right.result _ (omega arith)
+    c.in-Some.ensures.size c.due_below-left.ensures.total c.due_below-right.ensures.total
 
 pub returns-in-Some-clause-cost : goal.returns-in-Some-clause-cost
 returns-in-Some-clause-cost t c =
-    costs_due (length c.args.self.now.keys.items) c.args.place c.args.probes.now c.due_at.new.probes c.due_below-left.new.probes c.due_below-right.new.probes _ (omega arith) c.in-Some.ensures.one c.due_at.ensures.counted
+    costs_due (length c.args.self.now.keys.items)
+    c.args.place c.args.probes.now c.due_at.new.probes c.due_below-left.new.probes
+    c.due_below-right.new.probes _ (omega arith) c.in-Some.ensures.one c.due_at.ensures.counted
     c.due_below-left.ensures.cost c.due_below-right.ensures.cost
 
 pub returns-then-place-len-clause-least : goal.returns-then-place-len-clause-least
-returns-then-place-len-clause-least t c = λ d deep. let none = none_below c.args.t c.args.orders.now.items c.args.self.now.keys.items _ (λ k. unset_one c.args.t c.args.orders.now.items k) c.requires.order d c.args.place (λ h. absurd (omega arith)) in omega arith
+returns-then-place-len-clause-least t c = λ d deep. let none =
+    none_below c.args.t c.args.orders.now.items
+    c.args.self.now.keys.items _ (λ k. unset_one c.args.t c.args.orders.now.items k)
+    c.requires.order d c.args.place (λ h. absurd (omega arith)) in omega arith
 
 pub returns-in-None-clause-least : goal.returns-in-None-clause-least
-returns-in-None-clause-least t c = λ d deep. let none = none_below c.args.t c.args.orders.now.items c.args.self.now.keys.items _ (λ k. unset_one c.args.t c.args.orders.now.items k) c.requires.order d c.args.place (λ h. c.in-None.ensures.none) in omega arith
+returns-in-None-clause-least t c = λ d deep. let none = none_below c.args.t c.args.orders.now.items
+    c.args.self.now.keys.items _ (λ k. unset_one c.args.t c.args.orders.now.items k)
+    c.requires.order d c.args.place (λ h. c.in-None.ensures.none) in omega arith
 
 pub returns-in-Some-clause-least : goal.returns-in-Some-clause-least
 returns-in-Some-clause-least t c =
-    least_due (length c.args.self.now.keys.items) c.args.place c.args.probes.now c.due_at.new.probes c.due_below-left.new.probes c.due_below-right.new.probes _ (omega arith) c.in-Some.ensures.one c.due_at.ensures.counted
+    least_due (length c.args.self.now.keys.items)
+    c.args.place c.args.probes.now c.due_at.new.probes c.due_below-left.new.probes
+    c.due_below-right.new.probes _ (omega arith) c.in-Some.ensures.one c.due_at.ensures.counted
     c.due_below-left.ensures.least c.due_below-right.ensures.least

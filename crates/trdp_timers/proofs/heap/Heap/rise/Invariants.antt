@@ -13,7 +13,8 @@ invariant-loop-place l = record {
   places : length l.self.places.items ≡ length l.fn.self.places.items;
   capacity : vec_capacity l.self.keys ≡ vec_capacity l.fn.self.keys;
   least : l.fn.probes ≤ l.probes;
-  cost : (b : ℕ) → l.fn.place + 1 < 2 ^ b → (j : ℕ) × (l.place + 1 < 2 ^ j) × (l.probes + j ≤ l.fn.probes + b);
+  cost : (b : ℕ) → l.fn.place + 1 < 2 ^ b → (j : ℕ)
+      × (l.place + 1 < 2 ^ j) × (l.probes + j ≤ l.fn.probes + b);
 }
 
 abbrev pub decreases-loop-place : goal.decreases-loop-place

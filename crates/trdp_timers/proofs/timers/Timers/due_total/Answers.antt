@@ -10,8 +10,10 @@ due_below-requires-clause-fits c =
     let ss = c.args.sizes.now in
     let heap = c.self.inside.heap in
     let deep : length heap.keys.items < 2 ^ 63 = omega (arith, heap.keys.small, heap.keys.ok) in
-    let long : length os ≤ length ss = subst (λ (s : TimersState). length s.orders ≤ length ss) (sym c.self.view_is) c.requires.sizes in
-    let all = sizes_weigh c.args.t os ss heap.keys.items heap.places.items c.self.invariant.placed long 63 deep in
+    let long : length os ≤ length ss = subst (λ (s : TimersState). length s.orders ≤ length ss)
+    (sym c.self.view_is) c.requires.sizes in
+    let all = sizes_weigh c.args.t os ss heap.keys.items
+    heap.places.items c.self.invariant.placed long 63 deep in
     (63, deep, omega (arith, all, sum_sizes c.args.t os ss, c.requires.fits))
 
 pub due_below-requires-clause-probes : goal.due_below-requires-clause-probes
@@ -19,7 +21,8 @@ due_below-requires-clause-probes c =
     let os = c.self.inside.orders.items in
     let heap = c.self.inside.heap in
     let deep : length heap.keys.items < 2 ^ 63 = omega (arith, heap.keys.small, heap.keys.ok) in
-    let ones = ones_weigh c.args.t os heap.keys.items heap.places.items c.self.invariant.placed 63 deep in
+    let ones =
+    ones_weigh c.args.t os heap.keys.items heap.places.items c.self.invariant.placed 63 deep in
     (63, deep, omega (arith, ones, count_due c.args.t os, c.self.invariant.count))
 
 pub returns-clause-total : goal.returns-clause-total
@@ -28,15 +31,18 @@ returns-clause-total c =
     let ss = c.args.sizes.now in
     let heap = c.self.inside.heap in
     let deep : length heap.keys.items < 2 ^ 63 = omega (arith, heap.keys.small, heap.keys.ok) in
-    let long : length os ≤ length ss = subst (λ (s : TimersState). length s.orders ≤ length ss) (sym c.self.view_is) c.requires.sizes in
-    rw (← c.self.view_is) (c.due_below.ensures.total 63 deep ∙ sizes_weigh c.args.t os ss heap.keys.items heap.places.items c.self.invariant.placed long 63 deep)
+    let long : length os ≤ length ss = subst (λ (s : TimersState). length s.orders ≤ length ss)
+    (sym c.self.view_is) c.requires.sizes in
+    rw (← c.self.view_is) (c.due_below.ensures.total 63 deep ∙ sizes_weigh c.args.t
+    os ss heap.keys.items heap.places.items c.self.invariant.placed long 63 deep)
 
 pub returns-clause-cost : goal.returns-clause-cost
 returns-clause-cost c =
     let os = c.self.inside.orders.items in
     let heap = c.self.inside.heap in
     let deep : length heap.keys.items < 2 ^ 63 = omega (arith, heap.keys.small, heap.keys.ok) in
-    let ones = ones_weigh c.args.t os heap.keys.items heap.places.items c.self.invariant.placed 63 deep in
+    let ones =
+    ones_weigh c.args.t os heap.keys.items heap.places.items c.self.invariant.placed 63 deep in
     let cost = c.due_below.ensures.cost 63 deep in
     rw (← c.self.view_is) (omega (arith, cost, ones))
 
@@ -45,6 +51,7 @@ returns-clause-least c =
     let os = c.self.inside.orders.items in
     let heap = c.self.inside.heap in
     let deep : length heap.keys.items < 2 ^ 63 = omega (arith, heap.keys.small, heap.keys.ok) in
-    let ones = ones_weigh c.args.t os heap.keys.items heap.places.items c.self.invariant.placed 63 deep in
+    let ones =
+    ones_weigh c.args.t os heap.keys.items heap.places.items c.self.invariant.placed 63 deep in
     let least = c.due_below.ensures.least 63 deep in
     rw (← c.self.view_is) (omega (arith, least, ones))

@@ -8,5 +8,7 @@ use Rattle.trdp_timers.proofs.timers.Timers.set.Goals as goal
 pub admit-place-requires-clause-kept : goal.admit-place-requires-clause-kept
 admit-place-requires-clause-kept c =
     let t = c.self.inside in
-    subst (λ (l : List (Option Order)). IsKept l t.heap.keys.items t.heap.places.items (vec_capacity t.heap.keys))
-    (sym (undone t.orders.items c.args.key (Some c.args.order) c.index-was.result.now c.index-was.ensures)) c.self.invariant
+    subst (λ (l : List (Option Order)).
+    IsKept l t.heap.keys.items t.heap.places.items (vec_capacity t.heap.keys))
+    (sym (undone t.orders.items c.args.key (Some c.args.order)
+    c.index-was.result.now c.index-was.ensures)) c.self.invariant

@@ -1,0 +1,188 @@
+-- What a call does to one object leaves a subscription a value of its dataset.
+use Rattle.std.proofs.Common.{◌≡◌, ℕ, ℤ, List, [], Some, None, Option, Bool, true, false, refl}
+use Rattle.std.specs.Prelude.{not, nat_lt, if◌then◌else◌}
+use Rattle.trdp_base.specs.declared.place.Place.{Place}
+use Rattle.trdp_filter.specs.declared.globals.Globals.{Globals}
+use Rattle.trdp_table.specs.declared.any_object.AnyObject.{AnyObject}
+use Rattle.trdp_table.specs.declared.any_object.AnyObject.TheVariants.{Publisher, Subscription}
+use Rattle.trdp_table.specs.declared.any_object.AnyObject.TheVariants.{Requester, Listener}
+use Rattle.trdp_table.specs.declared.any_object.AnyObject.TheVariants.{Caller, Replier}
+use Rattle.trdp_table.specs.declared.kind.Kind.{Kind}
+use Rattle.trdp_table.specs.declared.kind.Kind.TheVariants.{Subscription as Subscribing}
+use Rattle.trdp_table.specs.Kinds.{kind_of, is_same_kind}
+use Rattle.trdp_pd.specs.declared.object.Reason.{Reason}
+use Rattle.trdp_head.specs.declared.md.MdHead.{MdHead}
+use Rattle.trdp_md.specs.declared.caller.Caller.{Caller as AnyCaller}
+use Rattle.trdp_md.specs.declared.replier.Replier.{Replier as AnyReplier}
+use Rattle.trdp_md.specs.Callers.{confirming, closed_of}
+use Rattle.trdp_pd.specs.declared.terms.SubscriptionTerms.{SubscriptionTerms}
+use Rattle.trdp_pd.specs.Publishers.{PublisherState}
+use Rattle.trdp_pd.specs.Requesters.{RequesterState}
+use Rattle.trdp_filter.specs.Counts.{topo_valid}
+use Rattle.trdp_engine.specs.declared.fault.Refusal.{Refusal}
+use Rattle.trdp_engine.specs.declared.fault.Refusal.TheVariants.{Timeout, Range, NoDataset, TooLong}
+use Rattle.trdp_engine.specs.Configs.{NodeSetup, is_dataset, zero_size_of}
+use Rattle.trdp_engine.specs.Slots.{SlotState}
+use Rattle.trdp_engine.specs.Calls.{dataset_refusal, subscribe_refusal}
+use Rattle.trdp_engine.specs.Calls.{value_refusal, puts_unless, puts, ends, is_span}
+use Rattle.trdp_engine.specs.Openings.{opening_refusal, opened_with}
+use Rattle.trdp_engine.specs.Replies.{reply_refusal, query_refusal, error_refusal}
+use Rattle.trdp_engine.specs.Replies.{answers_unless, replies, queries, reply_errors, concluded}
+use Rattle.trdp_engine.specs.Replies.{confirm_refusal, confirms_unless, confirms, aborts}
+use Rattle.trdp_engine.specs.Records.{Content}
+use Rattle.trdp_engine.specs.Pulls.{pulls_if, pulls}
+use Rattle.trdp_marshal.specs.Items.{ItemModel}
+use Rattle.trdp_engine.specs.Values.{item_refusal_of, bytes_for, valued_unless, takes_item}
+use Rattle.trdp_engine.specs.Fitting.{IsFit, AllFit}
+use Rattle.trdp_engine.proofs.Fitting.{IsLeftFit, AllFit-append}
+
+-- a subscription that isn't refused is of a dataset that values may be of
+if_none : (b : Bool) (refusal : Refusal) (later : Option Refusal)
+    → (if b then Some refusal else later) ≡ None → (b ≡ false) × (later ≡ None)
+if_none true refusal later is = absurd (cc)
+if_none false refusal later is = (refl, is)
+
+not_false : (b : Bool) → not b ≡ false → b ≡ true
+not_false true is = refl
+not_false false is = absurd (cc)
+
+pub subscribed_dataset : (setup : NodeSetup) (slot : SlotState) (terms : SubscriptionTerms)
+    → subscribe_refusal setup slot terms ≡ None → is_dataset setup terms.dataset ≡ true
+subscribed_dataset setup slot terms is =
+    let opens : Option Refusal =
+    dataset_refusal setup terms.dataset (opening_refusal slot Subscribing) in
+    let longest : Option Refusal = if nat_lt 1432 (zero_size_of setup terms.dataset)
+    then Some TooLong else opening_refusal slot Subscribing in
+    let timed = if_none (not (is_span terms.supervision))
+    Timeout (if nat_lt terms.filter.high.0 terms.filter.low.0 then Some Range else opens) is in
+    let ranged = if_none (nat_lt terms.filter.high.0 terms.filter.low.0) Range opens timed.1 in
+    let known = if_none (not (is_dataset setup terms.dataset)) NoDataset longest ranged.1 in
+    not_false (is_dataset setup terms.dataset) known.0
+
+pub opened_fits :
+    (setup : NodeSetup) (refusal : Option Refusal) (slot : SlotState) (object : AnyObject)
+    (records : List Content) → AllFit setup slot.objects → (refusal ≡ None → IsFit setup object)
+    → AllFit setup (opened_with refusal slot object records).slot.objects
+opened_fits setup (Some refusal) slot object records all fit = all
+opened_fits setup None slot object records all fit =
+    AllFit-append setup slot.objects _ all (fit refl, tt)
+
+-- what calls leave of an object
+puts_unless_fits : (setup : NodeSetup) (refusal : Option Refusal)
+    (bytes : List ℕ) (p : PublisherState) → IsLeftFit setup (puts_unless refusal bytes p).left
+puts_unless_fits setup (Some refusal) bytes p = tt
+puts_unless_fits setup None bytes p = tt
+
+pub puts_fits : (setup : NodeSetup) (bytes : List ℕ) (object : AnyObject)
+    → IsFit setup object → IsLeftFit setup (puts setup bytes object).left
+puts_fits setup bytes (Publisher p) fit =
+    puts_unless_fits setup (value_refusal setup p.terms.dataset bytes) bytes p
+puts_fits setup bytes (Subscription s) fit = fit
+puts_fits setup bytes (Requester r) fit = tt
+puts_fits setup bytes (Listener l) fit = tt
+puts_fits setup bytes (Caller c) fit = tt
+puts_fits setup bytes (Replier r) fit = tt
+
+pub ends_fits : (setup : NodeSetup) (kind : Kind) (object : AnyObject)
+    → IsFit setup object → IsLeftFit setup (ends kind object).left
+ends_fits setup kind object fit = either (is_same_kind (kind_of object) kind) refl
+  where
+    either : (b : Bool) → is_same_kind (kind_of object) kind ≡ b
+        → IsLeftFit setup (ends kind object).left
+    either true is = rw is tt
+    either false is = rw is fit
+
+pulls_if_fits : (setup : NodeSetup) (valid : Bool) (r : RequesterState)
+    → IsLeftFit setup (pulls_if valid r).left
+pulls_if_fits setup true r = tt
+pulls_if_fits setup false r = tt
+
+pub pulls_fits : (setup : NodeSetup) (globals : Globals) (object : AnyObject)
+    → IsFit setup object → IsLeftFit setup (pulls globals object).left
+pulls_fits setup globals (Publisher p) fit = tt
+pulls_fits setup globals (Subscription s) fit = fit
+pulls_fits setup globals (Requester r) fit =
+    pulls_if_fits setup (topo_valid r.terms.topo globals.topo) r
+pulls_fits setup globals (Listener l) fit = tt
+pulls_fits setup globals (Caller c) fit = tt
+pulls_fits setup globals (Replier r) fit = tt
+
+answers_unless_fits : (setup : NodeSetup) (refusal : Option Refusal)
+    (r : AnyReplier) (left : Option AnyObject) (head : MdHead) (payload : List ℕ)
+    → IsLeftFit setup left → IsLeftFit setup (answers_unless refusal r left head payload).left
+answers_unless_fits setup (Some refusal) r left head payload fit = tt
+answers_unless_fits setup None r left head payload fit = fit
+
+pub replies_fits :
+    (setup : NodeSetup) (com_id : ℕ) (status : ℤ) (payload : List ℕ) (object : AnyObject)
+    → IsFit setup object → IsLeftFit setup (replies com_id status payload object).left
+replies_fits setup com_id status payload (Publisher p) fit = tt
+replies_fits setup com_id status payload (Subscription s) fit = fit
+replies_fits setup com_id status payload (Requester r) fit = tt
+replies_fits setup com_id status payload (Listener l) fit = tt
+replies_fits setup com_id status payload (Caller c) fit = tt
+replies_fits setup com_id status payload (Replier r) fit =
+    answers_unless_fits setup (reply_refusal r status payload) r _ _ payload tt
+
+pub queries_fits :
+    (setup : NodeSetup) (now com_id : ℕ) (status : ℤ) (timeout : ℕ) (payload : List ℕ)
+    (object : AnyObject) → IsFit setup object
+    → IsLeftFit setup (queries now com_id status timeout payload object).left
+queries_fits setup now com_id status timeout payload (Publisher p) fit = tt
+queries_fits setup now com_id status timeout payload (Subscription s) fit = fit
+queries_fits setup now com_id status timeout payload (Requester r) fit = tt
+queries_fits setup now com_id status timeout payload (Listener l) fit = tt
+queries_fits setup now com_id status timeout payload (Caller c) fit = tt
+queries_fits setup now com_id status timeout payload (Replier r) fit =
+    answers_unless_fits setup (query_refusal r status timeout payload) r _ _ payload tt
+
+pub reply_errors_fits : (setup : NodeSetup) (com_id : ℕ) (status : ℤ) (object : AnyObject)
+    → IsFit setup object → IsLeftFit setup (reply_errors com_id status object).left
+reply_errors_fits setup com_id status (Publisher p) fit = tt
+reply_errors_fits setup com_id status (Subscription s) fit = fit
+reply_errors_fits setup com_id status (Requester r) fit = tt
+reply_errors_fits setup com_id status (Listener l) fit = tt
+reply_errors_fits setup com_id status (Caller c) fit = tt
+reply_errors_fits setup com_id status (Replier r) fit =
+    answers_unless_fits setup (error_refusal r status) r _ _ [] tt
+
+concluded_fits : (setup : NodeSetup) (reason : Option Reason) (handle : ℕ) (c : AnyCaller)
+    (records : List Content) → IsLeftFit setup (concluded reason handle c records).left
+concluded_fits setup None handle c records = tt
+concluded_fits setup (Some reason) handle c records = tt
+
+confirms_unless_fits : (setup : NodeSetup) (refusal : Option Refusal)
+    (handle : ℕ) (place : Place) (status : ℤ) (c : AnyCaller)
+    → IsLeftFit setup (confirms_unless refusal handle place status c).left
+confirms_unless_fits setup (Some refusal) handle place status c = tt
+confirms_unless_fits setup None handle place status c =
+    concluded_fits setup (closed_of (confirming c place)) handle (confirming c place) _
+
+pub confirms_fits :
+    (setup : NodeSetup) (handle : ℕ) (place : Place) (status : ℤ) (object : AnyObject)
+    → IsFit setup object → IsLeftFit setup (confirms handle place status object).left
+confirms_fits setup handle place status (Publisher p) fit = tt
+confirms_fits setup handle place status (Subscription s) fit = fit
+confirms_fits setup handle place status (Requester r) fit = tt
+confirms_fits setup handle place status (Listener l) fit = tt
+confirms_fits setup handle place status (Caller c) fit =
+    confirms_unless_fits setup (confirm_refusal c place status) handle place status c
+confirms_fits setup handle place status (Replier r) fit = tt
+
+pub aborts_fits : (setup : NodeSetup) (object : AnyObject)
+    → IsFit setup object → IsLeftFit setup (aborts object).left
+aborts_fits setup (Publisher p) fit = tt
+aborts_fits setup (Subscription s) fit = fit
+aborts_fits setup (Requester r) fit = tt
+aborts_fits setup (Listener l) fit = tt
+aborts_fits setup (Caller c) fit = tt
+aborts_fits setup (Replier r) fit = tt
+
+pub takes_item_fits : (setup : NodeSetup) (item : ItemModel) (object : AnyObject)
+    → IsFit setup object → IsLeftFit setup (takes_item setup item object).left
+takes_item_fits setup item object fit = either (item_refusal_of setup item object)
+  where
+    either : (refusal : Option Refusal)
+        → IsLeftFit setup (valued_unless refusal setup item object).left
+    either (Some refusal) = fit
+    either None = puts_fits setup (bytes_for setup item object) object fit
