@@ -21,120 +21,74 @@ pub struct Given {
 }
 
 impl Given {
+    /// What a call came to, but what a subscription shows.
+    fn answered(&mut self, answer: Answer<'static>) -> Result<(), Fail> {
+        let what = What::Answer(answer);
+        let slot = self.slot;
+        print_record(&mut self.lines, &Record { slot, what })?;
+        Ok(())
+    }
+
     /// A new object has that handle.
     pub fn made(&mut self, handle: u32) -> Result<(), Fail> {
-        let what = What::Answer(Answer::Handle(handle));
-        print_record(
-            &mut self.lines,
-            &Record {
-                slot: self.slot,
-                what,
-            },
-        )?;
-        Ok(())
+        self.answered(Answer::Handle(handle))
     }
 
     /// A call took effect.
     pub fn done(&mut self) -> Result<(), Fail> {
-        let what = What::Answer(Answer::Done);
-        print_record(
-            &mut self.lines,
-            &Record {
-                slot: self.slot,
-                what,
-            },
-        )?;
-        Ok(())
+        self.answered(Answer::Done)
     }
 
     /// A call was refused.
     pub fn refused(&mut self, refusal: Refusal) -> Result<(), Fail> {
-        let what = What::Answer(Answer::Refused(refusal));
-        print_record(
-            &mut self.lines,
-            &Record {
-                slot: self.slot,
-                what,
-            },
-        )?;
-        Ok(())
+        self.answered(Answer::Refused(refusal))
     }
 
     /// A subscription shows this.
     pub fn shown(&mut self, peek: Peek<'_>) -> Result<(), Fail> {
         let what = What::Answer(Answer::Value(peek));
-        print_record(
-            &mut self.lines,
-            &Record {
-                slot: self.slot,
-                what,
-            },
-        )?;
+        let slot = self.slot;
+        print_record(&mut self.lines, &Record { slot, what })?;
         Ok(())
     }
 
     /// A subscription had no telegram within its supervision time.
     pub fn silent(&mut self, handle: u32) -> Result<(), Fail> {
         let what = What::Indication(Indication::Silent(handle));
-        print_record(
-            &mut self.lines,
-            &Record {
-                slot: self.slot,
-                what,
-            },
-        )?;
+        let slot = self.slot;
+        print_record(&mut self.lines, &Record { slot, what })?;
         Ok(())
     }
 
     /// A subscription was silent, and has a telegram again.
     pub fn alive(&mut self, handle: u32) -> Result<(), Fail> {
         let what = What::Indication(Indication::Alive(handle));
-        print_record(
-            &mut self.lines,
-            &Record {
-                slot: self.slot,
-                what,
-            },
-        )?;
+        let slot = self.slot;
+        print_record(&mut self.lines, &Record { slot, what })?;
         Ok(())
     }
 
     /// A listener heard a request for which there is no replier more.
     pub fn overrun(&mut self, handle: u32) -> Result<(), Fail> {
         let what = What::Indication(Indication::Overrun(handle));
-        print_record(
-            &mut self.lines,
-            &Record {
-                slot: self.slot,
-                what,
-            },
-        )?;
+        let slot = self.slot;
+        print_record(&mut self.lines, &Record { slot, what })?;
         Ok(())
     }
 
     /// A replier's query was confirmed.
     pub fn confirmed(&mut self, handle: u32, status: i32) -> Result<(), Fail> {
         let what = What::Indication(Indication::Confirmed(handle, status));
-        print_record(
-            &mut self.lines,
-            &Record {
-                slot: self.slot,
-                what,
-            },
-        )?;
+        let slot = self.slot;
+        print_record(&mut self.lines, &Record { slot, what })?;
         Ok(())
     }
 
     /// A caller or replier is over.
     pub fn closed(&mut self, handle: u32, reason: Reason) -> Result<(), Fail> {
         let what = What::Indication(Indication::Closed(handle, reason));
-        print_record(
-            &mut self.lines,
-            &Record {
-                slot: self.slot,
-                what,
-            },
-        )?;
+        let slot = self.slot;
+        print_record(&mut self.lines, &Record { slot, what })?;
         Ok(())
     }
 
@@ -148,13 +102,8 @@ impl Given {
             payload: view.payload,
         };
         let what = What::Indication(Indication::Notified(handle, message));
-        print_record(
-            &mut self.lines,
-            &Record {
-                slot: self.slot,
-                what,
-            },
-        )?;
+        let slot = self.slot;
+        print_record(&mut self.lines, &Record { slot, what })?;
         Ok(())
     }
 
@@ -179,13 +128,8 @@ impl Given {
             session: view.head.session,
             message,
         });
-        print_record(
-            &mut self.lines,
-            &Record {
-                slot: self.slot,
-                what,
-            },
-        )?;
+        let slot = self.slot;
+        print_record(&mut self.lines, &Record { slot, what })?;
         Ok(())
     }
 
@@ -199,13 +143,8 @@ impl Given {
             payload: view.payload,
         };
         let what = What::Indication(Indication::Replied(handle, reply));
-        print_record(
-            &mut self.lines,
-            &Record {
-                slot: self.slot,
-                what,
-            },
-        )?;
+        let slot = self.slot;
+        print_record(&mut self.lines, &Record { slot, what })?;
         Ok(())
     }
 
@@ -216,13 +155,8 @@ impl Given {
             to,
             telegram,
         };
-        print_record(
-            &mut self.lines,
-            &Record {
-                slot: self.slot,
-                what,
-            },
-        )?;
+        let slot = self.slot;
+        print_record(&mut self.lines, &Record { slot, what })?;
         Ok(())
     }
 
