@@ -56,10 +56,10 @@ impl Chance {
         100 + self.below(3)
     }
 
-    /// One of three places that are no node's.
+    /// One of two places that are no node's.
     fn place(&mut self) -> Place {
         Place {
-            ip: Ip(0x0a00_0002 + self.below(3)),
+            ip: Ip(0x0a00_0002 + self.below(2)),
             port: 17225,
         }
     }
@@ -69,9 +69,9 @@ impl Chance {
         SessionId(u128::from(self.below(3)))
     }
 
-    /// A time of 0.001 to 0.008 seconds, in microseconds.
+    /// A time of 4 to 32 milliseconds, in microseconds.
     fn span(&mut self) -> u32 {
-        1_000 + 1_000 * self.below(8)
+        4_000 + 4_000 * self.below(8)
     }
 
     /// Up to seven bytes.
@@ -255,7 +255,7 @@ impl Chance {
         }
     }
 
-    /// A telegram that a node sent, as it comes to another one: from one of three places.
+    /// A telegram that a node sent, as it comes to another one: from one of two places.
     fn arrival<'a>(&mut self, sent: &'a Sent) -> Event<'a> {
         Event::Datagram {
             protocol: sent.protocol,
