@@ -65,7 +65,8 @@ fn taken(object: &mut AnyObject, telegram: &Telegram<'_>, globals: &Globals) -> 
     }
 }
 
-/// Where a pull request is to be answered; None where at the publisher's own place.
+/// Where a pull request is answered: where it says, or else where it came from; None for a message,
+/// which is none.
 fn answer_place(telegram: &Telegram<'_>, pd_port: u16) -> Option<Place> {
     match telegram {
         Telegram::Pd { src, view, .. } if view.head.reply_ip == Ip(0) => Some(*src),

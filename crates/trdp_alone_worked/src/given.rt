@@ -20,6 +20,17 @@ pub struct Given {
     pub lines: Vec<u8>,
 }
 
+/// A message as its listener's slot is told of it.
+fn message<'a>(src: Place, view: &MdView<'a>) -> Message<'a> {
+    Message {
+        src,
+        com_id: view.head.com_id,
+        source_uri: view.head.source_uri,
+        dest_uri: view.head.dest_uri,
+        payload: view.payload,
+    }
+}
+
 impl Given {
     /// What a call came to, but what a subscription shows.
     fn answered(&mut self, answer: Answer<'static>) -> Result<(), Fail> {
@@ -68,7 +79,7 @@ impl Given {
         Ok(())
     }
 
-    /// A listener heard a request for which there is no replier more.
+    /// A listener heard a request, and the slot takes no further replier.
     pub fn overrun(&mut self, handle: u32) -> Result<(), Fail> {
         let what = What::Indication(Indication::Overrun(handle));
         let slot = self.slot;
@@ -94,13 +105,7 @@ impl Given {
 
     /// A listener heard a notification.
     pub fn notified(&mut self, handle: u32, src: Place, view: &MdView<'_>) -> Result<(), Fail> {
-        let message = Message {
-            src,
-            com_id: view.head.com_id,
-            source_uri: view.head.source_uri,
-            dest_uri: view.head.dest_uri,
-            payload: view.payload,
-        };
+        let message = message(src, view);
         let what = What::Indication(Indication::Notified(handle, message));
         let slot = self.slot;
         print_record(&mut self.lines, &Record { slot, what })?;
@@ -115,13 +120,7 @@ impl Given {
         src: Place,
         view: &MdView<'_>,
     ) -> Result<(), Fail> {
-        let message = Message {
-            src,
-            com_id: view.head.com_id,
-            source_uri: view.head.source_uri,
-            dest_uri: view.head.dest_uri,
-            payload: view.payload,
-        };
+        let message = message(src, view);
         let what = What::Indication(Indication::Asked {
             listener,
             replier,
