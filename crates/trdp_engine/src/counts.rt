@@ -19,7 +19,7 @@ pub struct Counts {
 
 impl Counts {
     /// Nothing is counted yet.
-    pub fn none() -> Counts
+    pub(crate) fn none() -> Counts
         ensures { result ≡ no_counts }
     {
         Counts {
@@ -30,7 +30,7 @@ impl Counts {
     }
 
     /// Counts so many comparisons.
-    pub fn compared(&mut self, times: u64)
+    pub(crate) fn compared(&mut self, times: u64)
         ensures comparisons { self.new.comparisons ≤ self.old.comparisons + times }
         ensures all { self.new.comparisons < 2 ^ 64 - 1
             → self.new.comparisons ≡ self.old.comparisons + times }
@@ -41,7 +41,7 @@ impl Counts {
     }
 
     /// Counts a filter test.
-    pub fn tested(&mut self)
+    pub(crate) fn tested(&mut self)
         ensures comparisons { self.new.comparisons ≡ self.old.comparisons }
         ensures tests { self.new.tests ≤ self.old.tests + 1 }
         ensures all { self.new.tests < 2 ^ 64 - 1 → self.new.tests ≡ self.old.tests + 1 }
@@ -51,7 +51,7 @@ impl Counts {
     }
 
     /// Counts a look-up.
-    pub fn looked_up(&mut self)
+    pub(crate) fn looked_up(&mut self)
         ensures comparisons { self.new.comparisons ≡ self.old.comparisons }
         ensures tests { self.new.tests ≡ self.old.tests }
         ensures look_ups { self.new.look_ups ≤ self.old.look_ups + 1 }

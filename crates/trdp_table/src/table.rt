@@ -120,26 +120,6 @@ impl Table {
         Some(entry.key)
     }
 
-    /// A slot's object of that index, by rising handle from 0; None past the last one.
-    pub fn object_at(&self, slot: u16, index: usize) -> Option<&AnyObject>
-        requires { slot < length self.now }
-        ensures { option_copied result
-            ≡ option_map (λ keyed. keyed.object) (slice_get (slot_in slot self.now).objects index) }
-    {
-        let entry = self.slots[usize::from(slot)].entry_at(index)?;
-        self.pool.object(entry.key)
-    }
-
-    /// The handle of a slot's object of that index, from 0; None past the last one.
-    pub fn handle_at(&self, slot: u16, index: usize) -> Option<u32>
-        requires { slot < length self.now }
-        ensures { result
-            ≡ option_map (λ keyed. keyed.handle) (slice_get (slot_in slot self.now).objects index) }
-    {
-        let entry = self.slots[usize::from(slot)].entry_at(index)?;
-        Some(entry.handle)
-    }
-
     /// The key of a slot's object of that handle; None where the slot has none.
     pub fn find(&self, slot: u16, handle: u32) -> Option<usize>
         requires { slot < length self.now }

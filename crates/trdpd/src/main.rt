@@ -21,34 +21,22 @@
 //! - 4 after a `read fault`, a `write fault` or a `memory fault`, and after a `bind fault`, where
 //!   the system refuses a port.
 //!
-//! What a script gives, and where it stops, is the contract of `trdp_script::run_script`, which
-//! `run_program` repeats with the exit status. What the totals count is the contract of
-//! `trdp_daemon::Daemon::run`, which `serve_program` repeats with the exit status and the line;
-//! what the system's sockets took and gave no contract tells. Nor does one say that the outside
-//! works: a `run_program` or a `serve_program` that answers 1 at once meets its contract, as if
-//! memory had run out while the configuration was read. The functions of this module and of
-//! `command` have no clauses: how the command line is read, which is `clap`'s, how the file is
-//! read, and status 2 are tried by hand.
+//! What it does in either case, with the exit status, is the contract of `trdp_program`'s
+//! `run_program` and `serve_program`. The functions here and in `command` have no clauses: how the
+//! command line is read, which is `clap`'s, how the file is read, and status 2 are tried by hand.
 #![tactic(auto)]
 
 mod command;
-mod config_names;
-mod faults;
-mod program;
-mod serve;
-#[cfg(test)]
-mod tests;
 
 use clap::error::ErrorKind;
 use command::{Task, read_words};
-use config_names::ConfigFaultText;
-use faults::{ScriptFaultText, script_status};
-use program::{CONFIG_STATUS, run_program};
-use serve::serve_program;
 use std::fmt::Display;
 use std::process::ExitCode;
 use std::{env, fs, io};
 use trdp_dataset::ConfigFault;
+use trdp_program::{
+    CONFIG_STATUS, ConfigFaultText, ScriptFaultText, run_program, script_status, serve_program,
+};
 use trdp_script::ScriptFault;
 
 /// The exit status of words that are no task, and of a wish for help (profile).

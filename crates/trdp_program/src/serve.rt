@@ -2,8 +2,8 @@
 
 ghost use Rattle.std.specs.Prelude.{◌≡◌, ◌⊎◌, ◌++◌, codes, IfOk, OnOk, OnErr};
 ghost use Rattle.std.specs.Io.KnownBytes.{Appends, Keeps};
-ghost use Rattle.trdpd.specs.Programs.{IsConfig};
-ghost use Rattle.trdpd.specs.Serving.{CountsTurns, ServesProgram, WritesNoTotals, text_of_totals};
+ghost use Rattle.trdp_program.specs.Programs.{IsConfig};
+ghost use Rattle.trdp_program.specs.Serving.{CountsTurns, ServesProgram, WritesNoTotals, text_of_totals};
 
 use crate::faults::{SERVE_FAULT_STATUS, ServeFault};
 use crate::program::{CONFIG_STATUS, read_config};
@@ -112,7 +112,7 @@ struct TotalsText(Totals);
 
 impl fmt::Display for TotalsText {
     ghost use Rattle.std.specs.Prelude.{Some};
-    ghost use Rattle.trdpd.specs.Serving.{text_of_totals};
+    ghost use Rattle.trdp_program.specs.Serving.{text_of_totals};
 
     ghost output = { λ text. Some (text_of_totals text.0) };
 

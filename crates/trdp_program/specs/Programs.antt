@@ -5,7 +5,7 @@ use Rattle.trdp_dataset.specs.Configs.{ConfigModel, Reads, config_of}
 use Rattle.trdp_dataset.specs.declared.fault.ConfigFault.{ConfigFault}
 use Rattle.trdp_script.specs.ScriptRuns.{RunsScript}
 use Rattle.trdp_script.specs.declared.script.ScriptFault.{ScriptFault}
-use Rattle.trdpd.specs.Faults.{status_of_script}
+use Rattle.trdp_program.specs.Faults.{status_of_script}
 
 -- the bytes are a configuration
 abbrev pub IsConfig : List ℕ → Type 0

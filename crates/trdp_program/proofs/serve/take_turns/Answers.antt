@@ -1,5 +1,5 @@
 use Rattle.std.proofs.Common.{◌∙◌, arith}
-use Rattle.trdpd.proofs.serve.take_turns.Goals as goal
+use Rattle.trdp_program.proofs.serve.take_turns.Goals as goal
 
 pub returns-in-Ok : goal.returns-in-Ok
 returns-in-Ok g c =

@@ -1,7 +1,7 @@
 //! The words of a fault of the configuration, as the program prints them.
 
 ghost use Rattle.std.specs.Prelude.{◌≡◌};
-ghost use Rattle.trdpd.specs.ConfigNames.{name_of_config_fault};
+ghost use Rattle.trdp_program.specs.ConfigNames.{name_of_config_fault};
 
 use std::fmt;
 use trdp_dataset::ConfigFault;
@@ -34,7 +34,7 @@ pub struct ConfigFaultText(pub ConfigFault);
 
 impl fmt::Display for ConfigFaultText {
     ghost use Rattle.std.specs.Prelude.{Some};
-    ghost use Rattle.trdpd.specs.ConfigNames.{text_of_config_fault};
+    ghost use Rattle.trdp_program.specs.ConfigNames.{text_of_config_fault};
 
     ghost output = { λ text. Some (text_of_config_fault text.0) };
 

@@ -5,8 +5,8 @@ use Rattle.trdp_script.specs.RecordText.{name_of_line_fault}
 use Rattle.trdp_script.specs.declared.script.ScriptFault.{ScriptFault}
 use Rattle.trdp_script.specs.declared.script.ScriptFault.TheVariants.{Line, Read, Write}
 use Rattle.trdp_script.specs.declared.script.ScriptFault.TheVariants.{OutOfMemory}
-use Rattle.trdpd.specs.declared.faults.ServeFault.{ServeFault}
-use Rattle.trdpd.specs.declared.faults.ServeFault.TheVariants as serve
+use Rattle.trdp_program.specs.declared.faults.ServeFault.{ServeFault}
+use Rattle.trdp_program.specs.declared.faults.ServeFault.TheVariants as serve
 
 -- the exit status of a script: 0 at its end, 3 for a bad line, and else 4
 abbrev pub status_of_script : Result (Unit {0}) ScriptFault → ℕ

@@ -10,7 +10,7 @@ use Rattle.trdp_daemon.specs.Counting.{no_totals, totals_after}
 use Rattle.trdp_daemon.specs.Ports.{ports_of}
 use Rattle.trdp_daemon.specs.Turns.{Turn, TakesAt, takings_of, turns_effect, opened_service}
 use Rattle.trdp_script.specs.Writes.{PartlyWrites}
-use Rattle.trdpd.specs.Programs.{TakesNoConfig}
+use Rattle.trdp_program.specs.Programs.{TakesNoConfig}
 
 -- what is told of a daemon's totals, without the end of the line
 abbrev pub text_of_totals : Totals → List ℕ

@@ -1,7 +1,7 @@
 //! The words of the faults of a script and of a service, as the program prints them.
 
 ghost use Rattle.std.specs.Prelude.{◌≡◌};
-ghost use Rattle.trdpd.specs.Faults.{status_of_script};
+ghost use Rattle.trdp_program.specs.Faults.{status_of_script};
 
 use std::fmt;
 use trdp_script::{ScriptFault, line_fault_name};
@@ -13,7 +13,7 @@ pub struct ScriptFaultText(pub ScriptFault);
 
 impl fmt::Display for ScriptFaultText {
     ghost use Rattle.std.specs.Prelude.{Some};
-    ghost use Rattle.trdpd.specs.Faults.{text_of_script_fault};
+    ghost use Rattle.trdp_program.specs.Faults.{text_of_script_fault};
 
     ghost output = { λ text. Some (text_of_script_fault text.0) };
 
@@ -58,7 +58,7 @@ pub enum ServeFault {
 
 impl fmt::Display for ServeFault {
     ghost use Rattle.std.specs.Prelude.{Some};
-    ghost use Rattle.trdpd.specs.Faults.{text_of_serve_fault};
+    ghost use Rattle.trdp_program.specs.Faults.{text_of_serve_fault};
 
     ghost output = { λ fault. Some (text_of_serve_fault fault) };
 

@@ -1,12 +1,10 @@
-//! Scripts through the whole program, over readers and writers in memory.
+//! Scripts and services through the whole program, over readers and writers in memory.
 
-use crate::faults::{ScriptFaultText, script_status};
-use crate::program::run_program;
-use crate::serve::serve_program;
 use std::io;
 use std::io::{Read, Write};
 use std::process::Abort;
 use std::test::Fail;
+use trdp_program::{ScriptFaultText, run_program, script_status, serve_program};
 use trdp_script::ScriptFault;
 
 /// A node with two slots and two datasets.

@@ -3,7 +3,7 @@
 ghost use Rattle.std.specs.Prelude.{◌≡◌, ◌⊎◌, ℕ, List, Some, Ok, IfOk, IfErr, OnOk};
 ghost use Rattle.std.specs.Io.KnownBytes.{Keeps};
 ghost use Rattle.trdp_dataset.specs.Configs.{Reads, config_of};
-ghost use Rattle.trdpd.specs.Programs.{IsConfig, IsConfigFault, RunsProgram};
+ghost use Rattle.trdp_program.specs.Programs.{IsConfig, IsConfigFault, RunsProgram};
 
 use crate::config_names::ConfigFaultText;
 use crate::faults::{ScriptFaultText, script_status};

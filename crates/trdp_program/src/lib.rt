@@ -1,0 +1,28 @@
+//! What the program `trdpd` does, over any reader and writer: a script played over a node
+//! (`run_program`), or a node served over the system's sockets (`serve_program`).
+//!
+//! The configuration is looked at first, as bytes of TOML. The exit status is
+//! - 0 at the script's end, and after the last turn;
+//! - 1 where the configuration isn't taken, with `config fault NAME` on `errors`. Behind the name
+//!   stands the key of a Missing or WrongType and the number of a dataset for NoDataset;
+//! - 3 for a bad line, with `line N fault NAME`;
+//! - 4 after a `read fault`, a `write fault` or a `memory fault`, and after a `bind fault`, where
+//!   the system refuses a port.
+//!
+//! What a script gives, and where it stops, is the contract of `trdp_script::run_script`, which
+//! `run_program` repeats with the exit status. What the totals count is the contract of
+//! `trdp_daemon::Daemon::run`, which `serve_program` repeats with the exit status and the line;
+//! what the system's sockets took and gave no contract tells. Nor does one say that the outside
+//! works: a `run_program` or a `serve_program` that answers 1 at once meets its contract, as if
+//! memory had run out while the configuration was read.
+#![tactic(auto)]
+
+mod config_names;
+mod faults;
+mod program;
+mod serve;
+
+pub use config_names::ConfigFaultText;
+pub use faults::{ScriptFaultText, script_status};
+pub use program::{CONFIG_STATUS, run_program};
+pub use serve::serve_program;
