@@ -158,7 +158,7 @@ pub fn reply(
     payload: &[u8],
     given: &mut Given,
 ) -> Result<bool, Fail> {
-    if replier.stage() == Stage::AwaitConfirm {
+    if replier.state() == Stage::AwaitConfirm {
         given.refused(Refusal::State)?;
         return Ok(false);
     }
@@ -177,7 +177,7 @@ pub fn query(
     now: u64,
     given: &mut Given,
 ) -> Result<(), Fail> {
-    match replier.stage() {
+    match replier.state() {
         Stage::Asked if now <= MOMENT_MAX => {
             given.done()?;
             let head = replier.query_head(com_id, status, timeout);

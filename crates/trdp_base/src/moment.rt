@@ -9,7 +9,7 @@ use std::marker::Model;
 pub const MOMENT_MAX: u64 = 4_611_686_018_427_387_904;
 
 /// A moment, in microseconds since the node began (profile).
-#[derive(Clone, Copy, Debug, PartialEq, Eq, Hash, PartialOrd, Ord)]
+#[derive(Clone, Copy, Debug, PartialEq, Eq)]
 pub struct Moment {
     /// Microseconds since the node began, 0 to [`MOMENT_MAX`].
     microseconds: u64,

@@ -1,14 +1,14 @@
 //! Where a telegram comes from and goes to.
 
 /// An IPv4 address.
-#[derive(Clone, Copy, Debug, PartialEq, Eq, Hash, PartialOrd, Ord)]
+#[derive(Clone, Copy, Debug, PartialEq, Eq)]
 pub struct Ip(
     /// The four bytes as a number in host order: 10.0.0.1 is `0x0a000001`.
     pub u32,
 );
 
 /// An address with a UDP port.
-#[derive(Clone, Copy, Debug, PartialEq, Eq, Hash, PartialOrd, Ord)]
+#[derive(Clone, Copy, Debug, PartialEq, Eq)]
 pub struct Place {
     /// The address.
     pub ip: Ip,

@@ -13,7 +13,7 @@ use uuid::Uuid;
 pub const SESSION_LENGTH: usize = 36;
 
 /// The identifier of a session: of a request, its replies and its confirmation (IEC 61375-2-3).
-#[derive(Clone, Copy, Debug, PartialEq, Eq, Hash, PartialOrd, Ord)]
+#[derive(Clone, Copy, Debug, PartialEq, Eq)]
 pub struct SessionId(
     /// The sixteen bytes as a number in host order; a header has its most significant byte first.
     pub u128,

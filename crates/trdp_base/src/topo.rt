@@ -1,7 +1,7 @@
 //! The two topology counts of a train's network.
 
 /// The topology counts of IEC 61375-2-3. A count of 0 stands for any.
-#[derive(Clone, Copy, Debug, PartialEq, Eq, Hash)]
+#[derive(Clone, Copy, Debug, PartialEq, Eq)]
 pub struct Topo {
     /// etbTopoCnt, that of the train network's directory.
     pub etb: u32,

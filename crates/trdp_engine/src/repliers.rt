@@ -27,7 +27,7 @@ use trdp_table::AnyObject;
 fn reply_refusal(replier: &Replier, status: i32, payload: &[u8]) -> Option<Refusal>
     ensures { result ≡ reply_refusal replier.now status payload.now }
 {
-    if replier.stage() == Stage::AwaitConfirm {
+    if replier.state() == Stage::AwaitConfirm {
         return Some(Refusal::State);
     }
     if status < 0 {
@@ -43,7 +43,7 @@ fn reply_refusal(replier: &Replier, status: i32, payload: &[u8]) -> Option<Refus
 fn query_refusal(replier: &Replier, status: i32, timeout: u32, payload: &[u8]) -> Option<Refusal>
     ensures { result ≡ query_refusal replier.now status timeout payload.now }
 {
-    if replier.stage() == Stage::AwaitConfirm {
+    if replier.state() == Stage::AwaitConfirm {
         return Some(Refusal::State);
     }
     if timeout < TIMEOUT_MIN {
@@ -56,7 +56,7 @@ fn query_refusal(replier: &Replier, status: i32, timeout: u32, payload: &[u8]) -
 fn error_refusal(replier: &Replier, status: i32) -> Option<Refusal>
     ensures { result ≡ error_refusal replier.now status }
 {
-    if replier.stage() == Stage::AwaitConfirm {
+    if replier.state() == Stage::AwaitConfirm {
         return Some(Refusal::State);
     }
     if status >= 0 {

@@ -29,7 +29,7 @@ pub const MD_TELEGRAM_MAX: usize = 65504;
 const _: () = prove!(MD_TELEGRAM_MAX == MD_HEAD + MD_PAYLOAD_MAX);
 
 /// The message types of message data (IEC 61375-2-3); a telegram carries the two letters in ASCII.
-#[derive(Clone, Copy, Debug, PartialEq, Eq, Hash)]
+#[derive(Clone, Copy, Debug, PartialEq, Eq)]
 pub enum MdKind {
     /// `Mn`, a message that wants no reply.
     Notify,

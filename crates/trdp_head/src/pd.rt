@@ -27,7 +27,7 @@ pub const PD_TELEGRAM_MAX: usize = 1472;
 const _: () = prove!(PD_TELEGRAM_MAX == PD_HEAD + PD_PAYLOAD_MAX);
 
 /// The message types of process data (IEC 61375-2-3); a telegram carries the two letters in ASCII.
-#[derive(Clone, Copy, Debug, PartialEq, Eq, Hash)]
+#[derive(Clone, Copy, Debug, PartialEq, Eq)]
 pub enum PdKind {
     /// `Pd`, data that a publisher sends in its cycle.
     Data,
@@ -41,7 +41,7 @@ pub enum PdKind {
 
 /// The fields of a process data header that a node chooses (IEC 61375-2-3); the others follow from
 /// the standard and the payload. Numbers are in host order.
-#[derive(Clone, Copy, Debug, PartialEq, Eq, Hash)]
+#[derive(Clone, Copy, Debug, PartialEq, Eq)]
 pub struct PdHead {
     /// sequenceCounter: one more with each telegram of its sender, modulo 2^32.
     pub counter: u32,

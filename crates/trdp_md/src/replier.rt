@@ -93,7 +93,7 @@ impl Replier {
     }
 
     /// How far its answer is.
-    pub fn stage(&self) -> Stage
+    pub fn state(&self) -> Stage
         ensures { result ≡ self.now.stage }
     {
         self.stage

@@ -264,7 +264,7 @@ fn repliers_close(rt: HostRuntime) {
     let mut replier = Replier::new(place(1), &request, 0);
     replier.query(100, 1000);
     assert_eq!(rt;
-        (replier.stage(), replier.dataset()),
+        (replier.state(), replier.dataset()),
         (Stage::AwaitConfirm, None)
     );
     assert_eq!(rt;
