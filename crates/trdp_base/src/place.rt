@@ -1,7 +1,7 @@
 //! Where a telegram comes from and goes to.
 
 /// An IPv4 address.
-#[derive(Clone, Copy, Debug, PartialEq, Eq)]
+#[derive(Clone, Copy, Debug, PartialEq, Eq, PartialOrd, Ord)]
 pub struct Ip(
     /// The four bytes as a number in host order: 10.0.0.1 is `0x0a000001`.
     pub u32,
