@@ -8,6 +8,7 @@ pub mod Stored
 pub mod RowCounts
 pub mod Apart
 pub mod Timed
+pub mod OfKind
 pub mod Untimed
 pub mod Retimed
 pub mod Sizes

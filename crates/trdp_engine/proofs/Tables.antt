@@ -124,7 +124,7 @@ touched_objects h object (k ∷ ks) =
         → map entry_of_keyed (map (other_by_handle h object) (k ∷ ks)) ≡ left_at h
         (Some object) (entry_of_keyed k) ++ acted h (Some object) (map entry_of_keyed ks)
     either true is rest = rw is (ap (λ (es : List Entry).
-        record { handle = k.handle; kind = k.kind; object = object } ∷ es) rest)
+        record { handle = k.handle; object = object } ∷ es) rest)
     either false is rest = rw is (ap (λ (es : List Entry). entry_of_keyed k ∷ es) rest)
 
 -- the slot once its object of a handle became another one

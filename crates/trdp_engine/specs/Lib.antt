@@ -27,6 +27,7 @@ pub mod Noted
 pub mod Asked
 pub mod Indexed
 pub mod InSession
+pub mod OfKind
 pub mod Timed
 pub mod Sought
 pub mod Costs

@@ -6,10 +6,9 @@ use Rattle.trdp_table.specs.Kinds.{kind_of, is_same_kind}
 use Rattle.trdp_table.specs.Tables.{Keyed, SlotTable, TableState}
 use Rattle.trdp_engine.specs.Records.{Content}
 
--- an object under its handle, with the kind for whose quota it counts: the one that it was made as
+-- an object under its handle
 pub record Entry : Type 0 where
   pub handle : ℕ
-  pub kind : Kind
   pub object : AnyObject
 
 -- an application slot: a quota for each kind of object, the next handle, and its objects by
@@ -32,9 +31,9 @@ unchanged slot = record { slot = slot; records = [] }
 abbrev pub opened_slot : List ℕ → SlotState
 opened_slot quotas = record { quotas = quotas; next = 1; objects = [] }
 
--- how many objects count for the quota of a kind
+-- how many objects are of a kind, and so count for its quota
 abbrev pub count_of : Kind → List Entry → ℕ
-count_of kind objects = count_by (λ entry. is_same_kind entry.kind kind) objects
+count_of kind objects = count_by (λ entry. is_same_kind (kind_of entry.object) kind) objects
 
 -- the object of a handle
 abbrev pub entry_of : ℕ → List Entry → Option Entry
@@ -45,15 +44,12 @@ abbrev pub with_object : SlotState → AnyObject → SlotState
 with_object slot object =
     record slot {
       next = slot.next + 1;
-      objects =
-          slot.objects
-          ++ record { handle = slot.next; kind = kind_of object; object = object } ∷ [];
+      objects = slot.objects ++ record { handle = slot.next; object = object } ∷ [];
     }
 
--- an object of the table as its slot knows it, without its key
+-- an object of the table as its slot knows it, without its key and the table's note of its kind
 abbrev pub entry_of_keyed : Keyed → Entry
-entry_of_keyed keyed =
-    record { handle = keyed.handle; kind = keyed.kind; object = keyed.object }
+entry_of_keyed keyed = record { handle = keyed.handle; object = keyed.object }
 
 -- a slot of the table, without keys
 abbrev pub slot_of : SlotTable → SlotState

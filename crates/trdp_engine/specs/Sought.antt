@@ -37,7 +37,7 @@ abbrev pub hit_by : TelegramModel → Globals → ComRow → Option Keyed → Li
 hit_by telegram globals row None = []
 hit_by telegram globals row (Some keyed) =
     if is_addressed keyed.object telegram globals
-    then record { handle = row.handle; kind = keyed.kind; object = keyed.object } ∷ []
+    then record { handle = row.handle; object = keyed.object } ∷ []
     else []
 
 -- the object that the table has under a row's key, if a telegram is for it

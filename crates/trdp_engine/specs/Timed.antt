@@ -14,6 +14,7 @@ use Rattle.trdp_table.specs.TableLaws.{object_limit}
 use Rattle.trdp_engine.specs.Rooms.{kind_room}
 use Rattle.trdp_engine.specs.Indexed.{IsIndexed}
 use Rattle.trdp_engine.specs.InSession.{IsInSession}
+use Rattle.trdp_engine.specs.OfKind.{AllOfKind}
 
 -- the orders of the objects by their keys, and the room in an outbox that each needs at most as it
 -- fires: so many records, and so many bytes
@@ -91,12 +92,13 @@ pub record IsScheduled (table : TableState) (schedule : ScheduleState) : Type 0 
   pub rows_room : room_of table ≤ length schedule.rows
   pub bytes_room : room_of table ≤ length schedule.bytes
 
--- both indexes and the schedule are those of the table
+-- both indexes and the schedule are those of the table, whose notes of kinds are true
 pub record IsStore (table : TableState) (coms : ComIndexState) (sessions : SessionIndexState)
     (schedule : ScheduleState) : Type 0 where
   pub by_com : IsIndexed table coms
   pub by_session : IsInSession table sessions
   pub by_moment : IsScheduled table schedule
+  pub kinds : AllOfKind table
 
 -- no order is due by t
 abbrev pub IsNoneDue : ℕ → List (Option Order) → Type 0

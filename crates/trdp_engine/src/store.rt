@@ -10,11 +10,12 @@ ghost use Rattle.trdp_table.specs.declared.any_object.AnyObject.{AnyObject};
 ghost use Rattle.trdp_table.specs.Kinds.{kind_of};
 ghost use Rattle.trdp_table.specs.Objects.{due_of};
 ghost use Rattle.trdp_table.specs.Tables.{Keyed, slot_limit, opened_slot, slot_in};
-ghost use Rattle.trdp_table.specs.Tables.{by_handle, refusal, Adds, changed_at, without};
+ghost use Rattle.trdp_table.specs.Tables.{by_handle, Adds, changed_at, without};
 ghost use Rattle.trdp_table.specs.Tables.{room_of};
 ghost use Rattle.trdp_table.specs.TableLaws.{object_limit};
 ghost use Rattle.trdp_engine.specs.Configs.{setup_of};
 ghost use Rattle.trdp_engine.specs.Slots.{entry_of};
+ghost use Rattle.trdp_engine.specs.Openings.{opening_refusal, table_refusal};
 ghost use Rattle.trdp_engine.specs.Calls.{at_object};
 ghost use Rattle.trdp_engine.specs.Asked.{asked_act};
 ghost use Rattle.trdp_engine.specs.Datagrams.{is_for_entry, taking_act};
@@ -157,11 +158,12 @@ impl Store {
         requires fresh { IsNewInSession object (slot_at slot self.old).objects }
         ensures handle { IfOk result (λ handle. handle ≡ (slot_in slot self.old).next) }
         ensures granted { OnOk result
-            (refusal (slot_in slot self.old) (kind_of object) ≡ None) }
+            (opening_refusal (slot_at slot self.old) (kind_of object) ≡ None) }
         ensures added { OnOk result (Adds slot object self.old self.new) }
         ensures returned { IfErr result (λ refused. refused.0 ≡ object) }
         ensures fault { IfErr result
-            (λ refused. refusal (slot_in slot self.old) (kind_of object) ≡ Some refused.1) }
+            (λ refused. opening_refusal (slot_at slot self.old) (kind_of object)
+            ≡ Some (table_refusal refused.1)) }
         ensures kept { OnErr result (self.new ≡ self.old) }
         ensures comparisons { (b : ℕ) → room_of self.old < 2 ^ b
             → counts.new.comparisons ≤ counts.old.comparisons + (2 * b + 2) }

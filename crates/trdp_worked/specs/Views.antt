@@ -2,7 +2,6 @@
 use Rattle.std.specs.Prelude.{[], ◌∷◌}
 use Rattle.trdp_pd.specs.Subscriptions.{SubscriptionState}
 use Rattle.trdp_table.specs.declared.any_object.AnyObject.TheVariants.{Subscription}
-use Rattle.trdp_table.specs.declared.kind.Kind.TheVariants.{Subscription as Subscribing}
 use Rattle.trdp_engine.specs.Slots.{SlotState}
 
 -- a slot whose only object is this subscription
@@ -10,5 +9,5 @@ abbrev pub with_subscription : SubscriptionState → SlotState
 with_subscription s = record {
   quotas = [];
   next = 2;
-  objects = record { handle = 1; kind = Subscribing; object = Subscription s } ∷ [];
+  objects = record { handle = 1; object = Subscription s } ∷ [];
 }

@@ -4,9 +4,11 @@ ghost use Rattle.std.specs.Prelude.{◌≡◌, ℕ, ◌<◌, ◌≤◌, length, 
 ghost use Rattle.std.specs.Prelude.{slice_get, option_map, option_copied};
 ghost use Rattle.trdp_table.specs.declared.any_object.AnyObject.{AnyObject};
 ghost use Rattle.trdp_table.specs.Tables.{Keyed, slot_limit, slot_in, all_objects};
-ghost use Rattle.trdp_table.specs.Tables.{by_handle, by_key, refusal, changed_at};
+ghost use Rattle.trdp_table.specs.Tables.{by_handle, by_key, changed_at};
 ghost use Rattle.trdp_table.specs.Tables.{exchanged, with_other_by_handle};
 ghost use Rattle.trdp_table.specs.TableLaws.{IsTable};
+ghost use Rattle.trdp_engine.specs.Openings.{opening_refusal, table_refusal};
+ghost use Rattle.trdp_engine.specs.Acting.{slot_at};
 
 use crate::store::Store;
 use trdp_table::{AnyObject, Kind, TableFault};
@@ -42,7 +44,7 @@ impl Store {
     /// handles, as [`Store::add`] answers it.
     pub fn refuses(&self, slot: u16, kind: Kind) -> Option<TableFault>
         requires { slot < length self.now }
-        ensures { result ≡ refusal (slot_in slot self.now) kind }
+        ensures { option_map table_refusal result ≡ opening_refusal (slot_at slot self.now) kind }
     {
         self.table.refuses(slot, kind)
     }

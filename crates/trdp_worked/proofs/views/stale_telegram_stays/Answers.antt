@@ -9,7 +9,6 @@ use Rattle.trdp_pd.specs.declared.object.Taken.TheVariants.{Nothing}
 use Rattle.trdp_table.specs.declared.any_object.AnyObject.{AnyObject}
 use Rattle.trdp_table.specs.declared.any_object.AnyObject.TheVariants.{Subscription}
 use Rattle.trdp_table.specs.Objects.{taking}
-use Rattle.trdp_table.specs.declared.kind.Kind.TheVariants.{Subscription as Subscribing}
 use Rattle.trdp_pd.specs.Effects.{Taking}
 use Rattle.trdp_engine.specs.Configs.{NodeSetup}
 use Rattle.trdp_engine.specs.declared.record.Protocol.TheVariants.{Pd}
@@ -39,7 +38,7 @@ stale_refused s src dst telegram globals fits is =
 
 -- the only object of the slot
 abbrev entry_with : SubscriptionState → Entry
-entry_with s = record { handle = 1; kind = Subscribing; object = Subscription s }
+entry_with s = record { handle = 1; object = Subscription s }
 
 -- a subscription that is handed a stale telegram does nothing
 stale_ignored :

@@ -1,10 +1,13 @@
-use Rattle.std.proofs.Common.{◌∙◌, sym, refl, arith}
+use Rattle.std.proofs.Common.{◌∙◌, sym, ap, refl, arith}
+use Rattle.std.specs.Prelude.{option_map}
 use Rattle.trdp_table.specs.Kinds.{kind_of}
+use Rattle.trdp_engine.specs.Openings.{table_refusal}
 use Rattle.trdp_engine.proofs.Timed.{added_scheduled, added_within}
 use Rattle.trdp_engine.proofs.Sizes.{kind_rows, kind_bytes}
 use Rattle.trdp_engine.proofs.Stored.{has_spare, is_fresh, added_index, added_there}
 use Rattle.trdp_engine.proofs.InSession.{session_spare, added_session}
 use Rattle.trdp_engine.proofs.HasSession.{session_fresh}
+use Rattle.trdp_engine.proofs.OfKind.{added_kinds, refused_alike}
 use Rattle.trdp_engine.proofs.store.Store.add.Goals as goal
 
 pub enlist-requires-clause-spare : goal.enlist-requires-clause-spare
@@ -82,6 +85,8 @@ invariant_of-self-in-Some c = record {
         rows = c.set.ensures.rows ∙ (c.admit.ensures.rows ∙ rw c.of-room.ensures refl);
         bytes = c.set.ensures.bytes ∙ (c.admit.ensures.bytes ∙ rw c.of-room.ensures refl);
       });
+  kinds = added_kinds c.self.inside.table c.add.new.self c.args.slot c.args.object
+      (rw (← c.self.view_is) at c.requires.slot) c.in-Ok.ensures.added c.self.invariant.kinds;
 }
 
 pub invariant_of-self-in_default : goal.invariant_of-self-in_default
@@ -89,3 +94,17 @@ invariant_of-self-in_default c =
     absurd (added_there c.self.inside.table c.add.new.self c.args.slot c.in-Ok.handle
     c.args.object c.sound.ensures.sound (rw (← c.self.view_is) at c.requires.slot)
     c.in-Ok.ensures.added c.in-Ok.ensures.handle (sym c.find.ensures ∙ c.in_default.is))
+
+pub returns-in-Err-clause-fault : goal.returns-in-Err-clause-fault
+returns-in-Err-clause-fault c =
+    rw (← c.self.view_is)
+    (sym (refused_alike c.self.inside.table c.args.slot
+    (kind_of c.args.object) c.self.invariant.kinds)
+    ∙ ap (option_map table_refusal) c.in-Err.ensures.fault)
+
+pub returns-after-find-clause-granted : goal.returns-after-find-clause-granted
+returns-after-find-clause-granted c =
+    rw (← c.self.view_is)
+    (sym (refused_alike c.self.inside.table c.args.slot
+    (kind_of c.args.object) c.self.invariant.kinds)
+    ∙ ap (option_map table_refusal) c.in-Ok.ensures.granted)

@@ -3,6 +3,7 @@ use Rattle.std.proofs.lemmas.Option.{same_Some}
 use Rattle.trdp_engine.specs.declared.asked.Left.TheVariants.{Stays, Ended}
 use Rattle.trdp_engine.proofs.Tables.{reached, none_found, none_reached}
 use Rattle.trdp_engine.proofs.Stored.{indexed_reached}
+use Rattle.trdp_engine.proofs.OfKind.{reached_kinds}
 use Rattle.trdp_engine.proofs.InSession.{session_reached}
 use Rattle.trdp_engine.proofs.Retimed.{reached_within, scheduled_reached}
 use Rattle.trdp_engine.proofs.Asking.{stayed, asked_nobody, asked_stays, asked_ended}
@@ -44,6 +45,10 @@ invariant_of-self-in-Some-get_mut c =
             rows = c.set.ensures.rows;
             bytes = c.set.ensures.bytes;
           });
+      kinds = reached_kinds c.self.inside.table c.args.s c.args.handle c.in-Some.key
+          c.in-Some-get_mut.object.now c.ask-left.new.object c.self.invariant.kinds
+          c.sound.ensures.sound (rw (← c.self.view_is) at c.requires.slot)
+          c.sound.ensures.exchanged r c.ask-left.ensures.kind;
     }
 
 pub returns-in_default : goal.returns-in_default

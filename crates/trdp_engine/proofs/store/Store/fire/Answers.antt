@@ -11,6 +11,7 @@ use Rattle.trdp_engine.proofs.Tables.{reached, reached_entry, none_found, none_r
 use Rattle.trdp_engine.proofs.Turns.{reached_is, reached_handle}
 use Rattle.trdp_engine.proofs.Turns.{acts_reached, acts_removed, nobody_acts}
 use Rattle.trdp_engine.proofs.Stored.{indexed_reached}
+use Rattle.trdp_engine.proofs.OfKind.{reached_kinds}
 use Rattle.trdp_engine.proofs.InSession.{session_reached}
 use Rattle.trdp_engine.proofs.Retimed.{room_exchanged, reached_within, scheduled_reached}
 use Rattle.trdp_engine.proofs.Asking.{stayed}
@@ -73,6 +74,10 @@ invariant_of-self-in-Some-get_mut c =
             rows = c.set.ensures.rows;
             bytes = c.set.ensures.bytes;
           });
+      kinds = reached_kinds c.self.inside.table c.args.s c.args.handle c.in-Some.key
+          c.in-Some-get_mut.object.now c.fire_object-left.new.object c.self.invariant.kinds
+          c.sound.ensures.sound (rw (← c.self.view_is) at c.requires.slot)
+          c.sound.ensures.exchanged r c.fire_object-left.ensures.kind;
     }
 
 pub returns-in-Ended : goal.returns-in-Ended

@@ -2,6 +2,7 @@ use Rattle.std.proofs.Common.{arith}
 use Rattle.trdp_engine.proofs.Stored.{indexed_new}
 use Rattle.trdp_engine.proofs.InSession.{session_new}
 use Rattle.trdp_engine.proofs.Timed.{scheduled_new}
+use Rattle.trdp_engine.proofs.OfKind.{new_kinds}
 use Rattle.trdp_engine.proofs.Sizes.{room_limited}
 use Rattle.trdp_engine.proofs.store.Store.new.Goals as goal
 
@@ -22,4 +23,5 @@ invariant_of-result c =
       by_com = indexed_new c.args.quotas.now _ (omega arith);
       by_session = session_new c.args.quotas.now _ (omega arith);
       by_moment = scheduled_new c.args.quotas.now _ (omega arith);
+      kinds = new_kinds c.args.quotas.now;
     })

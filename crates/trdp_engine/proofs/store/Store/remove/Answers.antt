@@ -6,6 +6,7 @@ use Rattle.trdp_engine.proofs.Stored.{is_there, indexed_removed}
 use Rattle.trdp_engine.proofs.InSession.{session_removed}
 use Rattle.trdp_engine.proofs.Untimed.{scheduled_without}
 use Rattle.trdp_engine.proofs.HasSession.{session_there}
+use Rattle.trdp_engine.proofs.OfKind.{removed_kinds}
 use Rattle.trdp_engine.proofs.store.Store.remove.Goals as goal
 
 pub delist-requires : goal.delist-requires
@@ -42,6 +43,8 @@ invariant_of-self c =
           (rw c.find-key.ensures at c.dismiss-comparisons.ensures.orders)
           c.dismiss-comparisons.ensures.rows
           c.dismiss-comparisons.ensures.bytes;
+      kinds = removed_kinds c.self.inside.table c.args.slot c.args.handle
+          (rw (← c.self.view_is) at c.requires) c.self.invariant.kinds;
     })
 
 pub returns-clause-idle : goal.returns-clause-idle
