@@ -1,5 +1,5 @@
 -- What is counted after many events.
-use Rattle.std.proofs.Common.{◌≡◌, ℕ, List, [], ◌∷◌, ◌++◌, length, true}
+use Rattle.std.proofs.Common.{◌≡◌, ℕ, List, [], ◌∷◌, ◌++◌, length, Bool, true, false}
 use Rattle.std.proofs.Common.{is_some, refl, sym, ◌∙◌, ap, subst, append_assoc}
 use Rattle.std.proofs.Common.{Option, Some, None, Result, Ok, Err, OnOk, OnErr}
 use Rattle.std.specs.Prelude.{slice_get}
@@ -9,9 +9,10 @@ use Rattle.trdp_engine.specs.declared.fault.NodeFault.TheVariants.{OutOfMemory}
 use Rattle.trdp_engine.specs.Records.{RecordModel}
 use Rattle.trdp_engine.specs.Events.{EventModel}
 use Rattle.trdp_engine.specs.Slots.{SlotState}
-use Rattle.trdp_engine.specs.Alone.{FaultIs, refused_as}
+use Rattle.trdp_engine.specs.Alone.{FaultIs, refused_as, globals_after}
 use Rattle.trdp_engine.specs.NodeStates.{NodeState}
-use Rattle.trdp_engine.specs.NodeRuns.{HasCome, AreRefused, CountsLatest, NoneTaken, Latest}
+use Rattle.trdp_engine.specs.NodeRuns.{HasCome, AreRefused, globals_through}
+use Rattle.trdp_engine.specs.NodeRuns.{CountsLatest, NoneTaken, Latest}
 use Rattle.trdp_engine.specs.Costs.{IsBounded}
 use Rattle.trdp_engine.proofs.Runs.{RunsAsAloneSoFar, so_far}
 
@@ -39,9 +40,10 @@ latest_kept : (old now : NodeState) (events : List EventModel) (event : EventMod
     → CountsLatest old now events → CountsLatest old now (events ++ event ∷ [])
 latest_kept old now events event is (NoneTaken refused same) =
     NoneTaken (refused_more (length now.slots) now.globals events event refused is) same
-latest_kept old now events event is (Latest earlier latest later slots are refused come bounded) =
+latest_kept old now events event is
+    (Latest earlier latest later slots are taken refused come bounded) =
     Latest earlier latest (later ++ event ∷ []) slots (ap (λ (es : List EventModel).
-    es ++ event ∷ []) are ∙ append_assoc earlier (latest ∷ later) (event ∷ []))
+    es ++ event ∷ []) are ∙ append_assoc earlier (latest ∷ later) (event ∷ [])) taken
     (refused_more (length now.slots) now.globals later event refused is) come bounded
 
 fault_there : (fault : Option NodeFault) (other : NodeFault) (result : Result (Unit {0}) NodeFault)
@@ -50,16 +52,61 @@ fault_there : (fault : Option NodeFault) (other : NodeFault) (result : Result (U
 fault_there None other result is answer memory = absurd (memory (is ∙ ap Err answer))
 fault_there (Some fault) other result is answer memory = refl
 
+none_there : (fault : Option NodeFault) (done : Unit {0}) → FaultIs fault (Ok done) → fault ≡ None
+none_there None done answer = refl
+none_there (Some fault) done answer = absurd answer
+
+-- the globals to which one event more leads
+through_more : (n : ℕ) (globals : Globals) (events : List EventModel) (event : EventModel)
+    → globals_through n globals (events ++ event ∷ [])
+    ≡ globals_through n (globals_through n globals events) (event ∷ [])
+through_more n globals [] event = refl
+through_more n globals (e ∷ events) event =
+    either (is_some (refused_as n globals e)) refl (through_more n globals events event)
+    (through_more n (globals_after globals e) events event)
+  where
+    either : (b : Bool) → is_some (refused_as n globals e) ≡ b
+        → globals_through n globals (events ++ event ∷ [])
+        ≡ globals_through n (globals_through n globals events) (event ∷ [])
+        → globals_through n (globals_after globals e) (events ++ event ∷ []) ≡ globals_through n
+        (globals_through n (globals_after globals e) events) (event ∷ [])
+        → globals_through n globals (e ∷ events ++ event ∷ [])
+        ≡ globals_through n (globals_through n globals (e ∷ events)) (event ∷ [])
+    either true is refused taken = rw is refused
+    either false is refused taken = rw is taken
+
+-- the globals that the events led to, after one more
+pub globals_next : (old now next : NodeState) (events : List EventModel) (event : EventModel)
+    (result : Result (Unit {0}) NodeFault) → length now.slots ≡ length old.slots
+    → FaultIs (refused_as (length now.slots) now.globals event) result
+    → (result ≡ Err OutOfMemory → ⊥) → OnErr result (next ≡ now)
+    → OnOk result (next.globals ≡ globals_after now.globals event)
+    → now.globals ≡ globals_through (length old.slots) old.globals events
+    → next.globals ≡ globals_through (length old.slots) old.globals (events ++ event ∷ [])
+globals_next old now next events event (Ok done) count answer memory kept globals led =
+    let none = none_there (refused_as (length now.slots) now.globals event) done answer in
+    let none_then = rw (count, led) at none in
+    rw (through_more (length old.slots) old.globals events event, none_then)
+    (globals ∙ ap (λ (g : Globals). globals_after g event) led)
+globals_next old now next events event (Err fault) count answer memory kept globals led =
+    let there = fault_there (refused_as (length now.slots) now.globals event)
+    fault (Err fault) refl answer memory in
+    let there_then = rw (count, led) at there in
+    rw (through_more (length old.slots) old.globals events event, there_then)
+    (ap (λ (node : NodeState). node.globals) kept ∙ led)
+
 -- one more event, whatever the step answered but want of memory
 pub latest_next : (old now next : NodeState) (events : List EventModel)
     (event : EventModel) (result : Result (Unit {0}) NodeFault)
     → FaultIs (refused_as (length now.slots) now.globals event) result
     → (result ≡ Err OutOfMemory → ⊥) → HasCome old events now.slots
+    → now.globals ≡ globals_through (length old.slots) old.globals events
     → OnErr result (next ≡ now) → OnOk result (IsBounded now.slots event next.counts)
     → CountsLatest old now events → CountsLatest old next (events ++ event ∷ [])
-latest_next old now next events event (Ok done) answer memory come kept bounded latest =
-    Latest events event [] now.slots refl tt come bounded
-latest_next old now next events event (Err fault) answer memory come kept bounded latest =
+latest_next old now next events event (Ok done) answer memory come led kept bounded latest =
+    let none = none_there (refused_as (length now.slots) now.globals event) done answer in
+    Latest events event [] now.slots refl (rw (come.count, led) at none) tt come bounded
+latest_next old now next events event (Err fault) answer memory come led kept bounded latest =
     subst (λ (n : NodeState). CountsLatest old n (events ++ event ∷ [])) (sym kept)
     (latest_kept old now events event (fault_there (refused_as (length now.slots) now.globals event)
     fault (Err fault) refl answer memory) latest)

@@ -70,7 +70,7 @@ bounded_none slots (MomentIs t) counts is = λ b lt. within_none counts _ is
 bounded_none slots (TopologyIs topo) counts is = λ b lt. within_none counts _ is
 bounded_none slots (RoleIs group leader) counts is = λ b lt. within_none counts _ is
 bounded_none slots (DatagramIs protocol src dst bytes) counts is = λ b lt. within_none counts _ is
-bounded_none slots (CallIs s call) counts is = λ b lt. tt
+bounded_none slots (CallIs s call) counts is = λ b lt. within_none counts _ is
 
 -- the same of an event that was taken
 pub bounded_if : (result : Result (Unit {0}) NodeFault)

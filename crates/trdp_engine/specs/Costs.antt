@@ -93,14 +93,14 @@ pub record IsWithin (counts bounds : Counts) : Type 0 where
   pub look_ups : counts.look_ups ≤ bounds.look_ups
 
 -- an event cost these slots, whose quotas allow less than 2^b objects, no more than its bounds;
--- what a call costs has none
+-- at a call nothing is counted
 abbrev pub IsBoundedBy : ℕ → List SlotState → EventModel → Counts → Type 0
 IsBoundedBy b slots (MomentIs t) counts = IsWithin counts (moment_bounds b (due_in t slots))
 IsBoundedBy b slots (TopologyIs topo) counts = IsWithin counts no_counts
 IsBoundedBy b slots (RoleIs group leader) counts = IsWithin counts no_counts
 IsBoundedBy b slots (DatagramIs protocol src dst bytes) counts =
     IsWithin counts (datagram_bounds b slots (telegram_of protocol src dst bytes))
-IsBoundedBy b slots (CallIs s call) counts = Unit {0}
+IsBoundedBy b slots (CallIs s call) counts = IsWithin counts no_counts
 
 -- the same of every such b
 abbrev pub IsBounded : List SlotState → EventModel → Counts → Type 0

@@ -1,13 +1,13 @@
 -- All that a run says of a node.
 use Rattle.std.specs.Prelude.{◌≡◌, ℕ, ◌≤◌, List, [], ◌∷◌, ◌++◌, length, slice_get, Some, map, take}
-use Rattle.std.specs.Prelude.{IfSome, is_some, true}
+use Rattle.std.specs.Prelude.{None, IfSome, is_some, true, if◌then◌else◌}
 use Rattle.trdp_filter.specs.declared.globals.Globals.{Globals}
 use Rattle.trdp_engine.specs.declared.event.Event.{Event}
 use Rattle.trdp_engine.specs.Configs.{setup_of}
 use Rattle.trdp_engine.specs.Events.{EventModel, event_model}
 use Rattle.trdp_engine.specs.Slots.{SlotState}
 use Rattle.trdp_engine.specs.Outboxes.{OutboxState}
-use Rattle.trdp_engine.specs.Alone.{refused_as, alone_in_view}
+use Rattle.trdp_engine.specs.Alone.{refused_as, globals_after, alone_in_view}
 use Rattle.trdp_engine.specs.NodeStates.{NodeState, RunsAsAlone, Appends, MayTakeMemory}
 use Rattle.trdp_engine.specs.Rooms.{MayLackMemory}
 use Rattle.trdp_engine.specs.Costs.{IsBounded}
@@ -20,6 +20,15 @@ pub record HasCome (old : NodeState) (events : List EventModel)
       → slice_get slots s
       ≡ Some (alone_in_view (setup_of old.config) s slot old.globals events).slot
 
+-- the globals to which these events lead a node of so many slots, which are left by those that it
+-- refuses
+abbrev pub globals_through : ℕ → Globals → List EventModel → Globals
+globals_through n globals [] = globals
+globals_through n globals (event ∷ events) =
+    if is_some (refused_as n globals event)
+    then globals_through n globals events
+    else globals_through n (globals_after globals event) events
+
 -- a node of so many slots refuses each of these events
 abbrev pub AreRefused : ℕ → Globals → List EventModel → Type 0
 AreRefused n globals [] = Unit {0}
@@ -27,12 +36,15 @@ AreRefused n globals (event ∷ events) =
     (is_some (refused_as n globals event) ≡ true) × AreRefused n globals events
 
 -- what a node has counted after these events is as before, where none was taken; else it is within
--- the bounds of the latest that was taken, with the slots to which those before it led
+-- the bounds of the latest that was taken, with the slots to which those before it led. That one
+-- has no fault in the globals to which those before it led, and all after it are refused.
 pub data CountsLatest (old new : NodeState) (events : List EventModel) : Type 0 where
   NoneTaken : AreRefused (length new.slots) new.globals events → new.counts ≡ old.counts
       → CountsLatest old new events
   Latest : (earlier : List EventModel) (latest : EventModel) (later : List EventModel)
       (slots : List SlotState) → events ≡ earlier ++ latest ∷ later
+      → refused_as (length old.slots)
+      (globals_through (length old.slots) old.globals earlier) latest ≡ None
       → AreRefused (length new.slots) new.globals later → HasCome old earlier slots
       → IsBounded slots latest new.counts → CountsLatest old new events
 

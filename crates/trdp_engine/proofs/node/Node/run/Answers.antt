@@ -1,7 +1,8 @@
-use Rattle.std.proofs.Common.{arith, refl, ◌∙◌}
+use Rattle.std.proofs.Common.{arith, refl, ◌∙◌, map, take}
 use Rattle.std.proofs.lemmas.Option.{slice_get-get_or, slice_get_past}
+use Rattle.trdp_engine.specs.Events.{event_model}
 use Rattle.trdp_engine.specs.NodeRuns.{NoneTaken}
-use Rattle.trdp_engine.proofs.Latest.{has_come, latest_next}
+use Rattle.trdp_engine.proofs.Latest.{has_come, globals_next, latest_next}
 use Rattle.trdp_engine.proofs.Runs.{one_event, so_far, one_more, at_start}
 use Rattle.trdp_engine.proofs.Steps.{appends_none, appends_more}
 use Rattle.trdp_engine.proofs.node.Node.run.Goals as goal
@@ -13,6 +14,7 @@ loop-event-init c = record {
   count = refl;
   runs = λ s slot is. at_start c.args.self.now c.args.out.now.records s slot is;
   appends = appends_none c.args.self.now.slots c.args.out.now.records c.args.out.now.records refl;
+  globals = refl;
   counted = NoneTaken tt refl;
 }
 
@@ -35,6 +37,18 @@ loop-event-preserved c = record {
       c.step-result.ensures.steps (c.loop-event.invariant.runs s slot is));
   appends = appends_more c.args.self.now.slots c.loop-event.self.slots _
       _ _ c.loop-event.invariant.count c.loop-event.invariant.appends c.step-result.ensures.appends;
+  globals =
+      rw (
+        one_more c.args.events.now c.loop-event.event-index
+            c.event-item.result c.loop-event-test.true,
+        ← c.event-item.is,
+      )
+      (globals_next c.args.self.now c.loop-event.self c.step-result.new.self
+      (map event_model (take c.loop-event.event-index c.args.events.now))
+      (event_model c.event-item.result) c.step-result.result
+      c.loop-event.invariant.count c.step-result.ensures.fault
+      (c.is_out_of_memory.ensures.no c.if-is_out_of_memory.false) c.step-result.ensures.kept
+      c.step-result.ensures.globals c.loop-event.invariant.globals);
   counted =
       rw (
         one_more c.args.events.now c.loop-event.event-index
@@ -45,7 +59,8 @@ loop-event-preserved c = record {
       c.step-result.ensures.fault (c.is_out_of_memory.ensures.no c.if-is_out_of_memory.false)
       (has_come c.args.self.now c.loop-event.self c.args.out.now.records
       c.loop-event.out.records _ c.loop-event.invariant.count c.loop-event.invariant.runs)
-      c.step-result.ensures.kept c.step-result.ensures.cost c.loop-event.invariant.counted);
+      c.loop-event.invariant.globals c.step-result.ensures.kept
+      c.step-result.ensures.cost c.loop-event.invariant.counted);
 }
 
 pub returns-then-is_out_of_memory-clause-alone : goal.returns-then-is_out_of_memory-clause-alone

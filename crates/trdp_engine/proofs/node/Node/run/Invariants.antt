@@ -3,7 +3,7 @@ use Rattle.std.specs.Prelude.{slice_get}
 use Rattle.trdp_engine.specs.Events.{event_model}
 use Rattle.trdp_engine.specs.Slots.{SlotState}
 use Rattle.trdp_engine.specs.NodeStates.{Appends}
-use Rattle.trdp_engine.specs.NodeRuns.{CountsLatest}
+use Rattle.trdp_engine.specs.NodeRuns.{CountsLatest, globals_through}
 use Rattle.trdp_engine.proofs.Runs.{RunsAsAloneSoFar}
 use Rattle.trdp_engine.proofs.node.Node.run.Given as goal
 
@@ -17,5 +17,7 @@ invariant-loop-event l = record {
       → RunsAsAloneSoFar l.fn.self l.self l.fn.out.records
       l.out.records (map event_model (take l.event-index l.events)) s slot;
   appends : Appends l.fn.self.slots l.fn.out.records l.out.records;
+  globals : l.self.globals ≡ globals_through (length l.fn.self.slots) l.fn.self.globals
+      (map event_model (take l.event-index l.events));
   counted : CountsLatest l.fn.self l.self (map event_model (take l.event-index l.events));
 }
