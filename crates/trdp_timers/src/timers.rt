@@ -184,7 +184,8 @@ impl Timers {
         self.orders.len()
     }
 
-    /// The comparisons of the latest call that sets this number.
+    /// The comparisons of the latest call that sets this number. For `set`, `clear` and `pop` it is
+    /// bounded from above alone, but that `set` counts one at least.
     pub fn probes(&self) -> u64
         ensures { result ≡ self.now.probes }
     {
