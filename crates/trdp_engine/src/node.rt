@@ -275,7 +275,8 @@ impl Node {
             → StepsAsAlone self.old self.new out.old.records out.new.records
             (CallIs s (call_model call.now)) r slot) }
         ensures appends { Appends self.old.slots out.old.records out.new.records }
-        ensures counts { OnOk result (self.new.counts ≡ no_counts) }
+        ensures cost { OnOk result (IsBounded self.old.slots (CallIs s (call_model call.now))
+            self.new.counts) }
     {
         if usize::from(s) >= self.store.slots() {
             return Err(NodeFault::NoSlot);

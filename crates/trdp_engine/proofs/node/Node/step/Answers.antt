@@ -24,7 +24,3 @@ returns-in-Role-clause-cost c = bounded_if c.step_role.result c.args.self.now.sl
 
 pub returns-in-Datagram-clause-cost : goal.returns-in-Datagram-clause-cost
 returns-in-Datagram-clause-cost c = rw c.in-Datagram.is c.step_datagram.ensures.cost
-
-pub returns-in-Call-clause-cost : goal.returns-in-Call-clause-cost
-returns-in-Call-clause-cost c = bounded_if c.step_call.result c.args.self.now.slots
-    (event_model c.args.event.now) c.step_call.new.self.counts c.step_call.ensures.counts

@@ -5,6 +5,7 @@ use Rattle.trdp_engine.specs.Slots.{slots_of}
 use Rattle.trdp_engine.specs.Calls.{called}
 use Rattle.trdp_engine.specs.Alone.{plain_effect}
 use Rattle.trdp_engine.proofs.FittingEvents.{plain_call_fits}
+use Rattle.trdp_engine.proofs.WithinCosts.{bounded_none}
 use Rattle.trdp_engine.proofs.Tables.{slots_length}
 use Rattle.trdp_engine.proofs.Parts.{became_parts, became_appends, became_count}
 use Rattle.trdp_engine.proofs.Steps.{plain_steps, call_admitted, outcomes_fit}
@@ -45,3 +46,8 @@ invariant_of-self-2 c =
     plain_call_fits (setup_of c.self.inside.config) c.args.s r slot c.self.inside.globals
     (call_model c.args.call.now) c.self.invariant.1 fit) c.self.invariant.2 in
     (c.self.invariant.0, c.self.invariant.1, fits, c.self.invariant.3)
+
+pub returns-clause-cost : goal.returns-clause-cost
+returns-clause-cost c =
+    bounded_none c.args.self.now.slots (CallIs c.args.s (call_model c.args.call.now))
+    c.none-self-inside.result c.none-self-inside.ensures
