@@ -1,10 +1,11 @@
 //! The node: events come in, and each slot gets its answers and telegrams.
 //!
 //! What no contract can say is that memory is there. A `run` that stops before the first event
-//! that may lack it (a publishing, a subscription, or an event for whose records the outbox lacks
-//! room), a `run_both` of two such runs, and a `value_of` that answers want of memory wherever it
-//! could show an item meet their contracts, since memory may be lacking; the worked examples
-//! (`trdp_worked`) show that with ample memory every event is taken and every item shown.
+//! that may lack it (a publishing, a subscription, or an event at which the outbox lacks room for
+//! the most that such a call, or objects of the kinds that act, may give), a `run_both` of two such
+//! runs, and a `value_of` that answers want of memory wherever it could show an item meet their
+//! contracts, since memory may be lacking; the worked examples (`trdp_worked`) show that with ample
+//! memory every event is taken and every item shown.
 //!
 //! Nor can one say how often a body looks: to ask twice for what is due next, or for its room, is
 //! as good as once, and so is to dismiss an object from the schedule twice, though the comparisons

@@ -16,7 +16,8 @@ impl Node {
     /// Takes events in turn, and answers how many were taken. It goes on after an event that is
     /// refused for a cause of its own, and stops before the first that lacks memory: only before a
     /// call, a moment by which something is due, or a datagram that concerns a slot, and, where
-    /// the outbox has room for the event's records, only before Publish and Subscribe.
+    /// the outbox has room for the most that such a call, or objects of the kinds that act, may
+    /// give, only before Publish and Subscribe.
     pub fn run(&mut self, events: &[Event<'_>], out: &mut Outbox) -> usize
         ensures within { result ≤ length events.now }
         ensures stops { IfSome (slice_get events.now result)
