@@ -4,8 +4,8 @@ ghost use Rattle.std.specs.Prelude.{◌≡◌, ◌≤◌, ◌<◌, ◌+◌, ◌-
 ghost use Rattle.trdp_engine.specs.NodeStates.{no_counts};
 
 /// What the latest event that a node took cost it. Each number stays at 2^64 - 1 where it is that
-/// or more. What a call costs isn't counted.
-#[derive(Clone, Copy, Debug, PartialEq, Eq)]
+/// or more. At a call nothing is counted.
+#[derive(Clone, Copy)]
 pub struct Counts {
     /// How often two rows of the index by comId were compared, or two orders of the timer heap, or
     /// an order with the moment.
@@ -19,7 +19,7 @@ pub struct Counts {
 
 impl Counts {
     /// Nothing is counted yet.
-    pub(crate) fn none() -> Counts
+    pub fn none() -> Counts
         ensures { result ≡ no_counts }
     {
         Counts {
@@ -30,7 +30,7 @@ impl Counts {
     }
 
     /// Counts so many comparisons.
-    pub(crate) fn compared(&mut self, times: u64)
+    pub fn compared(&mut self, times: u64)
         ensures comparisons { self.new.comparisons ≤ self.old.comparisons + times }
         ensures all { self.new.comparisons < 2 ^ 64 - 1
             → self.new.comparisons ≡ self.old.comparisons + times }
@@ -41,7 +41,7 @@ impl Counts {
     }
 
     /// Counts a filter test.
-    pub(crate) fn tested(&mut self)
+    pub fn tested(&mut self)
         ensures comparisons { self.new.comparisons ≡ self.old.comparisons }
         ensures tests { self.new.tests ≤ self.old.tests + 1 }
         ensures all { self.new.tests < 2 ^ 64 - 1 → self.new.tests ≡ self.old.tests + 1 }
@@ -51,7 +51,7 @@ impl Counts {
     }
 
     /// Counts a look-up.
-    pub(crate) fn looked_up(&mut self)
+    pub fn looked_up(&mut self)
         ensures comparisons { self.new.comparisons ≡ self.old.comparisons }
         ensures tests { self.new.tests ≡ self.old.tests }
         ensures look_ups { self.new.look_ups ≤ self.old.look_ups + 1 }

@@ -52,7 +52,6 @@ mod store;
 mod subscriptions;
 mod value;
 
-pub use counts::Counts;
 pub use event::{Call, Event};
 pub use fault::{NodeFault, Refusal};
 pub use laws::{requests_are_for_listeners, run_both, same_view, view_drops_nothing};

@@ -2,6 +2,7 @@
 
 ghost use Rattle.std.specs.Prelude.{nat_le, if◌then◌else◌, None, ◌≡◌, ◌≢◌, ℕ, ◌<◌, ◌≤◌};
 ghost use Rattle.std.specs.Prelude.{length, OnOk, OnErr, IfOk, IfErr, Err, Some, slice_get};
+ghost use Rattle.std.specs.Prelude.{[], ◌∷◌};
 ghost use Rattle.trdp_engine.specs.Events.{MomentIs, TopologyIs, RoleIs, DatagramIs, CallIs};
 ghost use Rattle.trdp_engine.specs.Events.{call_model, event_model};
 ghost use Rattle.trdp_engine.specs.Slots.{SlotState};
@@ -116,12 +117,19 @@ impl Node {
         self.globals.now
     }
 
-    /// What the latest event cost that the node took; nothing for a new node. An event that is
-    /// refused leaves it. What a call costs isn't counted.
-    pub fn counts(&self) -> Counts
-        ensures { result ≡ self.now.counts }
+    /// What the latest event cost that the node took: how often two rows or two orders were
+    /// compared, or an order with the moment; filter tests; and look-ups of sessions, in this
+    /// order. Each number stays at 2^64 - 1 where it is that or more. All are 0 for a new node and
+    /// after a call. An event that is refused leaves them.
+    pub fn counts(&self) -> [u64; 3]
+        ensures { result ≡ self.now.counts.comparisons ∷ self.now.counts.tests
+            ∷ self.now.counts.look_ups ∷ [] }
     {
-        self.counts
+        [
+            self.counts.comparisons,
+            self.counts.tests,
+            self.counts.look_ups,
+        ]
     }
 
     /// Takes the moment `t`, in microseconds: room for all records first, then each due object

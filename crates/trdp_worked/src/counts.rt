@@ -4,7 +4,6 @@ use crate::bench::Bench;
 use crate::play::CONFIG;
 use std::alloc::Global;
 use std::test::Fail;
-use trdp_engine::Counts;
 
 /// A subscription of comId 100 in the first of the two slots.
 const FIRST: &str = "call 0 subscribe 100 0 0.0.0.0 0.0.0.0 0.0.0.0 0 0 0 zero";
@@ -31,12 +30,13 @@ const REPLY: &str = "\
     00000001000000000000000000000000000000000000000000000000000000000000000000000000\
     00000000000000000000000000000000000000000000000000000000000000004488c7480c000000";
 
-/// What a datagram costs a node that has taken lines: at least, and at most.
+/// What a datagram costs a node that has taken lines, in comparisons, filter tests and look-ups of
+/// sessions: at least, and at most.
 struct Costing {
     before: &'static [&'static str],
     datagram: &'static str,
-    least: Counts,
-    most: Counts,
+    least: [u64; 3],
+    most: [u64; 3],
 }
 
 static COSTINGS: [Costing; 3] = [
@@ -44,61 +44,35 @@ static COSTINGS: [Costing; 3] = [
     Costing {
         before: &[FIRST, SECOND],
         datagram: DATA,
-        least: Counts {
-            comparisons: 1,
-            tests: 2,
-            look_ups: 0,
-        },
-        most: Counts {
-            comparisons: u64::MAX,
-            tests: 4,
-            look_ups: 0,
-        },
+        least: [1, 2, 0],
+        most: [u64::MAX, 4, 0],
     },
     // Data of a comId that nobody has.
     Costing {
         before: &[FIRST, SECOND, DATA],
         datagram: OTHER_DATA,
-        least: Counts {
-            comparisons: 0,
-            tests: 0,
-            look_ups: 0,
-        },
-        most: Counts {
-            comparisons: u64::MAX,
-            tests: 0,
-            look_ups: 0,
-        },
+        least: [0, 0, 0],
+        most: [u64::MAX, 0, 0],
     },
     // A reply, whose session is looked for in each slot.
     Costing {
         before: &[],
         datagram: REPLY,
-        least: Counts {
-            comparisons: 0,
-            tests: 0,
-            look_ups: 2,
-        },
-        most: Counts {
-            comparisons: u64::MAX,
-            tests: 0,
-            look_ups: 4,
-        },
+        least: [0, 0, 2],
+        most: [u64::MAX, 0, 4],
     },
 ];
 
 /// What the datagram of the row costs the node.
-fn counts_of(alloc: Global, row: &Costing) -> Result<Counts, Fail> {
+fn counts_of(alloc: Global, row: &Costing) -> Result<[u64; 3], Fail> {
     let mut bench = Bench::after(alloc, CONFIG, row.before)?;
     bench.take(alloc, row.datagram)?;
     Ok(bench.node.counts())
 }
 
 /// Whether no count is greater than in the other.
-fn at_most(counts: &Counts, other: &Counts) -> bool {
-    counts.comparisons <= other.comparisons
-        && counts.tests <= other.tests
-        && counts.look_ups <= other.look_ups
+fn at_most(counts: &[u64; 3], other: &[u64; 3]) -> bool {
+    counts[0] <= other[0] && counts[1] <= other[1] && counts[2] <= other[2]
 }
 
 #[test]
