@@ -165,7 +165,7 @@ remembers c (MdIs src dst telegram) globals fits place has =
     either false is = rw is has
 
 -- only queries await a confirmation
-query-is_query : (kind : MdKind) → is_query kind ≡ true → kind ≡ Query
+pub query-is_query : (kind : MdKind) → is_query kind ≡ true → kind ≡ Query
 unfolding is_query
 query-is_query Notify is = absurd (false-true is)
 query-is_query Request is = absurd (false-true is)

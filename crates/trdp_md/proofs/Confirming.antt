@@ -69,13 +69,13 @@ queries-confirming c place only = either (awaits c.answers place) refl
     either false is = rw is only
 
 -- places that the test finds equal are one
-place-is_place : (a b : Place) → is_place a b ≡ true → a ≡ b
+pub place-is_place : (a b : Place) → is_place a b ≡ true → a ≡ b
 place-is_place a b is =
     let ip : a.ip.0 ≡ b.ip.0 = grind (arith, nat_tests) in
     let port : a.port ≡ b.port = grind (arith, nat_tests) in
     ap₂ (λ (i p : ℕ). record { ip = record { 0 = i }; port = p }) ip port
 
-both : (a b : Bool) → (a && b) ≡ true → (a ≡ true) × (b ≡ true)
+pub both : (a b : Bool) → (a && b) ≡ true → (a ≡ true) × (b ≡ true)
 both true b is = (refl, is)
 both false b is = absurd (false-true is)
 
@@ -131,7 +131,7 @@ awaits-confirming c place = either (awaits c.answers place) refl
     either false is = rw (is, is) refl
 
 -- a complete caller is done
-IsDone-is_complete : (c : Caller) → is_complete c ≡ true → IsDone c
+pub IsDone-is_complete : (c : Caller) → is_complete c ≡ true → IsDone c
 unfolding is_complete
 IsDone-is_complete c is =
     let last = both

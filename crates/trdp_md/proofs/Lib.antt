@@ -2,3 +2,4 @@ pub mod Hearing
 pub mod Calling
 pub mod Confirming
 pub mod Replying
+pub mod Apart

@@ -1,8 +1,10 @@
 -- What is told of callers and repliers.
 use Rattle.std.specs.Prelude.{◌≡◌, ◌⊎◌, ℤ, ◌<◌, ◌≤◌, ◌∷◌, [], ◌++◌, List, length, true, false}
+use Rattle.std.specs.Prelude.{◌&&◌, not}
 use Rattle.std.specs.List.{All, Any}
 use Rattle.trdp_base.specs.declared.place.Place.{Place}
-use Rattle.trdp_head.specs.declared.md.MdKind.TheVariants.{Query, Confirm}
+use Rattle.trdp_head.specs.declared.md.MdKind.{MdKind}
+use Rattle.trdp_head.specs.declared.md.MdKind.TheVariants.{Reply, Query, Confirm, Error}
 use Rattle.trdp_filter.specs.Counts.{topo_valid}
 use Rattle.trdp_filter.specs.Telegrams.{TelegramModel, PdIs, MdIs}
 use Rattle.trdp_pd.specs.declared.object.Taken.{Taken}
@@ -11,7 +13,7 @@ use Rattle.trdp_md.specs.declared.answers.Answer.{Answer}
 use Rattle.trdp_md.specs.declared.caller.Caller.{Caller}
 use Rattle.trdp_md.specs.declared.replier.Replier.{Replier}
 use Rattle.trdp_md.specs.declared.replier.Stage.TheVariants.{AwaitConfirm}
-use Rattle.trdp_md.specs.Answers.{awaits_any}
+use Rattle.trdp_md.specs.Answers.{is_place, awaits_any}
 use Rattle.trdp_md.specs.Callers.{is_accepted, answer_of}
 
 -- an answer was taken
@@ -37,6 +39,30 @@ AwaitsQueriesOnly answers = All (λ answer. answer.confirm_owed ≡ true → ans
 abbrev pub HasAwaiting : List Answer → Place → Type 0
 HasAwaiting answers place =
     Any (λ answer. (answer.place ≡ place) × (answer.confirm_owed ≡ true)) answers
+
+-- none of the answers is of the place
+abbrev pub IsApart : Place → List Answer → Type 0
+IsApart place [] = Unit {0}
+IsApart place (answer ∷ answers) =
+    (is_place answer.place place ≡ false) × IsApart place answers
+
+-- no two of the answers are of one place
+abbrev pub AreApart : List Answer → Type 0
+AreApart [] = Unit {0}
+AreApart (answer ∷ answers) = IsApart answer.place answers × AreApart answers
+
+-- the message types that answer a request
+abbrev pub IsAnswerKind : MdKind → Type 0
+IsAnswerKind kind = (kind ≡ Reply) ⊎ ((kind ≡ Query) ⊎ (kind ≡ Error))
+
+-- one by one the same answers, but that those of the place await no confirmation any more
+abbrev pub SettlesAt : Place → List Answer → List Answer → Type 0
+SettlesAt place [] [] = Unit {0}
+SettlesAt place (answer ∷ before) (then_answer ∷ after) =
+    (then_answer.place ≡ answer.place) × (then_answer.kind ≡ answer.kind)
+    × (then_answer.confirm_owed ≡ (answer.confirm_owed && not (is_place answer.place place)))
+    × SettlesAt place before after
+SettlesAt place before after = ⊥
 
 -- nothing is wanted any more: there is an answer, there are no fewer than expected, and none
 -- awaits a confirmation

@@ -22,6 +22,7 @@ ghost use Rattle.trdp_md.specs.Repliers.{asked_by, queried, replier_due, replier
 ghost use Rattle.trdp_md.specs.Repliers.{replier_firing};
 ghost use Rattle.trdp_md.specs.Sessions.{IsReplied, IsAccepted, HasAdded, AwaitsQueriesOnly};
 ghost use Rattle.trdp_md.specs.Sessions.{HasAwaiting, IsDone, IsOfSameRequest, IsItsConfirmation};
+ghost use Rattle.trdp_md.specs.Sessions.{AreApart, IsAnswerKind, SettlesAt};
 
 use trdp_pd::{Fired, Taken};
 
@@ -77,6 +78,32 @@ pub fn caller_hears_each_place_once()
     ensures taken { (c : Caller) (telegram : TelegramModel) (globals : Globals) (fits : Bool)
         (place : Place) → has_answered c.answers place ≡ true
         → has_answered (caller_taking c telegram globals fits).object.answers place ≡ true }
+{}
+
+/// No two answers of a caller are of one place: a new caller has none, and whatever it takes, fires
+/// or confirms, they stay of places apart.
+pub fn caller_answers_stay_apart()
+    ensures new { (terms : CallerTerms) (now : ℕ) → AreApart (called terms now).answers }
+    ensures taken { (c : Caller) (telegram : TelegramModel) (globals : Globals) (fits : Bool)
+        → AreApart c.answers → AreApart (caller_taking c telegram globals fits).object.answers }
+    ensures fired { (c : Caller) (globals : Globals) → AreApart c.answers
+        → AreApart (caller_firing c globals).object.answers }
+    ensures confirmed { (c : Caller) (place : Place) → AreApart c.answers
+        → AreApart (confirming c place).answers }
+{}
+
+/// What a caller accepts is an answer, and of its own session.
+pub fn caller_accepts_its_session()
+    ensures session { (c : Caller) (src dst : Place) (telegram : MdTelegram)
+        → IsAccepted c (MdIs src dst telegram) → telegram.head.session ≡ c.terms.session }
+    ensures kind { (c : Caller) (src dst : Place) (telegram : MdTelegram)
+        → IsAccepted c (MdIs src dst telegram) → IsAnswerKind telegram.head.kind }
+{}
+
+/// A confirmation ends what is owed to its place alone; which places answered, and how, stays.
+pub fn caller_confirms_one_place()
+    ensures { (c : Caller) (place : Place)
+        → SettlesAt place c.answers (confirming c place).answers }
 {}
 
 /// Only queries await a confirmation: a new caller has none, and neither a telegram nor a

@@ -16,7 +16,8 @@ mod waiting;
 pub use answers::Answer;
 pub use caller::{Caller, request_head};
 pub use laws::{
-    caller_awaits_queries_only, caller_confirms_what_awaits, caller_hears_each_place_once,
+    caller_accepts_its_session, caller_answers_stay_apart, caller_awaits_queries_only,
+    caller_confirms_one_place, caller_confirms_what_awaits, caller_hears_each_place_once,
     caller_is_done_with_all, caller_keeps, caller_tells_its_answers, listener_hears_its_own,
     listener_stays, replier_is_confirmed_by_its_peer, replier_keeps, session_ends_later,
 };
