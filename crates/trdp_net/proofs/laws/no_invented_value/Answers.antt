@@ -1,0 +1,7 @@
+use Rattle.trdp_net.proofs.Promises.{values_put}
+use Rattle.trdp_net.proofs.TypedRuns.{history_typed}
+use Rattle.trdp_net.proofs.laws.no_invented_value.Goals as goal
+
+pub returns : goal.returns
+returns c = λ configs steps single typed.
+    values_put configs steps single (history_typed configs steps typed)

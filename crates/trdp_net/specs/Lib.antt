@@ -1,0 +1,5 @@
+pub mod Networks
+pub mod Provenance
+pub mod Typed
+pub mod Promises
+pub mod Ties

@@ -1,0 +1,101 @@
+//! The promises, of every list of steps from nodes that were just opened.
+//!
+//! Two premises come with each: no node's own address is a group address, and each number, URI and
+//! identifier in a call is one that its field in a telegram holds, as the types of a running node
+//! have it.
+
+ghost use Rattle.std.specs.Prelude.{◌≡◌, List};
+ghost use Rattle.trdp_dataset.specs.Configs.{ConfigModel};
+ghost use Rattle.trdp_engine.specs.declared.record.Protocol.TheVariants.{Md};
+ghost use Rattle.trdp_engine.specs.Records.{RecordModel};
+ghost use Rattle.trdp_engine.specs.Events.{EventModel};
+ghost use Rattle.trdp_engine.specs.NodeStates.{NodeState};
+ghost use Rattle.trdp_net.specs.Networks.{Step, Move, network_run, opened_network, place_of};
+ghost use Rattle.trdp_net.specs.Provenance.{Always, In, Spot};
+ghost use Rattle.trdp_net.specs.Typed.{AreTypedSteps};
+ghost use Rattle.trdp_net.specs.Promises.{history, AreSingle, IsFresh, ValuesArePut};
+ghost use Rattle.trdp_net.specs.Promises.{RepliesAreMade, ConfirmsAreMade, DoneIsDue};
+ghost use Rattle.trdp_net.specs.Promises.{NoticesAreMade, RequestsAreMade, AreDistinct};
+ghost use Rattle.trdp_net.specs.Promises.{all_replied};
+ghost use Rattle.trdp_net.specs.Ties.{IsStep, IsAtHome, HaveOwnPlaces, StepsSo, MovesSo};
+
+/// A subscription whose value is valid shows bytes that a granted Put gave to a publisher of its
+/// comId, at some node.
+///
+/// Not promised: that it is the latest such value, nor that of one publisher rather than another
+/// of the same comId.
+pub fn no_invented_value()
+    ensures { (configs : List ConfigModel) (steps : List Step) → AreSingle configs
+        → AreTypedSteps steps
+        → ValuesArePut (network_run (opened_network configs) steps) }
+{}
+
+/// An answer that a caller is told of was made, by a granted Reply, Query or ReplyError, at the
+/// node of the place that it names, on a replier that had been asked by this caller's own request:
+/// with this message type, comId, status and payload. And no caller is told of two answers of one
+/// place.
+///
+/// The first needs a premise more: no two granted Requests carry the same identifier. The second
+/// needs none at all.
+pub fn no_invented_reply()
+    ensures made { (configs : List ConfigModel) (steps : List Step) → AreSingle configs
+        → AreTypedSteps steps → Always IsFresh (history configs steps)
+        → Always RepliesAreMade (history configs steps) }
+    ensures distinct { (configs : List ConfigModel) (steps : List Step) (caller : Spot)
+        → AreDistinct (all_replied caller (history configs steps)) }
+{}
+
+/// A confirmation that a replier is told of was made, by a granted Confirm of this status for the
+/// place of the replier's node, by a caller of its session that had been told of a query from that
+/// place; and the replier had queried.
+pub fn no_invented_confirm()
+    ensures { (configs : List ConfigModel) (steps : List Step) → AreSingle configs
+        → AreTypedSteps steps
+        → Always ConfirmsAreMade (history configs steps) }
+{}
+
+/// A caller that is told that it is done has been told of as many answers as it expected, at least
+/// one, each of a place of its own, and each query among them was confirmed by a granted Confirm.
+///
+/// Not promised: that the confirmations arrived.
+pub fn no_early_done()
+    ensures { (configs : List ConfigModel) (steps : List Step) → AreSingle configs
+        → AreTypedSteps steps
+        → Always DoneIsDue (history configs steps) }
+{}
+
+/// A notification that a listener is told of was made by a granted Notify, and a request by a
+/// granted Request of its identifier, at the node of the place that it names, with this comId,
+/// these URIs and this payload.
+///
+/// Not promised: that it is told once. A notification is told as often as it arrives, and a
+/// request that comes again after its session has closed is asked again.
+pub fn no_invented_request()
+    ensures notified { (configs : List ConfigModel) (steps : List Step) → AreSingle configs
+        → AreTypedSteps steps
+        → Always NoticesAreMade (history configs steps) }
+    ensures asked { (configs : List ConfigModel) (steps : List Step) → AreSingle configs
+        → AreTypedSteps steps
+        → Always RequestsAreMade (history configs steps) }
+{}
+
+/// The history that the promises speak of is the run itself: each of its moves is a step of the
+/// run, no node changes its place, and where no two nodes were given the same place for message
+/// data, the node of a place is one node.
+pub fn history_is_the_run()
+    ensures steps { (configs : List ConfigModel) (steps : List Step)
+        → Always (IsStep (opened_network configs) steps) (history configs steps) }
+    ensures places { (configs : List ConfigModel) (steps : List Step)
+        → Always (IsAtHome (opened_network configs)) (history configs steps) }
+    ensures one_node { (configs : List ConfigModel) (steps : List Step) → HaveOwnPlaces configs
+        → (m n : Move) → In m (history configs steps) → In n (history configs steps)
+        → place_of Md m.before.setup ≡ place_of Md n.before.setup → m.node ≡ n.node }
+{}
+
+/// A node that takes an event, as `trdp_engine::Node::step` says, does what a node of the network
+/// does: the same globals, the same slots, the same records for each slot.
+pub fn nodes_move_so()
+    ensures { (old new : NodeState) (records records_then : List RecordModel) (event : EventModel)
+        → StepsSo old new records records_then event
+        → MovesSo old new records records_then event }
+{}

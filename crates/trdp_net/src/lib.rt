@@ -1,0 +1,42 @@
+//! No invented exchange: among any number of nodes, whatever the network between them loses,
+//! repeats or reorders, no value, message, reply or confirmation is indicated that an application
+//! did not make.
+//!
+//! # What a network is here
+//!
+//! Nodes, each as `trdp_engine::Node` opens it; every telegram that any of them ever sent, as its
+//! bytes with the place of its sender and the place that it was sent to; and the history, each
+//! event that a node took, with the node as it was before. A step is a call, a moment, topology
+//! counts or a role at one node, or the delivery of any telegram that was ever sent at any node
+//! that its destination reaches: again, in any order, as late as one likes. A group address
+//! reaches every node of its port. A loss is a delivery that never comes; nothing else is ever
+//! delivered. A node refuses an event, and then nothing changes, or the event is *admitted*, and
+//! then its slots do what `trdp_engine` says that each does alone. A call is *granted* where its
+//! answer is other than a refusal.
+//!
+//! # What carries the promises
+//!
+//! - `Ever P past`: some earlier move was so. The predicate gets the moves before that one, so
+//!   "a reply to a request that had been told before" is one `Ever` inside another.
+//! - `Always P history`: each move was so, given the moves before it. A promise is an `Always`.
+//! - Who made what: a record for each granted call and each indication, as `IsPut`, `IsRequested`,
+//!   `IsAsked`, `IsAnswered`, `IsReplied`, `IsConfirmed`, which names node, slot, handle, call and
+//!   what stood in the call.
+//!
+//! # What is not promised
+//!
+//! - That anything arrives.
+//! - That a request is asked once: one that comes again after its session has closed is asked
+//!   again.
+//! - Anything of telegrams that no node of the network sent: a peer that does not follow the rules
+//!   can invent what it likes, since the telegrams of this protocol carry no proof of their origin.
+#![tactic(auto)]
+
+mod laws;
+mod node;
+
+pub use laws::{
+    history_is_the_run, no_early_done, no_invented_confirm, no_invented_reply, no_invented_request,
+    no_invented_value, nodes_move_so,
+};
+pub use node::step;

@@ -1,0 +1,20 @@
+//! A running node as one of the network.
+
+ghost use Rattle.std.specs.Prelude.{◌≡◌, OnOk, OnErr};
+ghost use Rattle.trdp_engine.specs.Events.{event_model};
+ghost use Rattle.trdp_net.specs.Ties.{MovesSo};
+
+use trdp_engine::{Event, Node, NodeFault, Outbox};
+
+/// Lets a node take an event: it moves as a node of the network does, or it refuses the event and
+/// stays as it was.
+///
+/// # Errors
+/// Those of [`Node::step`].
+pub fn step(node: &mut Node, event: &Event<'_>, out: &mut Outbox) -> Result<(), NodeFault>
+    ensures moves { OnOk result (MovesSo node.old node.new out.old.records out.new.records
+        (event_model event.now)) }
+    ensures kept { OnErr result (node.new ≡ node.old) }
+{
+    node.step(event, out)
+}
