@@ -1,8 +1,7 @@
 -- By what each record of a move is explained: the invariant of a history.
-use Rattle.std.specs.Prelude.{◌≡◌, ◌≤◌, ◌<◌, ℕ, ℤ, List, [], ◌∷◌, length, Some, false}
+use Rattle.std.specs.Prelude.{◌≡◌, ℕ, List, ◌∷◌, Some}
 use Rattle.std.specs.Prelude.{slice_get}
 use Rattle.trdp_base.specs.declared.place.Place.{Place}
-use Rattle.trdp_base.specs.declared.session.SessionId.{SessionId}
 use Rattle.trdp_head.specs.declared.pd.PdKind.{PdKind}
 use Rattle.trdp_head.specs.declared.pd.PdKind.TheVariants as data_kind
 use Rattle.trdp_head.specs.declared.md.MdKind.{MdKind}
@@ -11,11 +10,8 @@ use Rattle.trdp_head.specs.PdTelegrams.{PdTelegram, pd_telegram_of}
 use Rattle.trdp_head.specs.MdTelegrams.{MdTelegram, md_telegram_of}
 use Rattle.trdp_pd.specs.declared.object.Reason.{Reason}
 use Rattle.trdp_pd.specs.declared.object.Reason.TheVariants.{Done}
-use Rattle.trdp_md.specs.declared.answers.Answer.{Answer}
 use Rattle.trdp_md.specs.declared.caller.Caller.{Caller as AnyCaller}
-use Rattle.trdp_md.specs.declared.replier.Replier.{Replier as AnyReplier}
-use Rattle.trdp_md.specs.Answers.{is_place}
-use Rattle.trdp_table.specs.declared.any_object.AnyObject.TheVariants.{Caller, Replier}
+use Rattle.trdp_table.specs.declared.any_object.AnyObject.TheVariants.{Caller}
 use Rattle.trdp_engine.specs.declared.record.Protocol.{Protocol}
 use Rattle.trdp_engine.specs.declared.record.Protocol.TheVariants.{Pd, Md}
 use Rattle.trdp_engine.specs.Records.{Content, IndicationModel, ReplyModel, NotifiedIs, AskedIs}
@@ -25,8 +21,8 @@ use Rattle.trdp_engine.specs.Replies.{reply_of}
 use Rattle.trdp_engine.specs.Slots.{SlotState}
 use Rattle.trdp_net.specs.Networks.{Move, effect_in, place_of}
 use Rattle.trdp_net.specs.Provenance.{Ever, Each, Spot, Held, IsPut, IsNotified, IsRequestedBySome}
-use Rattle.trdp_net.specs.Provenance.{IsRequestedAs, IsAnsweredBySome, IsReplied}
-use Rattle.trdp_net.specs.Provenance.{IsConfirmedBySome, IsConfirmedAs, IsQueried}
+use Rattle.trdp_net.specs.Provenance.{IsRequestedAs, IsAnsweredBySome}
+use Rattle.trdp_net.specs.Provenance.{IsConfirmedBySome}
 use Rattle.trdp_net.specs.Promises.{IsConfirmMade, IsDoneDue}
 
 -- the object of that node, slot and handle

@@ -1,12 +1,9 @@
 -- Objects, calls and moves that send what their fields hold.
 use Rattle.std.specs.Prelude.{◌≡◌, ℕ, ◌<◌, ◌^◌, List, Some, slice_get, FitsSigned}
 use Rattle.std.specs.Int.{w32}
-use Rattle.trdp_base.specs.declared.topo.Topo.{Topo}
 use Rattle.trdp_base.specs.Uris.{IsUri}
 use Rattle.trdp_pd.specs.Publishers.{PublisherState}
 use Rattle.trdp_pd.specs.Requesters.{RequesterState}
-use Rattle.trdp_md.specs.declared.terms.NotifyTerms.{NotifyTerms}
-use Rattle.trdp_md.specs.declared.terms.CallerTerms.{CallerTerms}
 use Rattle.trdp_md.specs.declared.replier.Replier.{Replier as AnyReplier}
 use Rattle.trdp_table.specs.declared.any_object.AnyObject.{AnyObject}
 use Rattle.trdp_table.specs.declared.any_object.AnyObject.TheVariants.{Publisher, Requester, Caller}
