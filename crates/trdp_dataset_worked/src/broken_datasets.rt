@@ -1,5 +1,6 @@
 //! Broken datasets, and the fault of each.
 
+use crate::same::same;
 use std::alloc::Global;
 use trdp_dataset::{ConfigFault, Key, Registry};
 
@@ -196,12 +197,11 @@ static DATASETS: [(&str, ConfigFault); 47] = [
 #[test]
 fn faults_of_datasets(rt: HostRuntime) {
     for (text, fault) in &DATASETS {
-        assert_eq!(rt;
-            dataset_fault(rt.alloc(), text.as_bytes()),
-            Some(*fault),
-            "at {text}"
-        );
+        let found = dataset_fault(rt.alloc(), text.as_bytes());
+        same(&rt, *text, found, Some(*fault));
     }
-    assert_eq!(rt; dataset_fault(rt.alloc(), &[0xff]), Some(ConfigFault::Toml));
-    assert_eq!(rt; dataset_fault(rt.alloc(), b"node = 5\nslot = 5"), None);
+    let no_text = dataset_fault(rt.alloc(), &[0xff]);
+    same(&rt, "ff", no_text, Some(ConfigFault::Toml));
+    let no_datasets = dataset_fault(rt.alloc(), b"node = 5\nslot = 5");
+    same(&rt, "no datasets", no_datasets, None);
 }

@@ -1,6 +1,7 @@
 //! Broken files with nodes and slots, and the fault of each.
 
 use crate::good::CONFIG;
+use crate::same::same;
 use std::alloc::{AllocError, Global};
 use std::test::Fail;
 use trdp_dataset::{ConfigFault, Key, NodeConfig};
@@ -155,7 +156,7 @@ static FILES: [(&str, ConfigFault); 36] = [
 #[test]
 fn faults_of_files(rt: HostRuntime) {
     for (text, fault) in &FILES {
-        assert_eq!(rt; config_fault(rt.alloc(), text), Some(*fault), "at {text}");
+        same(&rt, *text, config_fault(rt.alloc(), text), Some(*fault));
     }
 }
 
@@ -241,7 +242,7 @@ fn altered_fault(alloc: Global, row: &Alteration) -> Result<Option<ConfigFault>,
 fn faults_of_alterations(rt: HostRuntime) -> Result<(), Fail> {
     for row in &ALTERATIONS {
         let found = altered_fault(rt.alloc(), row)?;
-        assert_eq!(rt; found, Some(row.fault), "at {}", row.new);
+        same(&rt, row.new, found, Some(row.fault));
     }
     Ok(())
 }

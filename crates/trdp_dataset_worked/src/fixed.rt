@@ -1,5 +1,6 @@
 //! Which datasets have values of one length.
 
+use crate::same::same;
 use std::test::Fail;
 use trdp_dataset::Registry;
 
@@ -35,7 +36,7 @@ fn tells_datasets_of_one_length(rt: HostRuntime) -> Result<(), Fail> {
         return Err(Fail::from("refused"));
     };
     for (id, size) in &SIZES {
-        assert_eq!(rt; registry.fixed_size(*id), *size, "at {id}");
+        same(&rt, *id, registry.fixed_size(*id), *size);
     }
     Ok(())
 }

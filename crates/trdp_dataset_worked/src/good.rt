@@ -1,5 +1,6 @@
 //! Good files, and what they mean.
 
+use crate::same::same;
 use std::alloc::Global;
 use std::test::Fail;
 use trdp_base::{Ip, Quotas};
@@ -91,7 +92,7 @@ static NODES: [(&str, NodeNumbers); 2] = [
 #[test]
 fn reads_nodes(rt: HostRuntime) {
     for (text, numbers) in &NODES {
-        assert_eq!(rt; node_numbers(rt.alloc(), text), Some(*numbers));
+        same(&rt, *text, node_numbers(rt.alloc(), text), Some(*numbers));
     }
 }
 
@@ -154,10 +155,10 @@ fn quotas_of(counts: Option<[u16; 6]>) -> Option<Quotas> {
 
 #[test]
 fn reads_slots(rt: HostRuntime) {
-    for row in &SLOTS {
+    for (index, row) in SLOTS.iter().enumerate() {
         let (control_port, quotas) = slot_of(rt.alloc(), row.text, row.slot);
-        assert_eq!(rt; control_port, row.control_port, "at {}", row.slot);
-        assert_eq!(rt; quotas, quotas_of(row.quotas), "at {}", row.slot);
+        same(&rt, index, control_port, row.control_port);
+        same(&rt, index, quotas, quotas_of(row.quotas));
     }
 }
 
@@ -205,11 +206,7 @@ static DATASETS: [Option<DatasetNumbers>; 3] = [
 #[test]
 fn reads_datasets(rt: HostRuntime) {
     for (index, dataset) in DATASETS.iter().enumerate() {
-        assert_eq!(rt;
-            dataset_at(rt.alloc(), CONFIG, index),
-            *dataset,
-            "at {index}"
-        );
+        same(&rt, index, dataset_at(rt.alloc(), CONFIG, index), *dataset);
     }
 }
 
@@ -256,12 +253,8 @@ fn reads_elements(rt: HostRuntime) -> Result<(), Fail> {
     };
     assert!(rt; !registry.is_empty() && !registry.has(0) && registry.zero_size(0).is_none());
     for row in &ELEMENTS {
-        assert_eq!(rt;
-            registry.element(row.id, row.index),
-            row.element,
-            "at {}",
-            row.index
-        );
+        let found = registry.element(row.id, row.index);
+        same(&rt, row.index, found, row.element);
     }
     Ok(())
 }
@@ -310,16 +303,8 @@ fn kind_at(alloc: Global, text: &str, index: usize) -> Option<ElementKind> {
 #[test]
 fn reads_each_type(rt: HostRuntime) {
     for (index, kind) in KINDS.iter().enumerate() {
-        assert_eq!(rt;
-            kind_at(rt.alloc(), NAMES, index),
-            Some(*kind),
-            "at {index}"
-        );
-        assert_eq!(rt;
-            kind_at(rt.alloc(), NUMBERS, index),
-            Some(*kind),
-            "at {index}"
-        );
+        same(&rt, index, kind_at(rt.alloc(), NAMES, index), Some(*kind));
+        same(&rt, index, kind_at(rt.alloc(), NUMBERS, index), Some(*kind));
     }
 }
 
@@ -333,12 +318,12 @@ static COUNTS: [(ElementKind, u16, bool); 4] = [
 
 #[test]
 fn counts_items(rt: HostRuntime) {
-    for (kind, size, counts) in &COUNTS {
+    for (index, (kind, size, counts)) in COUNTS.iter().enumerate() {
         let element = Element {
             kind: *kind,
             size: *size,
         };
-        assert_eq!(rt; element.is_count(), *counts);
+        same(&rt, index, element.is_count(), *counts);
     }
 }
 
@@ -364,7 +349,7 @@ fn tells_faults(rt: HostRuntime) -> Result<(), Fail> {
     let alloc = rt.alloc();
     for (fault, sentence) in &SENTENCES {
         let told = format!(in alloc; "{fault}")?;
-        assert_eq!(rt; told.as_str(), *sentence);
+        same(&rt, "its sentence", told.as_str(), *sentence);
     }
     Ok(())
 }

@@ -13,3 +13,5 @@ mod fixed;
 mod good;
 #[cfg(test)]
 mod limits;
+#[cfg(test)]
+mod same;

@@ -2,6 +2,7 @@
 
 use crate::broken_nodes::config_fault;
 use crate::good::{NodeNumbers, node_numbers};
+use crate::same::same;
 use std::alloc::{AllocError, Global};
 use std::test::Fail;
 use trdp_base::Ip;
@@ -144,9 +145,14 @@ fn file_of(alloc: Global, size: &Size) -> Result<String, AllocError> {
 
 #[test]
 fn faults_past_the_limits(rt: HostRuntime) -> Result<(), Fail> {
-    for row in &SIZES {
+    for (index, row) in SIZES.iter().enumerate() {
         let text = file_of(rt.alloc(), row)?;
-        assert_eq!(rt; config_fault(rt.alloc(), text.as_str()), row.fault);
+        same(
+            &rt,
+            index,
+            config_fault(rt.alloc(), text.as_str()),
+            row.fault,
+        );
     }
     Ok(())
 }
@@ -162,6 +168,7 @@ fn reads_the_largest(rt: HostRuntime) -> Result<(), Fail> {
         operator_port: 65535,
         slots: 16,
     };
-    assert_eq!(rt; node_numbers(rt.alloc(), text.as_str()), Some(numbers));
+    let found = node_numbers(rt.alloc(), text.as_str());
+    same(&rt, "the largest", found, Some(numbers));
     Ok(())
 }
