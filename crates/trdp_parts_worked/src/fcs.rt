@@ -3,13 +3,14 @@
 ghost use Rattle.std.specs.Prelude.{◌≤◌};
 
 use crate::plain;
+use crate::same::same;
 use trdp_fcs::{Running, frame_check};
 
 #[test]
 fn texts_have_the_published_checks(rt: HostRuntime) {
-    assert_eq!(rt; frame_check(b""), 0);
-    assert_eq!(rt; frame_check(b"a"), 0xe8b7_be43);
-    assert_eq!(rt; frame_check(b"123456789"), 0xcbf4_3926);
+    for (text, check) in [("", 0), ("a", 0xe8b7_be43), ("123456789", 0xcbf4_3926)] {
+        same(&rt, text, frame_check(text.as_bytes()), check);
+    }
 }
 
 #[test]
@@ -18,7 +19,7 @@ fn pieces_have_the_check_of_the_whole(rt: HostRuntime) {
     running.feed(b"1234");
     running.feed(b"");
     running.feed(b"56789");
-    assert_eq!(rt; running.finish(), 0xcbf4_3926);
+    same(&rt, "three pieces", running.finish(), 0xcbf4_3926);
 }
 
 // The 36 bytes of a process data header with comId 100.
@@ -28,7 +29,7 @@ fn a_header_has_its_check(rt: HostRuntime) {
         0, 0, 0, 0, 1, 0, 0x50, 0x64, 0, 0, 0, 0x64, 0, 0, 0, 0, 0, 0, 0, 0, 0, 0, 0, 2, 0, 0, 0,
         0, 0, 0, 0, 0, 0, 0, 0, 0,
     ];
-    assert_eq!(rt; frame_check(&header), 0x949c_17ec);
+    same(&rt, "comId 100", frame_check(&header), 0x949c_17ec);
 }
 
 // Each number of eights, of fours and of single bytes up to 19 bytes.
@@ -37,11 +38,7 @@ fn tables_agree_with_single_bits(rt: HostRuntime) {
     let text = b"0123456789 ABCDEFGH";
     for length in 0..20usize {
         let (bytes, _) = text.split_at(length);
-        assert_eq!(rt;
-            frame_check(bytes),
-            plain::frame_check(bytes),
-            "at {length}"
-        );
+        same(&rt, length, frame_check(bytes), plain::frame_check(bytes));
     }
 }
 
@@ -73,6 +70,6 @@ fn patterns_have_the_checks_of_zlib(rt: HostRuntime) {
         (1472, 0xc3ee_5c27),
     ] {
         assert!(rt; length <= 1472);
-        assert_eq!(rt; check_of_pattern(length), check, "at {length}");
+        same(&rt, length, check_of_pattern(length), check);
     }
 }

@@ -1,5 +1,6 @@
 //! Worked examples.
 
+use crate::same::same;
 use trdp_base::{Ip, Place, SessionId, Topo, Uri};
 use trdp_filter::{Globals, Groups, MdFilter, PdFilter, Telegram, topo_valid, valid};
 use trdp_head::{MdHead, MdKind, MdView, PdHead, PdKind, PdView};
@@ -58,19 +59,11 @@ static COUNTS: [Counts; 4] = [
 
 #[test]
 fn counts_match(rt: HostRuntime) {
-    for row in &COUNTS {
+    for (index, row) in COUNTS.iter().enumerate() {
         let (a, b) = (row.a, row.b);
-        assert_eq!(rt; valid(a, b), row.matches, "at {a} {b}");
-        assert_eq!(rt;
-            topo_valid(topo(a, 1), topo(b, 1)),
-            row.matches,
-            "at {a} {b}"
-        );
-        assert_eq!(rt;
-            topo_valid(topo(1, a), topo(1, b)),
-            row.matches,
-            "at {a} {b}"
-        );
+        same(&rt, index, valid(a, b), row.matches);
+        same(&rt, index, topo_valid(topo(a, 1), topo(b, 1)), row.matches);
+        same(&rt, index, topo_valid(topo(1, a), topo(1, b)), row.matches);
     }
 }
 
@@ -193,7 +186,7 @@ fn passes(row: &Passage) -> bool {
 #[test]
 fn telegrams_pass_by_their_parts(rt: HostRuntime) {
     for (index, row) in PASSAGES.iter().enumerate() {
-        assert_eq!(rt; passes(row), row.passes, "at row {index}");
+        same(&rt, index, passes(row), row.passes);
     }
 }
 
@@ -309,7 +302,7 @@ fn is_let_in(row: &Message) -> bool {
 #[test]
 fn messages_pass_by_their_parts(rt: HostRuntime) {
     for (index, row) in MESSAGES.iter().enumerate() {
-        assert_eq!(rt; is_let_in(row), row.passes, "at row {index}");
+        same(&rt, index, is_let_in(row), row.passes);
     }
 }
 
@@ -346,7 +339,7 @@ fn telegrams_lend_their_payload(rt: HostRuntime) {
             payload: b"\x0a",
         },
     };
-    assert_eq!(rt; payload(&data), b"\x0a".as_slice());
+    same(&rt, "process data", payload(&data), b"\x0a".as_slice());
     let message = Telegram::Md {
         src: place(1),
         dst: place(2),
@@ -355,5 +348,5 @@ fn telegrams_lend_their_payload(rt: HostRuntime) {
             payload: b"\x0b",
         },
     };
-    assert_eq!(rt; payload(&message), b"\x0b".as_slice());
+    same(&rt, "message data", payload(&message), b"\x0b".as_slice());
 }

@@ -2,6 +2,7 @@
 
 ghost use Rattle.std.specs.Prelude.{◌≤◌};
 
+use crate::same::same;
 use std::test::Fail;
 use trdp_base::{Ip, Topo};
 use trdp_head::{
@@ -47,41 +48,65 @@ const REQUEST_HEAD: PdHead = PdHead {
 #[test]
 fn telegrams_are_read(rt: HostRuntime) -> Result<(), Fail> {
     let data = read_pd(&DATA)?;
-    assert_eq!(rt; data.head, DATA_HEAD);
-    assert_eq!(rt; data.payload, [0x0a, 0x0b].as_slice());
+    same(&rt, "Pd", data.head, DATA_HEAD);
+    same(&rt, "Pd", data.payload, b"\x0a\x0b");
     let request = read_pd(&REQUEST)?;
-    assert_eq!(rt; request.head, REQUEST_HEAD);
-    assert_eq!(rt; request.payload, [0x0a, 0x0b, 0x0c].as_slice());
+    same(&rt, "Pr", request.head, REQUEST_HEAD);
+    same(&rt, "Pr", request.payload, b"\x0a\x0b\x0c");
     Ok(())
 }
 
 #[test]
 fn telegrams_are_written(rt: HostRuntime) {
     let mut room = [0xff; 44];
-    assert_eq!(rt; write_pd(&DATA_HEAD, &[0x0a, 0x0b], &mut room), 44);
-    assert_eq!(rt; room, DATA);
-    assert_eq!(rt; write_pd(&REQUEST_HEAD, &[0x0a, 0x0b, 0x0c], &mut room), 44);
-    assert_eq!(rt; room, REQUEST);
+    same(
+        &rt,
+        "Pd",
+        write_pd(&DATA_HEAD, &[0x0a, 0x0b], &mut room),
+        44,
+    );
+    same(&rt, "Pd", room.as_slice(), &DATA);
+    same(
+        &rt,
+        "Pr",
+        write_pd(&REQUEST_HEAD, &[0x0a, 0x0b, 0x0c], &mut room),
+        44,
+    );
+    same(&rt, "Pr", room.as_slice(), &REQUEST);
 }
 
 #[test]
 fn a_longest_telegram_is_written_and_read(rt: HostRuntime) -> Result<(), Fail> {
     let payload = [7; PD_PAYLOAD_MAX];
     let mut room = [0xff; PD_TELEGRAM_MAX];
-    assert_eq!(rt; write_pd(&DATA_HEAD, &payload, &mut room), 1472);
-    assert_eq!(rt; read_pd(&room)?.payload, payload.as_slice());
+    same(
+        &rt,
+        "its length",
+        write_pd(&DATA_HEAD, &payload, &mut room),
+        1472,
+    );
+    same(
+        &rt,
+        "its payload",
+        read_pd(&room)?.payload,
+        payload.as_slice(),
+    );
     Ok(())
 }
 
 #[test]
 fn telegrams_are_added_to_a_list(rt: HostRuntime) -> Result<(), Fail> {
     let mut list = Vec::with_capacity(rt.alloc(), 88)?;
-    assert_eq!(rt; push_pd(&DATA_HEAD, &[0x0a, 0x0b], &mut list), 44);
-    assert_eq!(rt; push_pd(&REQUEST_HEAD, &[0x0a, 0x0b, 0x0c], &mut list), 44);
-    assert_eq!(rt; list.len(), 88);
+    same(&rt, "Pd", push_pd(&DATA_HEAD, &[0x0a, 0x0b], &mut list), 44);
+    same(
+        &rt,
+        "Pr",
+        push_pd(&REQUEST_HEAD, &[0x0a, 0x0b, 0x0c], &mut list),
+        44,
+    );
     let (first, second) = list.split_at(44);
-    assert_eq!(rt; first, DATA.as_slice());
-    assert_eq!(rt; second, REQUEST.as_slice());
+    same(&rt, "Pd", first, DATA.as_slice());
+    same(&rt, "Pr", second, REQUEST.as_slice());
     Ok(())
 }
 
@@ -160,7 +185,7 @@ fn changed_telegrams_have_their_faults(rt: HostRuntime) {
         assert!(rt; offset <= 38);
         let telegram = data_with(offset, row.bytes, row.check);
         let read = read_pd(&telegram).map(|view| view.payload.len());
-        assert_eq!(rt; read, row.read, "at {offset}");
+        same(&rt, offset, read, row.read);
     }
 }
 
@@ -175,16 +200,21 @@ fn fault_of_zeros(length: usize) -> Option<HeadFault>
 
 #[test]
 fn telegrams_have_40_to_1472_bytes(rt: HostRuntime) {
-    assert_eq!(rt; fault_of_zeros(39), Some(HeadFault::Short));
-    assert_eq!(rt; fault_of_zeros(40), Some(HeadFault::Fcs));
-    assert_eq!(rt; fault_of_zeros(1472), Some(HeadFault::Fcs));
-    assert_eq!(rt; fault_of_zeros(1473), Some(HeadFault::TooLong));
+    for (length, fault) in [
+        (39, HeadFault::Short),
+        (40, HeadFault::Fcs),
+        (1472, HeadFault::Fcs),
+        (1473, HeadFault::TooLong),
+    ] {
+        assert!(rt; length <= 1473);
+        same(&rt, length, fault_of_zeros(length), Some(fault));
+    }
 }
 
 #[test]
 fn lengths_are_multiples_of_four(rt: HostRuntime) {
-    assert_eq!(rt; pd_length(0), 40);
-    assert_eq!(rt; pd_length(1), 44);
-    assert_eq!(rt; pd_length(4), 44);
-    assert_eq!(rt; pd_length(1432), 1472);
+    for (payload, length) in [(0, 40), (1, 44), (4, 44), (1432, 1472)] {
+        assert!(rt; payload <= 1432);
+        same(&rt, payload, pd_length(payload), length);
+    }
 }

@@ -1,5 +1,6 @@
 //! Worked examples: runs by comId, sessions by slot and role, growth and removal.
 
+use crate::same::same;
 use std::process::Abort;
 use std::test::Fail;
 use trdp_base::SessionId;
@@ -18,16 +19,26 @@ static ROWS: [(Option<u32>, u16, u32, usize); 8] = [
     (Some(0), 0, 3, 2),
 ];
 
-/// A comId, the key of its first row, and how many rows it has.
-static RUNS: [(Option<u32>, usize, usize); 8] = [
-    (None, 0, 2),
-    (Some(0), 2, 1),
-    (Some(1), 0, 0),
-    (Some(100), 3, 2),
-    (Some(101), 0, 0),
-    (Some(200), 5, 2),
-    (Some(4_294_967_294), 0, 0),
-    (Some(4_294_967_295), 7, 1),
+/// A comId, the key of its first row, how many rows it has, and the comparisons of two searches,
+/// each of which halves the rows that are left: for the first row of the comId, and for the first
+/// behind them among those from there on.
+type Run = (Option<u32>, usize, usize, u64);
+
+static RUNS: [Run; 8] = [
+    // Of 8 rows, the middle being the fifth: 4 and 3.
+    (None, 0, 2, 7),
+    // 3, and 3 of 6 rows.
+    (Some(0), 2, 1, 6),
+    // 3, and 3 of 5 rows.
+    (Some(1), 0, 0, 6),
+    // 3, and 2 of 5 rows.
+    (Some(100), 3, 2, 5),
+    // 3, and 2 of 3 rows.
+    (Some(101), 0, 0, 5),
+    (Some(200), 5, 2, 5),
+    // 3, and 1 of one row.
+    (Some(4_294_967_294), 0, 0, 4),
+    (Some(4_294_967_295), 7, 1, 4),
 ];
 
 /// A row.
@@ -49,23 +60,29 @@ fn add(rt: &impl Abort, index: &mut ComIndex, row: ComRow) {
 }
 
 /// The run of a comId has so many rows, whose keys follow one another, and took so many
-/// comparisons at the most.
-fn runs(rt: &impl Abort, index: &ComIndex, com_id: Option<u32>, first: usize, rows: usize) {
+/// comparisons.
+fn runs(
+    rt: &(impl Abort + AllocGlobal),
+    index: &ComIndex,
+    case: usize,
+    (com_id, first, rows, wanted): Run,
+) {
     let mut comparisons = 0;
     let run = index.run(com_id, &mut comparisons);
-    assert_eq!(rt; run.len(), rows);
-    assert!(rt; (2..=8).contains(&comparisons));
+    same(rt, case, run.len(), rows);
+    same(rt, case, comparisons, wanted);
     let mut key = first;
     for row in run {
-        assert_eq!(rt; (row.com_id, row.key), (com_id, key));
+        assert!(rt; row.com_id == com_id);
+        same(rt, case, row.key, key);
         key = key.saturating_add(1);
     }
 }
 
 /// The run of a comId is these rows.
-fn is_run(rt: &impl Abort, index: &ComIndex, com_id: Option<u32>, rows: &[ComRow]) {
+fn is_run(rt: &(impl Abort + AllocGlobal), index: &ComIndex, com_id: Option<u32>, rows: &[ComRow]) {
     let mut comparisons = 0;
-    assert_eq!(rt; index.run(com_id, &mut comparisons), rows);
+    same(rt, "the run", index.run(com_id, &mut comparisons), rows);
 }
 
 #[test]
@@ -73,7 +90,7 @@ fn worked_runs(rt: HostRuntime) -> Result<(), Fail> {
     let mut index = ComIndex::with_room(rt.alloc(), 3)?;
     let mut comparisons = 0;
     assert!(rt; index.run(Some(100), &mut comparisons).is_empty());
-    assert_eq!(rt; comparisons, 0);
+    assert!(rt; comparisons == 0);
     let late = row(Some(100), 1, 1, 5);
     let soon = row(Some(100), 0, 2, 6);
     let any = row(None, 0, 1, 7);
@@ -82,7 +99,7 @@ fn worked_runs(rt: HostRuntime) -> Result<(), Fail> {
     add(&rt, &mut index, any);
     is_run(&rt, &index, Some(100), &[soon, late]);
     index.grow(4)?;
-    assert_eq!(rt; (index.len(), index.room()), (3, 4));
+    same(&rt, "grown", (index.len(), index.room()), (3, 4));
     is_run(&rt, &index, Some(100), &[soon, late]);
     is_run(&rt, &index, None, &[any]);
     is_run(&rt, &index, Some(7), &[]);
@@ -99,14 +116,14 @@ fn runs_of_all(rt: HostRuntime) -> Result<(), Fail> {
     for (com_id, slot, handle, key) in &ROWS {
         add(&rt, &mut index, row(*com_id, *slot, *handle, *key));
     }
-    for (com_id, first, rows) in &RUNS {
-        runs(&rt, &index, *com_id, *first, *rows);
+    for (case, run) in RUNS.iter().enumerate() {
+        runs(&rt, &index, case, *run);
     }
     for (com_id, slot, handle, _) in &ROWS {
         assert!(rt; index.remove(*com_id, *slot, *handle));
         assert!(rt; !index.has(*com_id, *slot, *handle));
     }
-    assert_eq!(rt; index.len(), 0);
+    assert!(rt; index.len() == 0);
     Ok(())
 }
 
@@ -127,9 +144,13 @@ static SESSIONS: [(u128, u16, Role, Option<usize>); 5] = [
 ];
 
 /// Each row is found as it says.
-fn finds(rt: &impl Abort, index: &SessionIndex, rows: &[(u128, u16, Role, Option<usize>)]) {
-    for (session, slot, role, key) in rows {
-        assert_eq!(rt; index.get(SessionId(*session), *slot, *role), *key);
+fn finds(
+    rt: &(impl Abort + AllocGlobal),
+    index: &SessionIndex,
+    rows: &[(u128, u16, Role, Option<usize>)],
+) {
+    for (row, (session, slot, role, key)) in rows.iter().enumerate() {
+        same(rt, row, index.get(SessionId(*session), *slot, *role), *key);
     }
 }
 
@@ -139,7 +160,7 @@ fn worked_sessions(rt: HostRuntime) -> Result<(), Fail> {
     open(&rt, &mut index, 1, Role::Caller, 5);
     open(&rt, &mut index, 0, Role::Caller, 6);
     index.grow(4)?;
-    assert_eq!(rt; (index.len(), index.room()), (2, 4));
+    same(&rt, "grown", (index.len(), index.room()), (2, 4));
     open(&rt, &mut index, 0, Role::Replier, 7);
     finds(&rt, &index, &SESSIONS);
     assert!(rt; index.remove(SessionId(1), 0, Role::Caller));

@@ -26,6 +26,8 @@ mod pd;
 #[cfg(test)]
 mod plain;
 #[cfg(test)]
+mod same;
+#[cfg(test)]
 mod table;
 #[cfg(test)]
 mod timers;

@@ -1,5 +1,6 @@
 //! Values beside the bytes that the standard's layout gives them, and what is refused.
 
+use crate::same::same;
 use std::alloc::{AllocError, Global};
 use std::process::Abort;
 use std::test::Fail;
@@ -83,7 +84,7 @@ fn longest_bytes(alloc: Global) -> Result<Vec<u8>, AllocError> {
 
 /// The item is spelled by these bytes, and its clone is equal to it.
 fn spells(
-    rt: &impl Abort,
+    rt: &(impl Abort + AllocGlobal),
     alloc: Global,
     registry: &Registry,
     id: u32,
@@ -94,7 +95,7 @@ fn spells(
     let decoded = decode(alloc, registry, id, bytes)?;
     assert!(rt; decoded == *item, "at {id}");
     let encoded = encode(alloc, registry, id, item)?;
-    assert_eq!(rt; encoded.as_slice(), bytes, "at {id}");
+    same(rt, id, encoded.as_slice(), bytes);
     let copy = item.try_clone(alloc)?;
     assert!(rt; copy == *item, "at {id}");
     Ok(())
@@ -143,7 +144,7 @@ fn refuses_a_longer_item(rt: HostRuntime) -> Result<(), Fail> {
     let registry = registry(alloc)?;
     let item = long(alloc, 65_385)?;
     let fault = encode(alloc, &registry, 1003, &item).err();
-    assert_eq!(rt; fault, Some(MarshalFault::TooLong));
+    same(&rt, "one more", fault, Some(MarshalFault::TooLong));
     Ok(())
 }
 
@@ -178,15 +179,15 @@ static PAYLOADS: [(u32, &[u8], Option<MarshalFault>); 17] = [
 
 /// The bytes are a payload and have an item, or neither.
 fn judges(
-    rt: &impl Abort,
+    rt: &(impl Abort + AllocGlobal),
     alloc: Global,
     registry: &Registry,
     id: u32,
     bytes: &[u8],
     fault: Option<MarshalFault>,
 ) {
-    assert_eq!(rt; fits(registry, id, bytes), fault.is_none(), "at {id}");
-    assert_eq!(rt; decode(alloc, registry, id, bytes).err(), fault, "at {id}");
+    same(rt, id, fits(registry, id, bytes), fault.is_none());
+    same(rt, id, decode(alloc, registry, id, bytes).err(), fault);
 }
 
 #[test]
@@ -205,7 +206,7 @@ fn takes_any_bytes_of_dataset_0(rt: HostRuntime) -> Result<(), Fail> {
     let registry = registry(alloc)?;
     assert!(rt; fits(&registry, 0, b"any"));
     let fault = decode(alloc, &registry, 0, b"any").err();
-    assert_eq!(rt; fault, Some(MarshalFault::NoDataset));
+    same(&rt, "dataset 0", fault, Some(MarshalFault::NoDataset));
     Ok(())
 }
 
@@ -235,10 +236,10 @@ fn refuses_items(rt: HostRuntime) -> Result<(), Fail> {
     let registry = registry(alloc)?;
     for (id, first, fault) in &REFUSED {
         let found = fault_of(alloc, &registry, *id, Item::U(*first))?;
-        assert_eq!(rt; found, Some(*fault), "at {id}");
+        same(&rt, *id, found, Some(*fault));
     }
     let found = fault_of(alloc, &registry, 1001, Item::S(0))?;
-    assert_eq!(rt; found, Some(MarshalFault::Shape));
+    same(&rt, "a signed count", found, Some(MarshalFault::Shape));
     Ok(())
 }
 
@@ -247,9 +248,14 @@ fn writes_zeros(rt: HostRuntime) -> Result<(), Fail> {
     let registry = registry(rt.alloc())?;
     let mut room = [0xaa; 10];
     assert!(rt; registry.has(1002));
-    assert_eq!(rt; registry.zero_size(1002), Some(9));
-    assert_eq!(rt; write_zero(&registry, 1002, &mut room), 9);
-    assert_eq!(rt; room, [0, 0, 0, 0, 0, 0, 0, 0, 0, 0xaa]);
+    assert!(rt; registry.zero_size(1002) == Some(9));
+    assert!(rt; write_zero(&registry, 1002, &mut room) == 9);
+    same(
+        &rt,
+        "zeros",
+        room.as_slice(),
+        &[0, 0, 0, 0, 0, 0, 0, 0, 0, 0xaa],
+    );
     assert!(rt; fits(&registry, 1002, &room[..9]));
     Ok(())
 }

@@ -1,5 +1,6 @@
 //! Worked examples: what a listener hears, and what a notification carries.
 
+use crate::same::same;
 use std::test::Fail;
 use trdp_base::{Ip, Place, SessionId, Topo, Uri};
 use trdp_filter::{Globals, Groups, MdFilter, Telegram};
@@ -98,9 +99,9 @@ fn notifications_and_requests_are_heard(rt: HostRuntime) {
     let mut listener = listener();
     for (index, (kind, com_id, heard)) in TELEGRAMS.iter().enumerate() {
         let done = hears(&mut listener, *kind, *com_id);
-        assert_eq!(rt; done, (*heard, *heard), "at row {index}");
+        same(&rt, index, done, (*heard, *heard));
     }
-    assert_eq!(rt; (listener.due(), listener.dataset()), (None, None));
+    assert!(rt; listener.due().is_none() && listener.dataset().is_none());
 }
 
 #[test]
@@ -118,6 +119,6 @@ fn notification_of_no_session(rt: HostRuntime) -> Result<(), Fail> {
         source_uri,
         dest_uri,
     });
-    assert_eq!(rt; sent, wanted);
+    same(&rt, "its header", sent, wanted);
     Ok(())
 }

@@ -4,6 +4,7 @@
 ghost use Rattle.std.specs.Prelude.{◌≤◌};
 
 use crate::head::Changed;
+use crate::same::same;
 use std::test::Fail;
 use trdp_base::{SessionId, Topo, Uri};
 use trdp_head::{
@@ -91,18 +92,15 @@ fn telegrams_are_read(rt: HostRuntime) {
 #[test]
 fn telegrams_are_written(rt: HostRuntime) {
     let mut room = [0xff; 120];
-    assert_eq!(rt;
-        write_md(&query_head(), &[0x0a, 0x0b, 0x0c], &mut room),
-        120
-    );
-    assert_eq!(rt; room, QUERY);
+    assert!(rt; write_md(&query_head(), &[0x0a, 0x0b, 0x0c], &mut room) == 120);
+    same(&rt, "Mq", room.as_slice(), &QUERY);
 }
 
 #[test]
 fn telegrams_are_added_to_a_list(rt: HostRuntime) -> Result<(), Fail> {
     let mut list = Vec::with_capacity(rt.alloc(), 120)?;
-    assert_eq!(rt; push_md(&notify_head(), &[0x0d], &mut list), 120);
-    assert_eq!(rt; list.as_slice(), NOTIFY.as_slice());
+    assert!(rt; push_md(&notify_head(), &[0x0d], &mut list) == 120);
+    same(&rt, "Mn", list.as_slice(), &NOTIFY);
     Ok(())
 }
 
@@ -161,7 +159,7 @@ fn changed_telegrams_have_their_faults(rt: HostRuntime) {
         let offset = row.offset;
         assert!(rt; offset <= 110);
         let telegram = with_change(&NOTIFY, offset, row.bytes, row.check);
-        assert_eq!(rt; payload_length(&telegram), row.read, "at {offset}");
+        same(&rt, offset, payload_length(&telegram), row.read);
     }
 }
 
@@ -176,15 +174,21 @@ fn fault_of_zeros(length: usize) -> Option<HeadFault>
 
 #[test]
 fn telegrams_have_116_to_65504_bytes(rt: HostRuntime) {
-    assert_eq!(rt; fault_of_zeros(115), Some(HeadFault::Short));
-    assert_eq!(rt; fault_of_zeros(116), Some(HeadFault::Fcs));
-    assert_eq!(rt; fault_of_zeros(65504), Some(HeadFault::Fcs));
-    assert_eq!(rt; fault_of_zeros(65505), Some(HeadFault::TooLong));
+    for (length, fault) in [
+        (115, HeadFault::Short),
+        (116, HeadFault::Fcs),
+        (65504, HeadFault::Fcs),
+        (65505, HeadFault::TooLong),
+    ] {
+        assert!(rt; length <= 65505);
+        same(&rt, length, fault_of_zeros(length), Some(fault));
+    }
 }
 
 #[test]
 fn lengths_are_multiples_of_four(rt: HostRuntime) {
-    assert_eq!(rt; md_length(0), 116);
-    assert_eq!(rt; md_length(1), 120);
-    assert_eq!(rt; md_length(65388), 65504);
+    for (payload, length) in [(0, 116), (1, 120), (65388, 65504)] {
+        assert!(rt; payload <= 65388);
+        same(&rt, payload, md_length(payload), length);
+    }
 }

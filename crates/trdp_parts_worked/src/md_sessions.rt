@@ -3,6 +3,7 @@
 ghost use Rattle.std.specs.Prelude.{◌≤◌};
 ghost use Rattle.trdp_base.specs.Moments.{last_moment};
 
+use crate::same::same;
 use std::process::Abort;
 use std::test::Fail;
 use trdp_base::{Ip, Place, SessionId, Topo, Uri};
@@ -189,7 +190,7 @@ fn act<O: Object>(object: &mut O, globals: &Globals) -> Does
 }
 
 /// The object goes through these rows.
-fn live<O: Object>(rt: &impl Abort, object: &mut O, rows: &[Row]) {
+fn live<O: Object>(rt: &(impl Abort + AllocGlobal), object: &mut O, rows: &[Row]) {
     for (now, happens, wanted) in rows {
         let globals = Globals {
             now: u64::from(*now),
@@ -202,7 +203,7 @@ fn live<O: Object>(rt: &impl Abort, object: &mut O, rows: &[Row]) {
                 hand(object, &globals, place(n), head(kind, timeout))
             }
         };
-        assert_eq!(rt; done, *wanted, "at {now}");
+        same(rt, *now, done, *wanted);
     }
 }
 
@@ -221,7 +222,7 @@ fn asks(expected: u8) -> CallerTerms {
 }
 
 /// A caller that waits for 1,000 microseconds from 0 on goes through these rows.
-fn call(rt: &impl Abort, expected: u8, rows: &[Row]) {
+fn call(rt: &(impl Abort + AllocGlobal), expected: u8, rows: &[Row]) {
     let mut caller = Caller::new(&asks(expected), 0);
     live(rt, &mut caller, rows);
 }
@@ -240,20 +241,12 @@ fn callers_close(rt: HostRuntime) {
 fn confirmed_caller_is_done(rt: HostRuntime) {
     let mut caller = Caller::new(&asks(1), 0);
     live(&rt, &mut caller, &QUERY[..3]);
-    assert_eq!(rt; (caller.session(), caller.dataset()), (SessionId(9), None));
-    assert_eq!(rt; (caller.answers().len(), caller.closed()), (1, None));
-    assert_eq!(rt;
-        (caller.awaits(place(2)), caller.confirm(place(2))),
-        (false, false)
-    );
-    assert_eq!(rt;
-        (caller.awaits(place(1)), caller.confirm(place(1))),
-        (true, true)
-    );
-    assert_eq!(rt;
-        (caller.confirm(place(1)), caller.closed()),
-        (false, Some(Reason::Done))
-    );
+    assert!(rt; caller.session() == SessionId(9) && caller.dataset().is_none());
+    assert!(rt; caller.answers().len() == 1 && caller.closed().is_none());
+    assert!(rt; !caller.awaits(place(2)) && !caller.confirm(place(2)));
+    assert!(rt; caller.awaits(place(1)) && caller.confirm(place(1)));
+    assert!(rt; !caller.confirm(place(1)));
+    same(&rt, "confirmed", caller.closed(), Some(Reason::Done));
 }
 
 #[test]
@@ -263,14 +256,8 @@ fn repliers_close(rt: HostRuntime) {
     live(&rt, &mut asked, &ASKED);
     let mut replier = Replier::new(place(1), &request, 0);
     replier.query(100, 1000);
-    assert_eq!(rt;
-        (replier.state(), replier.dataset()),
-        (Stage::AwaitConfirm, None)
-    );
-    assert_eq!(rt;
-        (replier.peer(), replier.session()),
-        (place(1), SessionId(9))
-    );
+    assert!(rt; replier.state() == Stage::AwaitConfirm && replier.dataset().is_none());
+    assert!(rt; replier.peer() == place(1) && replier.session() == SessionId(9));
     let mut again = replier;
     live(&rt, &mut replier, &CONFIRMED);
     live(&rt, &mut again, &UNCONFIRMED);
@@ -294,21 +281,15 @@ fn headers_of_a_session(rt: HostRuntime) -> Result<(), Fail> {
     terms.source_uri = a;
     terms.dest_uri = b;
     let request = request_head(&terms);
-    assert_eq!(rt; request, between(MdKind::Request, 0, 1000, a, b));
+    same(&rt, "Mr", request, between(MdKind::Request, 0, 1000, a, b));
     let confirm = Caller::new(&terms, 0).confirm_head(5);
-    assert_eq!(rt; confirm, between(MdKind::Confirm, 5, 0, a, b));
+    same(&rt, "Mc", confirm, between(MdKind::Confirm, 5, 0, a, b));
     let replier = Replier::new(HERE, &request, 0);
-    assert_eq!(rt;
-        replier.reply_head(300, 5),
-        between(MdKind::Reply, 5, 0, b, a)
-    );
-    assert_eq!(rt;
-        replier.query_head(300, 5, 8),
-        between(MdKind::Query, 5, 8, b, a)
-    );
-    assert_eq!(rt;
-        replier.error_head(300, -1),
-        between(MdKind::Error, -1, 0, b, a)
-    );
+    let reply = replier.reply_head(300, 5);
+    same(&rt, "Mp", reply, between(MdKind::Reply, 5, 0, b, a));
+    let query = replier.query_head(300, 5, 8);
+    same(&rt, "Mq", query, between(MdKind::Query, 5, 8, b, a));
+    let error = replier.error_head(300, -1);
+    same(&rt, "Me", error, between(MdKind::Error, -1, 0, b, a));
     Ok(())
 }

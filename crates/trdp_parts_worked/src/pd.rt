@@ -3,6 +3,7 @@
 ghost use Rattle.std.specs.Prelude.{◌≤◌};
 ghost use Rattle.trdp_base.specs.Moments.{last_moment};
 
+use crate::same::same;
 use std::process::Abort;
 use std::test::Fail;
 use trdp_base::{Ip, Place, Topo};
@@ -199,7 +200,7 @@ fn answer<O: Object>(object: &mut O, globals: &Globals, happens: Happens) -> Doe
 }
 
 /// The object goes through these rows, in a node that leads group 3 or doesn't.
-fn live<O: Object>(rt: &impl Abort, object: &mut O, leads: bool, rows: &[Row]) {
+fn live<O: Object>(rt: &(impl Abort + AllocGlobal), object: &mut O, leads: bool, rows: &[Row]) {
     let mut led = Groups::none();
     led.set(3, leads);
     for (now, happens, wanted) in rows {
@@ -209,7 +210,7 @@ fn live<O: Object>(rt: &impl Abort, object: &mut O, leads: bool, rows: &[Row]) {
             led,
         };
         let done = answer(object, &globals, *happens);
-        assert_eq!(rt; done, *wanted, "at {now}");
+        same(rt, *now, done, *wanted);
     }
 }
 
@@ -254,19 +255,19 @@ fn new_subscription(rt: HostRuntime) -> Result<(), Fail> {
     terms.dataset = 1001;
     let s = Subscription::new(rt.alloc(), &terms, 1432, 0)?;
     let peek = s.peek();
-    assert_eq!(rt; (peek.state, peek.counter), (ValueState::Never, 0));
-    assert_eq!(rt; peek.bytes, [0; 1432].as_slice());
-    assert_eq!(rt; (s.com_id(), s.dataset()), (100, 1001));
-    assert_eq!(rt; Object::dataset(&s), Some(1001));
+    assert!(rt; peek.state == ValueState::Never && peek.counter == 0);
+    same(&rt, "zeros", peek.bytes, &[0; 1432]);
+    assert!(rt; s.com_id() == 100 && s.dataset() == 1001);
+    assert!(rt; Object::dataset(&s) == Some(1001));
     Ok(())
 }
 
 /// The subscription goes through a time-out, and then shows these bytes.
-fn time_out(rt: &impl Abort, s: &mut Subscription, bytes: &[u8]) {
+fn time_out(rt: &(impl Abort + AllocGlobal), s: &mut Subscription, bytes: &[u8]) {
     live(rt, s, false, &SILENCE);
     let peek = s.peek();
-    assert_eq!(rt; (peek.state, peek.counter), (ValueState::Silent, 7));
-    assert_eq!(rt; peek.bytes, bytes);
+    assert!(rt; peek.state == ValueState::Silent && peek.counter == 7);
+    same(rt, "silent", peek.bytes, bytes);
     live(rt, s, false, &AGAIN);
 }
 
@@ -289,9 +290,9 @@ fn cycle(rt: HostRuntime) -> Result<(), Fail> {
     let mut p = Publisher::new(rt.alloc(), &published(0), 0)?;
     assert!(rt; p.value().is_none());
     p.put(b"\x0a\x0b");
-    assert_eq!(rt; p.value(), Some(b"\x0a\x0b".as_slice()));
-    assert_eq!(rt; (p.com_id(), p.dataset(), p.to()), (100, 0, THERE));
-    assert_eq!(rt; Object::dataset(&p), Some(0));
+    assert!(rt; p.value() == Some(b"\x0a\x0b".as_slice()));
+    assert!(rt; p.com_id() == 100 && p.dataset() == 0 && p.to() == THERE);
+    assert!(rt; Object::dataset(&p) == Some(0));
     live(&rt, &mut p, false, &CYCLE);
     Ok(())
 }
@@ -314,9 +315,9 @@ fn pull(rt: HostRuntime) {
         topo: ANY,
         to: THERE,
     });
-    assert_eq!(rt; r.pull(), head(PdKind::PullRequest, 0));
-    assert_eq!(rt; r.pull(), head(PdKind::PullRequest, 1));
-    assert_eq!(rt; (r.com_id(), r.topo(), r.to()), (100, ANY, THERE));
-    assert_eq!(rt; r.dataset(), None);
+    same(&rt, "the first", r.pull(), head(PdKind::PullRequest, 0));
+    same(&rt, "the second", r.pull(), head(PdKind::PullRequest, 1));
+    assert!(rt; r.com_id() == 100 && r.topo() == ANY && r.to() == THERE);
+    assert!(rt; r.dataset().is_none());
     live(&rt, &mut r, false, &REQUESTER);
 }

@@ -1,5 +1,6 @@
 //! Worked examples: kinds, handles, quotas and the last handle.
 
+use crate::same::same;
 use std::process::Abort;
 use std::test::Fail;
 use trdp_base::{Ip, Place, Quotas, Topo, Uri};
@@ -63,14 +64,20 @@ fn is_of(object: &AnyObject, com_id: u32) -> bool {
 }
 
 /// The object of that handle stands last in the slot, and is reached by its key.
-fn stands_last(rt: &impl Abort, table: &mut Table, slot: u16, handle: u32, com_id: u32) {
+fn stands_last(
+    rt: &(impl Abort + AllocGlobal),
+    table: &mut Table,
+    slot: u16,
+    handle: u32,
+    com_id: u32,
+) {
     assert!(rt; usize::from(slot) < table.slots());
     let key = table
         .find(slot, handle)
         .expect(rt, "no object of the handle");
     let last = table.count(slot).saturating_sub(1);
-    assert_eq!(rt; table.at(slot, last), Some(key));
-    assert_eq!(rt; table.owner(key), Some((slot, handle)));
+    same(rt, com_id, table.at(slot, last), Some(key));
+    same(rt, com_id, table.owner(key), Some((slot, handle)));
     assert!(rt; table.get(key).is_some_and(|object| is_of(object, com_id)));
     assert!(rt;
         table
@@ -81,7 +88,7 @@ fn stands_last(rt: &impl Abort, table: &mut Table, slot: u16, handle: u32, com_i
 
 /// Adds a publisher, which gets a handle or comes back with the fault that was foretold.
 fn add(
-    rt: &impl Abort,
+    rt: &(impl Abort + AllocGlobal),
     table: &mut Table,
     slot: u16,
     object: AnyObject,
@@ -92,11 +99,13 @@ fn add(
     let foretold = table.refuses(slot, Kind::of(&object));
     match table.add(slot, object) {
         Ok(handle) => {
-            assert_eq!(rt; (foretold, Ok(handle)), (None, wanted));
+            assert!(rt; foretold.is_none());
+            same(rt, com_id, Ok(handle), wanted);
             stands_last(rt, table, slot, handle, com_id);
         }
         Err((object, fault)) => {
-            assert_eq!(rt; (foretold, Err(fault)), (Some(fault), wanted));
+            same(rt, com_id, foretold, Some(fault));
+            same(rt, com_id, Err(fault), wanted);
             assert!(rt; is_of(&object, com_id));
         }
     }
@@ -113,7 +122,12 @@ fn kinds(rt: HostRuntime) -> Result<(), Fail> {
     cyclic.cycle = 5_000;
     cyclic.dataset = 1001;
     let publisher = AnyObject::Publisher(Publisher::new(rt.alloc(), &cyclic, 1_000)?);
-    assert_eq!(rt; outline(&publisher), (0, Some(6_000), Some(1001)));
+    same(
+        &rt,
+        "publisher",
+        outline(&publisher),
+        (0, Some(6_000), Some(1001)),
+    );
     let requester = AnyObject::Requester(Requester::new(&RequesterTerms {
         com_id: 100,
         reply_com_id: 0,
@@ -121,7 +135,7 @@ fn kinds(rt: HostRuntime) -> Result<(), Fail> {
         topo: cyclic.topo,
         to: cyclic.to,
     }));
-    assert_eq!(rt; outline(&requester), (2, None, None));
+    same(&rt, "requester", outline(&requester), (2, None, None));
     let listener = AnyObject::Listener(Listener::new(&MdFilter {
         com_id: None,
         low: Ip(0),
@@ -130,7 +144,7 @@ fn kinds(rt: HostRuntime) -> Result<(), Fail> {
         uri: Uri::empty(),
         topo: cyclic.topo,
     }));
-    assert_eq!(rt; outline(&listener), (3, None, None));
+    same(&rt, "listener", outline(&listener), (3, None, None));
     Ok(())
 }
 
@@ -147,7 +161,10 @@ fn handles_and_quotas(rt: HostRuntime) -> Result<(), Fail> {
                 add(&rt, &mut table, *slot, object, com_id, wanted);
             }
             Does::Remove(handle, there) => {
-                assert_eq!(rt; table.remove(*slot, handle).is_some(), there);
+                assert!(rt;
+                    table.remove(*slot, handle).is_some() == there,
+                    "at {handle}"
+                );
             }
             Does::Raise(next) => table.raise(*slot, next),
         }
@@ -158,7 +175,7 @@ fn handles_and_quotas(rt: HostRuntime) -> Result<(), Fail> {
 
 /// Adds an object, which stands under its key, and removes it, which frees the key.
 fn add_and_remove(
-    rt: &impl Abort,
+    rt: &(impl Abort + AllocGlobal),
     table: &mut Table,
     slot: u16,
     object: AnyObject,
@@ -167,9 +184,9 @@ fn add_and_remove(
     let handle = table.add(slot, object).map_err(|_| "refused")?;
     let key = table.find(slot, handle).ok_or("no key")?;
     assert!(rt; key < table.room());
-    assert_eq!(rt; table.owner(key), Some((slot, handle)));
+    same(rt, handle, table.owner(key), Some((slot, handle)));
     assert!(rt; table.remove(slot, handle).is_some());
-    assert_eq!(rt; (table.find(slot, handle), table.owner(key)), (None, None));
+    assert!(rt; table.find(slot, handle).is_none() && table.owner(key).is_none());
     Ok(())
 }
 
@@ -178,7 +195,7 @@ fn add_and_remove(
 fn key_used_again(rt: HostRuntime) -> Result<(), Fail> {
     let one = Quotas::new([1, 0, 0, 0, 0, 0]).ok_or("no quotas")?;
     let mut table = Table::new(rt.alloc(), &[one, one])?;
-    assert_eq!(rt; table.room(), 2);
+    assert!(rt; table.room() == 2);
     for slot in [0, 1, 0, 1] {
         let object = AnyObject::Publisher(Publisher::new(rt.alloc(), &terms(100), 0)?);
         add_and_remove(&rt, &mut table, slot, object)?;

@@ -1,5 +1,6 @@
 //! Worked examples: which key acts first, what is due, and the comparisons of each call.
 
+use crate::same::same;
 use std::process::Abort;
 use std::test::Fail;
 use trdp_timers::{Order, Timers};
@@ -65,22 +66,19 @@ fn found(wanted: Option<(usize, Parts)>) -> Option<(usize, Order)> {
 }
 
 /// Makes the call, which answers as it should.
-fn act(rt: &impl Abort, timers: &mut Timers, does: Does) {
+fn act(rt: &(impl Abort + AllocGlobal), timers: &mut Timers, case: usize, does: Does) {
     match does {
         Does::Set(key, parts) => {
             assert!(rt; key < timers.room());
             timers.set(key, order(parts));
         }
         Does::Clear(key) => timers.clear(key),
-        Does::First(wanted) => {
-            assert_eq!(rt; timers.first(), found(wanted));
-        }
-        Does::Pop(wanted) => {
-            assert_eq!(rt; timers.pop(), found(wanted));
-        }
+        Does::First(wanted) => same(rt, case, timers.first(), found(wanted)),
+        Does::Pop(wanted) => same(rt, case, timers.pop(), found(wanted)),
         Does::DueTotal(t, wanted) => {
             assert!(rt; timers.room() <= 8);
-            assert_eq!(rt; timers.due_total(t, &[1, 2, 4, 8, 16, 32, 64, 128]), wanted);
+            let total = timers.due_total(t, &[1, 2, 4, 8, 16, 32, 64, 128]);
+            same(rt, case, total, wanted);
         }
     }
 }
@@ -88,9 +86,9 @@ fn act(rt: &impl Abort, timers: &mut Timers, does: Does) {
 #[test]
 fn calls_have_their_comparisons(rt: HostRuntime) -> Result<(), Fail> {
     let mut timers = Timers::with_room(rt.alloc(), 8)?;
-    for (does, probes) in &ROWS {
-        act(&rt, &mut timers, *does);
-        assert_eq!(rt; timers.probes(), *probes);
+    for (case, (does, probes)) in ROWS.iter().enumerate() {
+        act(&rt, &mut timers, case, *does);
+        same(&rt, case, timers.probes(), *probes);
     }
     Ok(())
 }
@@ -116,9 +114,9 @@ static GROWN: [Does; 3] = [
 ];
 
 /// Makes the calls in turn.
-fn act_all(rt: &impl Abort, timers: &mut Timers, calls: &[Does]) {
-    for does in calls {
-        act(rt, timers, *does);
+fn act_all(rt: &(impl Abort + AllocGlobal), timers: &mut Timers, calls: &[Does]) {
+    for (case, does) in calls.iter().enumerate() {
+        act(rt, timers, case, *does);
     }
 }
 
@@ -128,7 +126,7 @@ fn keys_come_by_due_moment_slot_and_handle(rt: HostRuntime) -> Result<(), Fail> 
     act_all(&rt, &mut timers, &ORDERED);
     timers.grow(5)?;
     act_all(&rt, &mut timers, &GROWN);
-    assert_eq!(rt; timers.room(), 5);
+    assert!(rt; timers.room() == 5);
     Ok(())
 }
 
@@ -138,7 +136,12 @@ fn refused_growth_changes_nothing(rt: HostRuntime) -> Result<(), Fail> {
     let mut timers = Timers::with_room(rt.alloc(), 2)?;
     timers.set(1, order((7, 0, 1)));
     assert!(rt; timers.grow(usize::MAX / 64).is_err());
-    assert_eq!(rt; timers.room(), 2);
-    assert_eq!(rt; timers.pop(), Some((1, order((7, 0, 1)))));
+    assert!(rt; timers.room() == 2);
+    same(
+        &rt,
+        "the only key",
+        timers.pop(),
+        Some((1, order((7, 0, 1)))),
+    );
     Ok(())
 }
