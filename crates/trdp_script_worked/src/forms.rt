@@ -1,5 +1,6 @@
 //! Each word of each form as it is, and otherwise.
 
+use crate::same::same;
 use std::alloc::{AllocError, AllocGlobal, Global};
 use std::process::Abort;
 use std::test::Fail;
@@ -358,13 +359,25 @@ fn reads_each_word(rt: &(impl Abort + AllocGlobal), forms: &[Form]) -> Result<()
             let left_out = fault_of(alloc, form, index, good, 0)?;
             let doubled = fault_of(alloc, form, index, good, 2)?;
             let exchanged = fault_of(alloc, form, index, bad, 1)?;
-            assert_eq!(rt; whole, None);
-            assert_eq!(rt; left_out, unknown_or(LineFault::Count, index < form.head));
-            assert_eq!(rt;
-                doubled,
-                unknown_or(LineFault::Count, index + 1 < form.head)
+            same(rt, index, whole, None);
+            same(
+                rt,
+                index,
+                left_out,
+                unknown_or(LineFault::Count, index < form.head),
             );
-            assert_eq!(rt; exchanged, unknown_or(LineFault::BadWord, keyword));
+            same(
+                rt,
+                index,
+                doubled,
+                unknown_or(LineFault::Count, index + 1 < form.head),
+            );
+            same(
+                rt,
+                index,
+                exchanged,
+                unknown_or(LineFault::BadWord, keyword),
+            );
         }
     }
     Ok(())

@@ -12,4 +12,6 @@ mod ports;
 #[cfg(test)]
 mod records;
 #[cfg(test)]
+mod same;
+#[cfg(test)]
 mod scripts;

@@ -1,5 +1,6 @@
 //! Lines and their faults, and the longest line.
 
+use crate::same::same;
 use std::test::Fail;
 use trdp_engine::Event;
 use trdp_script::{LineFault, read_line};
@@ -123,7 +124,7 @@ static ROWS: [Row; 26] = [
 fn reads_lines(rt: HostRuntime) -> Result<(), Fail> {
     for row in &ROWS {
         let fault = read_line(rt.alloc(), row.line.as_bytes()).err();
-        assert_eq!(rt; fault, row.fault, "at {}", row.line);
+        same(&rt, row.line, fault, row.fault);
     }
     assert!(rt; read_line(rt.alloc(), b"#")?.event().is_none());
     let line = read_line(rt.alloc(), b"moment 7")?;
@@ -136,18 +137,14 @@ fn reads_lines(rt: HostRuntime) -> Result<(), Fail> {
 fn reads_the_longest_line(rt: HostRuntime) -> Result<(), Fail> {
     let mut line = vec![in rt.alloc(); b'0'; 140_000]?;
     line[..14].copy_from_slice(b"call 0 put 10 ");
-    assert_eq!(rt; read_line(rt.alloc(), &line).err(), None);
+    assert!(rt; read_line(rt.alloc(), &line).is_ok());
     line.push(b'0')?;
-    assert_eq!(rt;
-        read_line(rt.alloc(), &line).err(),
-        Some(LineFault::TooLong)
-    );
+    let fault = read_line(rt.alloc(), &line).err();
+    same(&rt, "a call", fault, Some(LineFault::TooLong));
     line[0] = b'#';
-    assert_eq!(rt;
-        read_line(rt.alloc(), &line).err(),
-        Some(LineFault::TooLong)
-    );
+    let fault = read_line(rt.alloc(), &line).err();
+    same(&rt, "a remark", fault, Some(LineFault::TooLong));
     line.pop();
-    assert_eq!(rt; read_line(rt.alloc(), &line).err(), None);
+    assert!(rt; read_line(rt.alloc(), &line).is_ok());
     Ok(())
 }

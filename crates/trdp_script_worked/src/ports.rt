@@ -1,5 +1,6 @@
 //! Lines that come in datagrams, at the control port of slot 0 and at the operator's port.
 
+use crate::same::same;
 use std::test::Fail;
 use trdp_base::Topo;
 use trdp_engine::{Call, Event};
@@ -103,9 +104,11 @@ static ROWS: [Row; 17] = [
 #[test]
 fn reads_datagrams(rt: HostRuntime) -> Result<(), Fail> {
     let alloc = rt.alloc();
-    for row in &ROWS {
-        assert_eq!(rt; read_control(alloc, 0, row.bytes).err(), row.control);
-        assert_eq!(rt; read_operator(alloc, row.bytes).err(), row.operator);
+    for (index, row) in ROWS.iter().enumerate() {
+        let control = read_control(alloc, 0, row.bytes).err();
+        same(&rt, index, control, row.control);
+        let operator = read_operator(alloc, row.bytes).err();
+        same(&rt, index, operator, row.operator);
     }
     Ok(())
 }

@@ -1,5 +1,6 @@
 //! Lines of records that tell of sessions.
 
+use crate::same::same;
 use std::test::Fail;
 use trdp_base::{Ip, Place, SessionId, Uri};
 use trdp_engine::{Indication, Message, Record, Reply, What};
@@ -54,6 +55,6 @@ fn prints_what_sessions_tell(rt: HostRuntime) -> Result<(), Fail> {
     print_record(&mut text, &asked)?;
     print_record(&mut text, &replied)?;
     print_record(&mut text, &closed)?;
-    assert_eq!(rt; text.as_slice(), LINES.as_bytes());
+    same(&rt, "three records", text.as_slice(), LINES.as_bytes());
     Ok(())
 }

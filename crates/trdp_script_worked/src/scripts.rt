@@ -1,6 +1,7 @@
 //! Scripts through the whole, over readers and writers in memory, and over some that fail.
 
-use std::alloc::Global;
+use crate::same::same;
+use std::alloc::{AllocError, Global};
 use std::io;
 use std::io::{Read, Write};
 use std::test::Fail;
@@ -72,6 +73,31 @@ impl Write for FailingWriter {
     }
 }
 
+/// A writer that is interrupted at each call but every so-manieth, which takes a byte.
+#[derive(Drop)]
+struct InterruptedWriter {
+    held: Vec<u8>,
+    calls: usize,
+    every: usize,
+}
+
+impl Write for InterruptedWriter {
+    fn write(&mut self, buf: &[u8]) -> io::Result<usize> {
+        self.calls = self.calls.saturating_add(1);
+        match buf.first() {
+            Some(byte) if self.calls.checked_rem(self.every) == Some(0) => {
+                self.held.push(*byte)?;
+                Ok(1)
+            }
+            _ => Err(io::Error::from(io::ErrorKind::Interrupted)),
+        }
+    }
+
+    fn flush(&mut self) -> io::Result<()> {
+        Ok(())
+    }
+}
+
 /// Plays a script over the configuration. A configuration that isn't taken is a test that fails.
 fn play<R: Read, W: Write>(
     alloc: Global,
@@ -82,13 +108,65 @@ fn play<R: Read, W: Write>(
     Ok(run_script(alloc, config, reader, writer))
 }
 
+/// A script, what it gives, and how it ends.
+type Row = (&'static [u8], &'static [u8], Result<(), ScriptFault>);
+
+/// A script up to its first bad line, and last lines without a newline, which keep their carriage
+/// return.
+static ROWS: [Row; 5] = [
+    (SCRIPT, OUTPUT, Err(ScriptFault::Line(6, LineFault::Count))),
+    (b"moment 5\nmoment 4", b"fault Past\n", Ok(())),
+    (
+        b"moment 5\r",
+        b"",
+        Err(ScriptFault::Line(1, LineFault::BadWord)),
+    ),
+    (
+        b"moment 5\nmoment 4\r\nmoment 3\r",
+        b"fault Past\n",
+        Err(ScriptFault::Line(3, LineFault::BadWord)),
+    ),
+    (
+        b"moment 5\r\n\r",
+        b"",
+        Err(ScriptFault::Line(2, LineFault::Unknown)),
+    ),
+];
+
 #[test]
-fn a_script_runs_up_to_its_first_bad_line(rt: HostRuntime) -> Result<(), Fail> {
-    let mut reader = SCRIPT;
+fn scripts_run_up_to_their_first_bad_line(rt: HostRuntime) -> Result<(), Fail> {
+    for (case, (script, output, ending)) in ROWS.iter().enumerate() {
+        let mut reader = *script;
+        let mut writer = Vec::new(rt.alloc());
+        let end = play(rt.alloc(), &mut reader, &mut writer)?;
+        same(&rt, case, writer.as_slice(), *output);
+        same(&rt, case, end, *ending);
+    }
+    Ok(())
+}
+
+/// So many remarks of 9 bytes with their newlines, and two moments of which the second is past.
+fn remarks(alloc: Global, count: u32) -> Result<Vec<u8>, AllocError> {
+    let mut script = Vec::new(alloc);
+    for _ in 0..count {
+        script.extend_from_slice(b"# remark\n")?;
+    }
+    script.extend_from_slice(b"moment 5\nmoment 4\n")?;
+    Ok(script)
+}
+
+/// 72,018 reads, more than a number of 16 bits counts.
+#[test]
+fn a_script_that_comes_byte_by_byte_runs_to_its_end(rt: HostRuntime) -> Result<(), Fail> {
+    let script = remarks(rt.alloc(), 8_000)?;
+    let mut reader = FailingReader {
+        rest: &script,
+        calls: usize::MAX,
+    };
     let mut writer = Vec::new(rt.alloc());
     let end = play(rt.alloc(), &mut reader, &mut writer)?;
-    assert_eq!(&rt; writer.as_slice(), OUTPUT);
-    assert_eq!(&rt; end, Err(ScriptFault::Line(6, LineFault::Count)));
+    same(&rt, "72,018 reads", writer.as_slice(), b"fault Past\n");
+    same(&rt, "72,018 reads", end, Ok(()));
     Ok(())
 }
 
@@ -101,7 +179,7 @@ fn a_reader_fails_at_every_call(rt: HostRuntime) -> Result<(), Fail> {
         };
         let mut writer = Vec::new(rt.alloc());
         let end = play(rt.alloc(), &mut reader, &mut writer)?;
-        assert_eq!(&rt; end, Err(ScriptFault::Read), "at {calls}");
+        same(&rt, calls, end, Err(ScriptFault::Read));
         assert!(&rt; OUTPUT.starts_with(&writer), "at {calls}");
     }
     Ok(())
@@ -116,8 +194,37 @@ fn a_writer_fails_at_every_call(rt: HostRuntime) -> Result<(), Fail> {
             calls,
         };
         let end = play(rt.alloc(), &mut reader, &mut writer)?;
-        assert_eq!(&rt; end, Err(ScriptFault::Write), "at {calls}");
-        assert_eq!(&rt; writer.held.as_slice(), &OUTPUT[..calls], "at {calls}");
+        same(&rt, calls, end, Err(ScriptFault::Write));
+        same(&rt, calls, writer.held.as_slice(), &OUTPUT[..calls]);
+    }
+    Ok(())
+}
+
+/// How often in a row a write may be interrupted; one time more is a fault.
+const TRIES: usize = 1_000;
+
+#[test]
+fn a_writer_may_be_interrupted_up_to_a_limit(rt: HostRuntime) -> Result<(), Fail> {
+    for (every, held, calls, ending) in [
+        (
+            TRIES,
+            OUTPUT,
+            143_000,
+            Err(ScriptFault::Line(6, LineFault::Count)),
+        ),
+        (TRIES + 1, b"".as_slice(), TRIES, Err(ScriptFault::Write)),
+        (usize::MAX, b"".as_slice(), TRIES, Err(ScriptFault::Write)),
+    ] {
+        let mut reader = SCRIPT;
+        let mut writer = InterruptedWriter {
+            held: Vec::new(rt.alloc()),
+            calls: 0,
+            every,
+        };
+        let end = play(rt.alloc(), &mut reader, &mut writer)?;
+        same(&rt, every, writer.held.as_slice(), held);
+        same(&rt, every, writer.calls, calls);
+        same(&rt, every, end, ending);
     }
     Ok(())
 }
