@@ -34,7 +34,7 @@ pub use fault::LineFault;
 pub use line::{LINE_MAX, Line, read_line};
 pub use names::line_fault_name;
 pub use order::is_rising;
-pub use output::write_whole;
+pub use output::{WRITE_TRIES, write_whole};
 pub use port::{read_control, read_operator};
 pub use print::print_record;
 pub use script::{ScriptFault, run_script};

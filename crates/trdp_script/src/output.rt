@@ -1,6 +1,6 @@
 //! The output of a script, collected so that one write takes many lines.
 
-ghost use Rattle.std.specs.Prelude.{◌≡◌, ◌≤◌, [], length, take, OnOk, OnErr, IfOk, IfErr};
+ghost use Rattle.std.specs.Prelude.{◌≡◌, ◌<◌, ◌≤◌, [], length, take, OnOk, OnErr, IfOk, IfErr};
 ghost use Rattle.std.specs.Io.KnownBytes.{Appends, WriteAppends};
 ghost use Rattle.trdp_script.specs.Writes.{PassesOn, PassesSome, PartlyWrites};
 
@@ -10,6 +10,10 @@ use std::io::{ErrorKind, Write};
 
 /// How many bytes of output are collected before they are written.
 const OUTPUT_ROOM: usize = 65_536;
+
+/// How many tries in a row a writer may be interrupted at, and take nothing, before that is a
+/// `Write` fault (profile).
+pub const WRITE_TRIES: u32 = 1_000;
 
 /// A list with room for the output that is collected.
 pub fn output_buffer(alloc: Global) -> Result<Vec<u8>, AllocError>
@@ -61,7 +65,8 @@ pub fn flush<W: Write>(output: &mut Vec<u8>, writer: &mut W) -> Result<(), Scrip
 /// Writes all of the bytes. An error leaves a front of them written.
 ///
 /// # Errors
-/// `Write` where the writer fails.
+/// `Write` where the writer fails; it has failed too where it was interrupted [`WRITE_TRIES`] times
+/// in a row.
 pub fn write_whole<W: Write>(writer: &mut W, bytes: &[u8]) -> Result<(), ScriptFault>
     ensures ok { OnOk result (Appends (W.contents writer.old) (W.contents writer.new) bytes.now) }
     ensures err { OnErr result
@@ -69,30 +74,34 @@ pub fn write_whole<W: Write>(writer: &mut W, bytes: &[u8]) -> Result<(), ScriptF
     ensures fault { IfErr result (λ fault. fault ≡ ScriptFault.Write) }
 {
     let mut done = 0;
-    for _ in 0..u64::MAX {
-        if done == bytes.len() {
-            return Ok(());
-        }
+    while done < bytes.len() {
         let (_, rest) = bytes.split_at(done);
         match write_some(writer, rest) {
             Ok(count) => done += count,
             Err(fault) => return Err(fault),
         }
     }
-    Err(ScriptFault::Write)
+    Ok(())
 }
 
-/// Writes a front of the bytes, and answers its length: 0 where the write is to be tried again.
+/// Writes a front of the bytes that isn't empty, and answers its length.
+///
+/// # Errors
+/// `Write` where the writer fails, or was interrupted so often; it has taken nothing then.
 fn write_some<W: Write>(writer: &mut W, bytes: &[u8]) -> Result<usize, ScriptFault>
+    ensures some { IfOk result (λ count. 0 < count) }
     ensures within { IfOk result (λ count. count ≤ length bytes.now) }
     ensures written { WriteAppends (W.contents writer.old) (W.contents writer.new)
         result bytes.now }
     ensures fault { IfErr result (λ fault. fault ≡ ScriptFault.Write) }
 {
-    match writer.write(bytes) {
-        Ok(0) => Err(ScriptFault::Write),
-        Ok(count) => Ok(count),
-        Err(error) if error.kind() == ErrorKind::Interrupted => Ok(0),
-        Err(_) => Err(ScriptFault::Write),
+    for _try in 0..WRITE_TRIES {
+        match writer.write(bytes) {
+            Ok(0) => return Err(ScriptFault::Write),
+            Ok(count) => return Ok(count),
+            Err(error) if error.kind() == ErrorKind::Interrupted => {}
+            Err(_) => return Err(ScriptFault::Write),
+        }
     }
+    Err(ScriptFault::Write)
 }

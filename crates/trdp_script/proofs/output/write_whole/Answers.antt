@@ -5,24 +5,24 @@ use Rattle.std.proofs.KnownBytes.{Appends-trans}
 use Rattle.std.specs.Io.KnownBytes.{Appends}
 use Rattle.trdp_script.proofs.output.write_whole.Goals as goal
 
-pub loop-preserved : goal.loop-preserved
-loop-preserved g c =
+pub loop-done-preserved : goal.loop-done-preserved
+loop-done-preserved g c =
     let held = g.W.Write.contents in
-    let rest : c.split_at.result.1.now ≡ drop c.loop.done c.args.bytes.now =
+    let rest : c.split_at.result.1.now ≡ drop c.loop-done.done c.args.bytes.now =
     c.split_at.ensures.back in
-    let some : c.in-Ok.count ≤ length (drop c.loop.done c.args.bytes.now) =
+    let some : c.in-Ok.count ≤ length (drop c.loop-done.done c.args.bytes.now) =
     subst (λ (bs : List ℕ). c.in-Ok.count ≤ length bs) rest c.in-Ok.ensures.within in
-    let more : Appends (held c.loop.writer) (held c.write_some.new.writer)
-    (take c.in-Ok.count (drop c.loop.done c.args.bytes.now)) =
-    subst (λ (bs : List ℕ). Appends (held c.loop.writer)
+    let more : Appends (held c.loop-done.writer) (held c.write_some.new.writer)
+    (take c.in-Ok.count (drop c.loop-done.done c.args.bytes.now)) =
+    subst (λ (bs : List ℕ). Appends (held c.loop-done.writer)
     (held c.write_some.new.writer) (take c.in-Ok.count bs)) rest c.in-Ok.ensures.written in
     record {
       within =
-          omega (arith, some, length-drop c.loop.done c.args.bytes.now, c.loop.invariant.within);
+          omega (arith, some, length-drop c.loop-done.done c.args.bytes.now, c.loop-done.invariant.within);
       so_far =
           subst (λ (bs : List ℕ). Appends (held c.args.writer.now) (held c.write_some.new.writer)
-          bs) (sym (take-add c.loop.done c.in-Ok.count c.args.bytes.now))
-          (Appends-trans (held c.args.writer.now) (held c.loop.writer)
-          (held c.write_some.new.writer) (take c.loop.done c.args.bytes.now) (take c.in-Ok.count
-          (drop c.loop.done c.args.bytes.now)) c.loop.invariant.so_far more);
+          bs) (sym (take-add c.loop-done.done c.in-Ok.count c.args.bytes.now))
+          (Appends-trans (held c.args.writer.now) (held c.loop-done.writer)
+          (held c.write_some.new.writer) (take c.loop-done.done c.args.bytes.now) (take c.in-Ok.count
+          (drop c.loop-done.done c.args.bytes.now)) c.loop-done.invariant.so_far more);
     }
