@@ -1,6 +1,6 @@
 -- What an event came to.
 use Rattle.std.proofs.Common.{◌≡◌, ℕ, List, [], Option, refl, sym, ◌∙◌, ap, subst}
-use Rattle.std.proofs.Common.{true, if◌then◌else◌, length, suc, zero, append-nil}
+use Rattle.std.proofs.Common.{Bool, true, false, if◌then◌else◌, length, suc, zero, append-nil}
 use Rattle.trdp_base.specs.declared.place.Place.{Place}
 use Rattle.trdp_engine.specs.Events.{EventModel, MomentIs, TopologyIs, RoleIs, DatagramIs, CallIs}
 use Rattle.trdp_engine.specs.NodeStates.{NodeState, MayTakeMemory, due_in, uncounted}
@@ -13,7 +13,8 @@ use Rattle.trdp_script.proofs.Orders.{by_slot_suc, by_slot_zero}
 use Rattle.trdp_daemon.specs.declared.link.Link.{Link}
 use Rattle.trdp_daemon.specs.declared.service.Service.{Service}
 use Rattle.trdp_daemon.specs.Told.{Taking, Give}
-use Rattle.trdp_daemon.specs.Effects.{ServiceState, Effect, EventLost, TextsLost, event_effect}
+use Rattle.trdp_daemon.specs.Effects.{ServiceState, Effect, Loss, LineLost, EventLost, TextsLost}
+use Rattle.trdp_daemon.specs.Effects.{event_effect, texts_lost}
 use Rattle.trdp_daemon.specs.Effects.{event_records, event_taken, lost_or, may_take_memory}
 use Rattle.trdp_daemon.specs.Effects.{missing, offering, records_telling, telling_only}
 use Rattle.trdp_daemon.specs.Links.{Carries}
@@ -98,6 +99,29 @@ lost_there : (s : ServiceState) (event : EventModel) (effect : Effect)
     → MayTakeMemory s.node event → telling_only s missing ≡ lost_or s event effect
 lost_there s event effect may =
     ap (λ b. if b then telling_only s missing else effect) (sym (wanting s.node event may))
+
+-- and nowhere else
+not_lost : (s : ServiceState) (event : EventModel) (effect : Effect)
+    → (MayTakeMemory s.node event → ⊥) → lost_or s event effect ≡ effect
+not_lost s event effect never = by_test (may_take_memory s.node event) refl
+  where
+    by_test : (may : Bool) → may_take_memory s.node event ≡ may → lost_or s event effect ≡ effect
+    by_test true is = absurd (never (is_wanting s.node event is))
+    by_test false is = ap (λ b. if b then telling_only s missing else effect) is
+
+pub event_not_lost : (s : ServiceState) (event : EventModel) (loss : Loss)
+    → (MayTakeMemory s.node event → ⊥)
+    → event_effect s event loss ≡ event_taken s event (texts_lost loss)
+unfolding event_effect
+event_not_lost s event LineLost never = not_lost s event (event_taken s event []) never
+event_not_lost s event EventLost never = not_lost s event (event_taken s event []) never
+event_not_lost s event (TextsLost marks) never = refl
+
+pub operator_not_lost : (s : ServiceState) (from : Place) (event : EventModel)
+    → (MayTakeMemory s.node event → ⊥)
+    → operator_event s from event EventLost ≡ operator_taken s from event []
+unfolding operator_event
+operator_not_lost s from event never = not_lost s event (operator_taken s from event []) never
 
 missed : {W : Type 0} {takings_in : W → Option (List Taking)} {gives_in : W → Option (List Give)}
     {a b : Link W} (old new : Service) → new.node ≡ old.node → new.places.items ≡ old.places.items

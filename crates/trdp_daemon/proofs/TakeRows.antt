@@ -92,7 +92,7 @@ pub takings_more : (arrivals : List ArrivalModel) (arrival : ArrivalModel) (rows
     → map (row_taking (arrivals ++ arrival ∷ [])) rows ≡ map (row_taking arrivals) rows
 takings_more arrivals arrival [] within = refl
 takings_more arrivals arrival (row ∷ rows) within =
-    ap (λ a. (let t : Taking = record { port = row.port; arrived = a } in t)
+    ap (λ a. (let t : Taking = record { port = row.port; room = row.room; arrived = a } in t)
     ∷ map (row_taking (arrivals ++ arrival ∷ [])) rows)
     (arrived_more arrivals arrival row.answer within.0)
     ∙ ap (λ l. row_taking arrivals row ∷ l) (takings_more arrivals arrival rows within.1)
@@ -126,15 +126,15 @@ pub within_row : (n : ℕ) (rows new : List TakeRow) (row : TakeRow)
 within_row n rows new row is all own = rw is (within_push n rows row all own)
 
 pub takings_push : (arrivals : List ArrivalModel)
-    (rows new : List TakeRow) (port : Port) (answer : TakeAnswer) (arrived : Arrived)
-    → new ≡ rows ++ (let row : TakeRow = record { port = port; answer = answer } in row) ∷ []
+    (rows new : List TakeRow) (port : Port) (room : ℕ) (answer : TakeAnswer) (arrived : Arrived)
+    → new ≡ rows ++ (let row : TakeRow = record { port = port; room = room; answer = answer } in row) ∷ []
     → arrived_of arrivals answer ≡ arrived
     → map (row_taking arrivals) new ≡ map (row_taking arrivals) rows
-    ++ (let t : Taking = record { port = port; arrived = arrived } in t) ∷ []
-takings_push arrivals rows new port answer arrived is told =
+    ++ (let t : Taking = record { port = port; room = room; arrived = arrived } in t) ∷ []
+takings_push arrivals rows new port room answer arrived is told =
     ap (map (row_taking arrivals)) is ∙ map-append (row_taking arrivals) rows _
     ∙ ap (λ a. map (row_taking arrivals) rows
-    ++ (let t : Taking = record { port = port; arrived = a } in t) ∷ []) told
+    ++ (let t : Taking = record { port = port; room = room; arrived = a } in t) ∷ []) told
 
 pub many_takings : (arrivals : List ArrivalModel) (rows : List TakeRow)
     → length (map (row_taking arrivals) rows) ≡ length rows

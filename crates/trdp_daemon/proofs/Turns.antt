@@ -11,7 +11,7 @@ use Rattle.trdp_daemon.specs.Effects.{still, then_effect, event_effect}
 use Rattle.trdp_daemon.specs.Links.{Carries}
 use Rattle.trdp_daemon.specs.Services.{Comes, ComesWith, TakesAtPorts, TakesTurn, service_state}
 use Rattle.trdp_daemon.specs.Turns.{Visit, visit_effect, visits_effect, Turn}
-use Rattle.trdp_daemon.specs.Turns.{turn_effect, turns_effect, moment_of}
+use Rattle.trdp_daemon.specs.Turns.{turn_effect, turns_effect, moment_of, port_and_room, with_room}
 use Rattle.trdp_daemon.proofs.Links.{carries_none, carries_both}
 use Rattle.trdp_daemon.proofs.Tellings.{both_assoc, silence_both}
 
@@ -79,9 +79,9 @@ visits_both {W} {takings_in} {gives_in} {r} {s} {t} {a} {b} {c} {ps} {qs} p q =
     (sym (map-append (λ v. v.taking) p.visits q.visits)) first in
     record {
       visits = p.visits ++ q.visits;
-      ports_are = map-append (λ v. v.taking.port) p.visits q.visits
-          ∙ ap (λ l. l ++ map (λ v. v.taking.port) q.visits) p.ports_are
-          ∙ ap (λ l. ps ++ l) q.ports_are;
+      ports_are = map-append port_and_room p.visits q.visits
+          ∙ ap (λ l. l ++ map port_and_room q.visits) p.ports_are
+          ∙ ap (λ l. map with_room ps ++ l) q.ports_are ∙ sym (map-append with_room ps qs);
       comes = subst (λ (e : Effect).
           Comes takings_in gives_in r t a c (map (λ v. v.taking) (p.visits ++ q.visits)) e)
           (sym (visits_append (service_state r) p.visits q.visits)) taken;

@@ -1,6 +1,6 @@
 -- What a datagram at a port came to.
 use Rattle.std.proofs.Common.{◌≡◌, ℕ, List, [], ◌∷◌, Option, Some, None}
-use Rattle.std.proofs.Common.{Result, Ok, Err, refl, sym, ◌∙◌, ap, subst, take}
+use Rattle.std.proofs.Common.{Result, Ok, Err, refl, sym, ◌∙◌, ap, subst, length, take}
 use Rattle.std.specs.Prelude.{slice_set}
 use Rattle.trdp_base.specs.declared.place.Place.{Place}
 use Rattle.trdp_engine.specs.Events.{EventModel, DatagramIs}
@@ -20,7 +20,7 @@ use Rattle.trdp_daemon.specs.Effects.{ServiceState, Loss, LineLost, EventLost, T
 use Rattle.trdp_daemon.specs.Effects.{Telling, silence, missing, event_effect, still}
 use Rattle.trdp_daemon.specs.Links.{Carries, IsFound, Takes}
 use Rattle.trdp_daemon.specs.Services.{Comes, ComesWith, TakesAtPorts, service_state}
-use Rattle.trdp_daemon.specs.Turns.{Visit}
+use Rattle.trdp_daemon.specs.Turns.{Visit, datagram_room}
 use Rattle.trdp_daemon.specs.Visits.{fault_telling, operator_event, operator_effect}
 use Rattle.trdp_daemon.specs.Visits.{skipped_line, control_effect, control_event}
 use Rattle.trdp_daemon.specs.Visits.{datagram_effect, taking_effect, with_place, own_place}
@@ -220,18 +220,18 @@ at_control old new port slot from bytes is comes =
 
 -- one take, and what came of it
 visited : {W : Type 0} {takings_in : W → Option (List Taking)} {gives_in : W → Option (List Give)}
-    {a b c : Link W} (old new : Service) (port : Port) (arrived : Arrived)
-    → Carries takings_in gives_in
-    a b (let taking : Taking = record { port = port; arrived = arrived } in taking ∷ []) silence
+    {a b c : Link W} (old new : Service) (port : Port) (room : ℕ) (arrived : Arrived)
+    → room ≡ datagram_room → Carries takings_in gives_in a b (let taking : Taking =
+    record { port = port; room = room; arrived = arrived } in taking ∷ []) silence
     → ComesWith takings_in gives_in old new b c (taking_effect (service_state old) port arrived)
     → TakesAtPorts takings_in gives_in old new a c (port ∷ [])
-visited {W} {takings_in} {gives_in} {a} {b} {c} old new port arrived taken comes =
-    let taking : Taking = record { port = port; arrived = arrived } in
+visited {W} {takings_in} {gives_in} {a} {b} {c} old new port room arrived whole taken comes =
+    let taking : Taking = record { port = port; room = room; arrived = arrived } in
     let visit : Visit = record { taking = taking; loss = comes.loss } in
     let telling = (taking_effect (service_state old) port arrived comes.loss).telling in
     record {
       visits = visit ∷ [];
-      ports_are = refl;
+      ports_are = ap (λ n. (port, n) ∷ []) whole;
       comes = record {
         service_is = comes.comes.service_is;
         carried = subst (λ (t : Telling). Carries takings_in gives_in a c (taking ∷ []) t)
@@ -243,36 +243,38 @@ visited {W} {takings_in} {gives_in} {a} {b} {c} old new port arrived taken comes
 pub visited_nothing :
     {W : Type 0} {takings_in : W → Option (List Taking)} {gives_in : W → Option (List Give)}
     {a b : Link W} (s : Service) (port : Port) (found : Option (Place × ℕ)) (room : List ℕ)
-    → found ≡ None → Takes takings_in gives_in a b port found room
+    → found ≡ None → length room ≡ datagram_room → Takes takings_in gives_in a b port found room
     → TakesAtPorts takings_in gives_in s s a b (port ∷ [])
 unfolding taking_effect
-visited_nothing {W} {takings_in} {gives_in} {a} {b} s port found room none p = nothing p.arrived
+visited_nothing {W} {takings_in} {gives_in} {a} {b} s port found room none roomy p = nothing p.arrived
     (subst (λ (f : Option (Place × ℕ)). IsFound p.arrived f room) none p.is_found) p.carried
   where
     nothing : (arrived : Arrived) → IsFound arrived None room → Carries takings_in gives_in
-        a b (let taking : Taking = record { port = port; arrived = arrived } in taking ∷ []) silence
+        a b (let taking : Taking = record { port = port; room = length room; arrived = arrived } in
+        taking ∷ []) silence
         → TakesAtPorts takings_in gives_in s s a b (port ∷ [])
-    nothing Failed is carried = visited s s port Failed
-        carried (record { loss = TextsLost []; comes = nothing_comes takings_in gives_in s b })
-    nothing Nothing is carried = visited s s port Nothing
-        carried (record { loss = TextsLost []; comes = nothing_comes takings_in gives_in s b })
+    nothing Failed is carried = visited s s port (length room) Failed
+        roomy carried (record { loss = TextsLost []; comes = nothing_comes takings_in gives_in s b })
+    nothing Nothing is carried = visited s s port (length room) Nothing
+        roomy carried (record { loss = TextsLost []; comes = nothing_comes takings_in gives_in s b })
     nothing (Came from bytes) is carried = absurd is
 
 pub visited_datagram : {W : Type 0} {takings_in : W → Option (List Taking)}
     {gives_in : W → Option (List Give)} {a b c : Link W} (old new : Service) (port : Port)
     (found : Option (Place × ℕ)) (from : Place) (len : ℕ) (room bytes : List ℕ) → found
-    ≡ Some (from, len) → bytes ≡ take len room → Takes takings_in gives_in a b port found room
+    ≡ Some (from, len) → bytes ≡ take len room → length room ≡ datagram_room → Takes takings_in gives_in a b port found room
     → ComesWith takings_in gives_in old new b
     c (datagram_effect (service_state old) port from bytes)
     → TakesAtPorts takings_in gives_in old new a c (port ∷ [])
 unfolding taking_effect
 visited_datagram {W} {takings_in} {gives_in} {a} {b} {c} old
-    new port found from len room bytes some front p comes = came p.arrived
+    new port found from len room bytes some front roomy p comes = came p.arrived
     (subst (λ (f : Option (Place × ℕ)). IsFound p.arrived f room) some p.is_found) p.carried
   where
     came : (arrived : Arrived)
         → IsFound arrived (Some (from, len)) room → Carries takings_in gives_in
-        a b (let taking : Taking = record { port = port; arrived = arrived } in taking ∷ []) silence
+        a b (let taking : Taking = record { port = port; room = length room; arrived = arrived } in
+        taking ∷ []) silence
         → TakesAtPorts takings_in gives_in old new a c (port ∷ [])
     came Failed is carried = absurd (cc)
     came Nothing is carried = absurd (cc)
@@ -281,8 +283,8 @@ visited_datagram {W} {takings_in} {gives_in} {a} {b} {c} old
         gives_in old new b c (datagram_effect (service_state old) port q bytes)) at comes in
         let here = subst (λ (l : List ℕ). ComesWith takings_in gives_in
         old new b c (datagram_effect (service_state old) port place l)) (front ∙ all) same in
-        visited old new port (Came place whole)
-        carried (record { loss = here.loss; comes = here.comes })
+        visited old new port (length room) (Came place whole)
+        roomy carried (record { loss = here.loss; comes = here.comes })
 
 -- the control place of a slot was set
 pub placed : (old new : Service) (slot : ℕ) (from : Place)

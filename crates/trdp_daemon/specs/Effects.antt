@@ -119,6 +119,12 @@ pub data Loss : Type 0 where
   EventLost : Loss  -- it was read, and the node didn't take it, where memory may be wanting
   TextsLost : (marks : List Bool) → Loss  -- the texts of those of its records
 
+-- the texts that were lost, where the event was taken
+abbrev pub texts_lost : Loss → List Bool
+texts_lost LineLost = []
+texts_lost EventLost = []
+texts_lost (TextsLost marks) = marks
+
 -- where a service comes to, and what it tells
 pub record Effect : Type 0 where
   pub service : ServiceState

@@ -1,5 +1,5 @@
 -- What came and went at a link.
-use Rattle.std.specs.Prelude.{◌≡◌, ℕ, List, [], ◌∷◌, map, take, Option, Some, None}
+use Rattle.std.specs.Prelude.{◌≡◌, ℕ, List, [], ◌∷◌, map, length, take, Option, Some, None}
 use Rattle.trdp_base.specs.declared.place.Place.{Place}
 use Rattle.trdp_daemon.specs.declared.link.Link.{Link}
 use Rattle.trdp_daemon.specs.declared.port.Port.{Port}
@@ -32,4 +32,5 @@ pub record Takes {W : Type 0} (takings_in : W → Option (List Taking))
   pub arrived : Arrived
   pub is_found : IsFound arrived found room
   pub carried : Carries takings_in gives_in old new
-      (let taking : Taking = record { port = port; arrived = arrived } in taking ∷ []) silence
+      (let taking : Taking = record { port = port; room = length room; arrived = arrived } in
+      taking ∷ []) silence

@@ -19,7 +19,8 @@ arrived_of arrivals (RowCame index len) = cut_to len (slice_get arrivals index)
 
 -- the taking of a row
 abbrev pub row_taking : List ArrivalModel → TakeRow → Taking
-row_taking arrivals row = record { port = row.port; arrived = arrived_of arrivals row.answer }
+row_taking arrivals row =
+    record { port = row.port; room = row.room; arrived = arrived_of arrivals row.answer }
 
 -- what a take answered is one of n things that were laid down, if it is one
 abbrev pub IsWithin : ℕ → TakeAnswer → Type 0

@@ -10,6 +10,7 @@ use Rattle.trdp_daemon.specs.Told.{Taking, Give}
 use Rattle.trdp_daemon.specs.Effects.{ServiceState, Effect, Loss}
 use Rattle.trdp_daemon.specs.Links.{Carries}
 use Rattle.trdp_daemon.specs.Turns.{Visit, visits_effect, Turn, TakesAt, takings_of, turn_effect}
+use Rattle.trdp_daemon.specs.Turns.{port_and_room, with_room}
 use Rattle.trdp_daemon.specs.Visits.{own_place}
 
 -- the node, of which nothing tells what an event cost, and the control places
@@ -30,12 +31,13 @@ pub record ComesWith {W : Type 0} (takings_in : W → Option (List Taking))
   pub loss : Loss
   pub comes : Comes takings_in gives_in old new link link_then [] (effect loss)
 
--- takes were made at these ports, in their order, and nothing else
+-- takes were made at these ports, in their order, each with room for any datagram, and nothing
+-- else
 pub record TakesAtPorts {W : Type 0} (takings_in : W → Option (List Taking))
     (gives_in : W → Option (List Give)) (old new : Service) (link link_then : Link W)
     (ports : List Port) : Type 0 where
   pub visits : List Visit
-  pub ports_are : map (λ visit. visit.taking.port) visits ≡ ports
+  pub ports_are : map port_and_room visits ≡ map with_room ports
   pub comes : Comes takings_in gives_in old new link link_then
       (map (λ visit. visit.taking) visits) (visits_effect (service_state old) visits)
 

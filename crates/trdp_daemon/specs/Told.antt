@@ -1,5 +1,5 @@
 -- What a wire tells of its takes and gives, and a clock of its readings.
-use Rattle.std.specs.Prelude.{◌≡◌, ℕ, List, ◌++◌, take, Option, Some, None, Result, Ok}
+use Rattle.std.specs.Prelude.{◌≡◌, ℕ, List, ◌++◌, length, take, Option, Some, None, Result, Ok}
 use Rattle.std.specs.Prelude.{Err}
 use Rattle.std.specs.Prelude.{Bool, is_err}
 use Rattle.trdp_base.specs.declared.place.Place.{Place}
@@ -12,9 +12,10 @@ pub data Arrived : Type 0 where
   Nothing : Arrived
   Came : (from : Place) (bytes : List ℕ) → Arrived
 
--- one take at a port
+-- one take at a port: how many bytes it had room for, and what it answered
 pub record Taking : Type 0 where
   pub port : Port
+  pub room : ℕ
   pub arrived : Arrived
 
 -- a datagram that is offered to the wire: the port that it leaves from, where it goes, its bytes
@@ -35,7 +36,8 @@ arrived_in (Ok None) room = Nothing
 arrived_in (Ok (Some found)) room = Came found.0 (take found.1 room)
 
 abbrev pub taking_of : Port → Result (Option (Place × ℕ)) WireFault → List ℕ → Taking
-taking_of port result room = record { port = port; arrived = arrived_in result room }
+taking_of port result room =
+    record { port = port; room = length room; arrived = arrived_in result room }
 
 abbrev pub offer_to : Port → Place → List ℕ → Offer
 offer_to port to bytes = record { port = port; to = to; bytes = bytes }

@@ -51,9 +51,21 @@ turns_effect service (turn ∷ turns) =
 abbrev pub takings_of : Turn → List Taking
 takings_of turn = map (λ visit. visit.taking) turn.visits
 
--- a turn takes once at each of these ports, in their order
+-- room for any datagram over UDP, in bytes
+abbrev pub datagram_room : ℕ
+datagram_room = 65536
+
+-- the port of a take, and how many bytes it has room for
+abbrev pub port_and_room : Visit → Port × ℕ
+port_and_room visit = (visit.taking.port, visit.taking.room)
+
+-- a port, with room for any datagram
+abbrev pub with_room : Port → Port × ℕ
+with_room port = (port, datagram_room)
+
+-- a turn takes once at each of these ports, in their order, each time with room for any datagram
 abbrev pub TakesAt : List Port → Turn → Type 0
-TakesAt ports turn = map (λ visit. visit.taking.port) turn.visits ≡ ports
+TakesAt ports turn = map port_and_room turn.visits ≡ map with_room ports
 
 -- a node that was just opened, no slot of which has a control place
 abbrev pub opened_service : ConfigModel → ServiceState

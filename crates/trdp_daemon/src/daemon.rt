@@ -1,8 +1,9 @@
 //! The daemon: turn after turn over a wire and a clock.
 
-ghost use Rattle.std.specs.Prelude.{◌≡◌, IfOk};
+ghost use Rattle.std.specs.Prelude.{◌≡◌, IfOk, length};
 ghost use Rattle.trdp_daemon.specs.Ports.{ports_of};
 ghost use Rattle.trdp_daemon.specs.Services.{IsHome};
+ghost use Rattle.trdp_daemon.specs.Turns.{datagram_room};
 
 use crate::clock::Clock;
 use crate::link::Link;
@@ -42,10 +43,11 @@ pub struct Daemon<W: Wire, C: Clock> {
 }
 
 impl<W: Wire, C: Clock> Model for Daemon<W, C> {
-    ghost use Rattle.std.specs.Prelude.{◌≡◌};
+    ghost use Rattle.std.specs.Prelude.{◌≡◌, length};
     ghost use Rattle.trdp_daemon.specs.Daemons.{DaemonState};
     ghost use Rattle.trdp_daemon.specs.Ports.{ports_of};
     ghost use Rattle.trdp_daemon.specs.Services.{IsHome, IsSound, service_state};
+    ghost use Rattle.trdp_daemon.specs.Turns.{datagram_room};
 
     ghost Value = { DaemonState W C };
 
@@ -57,7 +59,8 @@ impl<W: Wire, C: Clock> Model for Daemon<W, C> {
     } };
 
     ghost invariant = { λ d. IsSound d.service × IsHome d.service.node.config d.home
-        × (d.ports.items ≡ ports_of d.service.node.config) };
+        × (d.ports.items ≡ ports_of d.service.node.config)
+        × (length d.room.items ≡ datagram_room) };
 }
 
 impl<W: Wire, C: Clock> Daemon<W, C> {
@@ -159,7 +162,8 @@ impl<W: Wire, C: Clock> Daemon<W, C> {
 /// # Errors
 /// Want of memory for these.
 fn buffers(alloc: Global, config: &NodeConfig) -> Result<(Vec<Port>, Vec<u8>), AllocError>
-    ensures { IfOk result (λ made. made.0.items ≡ ports_of config.now) }
+    ensures ports { IfOk result (λ made. made.0.items ≡ ports_of config.now) }
+    ensures room { IfOk result (λ made. length made.1.items ≡ datagram_room) }
 {
     let ports = ports_of(alloc, config)?;
     let room = vec![in alloc; 0; DATAGRAM_ROOM]?;

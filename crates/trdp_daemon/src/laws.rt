@@ -1,10 +1,13 @@
 //! What follows from the definitions.
 
-ghost use Rattle.std.specs.Prelude.{◌≡◌, ◌↔◌, List, map, true};
+ghost use Rattle.std.specs.Prelude.{◌≡◌, ◌↔◌, List, [], map, true};
+ghost use Rattle.trdp_base.specs.declared.place.Place.{Place};
 ghost use Rattle.trdp_engine.specs.Events.{EventModel};
 ghost use Rattle.trdp_engine.specs.NodeStates.{NodeState, MayTakeMemory};
-ghost use Rattle.trdp_daemon.specs.Effects.{ServiceState, may_take_memory};
+ghost use Rattle.trdp_daemon.specs.Effects.{EventLost, Loss, ServiceState, event_effect};
+ghost use Rattle.trdp_daemon.specs.Effects.{event_taken, may_take_memory, texts_lost};
 ghost use Rattle.trdp_daemon.specs.Turns.{Turn, turns_effect, unlost};
+ghost use Rattle.trdp_daemon.specs.Visits.{operator_event, operator_taken};
 
 /// Turns in which nothing was counted as lost for want of memory are turns in which nothing was
 /// lost: what they come to and offer follows from the readings and the takes alone.
@@ -14,8 +17,16 @@ pub fn nothing_missed()
         → turns_effect service turns ≡ turns_effect service (map unlost turns) }
 {}
 
-/// An event may be lost only where the node says that memory may be wanting for it.
+/// An event may be lost only where the node says that memory may be wanting for it: elsewhere one
+/// that is marked as lost, or its line, comes to what it comes to where it is taken, and so does
+/// its turn. An event of the operator is then taken, and answered.
 pub fn lost_only_where_memory_is_taken()
-    ensures { (node : NodeState) (event : EventModel)
+    ensures tested { (node : NodeState) (event : EventModel)
         → (may_take_memory node event ≡ true) ↔ MayTakeMemory node event }
+    ensures event { (service : ServiceState) (event : EventModel) (loss : Loss)
+        → ¬ MayTakeMemory service.node event
+        → event_effect service event loss ≡ event_taken service event (texts_lost loss) }
+    ensures operator { (service : ServiceState) (from : Place) (event : EventModel)
+        → ¬ MayTakeMemory service.node event
+        → operator_event service from event EventLost ≡ operator_taken service from event [] }
 {}

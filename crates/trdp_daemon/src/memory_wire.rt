@@ -244,7 +244,8 @@ impl Wire for MemoryWire {
             number,
             room,
         );
-        push_take(&mut self.taken, TakeRow { port, answer });
+        let room = room.len();
+        push_take(&mut self.taken, TakeRow { port, room, answer });
         result
     }
 

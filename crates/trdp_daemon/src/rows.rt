@@ -18,6 +18,8 @@ pub(crate) enum TakeAnswer {
 #[derive(Clone, Copy)]
 pub(crate) struct TakeRow {
     pub(crate) port: Port,
+    /// How many bytes it had room for.
+    pub(crate) room: usize,
     pub(crate) answer: TakeAnswer,
 }
 

@@ -1,8 +1,9 @@
 //! One turn: the moment, and then a take at each port.
 
-ghost use Rattle.std.specs.Prelude.{◌≡◌, max, min};
+ghost use Rattle.std.specs.Prelude.{◌≡◌, length, max, min};
 ghost use Rattle.trdp_base.specs.Moments.{last_moment};
 ghost use Rattle.trdp_daemon.specs.Services.{IsHome, IsSound, TakesAtPorts, TakesTurn};
+ghost use Rattle.trdp_daemon.specs.Turns.{datagram_room};
 
 use crate::link::Link;
 use crate::port::Port;
@@ -25,6 +26,7 @@ pub(crate) fn take_turn<W: Wire>(
 )
     requires sound { IsSound service.old }
     requires home { IsHome service.old.node.config home }
+    requires room { length room.old ≡ datagram_room }
     ensures sound { IsSound service.new }
     ensures config { service.new.node.config ≡ service.old.node.config }
     ensures turn { TakesTurn W.takings W.gives service.old service.new link.old link.new
@@ -46,6 +48,7 @@ fn visit_ports<W: Wire>(
 )
     requires sound { IsSound service.old }
     requires home { IsHome service.old.node.config home }
+    requires room { length room.old ≡ datagram_room }
     ensures sound { IsSound service.new }
     ensures config { service.new.node.config ≡ service.old.node.config }
     ensures takes { TakesAtPorts W.takings W.gives service.old service.new link.old link.new

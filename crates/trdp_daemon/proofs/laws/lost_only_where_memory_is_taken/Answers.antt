@@ -1,5 +1,11 @@
-use Rattle.trdp_daemon.proofs.Services.{wanting, is_wanting}
+use Rattle.trdp_daemon.proofs.Services.{wanting, is_wanting, event_not_lost, operator_not_lost}
 use Rattle.trdp_daemon.proofs.laws.lost_only_where_memory_is_taken.Goals as goal
 
-pub returns : goal.returns
-returns c = λ node event. (is_wanting node event, wanting node event)
+pub returns-clause-tested : goal.returns-clause-tested
+returns-clause-tested c = λ node event. (is_wanting node event, wanting node event)
+
+pub returns-clause-event : goal.returns-clause-event
+returns-clause-event c = λ service event loss never. event_not_lost service event loss never
+
+pub returns-clause-operator : goal.returns-clause-operator
+returns-clause-operator c = λ service from event never. operator_not_lost service from event never

@@ -69,7 +69,7 @@ returns-clause-after c =
     let taking =
     taking_of c.args.port c.answer_take-answer.result.1 c.answer_take-answer.new.room in
     let more = takings_push c.self.inside.arrivals.items c.self.inside.taken.items
-    c.push_take.new.taken.items c.args.port c.answer_take-answer.result.0
+    c.push_take.new.taken.items c.args.port _ c.answer_take-answer.result.0
     (arrived_in c.answer_take-answer.result.1 c.answer_take-answer.new.room)
     c.push_take.ensures.items (ap (λ l. arrived_of l c.answer_take-answer.result.0)
     (sym c.deref-3.ensures.value) ∙ c.answer_take-answer.ensures.told) in
