@@ -1,12 +1,18 @@
 -- Why a run ends before the end of its script, and why a service comes to no good end.
-use Rattle.std.specs.Prelude.{ℕ, List, ◌++◌, codes, Result, Ok, Err}
+use Rattle.std.specs.Prelude.{ℕ, List, ◌++◌, codes, Option, Result, Ok, Err}
+use Rattle.std.specs.Io.KnownBytes.{Keeps}
 use Rattle.trdp_base.specs.NumberText.{text_of_number}
 use Rattle.trdp_script.specs.RecordText.{name_of_line_fault}
+use Rattle.trdp_script.specs.Writes.{PartlyWrites}
 use Rattle.trdp_script.specs.declared.script.ScriptFault.{ScriptFault}
 use Rattle.trdp_script.specs.declared.script.ScriptFault.TheVariants.{Line, Read, Write}
 use Rattle.trdp_script.specs.declared.script.ScriptFault.TheVariants.{OutOfMemory}
 use Rattle.trdp_program.specs.declared.faults.ServeFault.{ServeFault}
 use Rattle.trdp_program.specs.declared.faults.ServeFault.TheVariants as serve
+
+-- a front of the line of a fault was written, of this text, as far as the stream tells
+abbrev pub TellsFault : List ℕ → Option (List ℕ) → Option (List ℕ) → Type 0
+TellsFault text old new = PartlyWrites old new (text ++ codes "\n")
 
 -- the exit status of a script: 0 at its end, 3 for a bad line, and else 4
 abbrev pub status_of_script : Result (Unit {0}) ScriptFault → ℕ
@@ -23,6 +29,11 @@ text_of_script_fault (Line n fault) =
 text_of_script_fault Read = codes "read fault"
 text_of_script_fault Write = codes "write fault"
 text_of_script_fault OutOfMemory = codes "memory fault"
+
+-- at a script's end nothing is told, and else its fault
+abbrev pub TellsEnd : Result (Unit {0}) ScriptFault → Option (List ℕ) → Option (List ℕ) → Type 0
+TellsEnd (Ok done) old new = Keeps old new
+TellsEnd (Err fault) old new = TellsFault (text_of_script_fault fault) old new
 
 -- what is told of a service's fault, without the end of the line
 abbrev pub text_of_serve_fault : ServeFault → List ℕ

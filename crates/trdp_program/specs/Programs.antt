@@ -1,11 +1,12 @@
 -- What a run of the program comes to.
-use Rattle.std.specs.Prelude.{◌≡◌, ◌⊎◌, ℕ, List, Option, Result, Ok, Err}
+use Rattle.std.specs.Prelude.{◌≡◌, ◌⊎◌, ℕ, List, Option, Some, Result, Ok, Err}
 use Rattle.std.specs.Io.KnownBytes.{Keeps}
 use Rattle.trdp_dataset.specs.Configs.{ConfigModel, Reads, config_of}
 use Rattle.trdp_dataset.specs.declared.fault.ConfigFault.{ConfigFault}
 use Rattle.trdp_script.specs.ScriptRuns.{RunsScript}
 use Rattle.trdp_script.specs.declared.script.ScriptFault.{ScriptFault}
-use Rattle.trdp_program.specs.Faults.{status_of_script}
+use Rattle.trdp_program.specs.ConfigNames.{text_of_config_fault}
+use Rattle.trdp_program.specs.Faults.{TellsEnd, TellsFault, status_of_script}
 
 -- the bytes are a configuration
 abbrev pub IsConfig : List ℕ → Type 0
@@ -16,26 +17,31 @@ IsConfig bytes = (config : ConfigModel) × Reads config_of bytes (Ok config)
 abbrev pub IsConfigFault : List ℕ → ConfigFault → Type 0
 IsConfigFault bytes fault = Reads {A = ConfigModel} config_of bytes (Err fault)
 
--- the bytes are no configuration, or memory ran out while they were read: the status is 1, and
--- nothing was written
-pub record TakesNoConfig (bytes : List ℕ) (old new : Option (List ℕ)) (status : ℕ) : Type 0 where
+-- the bytes are no configuration, or memory ran out while they were read: the status is 1, nothing
+-- was written, and the error stream is told the fault
+pub record TakesNoConfig (bytes : List ℕ) (old new errors errors_then : Option (List ℕ))
+    (status : ℕ) : Type 0 where
   pub fault : ConfigFault
   pub is : IsConfigFault bytes fault
   pub status_is : status ≡ 1
   pub quiet : Keeps old new
+  pub told : TellsFault (text_of_config_fault fault) errors errors_then
 
--- the bytes are a configuration, over which the script was run, and the status is that of the
--- script
-pub record RunsOverConfig (bytes input : List ℕ) (left old new : Option (List ℕ)) (status : ℕ)
-    : Type 0 where
+-- the bytes are a configuration, over which the script was run, where the reader tells its bytes;
+-- the status is that of the script, and the error stream is told its fault
+pub record RunsOverConfig (bytes : List ℕ) (unread left old new errors errors_then : Option (List ℕ))
+    (status : ℕ) : Type 0 where
   pub config : ConfigModel
   pub is : Reads config_of bytes (Ok config)
   pub end : Result (Unit {0}) ScriptFault
   pub status_is : status ≡ status_of_script end
-  pub runs : RunsScript config input left old new end
+  pub runs : (input : List ℕ) → unread ≡ Some input → RunsScript config input left old new end
+  pub told : TellsEnd end errors errors_then
 
--- a run over these bytes of a configuration and this input
-abbrev pub RunsProgram : List ℕ → List ℕ → Option (List ℕ) → Option (List ℕ) → Option (List ℕ)
-    → ℕ → Type 0
-RunsProgram bytes input left old new status =
-    TakesNoConfig bytes old new status ⊎ RunsOverConfig bytes input left old new status
+-- a run over these bytes of a configuration: what the reader, the writer and the error stream had
+-- before and have after it, and the status
+abbrev pub RunsProgram : List ℕ → Option (List ℕ) → Option (List ℕ) → Option (List ℕ)
+    → Option (List ℕ) → Option (List ℕ) → Option (List ℕ) → ℕ → Type 0
+RunsProgram bytes unread left old new errors errors_then status =
+    TakesNoConfig bytes old new errors errors_then status
+    ⊎ RunsOverConfig bytes unread left old new errors errors_then status

@@ -5,12 +5,16 @@ use Rattle.std.specs.Io.KnownBytes.{Appends, Keeps}
 use Rattle.trdp_base.specs.NumberText.{text_of_number}
 use Rattle.trdp_dataset.specs.Configs.{ConfigModel, Reads, config_of}
 use Rattle.trdp_daemon.specs.declared.totals.Totals.{Totals}
-use Rattle.trdp_daemon.specs.Told.{Give}
+use Rattle.trdp_daemon.specs.Told.{Taking, Give}
 use Rattle.trdp_daemon.specs.Counting.{no_totals, totals_after}
+use Rattle.trdp_daemon.specs.Daemons.{DaemonState, TakesTurns, opened_daemon}
 use Rattle.trdp_daemon.specs.Ports.{ports_of}
 use Rattle.trdp_daemon.specs.Turns.{Turn, TakesAt, takings_of, turns_effect, opened_service}
 use Rattle.trdp_script.specs.Writes.{PartlyWrites}
+use Rattle.trdp_program.specs.Faults.{TellsFault, text_of_serve_fault}
 use Rattle.trdp_program.specs.Programs.{TakesNoConfig}
+use Rattle.trdp_program.specs.declared.faults.ServeFault.{ServeFault}
+use Rattle.trdp_program.specs.declared.faults.ServeFault.TheVariants.{Bind, Write, OutOfMemory}
 
 -- what is told of a daemon's totals, without the end of the line
 abbrev pub text_of_totals : Totals → List ℕ
@@ -34,33 +38,62 @@ pub record CountsTurns (config : ConfigModel) (n : ℕ) (totals : Totals) : Type
   pub totals_are : totals ≡ totals_after no_totals (flat_map takings_of turns) gives
       (turns_effect (opened_service config) turns).telling.missed
 
--- the bytes are a configuration, whose node took n turns: the status is 0, and the line of its
--- totals was written
-pub record ServesConfig (bytes : List ℕ) (n : ℕ) (old new : Option (List ℕ)) (status : ℕ)
-    : Type 0 where
+-- these are the totals of a daemon of that configuration that has just been made, after n turns
+-- over this wire and this clock, which tell what they do by these functions
+pub record CountsTurnsOver {W C : Type 0} (takings_in : W → Option (List Taking))
+    (gives_in : W → Option (List Give)) (readings_in : C → Option (List ℕ))
+    (config : ConfigModel) (wire : W) (clock : C) (n : ℕ) (totals : Totals) : Type 0 where
+  pub daemon : DaemonState W C
+  pub took : TakesTurns takings_in gives_in readings_in n (opened_daemon config wire clock) daemon
+  pub totals_are : totals ≡ daemon.totals
+
+-- the line of these totals was written
+abbrev pub WritesTotals : Totals → Option (List ℕ) → Option (List ℕ) → Type 0
+WritesTotals totals old new = Appends old new (text_of_totals totals ++ codes "\n")
+
+-- that line isn't written with this fault: where the output can't be written a front of it is
+abbrev pub FailsToWrite : ServeFault → Totals → Option (List ℕ) → Option (List ℕ) → Type 0
+FailsToWrite Bind totals old new = ⊥
+FailsToWrite OutOfMemory totals old new = Keeps old new
+FailsToWrite Write totals old new = PartlyWrites old new (text_of_totals totals ++ codes "\n")
+
+-- the bytes are a configuration, whose node took n turns: the status is 0, the line of its totals
+-- was written, and the error stream is told nothing
+pub record ServesConfig (bytes : List ℕ) (n : ℕ) (old new errors errors_then : Option (List ℕ))
+    (status : ℕ) : Type 0 where
   pub config : ConfigModel
   pub is : Reads config_of bytes (Ok config)
   pub totals : Totals
   pub counts : CountsTurns config n totals
   pub status_is : status ≡ 0
-  pub written : Appends old new (text_of_totals totals ++ codes "\n")
+  pub written : WritesTotals totals old new
+  pub faultless : Keeps errors errors_then
 
--- nothing was written, or the node took n turns, and a front of the line of its totals was written
-abbrev pub WritesNoTotals : ConfigModel → ℕ → Option (List ℕ) → Option (List ℕ) → Type 0
-WritesNoTotals config n old new = Keeps old new
-    ⊎ ((totals : Totals) × CountsTurns config n totals
-    × PartlyWrites old new (text_of_totals totals ++ codes "\n"))
+-- what a service has written that ends with this fault: where the output can't be written a front
+-- of the line of the totals of n turns, and else nothing
+abbrev pub WritesNoTotals : ServeFault → ConfigModel → ℕ → Option (List ℕ) → Option (List ℕ)
+    → Type 0
+WritesNoTotals Bind config n old new = Keeps old new
+WritesNoTotals OutOfMemory config n old new = Keeps old new
+WritesNoTotals Write config n old new = (totals : Totals) × CountsTurns config n totals
+    × PartlyWrites old new (text_of_totals totals ++ codes "\n")
 
 -- the bytes are a configuration, but the line of its node's totals wasn't written, or only a front
--- of it: the status is 4
-pub record FailsToServe (bytes : List ℕ) (n : ℕ) (old new : Option (List ℕ)) (status : ℕ)
-    : Type 0 where
+-- of it: the status is 4, and the error stream is told the fault
+pub record FailsToServe (bytes : List ℕ) (n : ℕ) (old new errors errors_then : Option (List ℕ))
+    (status : ℕ) : Type 0 where
   pub config : ConfigModel
   pub is : Reads config_of bytes (Ok config)
+  pub fault : ServeFault
   pub status_is : status ≡ 4
-  pub written : WritesNoTotals config n old new
+  pub written : WritesNoTotals fault config n old new
+  pub told : TellsFault (text_of_serve_fault fault) errors errors_then
 
--- n turns over these bytes of a configuration
-abbrev pub ServesProgram : List ℕ → ℕ → Option (List ℕ) → Option (List ℕ) → ℕ → Type 0
-ServesProgram bytes n old new status = TakesNoConfig bytes old new status
-    ⊎ ServesConfig bytes n old new status ⊎ FailsToServe bytes n old new status
+-- n turns over these bytes of a configuration: what the writer and the error stream had before and
+-- have after them, and the status
+abbrev pub ServesProgram : List ℕ → ℕ → Option (List ℕ) → Option (List ℕ) → Option (List ℕ)
+    → Option (List ℕ) → ℕ → Type 0
+ServesProgram bytes n old new errors errors_then status =
+    TakesNoConfig bytes old new errors errors_then status
+    ⊎ ServesConfig bytes n old new errors errors_then status
+    ⊎ FailsToServe bytes n old new errors errors_then status

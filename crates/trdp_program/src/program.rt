@@ -1,12 +1,15 @@
 //! A run of the program: the configuration first, and then the script.
 
-ghost use Rattle.std.specs.Prelude.{◌≡◌, ◌⊎◌, ℕ, List, Some, Ok, IfOk, IfErr, OnOk};
+ghost use Rattle.std.specs.Prelude.{◌≡◌, ◌⊎◌, Ok, IfOk, IfErr, OnOk};
 ghost use Rattle.std.specs.Io.KnownBytes.{Keeps};
 ghost use Rattle.trdp_dataset.specs.Configs.{Reads, config_of};
+ghost use Rattle.trdp_program.specs.ConfigNames.{text_of_config_fault};
+ghost use Rattle.trdp_program.specs.Faults.{TellsFault};
 ghost use Rattle.trdp_program.specs.Programs.{IsConfig, IsConfigFault, RunsProgram};
 
 use crate::config_names::ConfigFaultText;
 use crate::faults::{ScriptFaultText, script_status};
+use crate::told::tell_fault;
 use std::alloc::Global;
 use std::io::{Read, Write};
 use trdp_dataset::{ConfigFault, NodeConfig};
@@ -17,8 +20,8 @@ pub const CONFIG_STATUS: u8 = 1;
 
 /// Runs a script from the reader over a node of that configuration (TOML), writes what the node
 /// gives to the writer, and answers the exit status: 0 at the script's end, 1 where the
-/// configuration isn't taken, 3 for a bad line, and else 4; a fault gives one line on `errors`.
-/// What was written before a fault stands (profile).
+/// configuration isn't taken, 3 for a bad line, and else 4; a fault gives one line on `errors`, or a
+/// front of it where `errors` fails. What was written before a fault stands (profile).
 ///
 /// The configuration is looked at before the script: where it isn't taken, nothing is written.
 pub fn run_program<H: AllocGlobal, R: Read, W: Write, E: Write>(
@@ -30,9 +33,11 @@ pub fn run_program<H: AllocGlobal, R: Read, W: Write, E: Write>(
 ) -> u8
     ensures status { (result ≡ 0) ⊎ (result ≡ 1) ⊎ (result ≡ 3) ⊎ (result ≡ 4) }
     ensures config { (result ≡ 1) ⊎ IsConfig config.now }
-    ensures runs { (input : List ℕ) → R.remaining reader.old ≡ Some input → RunsProgram config.now
-        input (R.remaining reader.new) (W.contents writer.old) (W.contents writer.new) result }
+    ensures runs { RunsProgram config.now (R.remaining reader.old) (R.remaining reader.new)
+        (W.contents writer.old) (W.contents writer.new)
+        (E.contents errors.old) (E.contents errors.new) result }
     ensures quiet { result ≡ 1 → Keeps (W.contents writer.old) (W.contents writer.new) }
+    ensures faultless { result ≡ 0 → Keeps (E.contents errors.old) (E.contents errors.new) }
 {
     let alloc = rt.alloc();
     let Ok(config) = read_config(alloc, config, errors) else {
@@ -40,8 +45,7 @@ pub fn run_program<H: AllocGlobal, R: Read, W: Write, E: Write>(
     };
     let end = run_script(alloc, config, reader, writer);
     if let Err(fault) = end {
-        // A fault that can't be told is one all the same.
-        let _ = writeln!(errors, "{}", ScriptFaultText(fault));
+        tell_fault(ScriptFaultText(fault), errors);
     }
     script_status(end)
 }
@@ -58,12 +62,13 @@ pub fn read_config<E: Write>(
     ensures taken { IfOk result (λ taken. Reads config_of config.now (Ok taken)) }
     ensures fault { IfErr result (IsConfigFault config.now) }
     ensures faultless { OnOk result (Keeps (E.contents errors.old) (E.contents errors.new)) }
+    ensures told { IfErr result (λ fault. TellsFault (text_of_config_fault fault)
+        (E.contents errors.old) (E.contents errors.new)) }
 {
     match NodeConfig::from_toml(alloc, config) {
         Ok(taken) => Ok(taken),
         Err(fault) => {
-            // A fault that can't be told is one all the same.
-            let _ = writeln!(errors, "{}", ConfigFaultText(fault));
+            tell_fault(ConfigFaultText(fault), errors);
             Err(fault)
         }
     }

@@ -1,24 +1,27 @@
 //! A service of the program: the configuration first, then the sockets, and then the turns.
 
-ghost use Rattle.std.specs.Prelude.{◌≡◌, ◌⊎◌, ◌++◌, codes, IfOk, OnOk, OnErr};
-ghost use Rattle.std.specs.Io.KnownBytes.{Appends, Keeps};
+ghost use Rattle.std.specs.Prelude.{◌≡◌, ◌≢◌, ◌⊎◌, IfOk, IfErr, OnOk};
+ghost use Rattle.std.specs.Io.KnownBytes.{Keeps};
 ghost use Rattle.trdp_program.specs.Programs.{IsConfig};
-ghost use Rattle.trdp_program.specs.Serving.{CountsTurns, ServesProgram, WritesNoTotals, text_of_totals};
+ghost use Rattle.trdp_program.specs.Serving.{CountsTurns, CountsTurnsOver, FailsToWrite};
+ghost use Rattle.trdp_program.specs.Serving.{ServesProgram, WritesNoTotals, WritesTotals};
 
 use crate::faults::{SERVE_FAULT_STATUS, ServeFault};
 use crate::program::{CONFIG_STATUS, read_config};
+use crate::told::tell_fault;
+use std::alloc::Global;
 use std::fmt;
 use std::io::Write;
 use std::net::Net;
 use std::time::Clock;
-use trdp_daemon::{BindFault, Daemon, RunClock, Totals, UdpWire};
+use trdp_daemon::{BindFault, Daemon, RunClock, Totals, UdpWire, Wire};
 use trdp_dataset::NodeConfig;
 use trdp_script::write_whole;
 
 /// Serves a node of that configuration (TOML) over the system's sockets: binds its UDP ports,
 /// takes so many turns without sleeping, writes the line of their totals to the writer, and
 /// answers the exit status: 0 after that line, 1 where the configuration isn't taken, and else 4;
-/// a fault gives one line on `errors` (profile).
+/// a fault gives one line on `errors`, or a front of it where `errors` fails (profile).
 ///
 /// The configuration is looked at first, and then the ports are bound: where it isn't taken,
 /// nothing is written.
@@ -32,7 +35,8 @@ pub fn serve_program<H: Net + Clock + AllocGlobal, W: Write, E: Write>(
     ensures status { (result ≡ 0) ⊎ (result ≡ 1) ⊎ (result ≡ 4) }
     ensures config { (result ≡ 1) ⊎ IsConfig config.now }
     ensures serves { ServesProgram config.now turns
-        (W.contents writer.old) (W.contents writer.new) result }
+        (W.contents writer.old) (W.contents writer.new)
+        (E.contents errors.old) (E.contents errors.new) result }
     ensures quiet { result ≡ 1 → Keeps (W.contents writer.old) (W.contents writer.new) }
     ensures faultless { result ≡ 0 → Keeps (E.contents errors.old) (E.contents errors.new) }
 {
@@ -42,14 +46,14 @@ pub fn serve_program<H: Net + Clock + AllocGlobal, W: Write, E: Write>(
     match serve(rt, config, turns, writer) {
         Ok(()) => 0,
         Err(fault) => {
-            // A fault that can't be told is one all the same.
-            let _ = writeln!(errors, "{fault}");
+            tell_fault(fault, errors);
             SERVE_FAULT_STATUS
         }
     }
 }
 
-/// Takes the turns, and writes the line of their totals.
+/// Binds the ports of a configuration, takes so many turns at them, and writes the line of their
+/// totals.
 ///
 /// # Errors
 /// `Bind` where the system refuses a port, `Write` where the writer fails, and `OutOfMemory`.
@@ -60,13 +64,48 @@ fn serve<H: Net + Clock + AllocGlobal, W: Write>(
     writer: &mut W,
 ) -> Result<(), ServeFault>
     ensures ok { OnOk result ((totals : Totals) × CountsTurns config turns totals
-        × Appends (W.contents writer.old) (W.contents writer.new)
-        (text_of_totals totals ++ codes "\n")) }
-    ensures err { OnErr result
-        (WritesNoTotals config turns (W.contents writer.old) (W.contents writer.new)) }
+        × WritesTotals totals (W.contents writer.old) (W.contents writer.new)) }
+    ensures err { IfErr result (λ fault. WritesNoTotals fault config turns
+        (W.contents writer.old) (W.contents writer.new)) }
 {
-    let totals = take_turns(rt, config, turns)?;
-    let Ok(line) = format!(in rt.alloc(); "{}\n", TotalsText(totals)) else {
+    let wire = bind(rt, &config)?;
+    let totals = serve_over(rt.alloc(), config, wire, RunClock::new(rt), turns)?;
+    write_totals(rt.alloc(), totals, writer)
+}
+
+/// Opens a node of a configuration over a wire and a clock, and takes so many turns. Answers their
+/// totals: those of the turns that the wire and the clock tell of, where they tell. The system's
+/// sockets and clock tell nothing, so that of them only the number of turns is left.
+///
+/// # Errors
+/// `OutOfMemory`.
+fn serve_over<L: Wire + Drop, C: trdp_daemon::Clock + Drop>(
+    alloc: Global,
+    config: NodeConfig,
+    wire: L,
+    clock: C,
+    turns: u32,
+) -> Result<Totals, ServeFault>
+    ensures ok { IfOk result
+        (CountsTurnsOver L.takings L.gives C.readings config wire clock turns) }
+    ensures err { IfErr result (λ fault. fault ≡ ServeFault.OutOfMemory) }
+{
+    match Daemon::new(alloc, config, wire, clock) {
+        Ok(mut daemon) => Ok(daemon.run(turns)),
+        Err(_) => Err(ServeFault::OutOfMemory),
+    }
+}
+
+/// Writes the line of totals.
+///
+/// # Errors
+/// `Write` where the writer fails, and `OutOfMemory`.
+fn write_totals<W: Write>(alloc: Global, totals: Totals, writer: &mut W) -> Result<(), ServeFault>
+    ensures ok { OnOk result (WritesTotals totals (W.contents writer.old) (W.contents writer.new)) }
+    ensures err { IfErr result (λ fault. FailsToWrite fault totals
+        (W.contents writer.old) (W.contents writer.new)) }
+{
+    let Ok(line) = format!(in alloc; "{}\n", TotalsText(totals)) else {
         return Err(ServeFault::OutOfMemory);
     };
     match write_whole(writer, line.as_bytes()) {
@@ -75,29 +114,13 @@ fn serve<H: Net + Clock + AllocGlobal, W: Write>(
     }
 }
 
-/// Binds the ports of a configuration, and takes so many turns at them. Answers their totals.
-///
-/// # Errors
-/// `Bind` where the system refuses a port, and `OutOfMemory`.
-fn take_turns<H: Net + Clock + AllocGlobal>(
-    rt: &H,
-    config: NodeConfig,
-    turns: u32,
-) -> Result<Totals, ServeFault>
-    ensures { IfOk result (CountsTurns config turns) }
-{
-    let wire = bind(rt, &config)?;
-    match Daemon::new(rt.alloc(), config, wire, RunClock::new(rt)) {
-        Ok(mut daemon) => Ok(daemon.run(turns)),
-        Err(_) => Err(ServeFault::OutOfMemory),
-    }
-}
-
 /// Binds the ports of a configuration.
 ///
 /// # Errors
 /// `Bind` where the system refuses a port, and `OutOfMemory`.
-fn bind<H: Net + AllocGlobal>(rt: &H, config: &NodeConfig) -> Result<UdpWire, ServeFault> {
+fn bind<H: Net + AllocGlobal>(rt: &H, config: &NodeConfig) -> Result<UdpWire, ServeFault>
+    ensures { IfErr result (λ fault. fault ≢ ServeFault.Write) }
+{
     match UdpWire::bind(rt, config) {
         Ok(wire) => Ok(wire),
         Err(BindFault::Bind) => Err(ServeFault::Bind),

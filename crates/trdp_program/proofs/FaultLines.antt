@@ -1,0 +1,54 @@
+-- The line of a fault, on its way to the error stream.
+use Rattle.std.proofs.Common.{◌≡◌, ℕ, List, [], ◌∷◌, ◌++◌, length, take, sym, ◌∙◌, ap, subst}
+use Rattle.std.proofs.Common.{arith, append_assoc, append-nil, true, Option, Some, None, Result, Ok, Err, OnOk, OnErr, is_ok}
+use Rattle.std.proofs.Common.{IfSome}
+use Rattle.std.proofs.lemmas.List.{take_all}
+use Rattle.std.specs.Io.KnownBytes.{Appends}
+use Rattle.std.specs.declared.fmt.InlineText.{InlineText}
+use Rattle.std.specs.Fmt.{WritesText, with_newline}
+use Rattle.std.specs.Fmt.InlineText.{inline_text, IsIntact, AppendsIfIntact}
+use Rattle.std.specs.List.{FoldsTo, concat}
+use Rattle.trdp_script.specs.Writes.{PartlyWrites}
+use Rattle.trdp_program.specs.Faults.{TellsFault}
+
+-- all of the bytes were written, or a front of them
+partly_written : {A E : Type 0} (r : Result A E) (old new : Option (List ℕ)) (bytes : List ℕ)
+    → OnOk r (Appends old new bytes) → OnErr r (PartlyWrites old new bytes)
+    → PartlyWrites old new bytes
+partly_written (Ok done) old new bytes whole front =
+    let all : take (length bytes) bytes ≡ bytes = take_all (length bytes) bytes (omega arith) in
+    (length bytes, subst (λ (l : List ℕ). Appends old new l) (sym all) whole)
+partly_written (Err fault) old new bytes whole front = front
+
+-- what a good call says
+when_ok : {A E P : Type 0} (r : Result A E) → is_ok r ≡ true → OnOk r P → P
+when_ok (Ok x) good p = p
+when_ok (Err e) good p = absurd (cc)
+
+-- several writes append what they wrote together
+after_calls : {n : ℕ} (s t : InlineText n) (parts : List (List ℕ)) → FoldsTo AppendsIfIntact s parts t
+    → IsIntact s → IsIntact t × (inline_text t ≡ inline_text s ++ concat parts)
+after_calls s t [] same intact =
+    (subst IsIntact same intact, ap inline_text (sym same) ∙ sym (append-nil (inline_text s)))
+after_calls s t (part ∷ parts) calls intact =
+    let first = calls.1 intact in
+    let rest = after_calls calls.0 t parts calls.2 first.0 in (
+      rest.0,
+      rest.1 ∙ ap (λ l. l ++ concat parts) first.1
+          ∙ append_assoc (inline_text s) part (concat parts),
+    )
+
+-- a line that was made of a text, and then written or a front of it
+pub told : {A B E F : Type 0} {n : ℕ} (output : Option (List ℕ)) (start line : InlineText n)
+    (made : Result A E) (r : Result B F) (old new : Option (List ℕ)) (bytes : List ℕ)
+    → inline_text start ≡ [] → IsIntact start → is_ok made ≡ true
+    → OnOk made (WritesText AppendsIfIntact start (with_newline output) line)
+    → bytes ≡ inline_text line → OnOk r (Appends old new bytes)
+    → OnErr r (PartlyWrites old new bytes) → IfSome output (λ text. TellsFault text old new)
+told None start line made r old new bytes empty intact good wrote is whole front = tt
+told (Some text) start line made r old new bytes empty intact good wrote is whole front =
+    let calls = when_ok made good wrote in
+    let grown = after_calls start line calls.parts calls.calls intact in
+    let same : bytes ≡ text ++ 10 ∷ [] =
+    is ∙ grown.1 ∙ ap (λ l. l ++ concat calls.parts) empty ∙ calls.whole in
+    subst (λ (l : List ℕ). PartlyWrites old new l) same (partly_written r old new bytes whole front)

@@ -1,0 +1,37 @@
+-- What the turns of a service come to.
+use Rattle.std.proofs.Common.{◌≡◌, ℕ, List, Option, refl, sym, ◌∙◌, subst}
+use Rattle.std.proofs.KnownBytes.{Keeps-refl}
+use Rattle.trdp_dataset.specs.Configs.{ConfigModel}
+use Rattle.trdp_daemon.specs.declared.totals.Totals.{Totals}
+use Rattle.trdp_daemon.specs.Told.{Taking, Give}
+use Rattle.trdp_program.specs.declared.faults.ServeFault.{ServeFault}
+use Rattle.trdp_program.specs.declared.faults.ServeFault.TheVariants.{Bind, Write, OutOfMemory}
+use Rattle.trdp_program.specs.Serving.{CountsTurns, CountsTurnsOver, WritesNoTotals}
+
+-- totals of turns over a wire and a clock are those of so many turns
+pub counts_turns : {W C : Type 0} {takings_in : W → Option (List Taking)}
+    {gives_in : W → Option (List Give)} {readings_in : C → Option (List ℕ)}
+    {config : ConfigModel} {wire : W} {clock : C} {n : ℕ} {totals : Totals}
+    → CountsTurnsOver takings_in gives_in readings_in config wire clock n totals
+    → CountsTurns config n totals
+counts_turns p = record {
+  turns = p.took.turns;
+  gives = p.took.gives;
+  count = p.took.count;
+  ports = p.took.ports;
+  offers = p.took.offers;
+  totals_are = p.totals_are ∙ p.took.totals;
+}
+
+-- a fault before the first turn
+pub early_fault : (fault : ServeFault) (config : ConfigModel) (n : ℕ) (told : Option (List ℕ))
+    → (fault ≡ Write → ⊥) → WritesNoTotals fault config n told told
+early_fault Bind config n told early = Keeps-refl told
+early_fault OutOfMemory config n told early = Keeps-refl told
+early_fault Write config n told early = absurd (early refl)
+
+-- no memory for the daemon
+pub memory_fault : (fault : ServeFault) (config : ConfigModel) (n : ℕ) (told : Option (List ℕ))
+    → fault ≡ OutOfMemory → WritesNoTotals fault config n told told
+memory_fault fault config n told is =
+    subst (λ (f : ServeFault). WritesNoTotals f config n told told) (sym is) (Keeps-refl told)
