@@ -26,7 +26,6 @@ use Rattle.trdp_md.specs.Callers.{answer_of, answering, is_complete, replied}
 use Rattle.trdp_md.specs.Callers.{caller_firing, reason_of, confirming, closed_of}
 use Rattle.trdp_md.specs.Callers.{confirm_of}
 use Rattle.trdp_md.proofs.Confirming.{closed-done, fired-done, terms-confirming}
-use Rattle.trdp_table.specs.declared.kind.Kind.{Kind}
 use Rattle.trdp_table.specs.declared.any_object.AnyObject.TheVariants.{Caller}
 use Rattle.trdp_engine.specs.declared.record.Protocol.TheVariants.{Md}
 use Rattle.trdp_engine.specs.declared.fault.Refusal.{Refusal}
@@ -114,17 +113,17 @@ for_caller c src head is =
           (and_right (is_answer head.kind) (head.session.0 == c.terms.session.0) both),
     )
 
-pub caller_takes : (past : List Move) (m : Move) (at : Spot) (kind : Kind) (setup : NodeSetup)
+pub caller_takes : (past : List Move) (m : Move) (at : Spot) (setup : NodeSetup)
     (src dst to : Place) (t : MdTelegram) (globals : Globals) (c : AnyCaller)
     → MessageBy t.head.kind past src to t → CallerKept past m.before.setup at c
     → Held at (Caller c) m
     → ((content : Content) → In content (taking_act setup (MdIs src dst t) globals
-    (record { handle = at.handle; kind = kind; object = Caller c })).records
+    (record { handle = at.handle; object = Caller c })).records
     → Gives at.node at.slot content m)
     → ActKept past m at (taking_act setup (MdIs src dst t) globals
-    (record { handle = at.handle; kind = kind; object = Caller c }))
+    (record { handle = at.handle; object = Caller c }))
 unfolding replied
-caller_takes past m at kind setup src dst to t globals c origin kept held given =
+caller_takes past m at setup src dst to t globals c origin kept held given =
     either (is_accepted c src t.head) refl given
   where
     after : AnyCaller
@@ -193,11 +192,11 @@ caller_takes past m at kind setup src dst to t globals c origin kept held given 
         record { stays = object_later past m m.before.setup at (Caller c) kept; tells = tt }
 
 -- a caller's deadline
-pub caller_fires : (past : List Move) (m : Move) (at : Spot) (kind : Kind) (globals : Globals)
+pub caller_fires : (past : List Move) (m : Move) (at : Spot) (globals : Globals)
     (c : AnyCaller) → CallerKept past m.before.setup at c → Held at (Caller c) m
     → ActKept past m at
-    (firing_act globals (record { handle = at.handle; kind = kind; object = Caller c }))
-caller_fires past m at kind globals c kept held =
+    (firing_act globals (record { handle = at.handle; object = Caller c }))
+caller_fires past m at globals c kept held =
     record { stays = tt; tells = (by_reason (reason_of c) refl, tt) }
   where
     by_reason : (reason : Reason) → reason_of c ≡ reason → ClosedBy past m at reason

@@ -21,7 +21,6 @@ use Rattle.trdp_pd.specs.Requesters.{RequesterState, pull_head}
 use Rattle.trdp_pd.specs.Subscriptions.{SubscriptionState, is_accepted}
 use Rattle.trdp_pd.specs.Subscriptions.{HasTaken, IsOfValue, taken_in, storing}
 use Rattle.trdp_pd.proofs.Receiving.{HasTaken-taking}
-use Rattle.trdp_table.specs.declared.kind.Kind.{Kind}
 use Rattle.trdp_table.specs.declared.any_object.AnyObject.TheVariants.{Publisher, Subscription}
 use Rattle.trdp_engine.specs.declared.record.Protocol.TheVariants.{Pd}
 use Rattle.trdp_engine.specs.declared.fault.Refusal.{Refusal}
@@ -76,11 +75,11 @@ fired_act handle p f = record {
   records = firing_records handle (Publisher p) f.fired;
 }
 
-pub publisher_fires : (past : List Move) (m : Move) (at : Spot) (kind : Kind) (globals : Globals)
+pub publisher_fires : (past : List Move) (m : Move) (at : Spot) (globals : Globals)
     (p : PublisherState) → IsPublisher p → ValueKept past p.terms.com_id p.value
     → ActKept past m at
-    (firing_act globals (record { handle = at.handle; kind = kind; object = Publisher p }))
-publisher_fires past m at kind globals p fits kept = either (may_send p globals)
+    (firing_act globals (record { handle = at.handle; object = Publisher p }))
+publisher_fires past m at globals p fits kept = either (may_send p globals)
   where
     either : (b : Bool) → ActKept past m at (fired_act at.handle p
         (if b then record {
@@ -103,14 +102,14 @@ took_act setup telegram handle p f = record {
   records = taken_records setup telegram handle (Publisher p) f.taken;
 }
 
-pub publisher_takes : (past : List Move) (m : Move) (at : Spot) (kind : Kind) (setup : NodeSetup)
+pub publisher_takes : (past : List Move) (m : Move) (at : Spot) (setup : NodeSetup)
     (telegram : TelegramModel) (globals : Globals) (p : PublisherState)
     → IsPublisher p → ValueKept past p.terms.com_id p.value
     → ActKept past m at (taking_act setup telegram globals
-    (record { handle = at.handle; kind = kind; object = Publisher p }))
-publisher_takes past m at kind setup (MdIs src dst telegram) globals p fits kept =
+    (record { handle = at.handle; object = Publisher p }))
+publisher_takes past m at setup (MdIs src dst telegram) globals p fits kept =
     record { stays = value_later past m p.terms.com_id p.value kept; tells = tt }
-publisher_takes past m at kind setup (PdIs src dst telegram) globals p fits kept =
+publisher_takes past m at setup (PdIs src dst telegram) globals p fits kept =
     either (is_answered p telegram.head globals)
   where
     either : (b : Bool) → ActKept past m at
@@ -132,11 +131,11 @@ publisher_takes past m at kind setup (PdIs src dst telegram) globals p fits kept
 not_silent_valid : Silent ≡ Valid → ⊥
 not_silent_valid is = absurd (cc)
 
-pub subscription_fires : (past : List Move) (m : Move) (at : Spot) (kind : Kind) (globals : Globals)
+pub subscription_fires : (past : List Move) (m : Move) (at : Spot) (globals : Globals)
     (u : SubscriptionState)
     → ActKept past m at
-    (firing_act globals (record { handle = at.handle; kind = kind; object = Subscription u }))
-subscription_fires past m at kind globals u =
+    (firing_act globals (record { handle = at.handle; object = Subscription u }))
+subscription_fires past m at globals u =
     record { stays = λ valid. absurd (not_silent_valid valid); tells = (tt, tt) }
 
 -- what was sent as a value was put
@@ -184,13 +183,13 @@ subscription_act setup telegram handle u f = record {
   records = taken_records setup telegram handle (Subscription u) f.taken;
 }
 
-pub subscription_takes : (past : List Move) (m : Move) (at : Spot) (kind : Kind) (setup : NodeSetup)
+pub subscription_takes : (past : List Move) (m : Move) (at : Spot) (setup : NodeSetup)
     (src dst : Place) (t : PdTelegram) (globals : Globals) (u : SubscriptionState)
     → DataBy t.head.kind past t
     → (u.state ≡ Valid → Ever (IsPut u.terms.filter.com_id u.value) past)
     → ActKept past m at (taking_act setup (PdIs src dst t) globals
-    (record { handle = at.handle; kind = kind; object = Subscription u }))
-subscription_takes past m at kind setup src dst t globals u origin kept =
+    (record { handle = at.handle; object = Subscription u }))
+subscription_takes past m at setup src dst t globals u origin kept =
     either (is_accepted u src dst t.head globals fits) refl
   where
     fits : Bool

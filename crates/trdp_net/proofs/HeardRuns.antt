@@ -19,7 +19,8 @@ use Rattle.trdp_net.specs.Networks.{network_step, network_run, opened_network}
 use Rattle.trdp_net.specs.Provenance.{Spot}
 use Rattle.trdp_net.specs.Promises.{history, replied_in, told_in, all_replied}
 use Rattle.trdp_net.specs.Promises.{AreDistinct}
-use Rattle.trdp_net.proofs.HeardSlots.{HeardSlot, heard_same, effect_heard}
+use Rattle.trdp_net.proofs.HeardEntries.{HeardSlot, heard_same}
+use Rattle.trdp_net.proofs.HeardSlots.{effect_heard}
 use Rattle.trdp_net.proofs.Explained.{spot}
 
 -- what was told at a slot, or nothing where there is none

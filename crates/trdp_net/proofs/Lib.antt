@@ -10,12 +10,17 @@ pub mod CallerMoves
 pub mod Repliers
 pub mod Objects
 pub mod Slots
+pub mod CallEffects
 pub mod Effects
 pub mod Runs
 pub mod Promises
 pub mod Heard
+pub mod HeardTelegrams
+pub mod HeardEntries
 pub mod HeardSlots
 pub mod HeardRuns
+pub mod TypedObjects
+pub mod TypedCalls
 pub mod TypedSlots
 pub mod TypedRuns
 pub mod Ties

@@ -48,22 +48,22 @@ use Rattle.trdp_net.proofs.TypedMoves.{IsTypedObject}
 use Rattle.trdp_net.specs.Provenance.{Each}
 
 -- at a moment
-pub fires_kept : (past : List Move) (m : Move) (at : Spot) (kind : Kind) (globals : Globals)
+pub fires_kept : (past : List Move) (m : Move) (at : Spot) (globals : Globals)
     (x : AnyObject) → IsTypedObject x → ObjectKept past m.before.setup at x → Held at x m
     → ActKept past m at
-    (firing_act globals (record { handle = at.handle; kind = kind; object = x }))
-fires_kept past m at kind globals (Publisher p) fits kept held =
-    publisher_fires past m at kind globals p fits kept
-fires_kept past m at kind globals (Subscription u) fits kept held =
-    subscription_fires past m at kind globals u
-fires_kept past m at kind globals (Requester r) fits kept held =
+    (firing_act globals (record { handle = at.handle; object = x }))
+fires_kept past m at globals (Publisher p) fits kept held =
+    publisher_fires past m at globals p fits kept
+fires_kept past m at globals (Subscription u) fits kept held =
+    subscription_fires past m at globals u
+fires_kept past m at globals (Requester r) fits kept held =
     nothing_kept past m at (Requester r) kept
-fires_kept past m at kind globals (Listener l) fits kept held =
+fires_kept past m at globals (Listener l) fits kept held =
     nothing_kept past m at (Listener l) kept
-fires_kept past m at kind globals (Caller c) fits kept held =
-    caller_fires past m at kind globals c kept held
-fires_kept past m at kind globals (Replier r) fits kept held =
-    replier_fires past m at kind globals r
+fires_kept past m at globals (Caller c) fits kept held =
+    caller_fires past m at globals c kept held
+fires_kept past m at globals (Replier r) fits kept held =
+    replier_fires past m at globals r
 
 -- what a telegram was sent as, to the node of a move
 abbrev pub TelegramBy : List Move → NodeSetup → TelegramModel → Type 0
@@ -81,14 +81,14 @@ heard_kept message.Query past m k s h src to t origin = tt
 heard_kept message.Error past m k s h src to t origin = tt
 heard_kept message.Confirm past m k s h src to t origin = tt
 
-listener_takes : (past : List Move) (m : Move) (at : Spot) (kind : Kind) (setup : NodeSetup)
+listener_takes : (past : List Move) (m : Move) (at : Spot) (setup : NodeSetup)
     (telegram : TelegramModel) (globals : Globals) (l : AnyListener)
     → TelegramBy past m.before.setup telegram
     → ActKept past m at (taking_act setup telegram globals
-    (record { handle = at.handle; kind = kind; object = Listener l }))
-listener_takes past m at kind setup (PdIs src dst t) globals l origin =
+    (record { handle = at.handle; object = Listener l }))
+listener_takes past m at setup (PdIs src dst t) globals l origin =
     record { stays = tt; tells = tt }
-listener_takes past m at kind setup (MdIs src dst t) globals l origin =
+listener_takes past m at setup (MdIs src dst t) globals l origin =
     either (listener_addressed l (MdIs src dst t) globals)
   where
     either : (b : Bool) → ActKept past m at (record {
@@ -104,36 +104,36 @@ listener_takes past m at kind setup (MdIs src dst t) globals l origin =
     either false = record { stays = tt; tells = tt }
 
 -- at a telegram
-pub takes_kept : (past : List Move) (m : Move) (at : Spot) (kind : Kind) (setup : NodeSetup)
+pub takes_kept : (past : List Move) (m : Move) (at : Spot) (setup : NodeSetup)
     (telegram : TelegramModel) (globals : Globals) (x : AnyObject)
     → TelegramBy past m.before.setup telegram
     → IsTypedObject x → ObjectKept past m.before.setup at x → Held at x m
     → ((content : Content) → In content (taking_act setup telegram globals
-    (record { handle = at.handle; kind = kind; object = x })).records
+    (record { handle = at.handle; object = x })).records
     → Gives at.node at.slot content m)
     → ActKept past m at (taking_act setup telegram globals
-    (record { handle = at.handle; kind = kind; object = x }))
-takes_kept past m at kind setup telegram globals (Publisher p) origin fits kept held given =
-    publisher_takes past m at kind setup telegram globals p fits kept
-takes_kept past m at kind setup (PdIs src dst t) globals (Subscription u) origin fits kept held
+    (record { handle = at.handle; object = x }))
+takes_kept past m at setup telegram globals (Publisher p) origin fits kept held given =
+    publisher_takes past m at setup telegram globals p fits kept
+takes_kept past m at setup (PdIs src dst t) globals (Subscription u) origin fits kept held
     given =
-    subscription_takes past m at kind setup src dst t globals u origin kept
-takes_kept past m at kind setup (MdIs src dst t) globals (Subscription u) origin fits kept held
+    subscription_takes past m at setup src dst t globals u origin kept
+takes_kept past m at setup (MdIs src dst t) globals (Subscription u) origin fits kept held
     given =
     nothing_kept past m at (Subscription u) kept
-takes_kept past m at kind setup telegram globals (Requester r) origin fits kept held given =
+takes_kept past m at setup telegram globals (Requester r) origin fits kept held given =
     nothing_kept past m at (Requester r) kept
-takes_kept past m at kind setup telegram globals (Listener l) origin fits kept held given =
-    listener_takes past m at kind setup telegram globals l origin
-takes_kept past m at kind setup (PdIs src dst t) globals (Caller c) origin fits kept held given =
+takes_kept past m at setup telegram globals (Listener l) origin fits kept held given =
+    listener_takes past m at setup telegram globals l origin
+takes_kept past m at setup (PdIs src dst t) globals (Caller c) origin fits kept held given =
     nothing_kept past m at (Caller c) kept
-takes_kept past m at kind setup (MdIs src dst t) globals (Caller c) origin fits kept held given =
-    caller_takes past m at kind setup src dst (place_of Md m.before.setup) t globals c origin kept
+takes_kept past m at setup (MdIs src dst t) globals (Caller c) origin fits kept held given =
+    caller_takes past m at setup src dst (place_of Md m.before.setup) t globals c origin kept
     held given
-takes_kept past m at kind setup (PdIs src dst t) globals (Replier r) origin fits kept held given =
+takes_kept past m at setup (PdIs src dst t) globals (Replier r) origin fits kept held given =
     nothing_kept past m at (Replier r) kept
-takes_kept past m at kind setup (MdIs src dst t) globals (Replier r) origin fits kept held given =
-    replier_takes past m at kind setup src dst t globals r origin kept held
+takes_kept past m at setup (MdIs src dst t) globals (Replier r) origin fits kept held given =
+    replier_takes past m at setup src dst t globals r origin kept held
 
 -- at a call
 

@@ -21,7 +21,6 @@ use Rattle.trdp_md.specs.Repliers.{is_for_replier, replier_taking, ended, missed
 use Rattle.trdp_md.specs.Repliers.{answer_with}
 use Rattle.trdp_md.specs.Sessions.{IsItsConfirmation}
 use Rattle.trdp_md.proofs.Replying.{confirmed}
-use Rattle.trdp_table.specs.declared.kind.Kind.{Kind}
 use Rattle.trdp_table.specs.declared.any_object.AnyObject.{AnyObject}
 use Rattle.trdp_table.specs.declared.any_object.AnyObject.TheVariants.{Replier}
 use Rattle.trdp_engine.specs.declared.record.Protocol.TheVariants.{Md}
@@ -58,13 +57,13 @@ confirm_origin : (past : List Move) (from to : Place) (t : MdTelegram)
 confirm_origin past from to t is origin =
     subst (λ (k : MdKind). MessageBy k past from to t) is origin
 
-pub replier_takes : (past : List Move) (m : Move) (at : Spot) (kind : Kind) (setup : NodeSetup)
+pub replier_takes : (past : List Move) (m : Move) (at : Spot) (setup : NodeSetup)
     (src dst : Place) (t : MdTelegram) (globals : Globals) (r : AnyReplier)
     → MessageBy t.head.kind past src (place_of Md m.before.setup) t → ReplierKept past at r
     → Held at (Replier r) m
     → ActKept past m at (taking_act setup (MdIs src dst t) globals
-    (record { handle = at.handle; kind = kind; object = Replier r }))
-replier_takes past m at kind setup src dst t globals r origin kept held =
+    (record { handle = at.handle; object = Replier r }))
+replier_takes past m at setup src dst t globals r origin kept held =
     either (is_for_replier r src t.head) refl
   where
     home : Place
@@ -97,11 +96,11 @@ replier_takes past m at kind setup src dst t globals r origin kept held =
     either false is =
         record { stays = object_later past m m.before.setup at (Replier r) kept; tells = tt }
 
-pub replier_fires : (past : List Move) (m : Move) (at : Spot) (kind : Kind) (globals : Globals)
+pub replier_fires : (past : List Move) (m : Move) (at : Spot) (globals : Globals)
     (r : AnyReplier) → ActKept past m at
-    (firing_act globals (record { handle = at.handle; kind = kind; object = Replier r }))
+    (firing_act globals (record { handle = at.handle; object = Replier r }))
 unfolding missed
-replier_fires past m at kind globals r = record { stays = tt; tells = (by_stage r.stage, tt) }
+replier_fires past m at globals r = record { stays = tt; tells = (by_stage r.stage, tt) }
   where
     by_stage : (stage : Stage) → ClosedBy past m at (missed stage)
     by_stage Asked = tt

@@ -8,7 +8,6 @@ use Rattle.std.specs.List.{flat_map}
 use Rattle.std.proofs.lemmas.Bool.Decides.{nat_tests}
 use Rattle.trdp_filter.specs.declared.globals.Globals.{Globals}
 use Rattle.trdp_filter.specs.Telegrams.{TelegramModel}
-use Rattle.trdp_table.specs.Kinds.{kind_of}
 use Rattle.trdp_table.specs.declared.any_object.AnyObject.{AnyObject}
 use Rattle.trdp_engine.specs.declared.fault.Refusal.{Refusal}
 use Rattle.trdp_engine.specs.declared.fault.Refusal.TheVariants as refusals
@@ -74,7 +73,7 @@ held_in : (m : Move) (s : ℕ) (slot : SlotState) (e : Entry)
     → slice_get m.before.slots s ≡ Some slot → In e slot.objects
     → Held (spot m.node s e.handle) e.object m
 held_in m s slot e slot_is is =
-    record { slot = slot; slot_is = slot_is; kind = e.kind; held = is }
+    record { slot = slot; slot_is = slot_is; held = is }
 
 -- several objects act, each by its own rule, and are heard in some order
 acting_kept : (past : List Move) (m : Move) (s : ℕ) (slot : SlotState) (test : Entry → Bool)
@@ -172,7 +171,7 @@ moved_kept past m s slot globals slot_is typed kept given =
     (order_in e (filter (is_due globals.now) slot.objects) is))
     (λ e is due. in_its_order e (filter (is_due globals.now) slot.objects)
     (in_filter (is_due globals.now) slot.objects e is due))
-    (λ e fits was held by. fires_kept past m (spot m.node s e.handle) e.kind globals e.object fits
+    (λ e fits was held by. fires_kept past m (spot m.node s e.handle) globals e.object fits
     was held) given
 
 -- at a telegram that is no request
@@ -187,7 +186,7 @@ handed_kept past m s slot setup globals telegram origin slot_is typed kept given
     (taking_act setup telegram globals) (acting telegram globals slot.objects) slot_is typed kept
     (λ e is. filter_in (is_acting telegram globals slot.objects) slot.objects e is)
     (λ e is acts. in_filter (is_acting telegram globals slot.objects) slot.objects e is acts)
-    (λ e fits was held by. takes_kept past m (spot m.node s e.handle) e.kind setup telegram globals
+    (λ e fits was held by. takes_kept past m (spot m.node s e.handle) setup telegram globals
     e.object origin fits was held by) given
 
 -- a new object, or a refusal
@@ -208,7 +207,7 @@ opened_kept past m s slot None object records kept new tells given =
     record {
       objects =
           each_append (EntryKept (m ∷ past) m.before.setup m.node s) slot.objects
-          (record { handle = slot.next; kind = kind_of object; object = object } ∷ [])
+          (record { handle = slot.next; object = object } ∷ [])
           (entries_later past m m.before.setup m.node s slot.objects kept) (new refl handle, tt);
       tells = (tt, tells refl handle);
     }

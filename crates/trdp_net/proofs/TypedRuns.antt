@@ -24,7 +24,8 @@ use Rattle.trdp_net.specs.Promises.{history}
 use Rattle.trdp_net.specs.Typed.{IsTypedCall, IsTypedStep, AreTypedSteps}
 use Rattle.trdp_net.proofs.Parts.{each_append, each_get, set_get}
 use Rattle.trdp_net.proofs.Runs.{slot_before, none_opened}
-use Rattle.trdp_net.proofs.TypedSlots.{IsSentTyped, AreTyped, IsTypedEvent, effect_typed}
+use Rattle.trdp_net.proofs.TypedObjects.{IsSentTyped, AreTyped}
+use Rattle.trdp_net.proofs.TypedSlots.{IsTypedEvent, effect_typed}
 use Rattle.trdp_net.proofs.TypedMoves.{IsTypedSending, SendsTyped, IsTypedEntry, IsTypedMove}
 use Rattle.trdp_net.specs.Provenance.{Each}
 

@@ -9,7 +9,6 @@ use Rattle.trdp_md.specs.declared.terms.NotifyTerms.{NotifyTerms}
 use Rattle.trdp_md.specs.declared.terms.CallerTerms.{CallerTerms}
 use Rattle.trdp_md.specs.declared.caller.Caller.{Caller as AnyCaller}
 use Rattle.trdp_md.specs.declared.replier.Replier.{Replier as AnyReplier}
-use Rattle.trdp_table.specs.declared.kind.Kind.{Kind}
 use Rattle.trdp_table.specs.declared.any_object.AnyObject.{AnyObject}
 use Rattle.trdp_table.specs.declared.any_object.AnyObject.TheVariants.{Publisher, Caller, Replier}
 use Rattle.trdp_engine.specs.declared.record.Protocol.TheVariants.{Md}
@@ -64,8 +63,7 @@ pub record Makes (k s : ℕ) (call : CallModel) (answer : AnswerModel) (m : Move
 pub record Held (at : Spot) (object : AnyObject) (m : Move) : Type 0 where
   pub slot : SlotState
   pub slot_is : slice_get m.before.slots at.slot ≡ Some slot
-  pub kind : Kind
-  pub held : In (record { handle = at.handle; kind = kind; object = object }) slot.objects
+  pub held : In (record { handle = at.handle; object = object }) slot.objects
 
 -- a granted Put of these bytes to a publisher of this comId
 pub record IsPut (com_id : ℕ) (bytes : List ℕ) (m : Move) (past : List Move) : Type 0 where
