@@ -1,5 +1,6 @@
 //! A daemon in memory, and what its turns are to give.
 
+use crate::same::same;
 use std::alloc::Global;
 use std::process::Abort;
 use trdp_daemon::{Daemon, MemoryClock, MemoryWire, Totals};
@@ -33,12 +34,12 @@ pub fn memory_daemon(
 
 /// Asserts what so many turns offer and count; the text of a failure has the case's number.
 pub fn turns_give(
-    rt: &impl Abort,
+    rt: &(impl Abort + AllocGlobal),
     case: usize,
     daemon: &mut MemoryDaemon,
     turns: u32,
     (offers, counts): (&[u8], Totals),
 ) {
-    assert_eq!(rt; daemon.run(turns), counts, "case {case}");
-    assert_eq!(rt; daemon.wire().bytes(), offers, "case {case}");
+    same(rt, case, daemon.run(turns), counts);
+    same(rt, case, daemon.wire().bytes(), offers);
 }

@@ -7,10 +7,14 @@
 #[cfg(test)]
 mod bench;
 #[cfg(test)]
+mod each_port;
+#[cfg(test)]
 mod loopback;
 #[cfg(test)]
 mod programs;
 #[cfg(test)]
 mod random_bytes;
+#[cfg(test)]
+mod same;
 #[cfg(test)]
 mod turns;

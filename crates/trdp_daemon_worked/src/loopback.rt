@@ -1,5 +1,6 @@
 //! Daemons over the system's sockets and clock, all on this machine.
 
+use crate::same::same;
 use std::net::{Ipv4Addr, Net, SocketAddr, SocketAddrV4, UdpSocket};
 use std::process::Abort;
 use std::test::Fail;
@@ -93,13 +94,13 @@ control_port = 18900
 ";
 
 /// How many turns anything may take.
-const PATIENCE: u32 = 1_000_000;
+pub const PATIENCE: u32 = 1_000_000;
 
 /// How many turns are watched for a second indication.
 const QUIET: u32 = 300_000;
 
 /// A daemon of that configuration.
-fn daemon<'a, H: Net + time::Clock + AllocGlobal>(
+pub fn daemon<'a, H: Net + time::Clock + AllocGlobal>(
     rt: &'a H,
     config: &[u8],
 ) -> Result<Daemon<UdpWire, RunClock<'a, H>>, Fail> {
@@ -113,7 +114,7 @@ fn daemon<'a, H: Net + time::Clock + AllocGlobal>(
 }
 
 /// A socket of an application at that control port, which never waits.
-fn application(rt: &impl Net, ip: u32, port: u16) -> io::Result<UdpSocket> {
+pub fn application(rt: &impl Net, ip: u32, port: u16) -> io::Result<UdpSocket> {
     let home = Ipv4Addr::from_bits(ip);
     let socket = UdpSocket::bind(rt, SocketAddr::V4(SocketAddrV4::new(home, 0)))?;
     socket.connect(SocketAddr::V4(SocketAddrV4::new(home, port)))?;
@@ -129,7 +130,7 @@ fn turn_all<C: Clock>(daemons: &mut [Daemon<UdpWire, C>]) {
 }
 
 /// What an application hears within so many turns; nothing where it hears nothing.
-fn hear<'a, C: Clock>(
+pub fn hear<'a, C: Clock>(
     daemons: &mut [Daemon<UdpWire, C>],
     application: &UdpSocket,
     turns: u32,
@@ -150,8 +151,8 @@ fn hear<'a, C: Clock>(
 }
 
 /// Asserts that a line is answered so.
-fn answers<C: Clock>(
-    rt: &impl Abort,
+pub fn answers<C: Clock>(
+    rt: &(impl Abort + AllocGlobal),
     daemons: &mut [Daemon<UdpWire, C>],
     application: &UdpSocket,
     line: &[u8],
@@ -160,13 +161,13 @@ fn answers<C: Clock>(
     let mut room = [0; 128];
     application.send(line)?;
     let text = hear(daemons, application, PATIENCE, &mut room)?;
-    assert_eq!(rt; text, answer);
+    same(rt, str::from_utf8(line).unwrap_or("bytes"), text, answer);
     Ok(())
 }
 
 /// Asks for the value until there is one, and asserts that it is the one that was put.
 fn shows_value<C: Clock>(
-    rt: &impl Abort,
+    rt: &(impl Abort + AllocGlobal),
     daemons: &mut [Daemon<UdpWire, C>],
     application: &UdpSocket,
 ) -> io::Result<()> {
@@ -184,15 +185,15 @@ fn shows_value<C: Clock>(
 
 /// Asserts that an application hears that its subscription is silent, and then nothing.
 fn falls_silent<C: Clock>(
-    rt: &impl Abort,
+    rt: &(impl Abort + AllocGlobal),
     daemons: &mut [Daemon<UdpWire, C>],
     application: &UdpSocket,
 ) -> io::Result<()> {
     let mut room = [0; 64];
     let text = hear(daemons, application, PATIENCE, &mut room)?;
-    assert_eq!(rt; text, b"0 silent 1\n".as_slice());
+    same(rt, "silent", text, b"0 silent 1\n");
     let text = hear(daemons, application, QUIET, &mut room)?;
-    assert_eq!(rt; text, b"".as_slice());
+    same(rt, "then nothing", text, b"");
     Ok(())
 }
 
@@ -203,7 +204,12 @@ fn answers_a_client<C: Clock>(
     application: &UdpSocket,
 ) -> Result<(), Fail> {
     let config = NodeConfig::from_toml(rt.alloc(), ALONE)?;
-    assert_eq!(rt; UdpWire::bind(rt, &config).err(), Some(BindFault::Bind));
+    same(
+        rt,
+        "twice",
+        UdpWire::bind(rt, &config).err(),
+        Some(BindFault::Bind),
+    );
     let line = b"publish 100 0 100000 0 0 0 127.0.0.1:17999";
     answers(rt, daemons, application, line, b"0 handle 1\n")?;
     Ok(())
@@ -218,7 +224,7 @@ fn a_client_at_a_control_port_is_answered(rt: HostRuntime) -> Result<(), Fail> {
 
 /// Asserts what the applications of two devices hear of a value that is put, and of its end.
 fn shows<C: Clock>(
-    rt: &impl Abort,
+    rt: &(impl Abort + AllocGlobal),
     daemons: &mut [Daemon<UdpWire, C>],
     [first, second]: [&UdpSocket; 2],
 ) -> Result<(), Fail> {
@@ -244,7 +250,7 @@ fn a_device_shows_what_another_one_publishes(rt: HostRuntime) -> Result<(), Fail
 
 /// Asserts what both applications hear in the exchange.
 fn exchange<C: Clock>(
-    rt: &impl Abort,
+    rt: &(impl Abort + AllocGlobal),
     daemons: &mut [Daemon<UdpWire, C>],
     [first, second]: [&UdpSocket; 2],
 ) -> Result<(), Fail> {

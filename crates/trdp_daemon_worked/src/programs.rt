@@ -1,10 +1,14 @@
 //! Scripts and services through the whole program, over readers and writers in memory.
 
+use crate::same::same;
 use std::io;
 use std::io::{Read, Write};
+use std::net::Net;
 use std::process::Abort;
 use std::test::Fail;
-use trdp_program::{ScriptFaultText, run_program, script_status, serve_program};
+use std::time::Clock;
+use trdp_dataset::ConfigFault;
+use trdp_program::{ConfigFaultText, ScriptFaultText, run_program, script_status, serve_program};
 use trdp_script::ScriptFault;
 
 /// A node with two slots and two datasets.
@@ -53,69 +57,80 @@ impl Write for FailingWriter {
     }
 }
 
-/// What a run came to: the exit status, the output and the text of the error.
+/// What the program comes to: the output, what stands on the error stream, and the exit status.
 #[derive(Drop)]
 struct Outcome {
-    status: u8,
     output: Vec<u8>,
-    error: Vec<u8>,
+    errors: Vec<u8>,
+    status: u8,
 }
 
-fn run(rt: &impl AllocGlobal, config: &[u8], script: &[u8]) -> Outcome {
-    let mut reader = script;
+/// Asserts what the program comes to.
+fn comes_to(
+    rt: &(impl Abort + AllocGlobal),
+    case: usize,
+    outcome: &Outcome,
+    (output, errors, status): (&[u8], &[u8], u8),
+) {
+    same(rt, case, outcome.output.as_slice(), output);
+    same(rt, case, outcome.errors.as_slice(), errors);
+    same(rt, case, outcome.status, status);
+}
+
+/// What a run of a script from that reader comes to.
+fn run<R: Read>(rt: &impl AllocGlobal, config: &[u8], reader: &mut R) -> Outcome {
     let mut output = Vec::new(rt.alloc());
-    let mut error = Vec::new(rt.alloc());
-    let status = run_program(rt, config, &mut reader, &mut output, &mut error);
+    let mut errors = Vec::new(rt.alloc());
+    let status = run_program(rt, config, reader, &mut output, &mut errors);
     Outcome {
-        status,
         output,
-        error,
+        errors,
+        status,
     }
 }
 
-/// A script is good and gives these lines.
-fn gives(rt: &(impl Abort + AllocGlobal), script: &[u8], output: &[u8]) {
-    let outcome = run(rt, CONFIG, script);
-    assert_eq!(rt; outcome.error.as_slice(), b"".as_slice());
-    assert_eq!(rt; outcome.output.as_slice(), output);
-    assert_eq!(rt; outcome.status, 0);
-}
+/// A script, its output, what stands on the error stream, and the exit status.
+type Run = (&'static [u8], &'static [u8], &'static [u8], u8);
 
-/// A script gives these lines, and then a fault with this text.
-fn ends(rt: &(impl Abort + AllocGlobal), script: &[u8], output: &[u8], error: &[u8], status: u8) {
-    let outcome = run(rt, CONFIG, script);
-    assert_eq!(rt; outcome.output.as_slice(), output);
-    assert_eq!(rt; outcome.error.as_slice(), error);
-    assert_eq!(rt; outcome.status, status);
-}
-
-#[test]
-fn sends_what_was_put_at_the_due_moment(rt: HostRuntime) {
-    gives(
-        &rt,
+static RUNS: [Run; 6] = [
+    (
         b"call 0 publish 100 0 100000 0 0 0 10.0.0.2:17224\ncall 0 put 1 0a0b\nmoment 100000\n",
         b"0 handle 1\n0 done\n0 send pd 10.0.0.2:17224 \
           0000000001005064000000640000000000000000\
           00000002000000000000000000000000ec179c940a0b0000\n",
-    );
-}
-
-#[test]
-fn a_bad_line_ends_the_run(rt: HostRuntime) {
-    ends(
-        &rt,
-        b"moment 1\nmoment x\n",
         b"",
-        b"line 2 fault BadWord\n",
-        3,
-    );
-    ends(
-        &rt,
+        0,
+    ),
+    // A fault of an event is output.
+    (b"moment 5\nmoment 4", b"fault Past\n", b"", 0),
+    (b"moment 1\nmoment x\n", b"", b"line 2 fault BadWord\n", 3),
+    (b"jump 1", b"", b"line 1 fault Unknown\n", 3),
+    (
         b"call 0 publish 1 0 0 0 0 0 10.0.0.2:17224\n# a remark\n\nmoment\nmoment 1\n",
         b"0 handle 1\n",
         b"line 4 fault Count\n",
         3,
-    );
+    ),
+    (b"moment 5\nmoment 4\r", b"", b"line 2 fault BadWord\n", 3),
+];
+
+#[test]
+fn scripts_run_up_to_their_first_bad_line(rt: HostRuntime) {
+    for (case, (script, output, errors, status)) in RUNS.iter().enumerate() {
+        let mut reader = *script;
+        let outcome = run(&rt, CONFIG, &mut reader);
+        comes_to(&rt, case, &outcome, (*output, *errors, *status));
+    }
+}
+
+/// A line may have 140,000 bytes.
+#[test]
+fn a_line_that_is_too_long_ends_the_run(rt: HostRuntime) -> Result<(), Fail> {
+    let script = vec![in rt.alloc(); b'#'; 140_001]?;
+    let mut reader = script.as_slice();
+    let outcome = run(&rt, CONFIG, &mut reader);
+    comes_to(&rt, 0, &outcome, (b"", b"line 1 fault TooLong\n", 3));
+    Ok(())
 }
 
 #[test]
@@ -123,21 +138,17 @@ fn a_failing_reader_ends_the_run(rt: HostRuntime) {
     let mut reader = FailingReader {
         rest: b"moment 5\nmoment 4\nmoment 3",
     };
-    let mut output = Vec::new(rt.alloc());
-    let mut error = Vec::new(rt.alloc());
-    let status = run_program(&rt, CONFIG, &mut reader, &mut output, &mut error);
-    assert_eq!(rt; output.as_slice(), b"fault Past\n".as_slice());
-    assert_eq!(rt; error.as_slice(), b"read fault\n".as_slice());
-    assert_eq!(rt; status, 4);
+    let outcome = run(&rt, CONFIG, &mut reader);
+    comes_to(&rt, 0, &outcome, (b"fault Past\n", b"read fault\n", 4));
 }
 
 #[test]
 fn a_failing_writer_ends_the_run(rt: HostRuntime) {
     let mut reader = PUBLISH;
-    let mut error = Vec::new(rt.alloc());
-    let status = run_program(&rt, CONFIG, &mut reader, &mut FailingWriter, &mut error);
-    assert_eq!(rt; error.as_slice(), b"write fault\n".as_slice());
-    assert_eq!(rt; status, 4);
+    let mut errors = Vec::new(rt.alloc());
+    let status = run_program(&rt, CONFIG, &mut reader, &mut FailingWriter, &mut errors);
+    same(&rt, "the writer", errors.as_slice(), b"write fault\n");
+    assert!(rt; status == 4);
 }
 
 #[test]
@@ -145,47 +156,88 @@ fn standard_error_changes_no_status(rt: HostRuntime) {
     let mut reader: &[u8] = b"moment x\n";
     let mut output = Vec::new(rt.alloc());
     let status = run_program(&rt, CONFIG, &mut reader, &mut output, &mut FailingWriter);
-    assert_eq!(rt; status, 3);
+    assert!(rt; status == 3);
 }
 
-/// A configuration isn't taken, and this is told before the script is looked at.
-fn refuses(rt: &(impl Abort + AllocGlobal), config: &[u8], error: &[u8]) {
-    let outcome = run(rt, config, b"moment x\n");
-    assert_eq!(rt; outcome.output.as_slice(), b"".as_slice());
-    assert_eq!(rt; outcome.error.as_slice(), error);
-    assert_eq!(rt; outcome.status, 1);
-}
+/// Configurations that aren't taken, and what stands on the error stream.
+static REFUSED: [(&[u8], &[u8]); 14] = [
+    (b"", b"config fault Missing node\n"),
+    (b"[", b"config fault Toml\n"),
+    (
+        b"[node]\naddres = '10.0.0.1'\n[[slot]]\n",
+        b"config fault Missing address\n",
+    ),
+    (
+        b"[node]\naddress = '10.0.0.1'\npd_port = 0\n[[slot]]\n",
+        b"config fault WrongType pd_port\n",
+    ),
+    (
+        b"[node]\naddress = '10.0.0.1'\n[[slot]]\npublishers = 'x'\n",
+        b"config fault WrongType publishers\n",
+    ),
+    (
+        b"[node]\naddress = '10.0.0.1'\n[[slot]]\n[[dataset]]\nid = 31\nelement = [{}]\n",
+        b"config fault Missing type\n",
+    ),
+    (
+        b"[node]\naddress = '10.0.0.1'\n[[slot]]\n[[dataset]]\nid = 31\n\
+          element = [{ type = 'REAL32' }]\n",
+        b"config fault Real\n",
+    ),
+    (
+        b"[node]\naddress = '10.0.0.1'\n[[slot]]\n[[dataset]]\nid = 30\n\
+          element = [{ type = 8 }]\n",
+        b"config fault BadId\n",
+    ),
+    (
+        b"[node]\naddress = '10.0.0.1'\n[[slot]]\n[[dataset]]\nid = 31\n\
+          element = [{ type = 8 }]\n[[dataset]]\nid = 31\nelement = [{ type = 8 }]\n",
+        b"config fault TwiceId\n",
+    ),
+    (
+        b"[node]\naddress = '10.0.0.1'\n[[slot]]\n[[dataset]]\nid = 1001\n\
+          element = [{ type = 1003 }]\n",
+        b"config fault NoDataset 1003\n",
+    ),
+    (
+        b"[node]\naddress = '10.0.0.1'\n[[slot]]\n[[dataset]]\nid = 31\n\
+          element = [{ type = 8, size = 0 }]\n",
+        b"config fault NoCount\n",
+    ),
+    (
+        b"[node]\naddress = '10.0.0.1'\n[[slot]]\n[[dataset]]\nid = 31\n\
+          element = [{ type = 31 }]\n",
+        b"config fault TooDeep\n",
+    ),
+    (
+        b"[node]\naddress = '10.0.0.1'\n[[slot]]\n[[dataset]]\nid = 31\n\
+          element = [{ type = 8, size = 65389 }]\n",
+        b"config fault TooBig\n",
+    ),
+    (
+        b"[node]\naddress = '10.0.0.1'\n[[slot]]\npublishers = 257\n",
+        b"config fault TooMany\n",
+    ),
+];
 
+/// The configuration is looked at before the script, whose first line is no good.
 #[test]
 fn tells_the_fault_of_a_configuration(rt: HostRuntime) {
-    refuses(&rt, b"", b"config fault Missing node\n");
-    refuses(&rt, b"[", b"config fault Toml\n");
-    refuses(
-        &rt,
-        b"[node]\naddress = \"10.0.0.1\"\n[[slot]]\n\
-          [[dataset]]\nid = 1001\nelement = [{ type = 1003 }]\n",
-        b"config fault NoDataset 1003\n",
-    );
-    refuses(
-        &rt,
-        b"[node]\naddress = \"10.0.0.1\"\n[[slot]]\npublishers = \"x\"\n",
-        b"config fault WrongType publishers\n",
-    );
-    refuses(
-        &rt,
-        b"[node]\naddres = \"10.0.0.1\"\n[[slot]]\n",
-        b"config fault Missing address\n",
-    );
+    for (case, (config, errors)) in REFUSED.iter().enumerate() {
+        let mut reader: &[u8] = b"moment x\n";
+        let outcome = run(&rt, *config, &mut reader);
+        comes_to(&rt, case, &outcome, (b"", *errors, 1));
+    }
 }
 
 #[test]
 fn want_of_memory_is_told(rt: HostRuntime) -> Result<(), Fail> {
     let fault = ScriptFault::OutOfMemory;
-    assert_eq!(&rt;
-        format!(in rt.alloc(); "{}", ScriptFaultText(fault))?.as_str(),
-        "memory fault"
-    );
-    assert_eq!(&rt; script_status(Err(fault)), 4);
+    let told = format!(in rt.alloc(); "{}", ScriptFaultText(fault))?;
+    same(&rt, "no memory", told.as_str(), "memory fault");
+    assert!(rt; script_status(Err(fault)) == 4);
+    let told = format!(in rt.alloc(); "{}", ConfigFaultText(ConfigFault::OutOfMemory))?;
+    same(&rt, "no memory", told.as_str(), "config fault OutOfMemory");
     Ok(())
 }
 
@@ -197,40 +249,41 @@ const LOOPBACK: &[u8] = b"[node]\naddress = \"127.0.0.1\"\npd_port = 27224\nmd_p
 const ONE_PORT: &[u8] = b"[node]\naddress = \"127.0.0.1\"\npd_port = 27234\nmd_port = 27234\n\
     [[slot]]\n";
 
-#[test]
-fn serves_no_turn(rt: HostRuntime) {
+/// What a service of no turn comes to.
+fn serve(rt: &(impl Net + Clock + AllocGlobal), config: &[u8]) -> Outcome {
     let mut output = Vec::new(rt.alloc());
-    let mut error = Vec::new(rt.alloc());
-    let status = serve_program(&rt, LOOPBACK, 0, &mut output, &mut error);
-    assert_eq!(rt; error.as_slice(), b"".as_slice());
-    assert_eq!(rt;
-        output.as_slice(),
-        b"taken 0 offered 0 lost 0 unread 0 memory 0\n".as_slice()
-    );
-    assert_eq!(rt; status, 0);
+    let mut errors = Vec::new(rt.alloc());
+    let status = serve_program(rt, config, 0, &mut output, &mut errors);
+    Outcome {
+        output,
+        errors,
+        status,
+    }
 }
 
 #[test]
-fn tells_the_fault_of_a_service(rt: HostRuntime) {
-    static FAULTS: [(&[u8], &[u8], u8); 2] = [
-        (b"", b"config fault Missing node\n", 1),
-        (ONE_PORT, b"bind fault\n", 4),
+fn services_come_to_their_totals_or_a_fault(rt: HostRuntime) {
+    static SERVICES: [Run; 3] = [
+        (
+            LOOPBACK,
+            b"taken 0 offered 0 lost 0 unread 0 memory 0\n",
+            b"",
+            0,
+        ),
+        (b"", b"", b"config fault Missing node\n", 1),
+        (ONE_PORT, b"", b"bind fault\n", 4),
     ];
-    for (config, text, wanted) in FAULTS {
-        let mut output = Vec::new(rt.alloc());
-        let mut error = Vec::new(rt.alloc());
-        let status = serve_program(&rt, config, 1, &mut output, &mut error);
-        assert_eq!(rt; output.as_slice(), b"".as_slice());
-        assert_eq!(rt; error.as_slice(), text);
-        assert_eq!(rt; status, wanted);
+    for (case, (config, output, errors, status)) in SERVICES.iter().enumerate() {
+        let outcome = serve(&rt, *config);
+        comes_to(&rt, case, &outcome, (*output, *errors, *status));
     }
 }
 
 #[test]
 fn a_failing_writer_ends_the_service(rt: HostRuntime) {
     let config = b"[node]\naddress = \"127.0.0.1\"\npd_port = 27244\nmd_port = 27245\n[[slot]]\n";
-    let mut error = Vec::new(rt.alloc());
-    let status = serve_program(&rt, config, 0, &mut FailingWriter, &mut error);
-    assert_eq!(rt; error.as_slice(), b"write fault\n".as_slice());
-    assert_eq!(rt; status, 4);
+    let mut errors = Vec::new(rt.alloc());
+    let status = serve_program(&rt, config, 0, &mut FailingWriter, &mut errors);
+    same(&rt, "the writer", errors.as_slice(), b"write fault\n");
+    assert!(rt; status == 4);
 }

@@ -1,6 +1,7 @@
 //! A daemon over a wire and a clock in memory, whose takes, gives and memory fail in turn.
 
 use crate::bench::{MemoryDaemon, memory_daemon, totals, turns_give};
+use crate::same::same;
 use std::alloc::{AllocError, Global};
 use std::process::Abort;
 use std::test::Fail;
@@ -135,15 +136,19 @@ fn refused_memory_is_counted(rt: HostRuntime) {
 }
 
 /// Asserts from where to where the offers of three turns went.
-fn leave_from_their_ports(rt: &impl Abort, wire: &MemoryWire) {
+fn leave_from_their_ports(rt: &(impl Abort + AllocGlobal), wire: &MemoryWire) {
     let device = Place {
         ip: Ip(0x0a00_0002),
         port: 17224,
     };
-    assert_eq!(rt; wire.give_at(0), Some((Port::Control(0), APPLICATION, 11)));
-    assert_eq!(rt; wire.give_at(1), Some((Port::Control(0), APPLICATION, 7)));
-    assert_eq!(rt; wire.give_at(2), Some((Port::Pd, device, 44)));
-    assert_eq!(rt; wire.len(), 3);
+    for (give, port, place, length) in [
+        (0, Port::Control(0), APPLICATION, 11),
+        (1, Port::Control(0), APPLICATION, 7),
+        (2, Port::Pd, device, 44),
+    ] {
+        same(rt, give, wire.give_at(give), Some((port, place, length)));
+    }
+    assert!(rt; wire.len() == 3);
 }
 
 #[test]
@@ -153,6 +158,6 @@ fn offers_leave_from_their_ports(rt: HostRuntime) -> Result<(), Fail> {
         daemon.turn();
     }
     leave_from_their_ports(&rt, daemon.wire());
-    assert_eq!(&rt; daemon.run(0), totals(2, 3, 0, 0));
+    same(&rt, "three turns", daemon.run(0), totals(2, 3, 0, 0));
     Ok(())
 }
