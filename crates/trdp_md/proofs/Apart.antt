@@ -72,6 +72,10 @@ apart_taking c (MdIs src dst t) globals fits h = either (is_accepted c src t.hea
         (both (is_for_caller c t.head && has_place c) (not (has_answered c.answers src)) is).1))
     either false is = rw is h
 
+-- the answer once it is settled, if it is
+abbrev settled_if : Answer → Bool → Answer
+settled_if a b = if b then record a { confirm_owed = false } else a
+
 -- answers of a place that is confirmed are of the same places
 apart_map : (p place : Place) (answers : List Answer) → IsApart p answers
     → IsApart p (map (confirmed_if place) answers)
@@ -79,7 +83,7 @@ apart_map p place [] h = tt
 apart_map p place (a ∷ answers) h = (same (is_place a.place place), apart_map p place answers h.1)
   where
     same : (b : Bool)
-        → is_place (let c : Answer = (if b then record a { confirm_owed = false } else a) in c).place
+        → is_place (settled_if a b).place
         p ≡ false
     same true = h.0
     same false = h.0
@@ -92,7 +96,7 @@ all_apart_map place (a ∷ answers) h =
     (same (is_place a.place place), all_apart_map place answers h.1)
   where
     same : (b : Bool)
-        → IsApart (let c : Answer = (if b then record a { confirm_owed = false } else a) in c).place
+        → IsApart (settled_if a b).place
         (map (confirmed_if place) answers)
     same true = apart_map a.place place answers h.0
     same false = apart_map a.place place answers h.0
@@ -103,9 +107,10 @@ pub apart_confirming : (c : Caller) (place : Place) → AreApart c.answers
 unfolding confirming confirmed
 apart_confirming c place h = either (awaits c.answers place)
   where
-    either : (b : Bool) → AreApart
-        (let d : Caller = (if b then record c { answers = map (confirmed_if place) c.answers } else c)
-        in d).answers
+    after : Bool → Caller
+    after b = if b then record c { answers = map (confirmed_if place) c.answers } else c
+
+    either : (b : Bool) → AreApart (after b).answers
     either true = all_apart_map place c.answers h
     either false = h
 
@@ -165,10 +170,10 @@ settles_map place (a ∷ answers) =
     goes false = refl
 
     one : (b : Bool)
-        → ((let c : Answer = (if b then record a { confirm_owed = false } else a) in c).place
+        → ((settled_if a b).place
         ≡ a.place)
-        × ((let c : Answer = (if b then record a { confirm_owed = false } else a) in c).kind ≡ a.kind)
-        × ((let c : Answer = (if b then record a { confirm_owed = false } else a) in c).confirm_owed
+        × ((settled_if a b).kind ≡ a.kind)
+        × ((settled_if a b).confirm_owed
         ≡ (a.confirm_owed && not b))
     one true = (refl, refl, goes a.confirm_owed)
     one false = (refl, refl, stays a.confirm_owed)

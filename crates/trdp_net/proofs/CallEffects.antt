@@ -30,7 +30,8 @@ use Rattle.trdp_engine.specs.Slots.{SlotState}
 use Rattle.trdp_engine.specs.Openings.{opening_refusal, opened_with}
 use Rattle.trdp_engine.specs.Notices.{notify_refusal, notice}
 use Rattle.trdp_engine.specs.Requests.{has_session, request_refusal, request_sent}
-use Rattle.trdp_engine.specs.Calls.{publish_refusal, subscribe_refusal, listen_refusal, puts, shows}
+use Rattle.trdp_engine.specs.Calls.{publish_refusal, subscribe_refusal, listen_refusal, puts}
+use Rattle.trdp_engine.specs.Calls.{shows}
 use Rattle.trdp_engine.specs.Calls.{ends, told_unless, called}
 use Rattle.trdp_engine.specs.Pulls.{pulls}
 use Rattle.trdp_engine.specs.Replies.{replies, queries, reply_errors, confirms, aborts}
@@ -81,6 +82,7 @@ request_made past m s slot terms payload event given = record {
   dest_uri_is = refl;
 }
 
+-- a granted Request carries no more than a telegram of message data holds
 pub request_limit : (slot : SlotState) (globals : Globals) (terms : CallerTerms) (payload : List ℕ)
     → request_refusal slot globals terms payload ≡ None → length payload ≤ 65388
 request_limit slot globals terms payload none =
@@ -130,6 +132,7 @@ requested_kept past m s slot globals terms payload event fits kept given =
     ))
     given
 
+-- the same of a granted Notify
 pub notify_limit : (globals : Globals) (terms : NotifyTerms) (payload : List ℕ)
     → notify_refusal globals terms payload ≡ None → length payload ≤ 65388
 notify_limit globals terms payload none =
@@ -185,6 +188,7 @@ notified_kept past m s slot None terms payload limit event fits kept given =
 never_valid : Never ≡ Valid → ⊥
 never_valid is = absurd (cc)
 
+-- what is known of a slot stays known at a call, and each record is explained
 pub called_kept : (past : List Move) (m : Move) (s : ℕ) (slot : SlotState) (setup : NodeSetup)
     (globals : Globals) (call : CallModel) → m.event ≡ CallIs s call → IsTypedSending call
     → slice_get m.before.slots s ≡ Some slot → Each IsTypedEntry slot.objects
@@ -194,11 +198,14 @@ pub called_kept : (past : List Move) (m : Move) (s : ℕ) (slot : SlotState) (se
 called_kept past m s slot setup globals (PublishCall terms) event fits slot_is typed kept given =
     opened_kept past m s slot (publish_refusal setup slot terms)
     (Publisher (published terms globals.now)) [] kept (λ none by. tt) (λ none by. tt) given
-called_kept past m s slot setup globals (PutCall handle bytes) event fits slot_is typed kept given =
+called_kept past m s slot setup globals (PutCall handle bytes) event fits slot_is typed kept
+    given =
     at_handle_kept past m s slot handle (puts setup bytes) slot_is typed kept
-    (λ x x_fits was held by. put_kept past m (spot m.node s handle) setup bytes x event was held by)
+    (λ x x_fits was held by. put_kept past m
+    (spot m.node s handle) setup bytes x event was held by)
     given
-called_kept past m s slot setup globals (UnpublishCall handle) event fits slot_is typed kept given =
+called_kept past m s slot setup globals (UnpublishCall handle) event fits slot_is typed kept
+    given =
     at_handle_kept past m s slot handle (ends kinds.Publisher) slot_is typed kept
     (λ x x_fits was held by. ends_kept past m (spot m.node s handle) kinds.Publisher x was) given
 called_kept past m s slot setup globals (SubscribeCall terms) event fits slot_is typed kept given =
@@ -211,14 +218,16 @@ called_kept past m s slot setup globals (GetCall handle) event fits slot_is type
 called_kept past m s slot setup globals (UnsubscribeCall handle) event fits slot_is typed kept
     given =
     at_handle_kept past m s slot handle (ends kinds.Subscription) slot_is typed kept
-    (λ x x_fits was held by. ends_kept past m (spot m.node s handle) kinds.Subscription x was) given
+    (λ x x_fits was held by. ends_kept past m
+    (spot m.node s handle) kinds.Subscription x was) given
 called_kept past m s slot setup globals (OpenPullCall terms) event fits slot_is typed kept given =
     opened_kept past m s slot (opening_refusal slot kinds.Requester) (Requester (opened terms)) []
     kept (λ none by. tt) (λ none by. tt) given
 called_kept past m s slot setup globals (PullCall handle) event fits slot_is typed kept given =
     at_handle_kept past m s slot handle (pulls globals) slot_is typed kept
     (λ x x_fits was held by. pull_kept past m (spot m.node s handle) globals x x_fits was) given
-called_kept past m s slot setup globals (ClosePullCall handle) event fits slot_is typed kept given =
+called_kept past m s slot setup globals (ClosePullCall handle) event fits slot_is typed kept
+    given =
     at_handle_kept past m s slot handle (ends kinds.Requester) slot_is typed kept
     (λ x x_fits was held by. ends_kept past m (spot m.node s handle) kinds.Requester x was) given
 called_kept past m s slot setup globals (ListenCall filter) event fits slot_is typed kept given =

@@ -43,17 +43,18 @@ use Rattle.trdp_net.specs.Networks.{Move, place_of}
 use Rattle.trdp_net.specs.Provenance.{Ever, In, Spot, Gives, Held}
 use Rattle.trdp_net.specs.Provenance.{IsAnsweredBySome, IsConfirmed, IsConfirmedAs}
 use Rattle.trdp_net.proofs.Parts.{each_append, in_left, and_left, and_right}
-use Rattle.trdp_net.proofs.Parts.{flipped}
 use Rattle.trdp_net.proofs.Kept.{AnswerKept, CallerKept, answers_later}
 use Rattle.trdp_net.proofs.Kept.{object_later, ActKept}
 use Rattle.trdp_net.proofs.Heads.{confirm_head}
 use Rattle.trdp_net.proofs.Sending.{sends_md}
-use Rattle.trdp_net.proofs.Callers.{answer_origin, owes_query, query_owes, all_apart_push}
-use Rattle.trdp_net.proofs.Callers.{asked_there, all_apart_confirmed, answers_confirmed, done_by}
-use Rattle.trdp_net.proofs.Callers.{complete_done}
+use Rattle.trdp_net.proofs.Callers.{answer_origin, query_owes}
+use Rattle.trdp_net.proofs.Callers.{asked_there, answers_confirmed, done_by}
 use Rattle.trdp_net.proofs.Explained.{MessageBy, ClosedBy, ToldBy}
 use Rattle.trdp_net.specs.Provenance.{Each}
 use Rattle.trdp_net.specs.Typed.{IsCallerTerms}
+use Rattle.trdp_md.proofs.Apart.{flipped, all_apart_push, all_apart_map}
+use Rattle.trdp_md.proofs.Calling.{query-is_query}
+use Rattle.trdp_md.proofs.Confirming.{IsDone-is_complete}
 
 -- the act of a caller that took a telegram so
 abbrev took_act : NodeSetup → TelegramModel → ℕ → AnyCaller → Taking AnyCaller → Act
@@ -75,7 +76,8 @@ caller_answered past m at src t now c accepted answered given kept = record {
   answers =
       each_append (AnswerKept (m ∷ past) at c.terms.session (place_of Md m.before.setup))
       c.answers (answer_of src t.head ∷ [])
-      (answers_later past m at c.terms.session (place_of Md m.before.setup) c.answers kept.answers) (
+      (answers_later past m at c.terms.session
+      (place_of Md m.before.setup) c.answers kept.answers) (
         record {
           replied = inl (record {
             answer = reply_of src t;
@@ -84,7 +86,7 @@ caller_answered past m at src t now c accepted answered given kept = record {
             kind_is = refl;
             answered = answered;
           });
-          owes = owes_query t.head.kind;
+          owes = query-is_query t.head.kind;
           confirmed = λ query none. absurd (query_owes t.head.kind query none);
         },
         tt,
@@ -92,7 +94,8 @@ caller_answered past m at src t now c accepted answered given kept = record {
   apart =
       all_apart_push c.answers (answer_of src t.head) kept.apart
       (flipped (has_answered c.answers src)
-      (and_right (is_for_caller c t.head && has_place c) (not (has_answered c.answers src)) accepted));
+      (and_right (is_for_caller c t.head && has_place c) (not
+      (has_answered c.answers src)) accepted));
 }
 
 session_same : (a b : SessionId) → (a.0 == b.0) ≡ true → a ≡ b
@@ -113,6 +116,7 @@ for_caller c src head is =
           (and_right (is_answer head.kind) (head.session.0 == c.terms.session.0) both),
     )
 
+-- a caller at a telegram that was made
 pub caller_takes : (past : List Move) (m : Move) (at : Spot) (setup : NodeSetup)
     (src dst to : Place) (t : MdTelegram) (globals : Globals) (c : AnyCaller)
     → MessageBy t.head.kind past src to t → CallerKept past m.before.setup at c
@@ -160,7 +164,7 @@ caller_takes past m at setup src dst to t globals c origin kept held given =
           requested = kept.requested;
           answered = answered accepted;
         },
-        (done_by past m at c after held refl (complete_done after complete) later, tt),
+        (done_by past m at c after held refl (IsDone-is_complete after complete) later, tt),
       );
     }
     last false complete accepted later = record {
@@ -239,7 +243,7 @@ caller_confirmed past m at place c is made kept =
       answers =
           answers_confirmed past m at c.terms.session (place_of Md m.before.setup) place c.answers
           made kept.answers;
-      apart = all_apart_confirmed place c.answers kept.apart;
+      apart = all_apart_map place c.answers kept.apart;
     })
 
 -- it goes on, or closes where all has come
@@ -279,6 +283,7 @@ confirm_origin : (past : List Move) (m : Move) (at : Spot) (home place : Place) 
 unfolding confirm_of
 confirm_origin past m at home place status c made = inl (at, made)
 
+-- a caller at a Confirm
 pub confirms_kept : (past : List Move) (m : Move) (at : Spot) (refusal : Option Refusal)
     (place : Place) (status : ℤ) (c : AnyCaller)
     → confirm_refusal c place status ≡ refusal

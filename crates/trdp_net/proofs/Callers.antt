@@ -1,6 +1,6 @@
 -- A caller in one move: its answers, its confirmations, and when it closes.
-use Rattle.std.proofs.Common.{◌≡◌, ◌≤◌, List, [], ◌∷◌, ◌++◌, length, map}
-use Rattle.std.proofs.Common.{Some, Bool, true, false, refl, sym, subst, inl}
+use Rattle.std.proofs.Common.{◌≡◌, ◌≤◌, List, [], ◌∷◌, length, map}
+use Rattle.std.proofs.Common.{Bool, true, false, refl, sym, subst, inl}
 use Rattle.std.proofs.Common.{inr}
 use Rattle.std.specs.Prelude.{◌&&◌, ◌||◌, if◌then◌else◌}
 use Rattle.std.specs.List.{list_any}
@@ -9,30 +9,26 @@ use Rattle.trdp_base.specs.declared.session.SessionId.{SessionId}
 use Rattle.trdp_head.specs.declared.md.MdKind.{MdKind}
 use Rattle.trdp_head.specs.declared.md.MdKind.TheVariants as message
 use Rattle.trdp_head.specs.MdTelegrams.{MdTelegram}
-use Rattle.trdp_pd.specs.declared.object.Reason.TheVariants.{Done}
 use Rattle.trdp_md.specs.declared.answers.Answer.{Answer}
 use Rattle.trdp_md.specs.declared.caller.Caller.{Caller as AnyCaller}
 use Rattle.trdp_md.specs.declared.terms.CallerTerms.{CallerTerms}
-use Rattle.trdp_md.specs.Answers.{is_place, has_answered, awaits, awaits_any}
+use Rattle.trdp_md.specs.Answers.{is_place, awaits, awaits_any}
 use Rattle.trdp_md.specs.Answers.{confirmed_if}
 use Rattle.trdp_md.specs.Callers.{is_answer, is_query}
-use Rattle.trdp_md.specs.Callers.{is_complete}
-use Rattle.trdp_md.specs.Callers.{closed_of}
 use Rattle.trdp_md.specs.Sessions.{IsDone}
-use Rattle.trdp_md.proofs.Confirming.{closed-done}
 use Rattle.trdp_table.specs.declared.any_object.AnyObject.TheVariants.{Caller}
 use Rattle.trdp_engine.specs.declared.record.Protocol.TheVariants.{Md}
 use Rattle.trdp_engine.specs.Replies.{reply_of}
 use Rattle.trdp_net.specs.Networks.{Move, place_of}
 use Rattle.trdp_net.specs.Provenance.{Ever, Spot, Held}
 use Rattle.trdp_net.specs.Provenance.{IsAnsweredBySome, IsReplied, IsConfirmedAs}
-use Rattle.trdp_net.proofs.Parts.{and_left, and_right, or_left, or_right}
-use Rattle.trdp_net.proofs.Parts.{same_place, swapped}
+use Rattle.trdp_net.proofs.Parts.{and_left, and_right}
 use Rattle.trdp_net.proofs.Kept.{AnswerKept, CallerKept, answer_later}
-use Rattle.trdp_md.specs.Sessions.{IsApart, AreApart}
 use Rattle.trdp_net.proofs.Explained.{MessageBy}
 use Rattle.trdp_net.specs.Promises.{IsSettled, IsDoneDue}
 use Rattle.trdp_net.specs.Provenance.{Each}
+use Rattle.trdp_md.proofs.Apart.{or_left, or_right}
+use Rattle.trdp_md.proofs.Confirming.{place-is_place}
 
 -- the answer that came was made
 pub answer_origin : (kind : MdKind) (past : List Move) (from to : Place) (t : MdTelegram)
@@ -46,15 +42,7 @@ answer_origin message.Query past from to t is origin = origin
 answer_origin message.Error past from to t is origin = origin
 answer_origin message.Confirm past from to t is origin = absurd (cc)
 
-pub owes_query : (kind : MdKind) → is_query kind ≡ true → kind ≡ message.Query
-unfolding is_query
-owes_query message.Notify is = absurd (cc)
-owes_query message.Request is = absurd (cc)
-owes_query message.Reply is = absurd (cc)
-owes_query message.Query is = refl
-owes_query message.Confirm is = absurd (cc)
-owes_query message.Error is = absurd (cc)
-
+-- a query does await a confirmation when it comes
 pub query_owes : (kind : MdKind) → kind ≡ message.Query → is_query kind ≡ false → ⊥
 unfolding is_query
 query_owes kind is none =
@@ -74,21 +62,6 @@ settled past at session home (a ∷ answers) none kept = (
     confirmed = λ query. kept.0.confirmed query (or_left a.confirm_owed _ none);
   },
   settled past at session home answers (or_right a.confirm_owed _ none) kept.1,
-)
-
-apart_push : (p : Place) (answers : List Answer) (a : Answer) → IsApart p answers
-    → is_place a.place p ≡ false → IsApart p (answers ++ a ∷ [])
-apart_push p [] a h is = (is, tt)
-apart_push p (b ∷ answers) a h is = (h.0, apart_push p answers a h.1 is)
-
-pub all_apart_push : (answers : List Answer) (a : Answer) → AreApart answers
-    → has_answered answers a.place ≡ false → AreApart (answers ++ a ∷ [])
-unfolding has_answered
-all_apart_push [] a h none = (tt, tt)
-all_apart_push (b ∷ answers) a h none = (
-  apart_push b.place answers a h.0
-      (swapped b.place a.place (or_left (is_place b.place a.place) _ none)),
-  all_apart_push answers a h.1 (or_right (is_place b.place a.place) _ none),
 )
 
 -- the answer that awaits a confirmation is a query
@@ -111,34 +84,10 @@ asked_there past at session home place (a ∷ answers) kept is =
         let query : a.kind ≡ message.Query =
         kept.0.owes (and_right (is_place a.place place) a.confirm_owed both) in
         let there : a.place ≡ place =
-        same_place a.place place (and_left (is_place a.place place) a.confirm_owed both) in
+        place-is_place a.place place (and_left (is_place a.place place) a.confirm_owed both) in
         subst (λ (k : MdKind). Ever (IsReplied at session place k) past) query
         (subst (λ (p : Place). Ever (IsReplied at session p a.kind) past) there kept.0.replied)
     here false both found later = later found
-
-apart_confirmed : (p place : Place) (answers : List Answer) → IsApart p answers
-    → IsApart p (map (confirmed_if place) answers)
-apart_confirmed p place [] h = tt
-apart_confirmed p place (a ∷ answers) h =
-    (same (is_place a.place place), apart_confirmed p place answers h.1)
-  where
-    same : (b : Bool)
-        → is_place (let c : Answer = (if b then record a { confirm_owed = false } else a) in c).place
-        p ≡ false
-    same true = h.0
-    same false = h.0
-
-pub all_apart_confirmed : (place : Place) (answers : List Answer) → AreApart answers
-    → AreApart (map (confirmed_if place) answers)
-all_apart_confirmed place [] h = tt
-all_apart_confirmed place (a ∷ answers) h =
-    (same (is_place a.place place), all_apart_confirmed place answers h.1)
-  where
-    same : (b : Bool)
-        → IsApart (let c : Answer = (if b then record a { confirm_owed = false } else a) in c).place
-        (map (confirmed_if place) answers)
-    same true = apart_confirmed a.place place answers h.0
-    same false = apart_confirmed a.place place answers h.0
 
 -- the answers of the place that this move confirms
 pub answers_confirmed : (past : List Move) (m : Move) (at : Spot) (session : SessionId)
@@ -154,7 +103,7 @@ answers_confirmed past m at session home place (a ∷ answers) made kept = (
     one : (b : Bool) → is_place a.place place ≡ b → AnswerKept (m ∷ past) at session home
         (if b then record a { confirm_owed = false } else a)
     one true is =
-        let there : place ≡ a.place = sym (same_place a.place place is) in
+        let there : place ≡ a.place = sym (place-is_place a.place place is) in
         record {
           replied = inr kept.0.replied;
           owes = λ owed. absurd (cc owed);
@@ -182,7 +131,3 @@ done_by past m at c after held terms done kept = record {
       (settled (m ∷ past) at after.terms.session (place_of Md m.before.setup) after.answers
       done.none_owed kept.answers);
 }
-
-pub complete_done : (c : AnyCaller) → is_complete c ≡ true → IsDone c
-unfolding closed_of
-complete_done c is = let closed : closed_of c ≡ Some Done = rw is refl in (closed-done c Done closed).1

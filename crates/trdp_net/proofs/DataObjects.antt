@@ -75,6 +75,7 @@ fired_act handle p f = record {
   records = firing_records handle (Publisher p) f.fired;
 }
 
+-- a publisher whose moment has come
 pub publisher_fires : (past : List Move) (m : Move) (at : Spot) (globals : Globals)
     (p : PublisherState) → IsPublisher p → ValueKept past p.terms.com_id p.value
     → ActKept past m at
@@ -102,6 +103,7 @@ took_act setup telegram handle p f = record {
   records = taken_records setup telegram handle (Publisher p) f.taken;
 }
 
+-- a publisher at a telegram
 pub publisher_takes : (past : List Move) (m : Move) (at : Spot) (setup : NodeSetup)
     (telegram : TelegramModel) (globals : Globals) (p : PublisherState)
     → IsPublisher p → ValueKept past p.terms.com_id p.value
@@ -131,6 +133,7 @@ publisher_takes past m at setup (PdIs src dst telegram) globals p fits kept =
 not_silent_valid : Silent ≡ Valid → ⊥
 not_silent_valid is = absurd (cc)
 
+-- a subscription whose moment has come
 pub subscription_fires : (past : List Move) (m : Move) (at : Spot) (globals : Globals)
     (u : SubscriptionState)
     → ActKept past m at
@@ -183,6 +186,7 @@ subscription_act setup telegram handle u f = record {
   records = taken_records setup telegram handle (Subscription u) f.taken;
 }
 
+-- a subscription at a telegram that carries what was put
 pub subscription_takes : (past : List Move) (m : Move) (at : Spot) (setup : NodeSetup)
     (src dst : Place) (t : PdTelegram) (globals : Globals) (u : SubscriptionState)
     → DataBy t.head.kind past t

@@ -87,7 +87,8 @@ asked_unless_kept past m s slot None listener globals src t origin kept given =
                 listener = listener;
                 said = message_of src t;
                 gives =
-                    given (Indicates (AskedIs listener slot.next t.head.session (message_of src t)))
+                    given (Indicates (AskedIs listener slot.next t.head.session
+                    (message_of src t)))
                     (inl refl);
                 from_is = refl;
                 requested = caller.1;
@@ -111,7 +112,8 @@ asked_kept past m s slot (Some listener) globals src t origin kept given =
   where
     either : (b : Bool)
         → AreGiven m s (let o : Outcome = (if b then unchanged slot
-        else asked_unless (opening_refusal slot kinds.Replier) slot listener globals src t) in o).records
+        else asked_unless (opening_refusal slot kinds.Replier) slot listener globals src t) in
+        o).records
         → OutcomeKept past m s (if b then unchanged slot
         else asked_unless (opening_refusal slot kinds.Replier) slot listener globals src t)
     either true by = unchanged_kept past m s slot kept
@@ -151,7 +153,8 @@ received_kept past m s slot setup globals (MdIs src dst t) origin slot_is typed 
         else handed setup slot globals (MdIs src dst t))
     either true is by =
         asked_kept past m s slot (hearing (MdIs src dst t) globals slot.objects) globals src t
-        (request_origin past src (place_of Md m.before.setup) t (request_kind t.head.kind is) origin)
+        (request_origin past src (place_of Md m.before.setup) t
+        (request_kind t.head.kind is) origin)
         kept by
     either false is by =
         handed_kept past m s slot setup globals (MdIs src dst t) origin slot_is typed kept by
@@ -224,7 +227,8 @@ effect_kept past m s slot (CallIs r call) event fits sent slot_is typed kept giv
     either (r == s) refl given
   where
     either : (b : Bool) → (r == s) ≡ b
-        → AreGiven m s (let o : Outcome = (if b then called m.before.setup slot m.before.globals call
+        → AreGiven m s (let o : Outcome =
+        (if b then called m.before.setup slot m.before.globals call
         else unchanged slot) in o).records
         → OutcomeKept past m s (if b then called m.before.setup slot m.before.globals call
         else unchanged slot)

@@ -56,7 +56,8 @@ SentBy Pd past from to bytes =
 SentBy Md past from to bytes =
     (t : MdTelegram) → md_telegram_of bytes ≡ Some t → MessageBy t.head.kind past from to t
 
--- a caller that a granted Request at this node opened, and an answer that was made to its identifier
+-- a caller that a granted Request at this node opened, and an answer that was made to its
+-- identifier
 pub record RepliedBy (past : List Move) (m : Move) (at : Spot) (answer : ReplyModel) : Type 0 where
   pub c : AnyCaller
   pub held : Held at (Caller c) m

@@ -35,7 +35,9 @@ md_code_within message.Query = omega arith
 md_code_within message.Confirm = omega arith
 md_code_within message.Error = omega arith
 
-pub publisher_head : (kind : PdKind) (p : PublisherState) → IsPublisher p → IsPdHead (head_as kind p)
+-- the header of a publisher's telegram fits its fields
+pub publisher_head : (kind : PdKind) (p : PublisherState) → IsPublisher p
+    → IsPdHead (head_as kind p)
 publisher_head kind p fits = record {
   prefix = record {
     counter = fits.counter;
@@ -48,6 +50,7 @@ publisher_head kind p fits = record {
   reply_ip = omega arith;
 }
 
+-- the same of a pull request
 pub requester_head : (r : RequesterState) → IsRequester r → IsPdHead (pull_head r)
 requester_head r fits = record {
   prefix = record {
@@ -64,6 +67,7 @@ requester_head r fits = record {
 zero_fits : FitsSigned w32 (pos 0)
 zero_fits = omega arith
 
+-- the same of a request
 pub request_head : (terms : CallerTerms) → IsCallerTerms terms → IsMdHead (request_of terms)
 unfolding request_of
 request_head terms fits = record {
@@ -81,6 +85,7 @@ request_head terms fits = record {
   dest_uri = fits.dest_uri;
 }
 
+-- the same of a confirmation
 pub confirm_head : (terms : CallerTerms) (status : ℤ) → IsCallerTerms terms
     → FitsSigned w32 status → IsMdHead (confirm_of terms status)
 unfolding confirm_of
@@ -99,6 +104,7 @@ confirm_head terms status fits status_fits = record {
   dest_uri = fits.dest_uri;
 }
 
+-- the same of a reply, a query or an error
 pub answer_head : (r : AnyReplier) (kind : MdKind) (com_id : ℕ) (status : ℤ) (timeout : ℕ)
     → IsReplier r → com_id < 2 ^ 32 → FitsSigned w32 status → timeout < 2 ^ 32
     → IsMdHead (answer_with r kind com_id status timeout)
@@ -118,6 +124,7 @@ answer_head r kind com_id status timeout fits com_id_fits status_fits timeout_fi
   dest_uri = fits.source_uri;
 }
 
+-- the same of a notification
 pub notification_head : (terms : NotifyTerms) → IsNotifyTerms terms
     → IsMdHead (notification_of terms)
 unfolding notification_of

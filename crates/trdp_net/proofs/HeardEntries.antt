@@ -1,6 +1,7 @@
 -- What the objects of a slot were told of, and one that acts by its handle.
 use Rattle.std.proofs.Common.{◌≡◌, ℕ, ◌<◌, ◌≤◌, ◌+◌, List, [], ◌∷◌, ◌++◌, Option, Some, None}
-use Rattle.std.proofs.Common.{Bool, true, false, refl, ap, sym, ◌∙◌, subst, arith, inl, inr, filter}
+use Rattle.std.proofs.Common.{Bool, true, false, refl, ap, sym, ◌∙◌, subst, arith, inl, inr}
+use Rattle.std.proofs.Common.{filter}
 use Rattle.std.specs.Prelude.{◌==◌, if◌then◌else◌}
 use Rattle.std.specs.List.{flat_map}
 use Rattle.std.proofs.lemmas.Bool.Decides.{nat_tests}
@@ -9,7 +10,8 @@ use Rattle.trdp_filter.specs.declared.globals.Globals.{Globals}
 use Rattle.trdp_table.specs.declared.any_object.AnyObject.{AnyObject}
 use Rattle.trdp_engine.specs.declared.fault.Refusal.{Refusal}
 use Rattle.trdp_engine.specs.Records.{Content, Answers, Indicates, Sends, SilentIs, AliveIs}
-use Rattle.trdp_engine.specs.Records.{NotifiedIs, AskedIs, OverrunIs, RepliedIs, ConfirmedIs, ClosedIs}
+use Rattle.trdp_engine.specs.Records.{NotifiedIs, AskedIs, OverrunIs, RepliedIs, ConfirmedIs}
+use Rattle.trdp_engine.specs.Records.{ClosedIs}
 use Rattle.trdp_engine.specs.Acts.{Act, entry_left, left_at}
 use Rattle.trdp_engine.specs.Slots.{Entry, SlotState, Outcome, entry_of, with_object}
 use Rattle.trdp_engine.specs.Openings.{refused, opened_with}
@@ -51,10 +53,12 @@ heard_same old new slot same h = record {
   covers =
       each_map (λ e. Covers (old e.handle) e.object) (λ e. Covers (new e.handle) e.object)
       slot.objects
-      (λ e covers. subst (λ (ps : List Place). Covers ps e.object) (same e.handle) covers) h.covers;
+      (λ e covers. subst (λ (ps : List Place). Covers ps e.object)
+      (same e.handle) covers) h.covers;
   distinct = λ n. subst (λ (ps : List Place). AreDistinct ps) (same n) (h.distinct n);
 }
 
+-- what is told by records one after the other
 pub told_append : (h : ℕ) (xs ys : List Content)
     → replied_in h (xs ++ ys) ≡ replied_in h xs ++ replied_in h ys
 told_append h [] ys = refl
@@ -126,6 +130,7 @@ below_lefts next e [] lefts is = tt
 below_lefts next e (f ∷ []) lefts is = (subst (λ (n : ℕ). n < next) (sym lefts) is, tt)
 below_lefts next e (f ∷ g ∷ es) lefts is = absurd lefts
 
+-- what is left of an entry has its handle
 pub left_lefts : (e : Entry) (left : Option AnyObject) → LeftsOf e (entry_left e left)
 left_lefts e None = tt
 left_lefts e (Some x) = refl
@@ -152,8 +157,10 @@ entries_heard old new slot after lefts covers fresh distinct h = record {
   distinct = distinct;
 }
 
+-- what is left of an entry knows what it was told of
 pub left_covers : (new : ℕ → List Place) (e : Entry) (left : Option AnyObject)
-    → CoversLeft (new e.handle) left → Each (λ f. Covers (new f.handle) f.object) (entry_left e left)
+    → CoversLeft (new e.handle) left → Each (λ f. Covers (new f.handle) f.object)
+    (entry_left e left)
 left_covers new e None covers = tt
 left_covers new e (Some x) covers = (covers, tt)
 
@@ -201,6 +208,7 @@ quiet_flat_map f (e ∷ es) quiet h =
     quiet_append (f e) (flat_map f es) (quiet e (inl refl))
     (quiet_flat_map f es (λ g is. quiet g (inr is))) h
 
+-- a slot with a new object, of which nothing was told
 pub opened_heard : (old : ℕ → List Place) (slot : SlotState) (refusal : Option Refusal)
     (object : AnyObject) (records : List Content) → IsQuiet records
     → ((ps : List Place) → ps ≡ [] → Covers ps object) → HeardSlot old slot
@@ -213,7 +221,8 @@ opened_heard old slot None object records quiet covers h =
     (new_heard old slot object covers h)
 
 -- at a moment
-pub moved_heard : (old : ℕ → List Place) (slot : SlotState) (globals : Globals) → HeardSlot old slot
+pub moved_heard : (old : ℕ → List Place) (slot : SlotState) (globals : Globals)
+    → HeardSlot old slot
     → HeardSlot (λ h. replied_in h (moved_to slot globals).records ++ old h)
     (moved_to slot globals).slot
 moved_heard old slot globals h =
@@ -244,7 +253,8 @@ moved_heard old slot globals h =
     stays e covers false = (covers, tt)
 
 -- one object acts by its handle, without an answer
-pub at_handle_heard : (old : ℕ → List Place) (slot : SlotState) (handle : ℕ) (act : AnyObject → Act)
+pub at_handle_heard : (old : ℕ → List Place) (slot : SlotState) (handle : ℕ) (act : AnyObject
+    → Act)
     → ((x : AnyObject) → Covers (old handle) x → QuietAct (old handle) (act x))
     → HeardSlot old slot
     → HeardSlot (λ h. replied_in h (at_object slot handle act).records ++ old h)
@@ -264,7 +274,8 @@ at_handle_heard old slot handle act rule h = found (entry_of handle slot.objects
         quiet_outcome old (at_entry (Some e) slot handle act) one.quiet
         (entries_heard old old slot (left_at handle (act e.object).left)
         (λ f. lefts (act e.object).left f (f.handle == handle))
-        (λ f is_f covers_f. stays (act e.object).left one.covers f covers_f (f.handle == handle) refl)
+        (λ f is_f covers_f. stays (act e.object).left one.covers f covers_f
+        (f.handle == handle) refl)
         h.fresh h.distinct h)
       where
         lefts : (left : Option AnyObject) (f : Entry) (b : Bool)

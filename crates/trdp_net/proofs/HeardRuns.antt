@@ -28,10 +28,12 @@ abbrev pub HeardAt : (ℕ → List Place) → Option SlotState → Type 0
 HeardAt old None = (h : ℕ) → old h ≡ []
 HeardAt old (Some slot) = HeardSlot old slot
 
+-- the slot of a node, if there are both
 abbrev slot_in : Option NetNode → ℕ → Option SlotState
 slot_in None s = None
 slot_in (Some node) s = slice_get node.slots s
 
+-- what the objects of each slot were told of in the history
 pub HeardNetwork : Network → Type 0
 HeardNetwork w =
     (k s : ℕ) → HeardAt (λ h. all_replied (spot k s h) w.history)
@@ -217,6 +219,7 @@ heard_distinct : (old : ℕ → List Place) (slot : Option SlotState) → HeardA
 heard_distinct old None is h = subst (λ (ps : List Place). AreDistinct ps) (sym (is h)) tt
 heard_distinct old (Some slot) is h = is.distinct h
 
+-- no caller is told of two answers of one place
 pub all_distinct : (configs : List ConfigModel) (steps : List Step) (caller : Spot)
     → AreDistinct (all_replied caller (history configs steps))
 unfolding HeardNetwork

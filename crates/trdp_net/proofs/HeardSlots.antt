@@ -1,6 +1,7 @@
 -- Of which places the objects of a slot are told in one move.
 use Rattle.std.proofs.Common.{◌≡◌, ℕ, ◌<◌, ◌≤◌, List, [], ◌∷◌, ◌++◌, Option, Some, None}
-use Rattle.std.proofs.Common.{Bool, true, false, refl, ap, sym, ◌∙◌, subst, arith, inl, inr, filter}
+use Rattle.std.proofs.Common.{Bool, true, false, refl, ap, sym, ◌∙◌, subst, arith, inl, inr}
+use Rattle.std.proofs.Common.{filter}
 use Rattle.std.proofs.Common.{append-nil}
 use Rattle.std.specs.Prelude.{cond, ◌==◌, ◌⊎◌, if◌then◌else◌}
 use Rattle.std.specs.List.{flat_map}
@@ -31,7 +32,8 @@ use Rattle.trdp_engine.specs.Requests.{asked_by_hearing}
 use Rattle.trdp_engine.specs.Datagrams.{telegram_of, hearing, is_acting, after_telegram}
 use Rattle.trdp_engine.specs.Datagrams.{taking_act, handed, is_request_kind, requested, received}
 use Rattle.trdp_engine.specs.Datagrams.{is_valid_at, received_if}
-use Rattle.trdp_engine.specs.Calls.{publish_refusal, subscribe_refusal, listen_refusal, puts, shows}
+use Rattle.trdp_engine.specs.Calls.{publish_refusal, subscribe_refusal, listen_refusal, puts}
+use Rattle.trdp_engine.specs.Calls.{shows}
 use Rattle.trdp_engine.specs.Calls.{ends, told_unless, called}
 use Rattle.trdp_engine.specs.Pulls.{pulls}
 use Rattle.trdp_engine.specs.Replies.{replies, queries, reply_errors, confirms, aborts}
@@ -51,7 +53,9 @@ use Rattle.trdp_net.proofs.Heard.{puts_quiet, ends_quiet, shows_quiet, pulls_qui
 use Rattle.trdp_net.proofs.Heard.{queries_quiet, errors_quiet, confirms_quiet, aborts_quiet}
 use Rattle.trdp_net.proofs.HeardTelegrams.{takes_heard}
 use Rattle.trdp_net.specs.Provenance.{Each}
-use Rattle.trdp_net.proofs.HeardEntries.{IsOnly, AreOnly, HeardSlot, told_append, quiet_outcome, LeftsOf, left_lefts, entries_heard, left_covers, new_heard, opened_heard, moved_heard, at_handle_heard}
+use Rattle.trdp_net.proofs.HeardEntries.{IsOnly, AreOnly, HeardSlot, told_append, quiet_outcome}
+use Rattle.trdp_net.proofs.HeardEntries.{LeftsOf, left_lefts, entries_heard, left_covers}
+use Rattle.trdp_net.proofs.HeardEntries.{new_heard, opened_heard, moved_heard, at_handle_heard}
 
 -- several objects act, and each may be told of an answer of its own
 
@@ -184,13 +188,17 @@ handed_heard old slot setup globals telegram h =
         → test e ≡ b → Each (λ f. Covers (new f.handle) f.object)
         (if b then entry_left e (act e).left else e ∷ [])
     stays e is covers true acts =
-        let mine_is : told e.handle ≡ replied_in e.handle (act e).records = rw acts at (mine e is) in
+        let mine_is : told e.handle ≡ replied_in e.handle (act e).records = rw acts at
+        (mine e is) in
         left_covers new e (act e).left
         (subst (λ (ps : List Place). CoversLeft (ps ++ old e.handle) (act e).left) (sym mine_is)
         (one e is).covers)
     stays e is covers false acts =
-        let mine_is : told e.handle ≡ [] = rw acts at (mine e is) in
-        (subst (λ (ps : List Place). Covers (ps ++ old e.handle) e.object) (sym mine_is) covers, tt)
+        let mine_is : told e.handle ≡ [] = rw acts at (mine e is) in (
+          subst (λ (ps : List Place). Covers (ps ++ old e.handle) e.object)
+              (sym mine_is) covers,
+          tt,
+        )
 
     fresh : (n : ℕ) → slot.next ≤ n → new n ≡ []
     fresh n above =
@@ -232,17 +240,20 @@ asked_heard old slot (Some listener) globals src t h =
     either (has_session kinds.Replier t.head.session slot.objects)
   where
     unless : (refusal : Option Refusal)
-        → HeardSlot (λ n. replied_in n (asked_unless refusal slot listener globals src t).records ++ old n)
+        → HeardSlot (λ n. replied_in n (asked_unless refusal slot listener globals src t).records
+        ++ old n)
         (asked_unless refusal slot listener globals src t).slot
     unless (Some refusal) = h
     unless None = new_heard old slot (Replier (asked_by src t.head globals.now)) (λ ps is. tt) h
 
     either : (b : Bool)
         → HeardSlot (λ n. replied_in n (let o : Outcome = (if b then unchanged slot
-        else asked_unless (opening_refusal slot kinds.Replier) slot listener globals src t) in o).records
+        else asked_unless (opening_refusal slot kinds.Replier) slot listener globals src t) in
+        o).records
         ++ old n)
         (let o : Outcome = (if b then unchanged slot
-        else asked_unless (opening_refusal slot kinds.Replier) slot listener globals src t) in o).slot
+        else asked_unless (opening_refusal slot kinds.Replier) slot listener globals src t) in
+        o).slot
     either true = h
     either false = unless (opening_refusal slot kinds.Replier)
 
@@ -359,6 +370,7 @@ effect_heard old setup s slot globals (CallIs r call) h = either (r == s)
     either : (b : Bool)
         → HeardSlot (λ n. replied_in n (let o : Outcome = (if b then called setup slot globals call
         else unchanged slot) in o).records ++ old n)
-        (let o : Outcome = (if b then called setup slot globals call else unchanged slot) in o).slot
+        (let o : Outcome = (if b then called setup slot globals call else unchanged slot) in
+        o).slot
     either true = called_heard old slot setup globals call h
     either false = h

@@ -37,8 +37,9 @@ use Rattle.trdp_engine.specs.Notices.{message_of, heard_as}
 use Rattle.trdp_engine.specs.Datagrams.{taking_act, taken_records, left_taking, fits_object}
 use Rattle.trdp_engine.specs.Pulls.{answer_place}
 use Rattle.trdp_net.specs.Promises.{replied_in, IsNew, AreDistinct}
-use Rattle.trdp_net.proofs.Parts.{and_right, or_left, or_right, flipped}
+use Rattle.trdp_net.proofs.Parts.{and_right}
 use Rattle.trdp_net.proofs.Heard.{Covers, CoversLeft, IsQuiet, QuietAct, value_quiet}
+use Rattle.trdp_md.proofs.Apart.{or_left, or_right, flipped}
 
 -- at a telegram
 
@@ -63,7 +64,11 @@ quiet_heard places handle act distinct is = record {
 -- the act of an object that took a telegram so
 abbrev took_act : NodeSetup → TelegramModel → ℕ → AnyObject → Taken → AnyObject → Act
 took_act setup telegram handle x taken after =
-    record { left = left_taking taken after; records = taken_records setup telegram handle x taken }
+    record {
+      left = left_taking taken after;
+      records = taken_records setup telegram handle x
+          taken;
+    }
 
 publisher_quiet : (places : List Place) (handle : ℕ) (setup : NodeSetup)
     (telegram : TelegramModel) (globals : Globals) (p : PublisherState)
@@ -236,6 +241,7 @@ caller_heard places handle setup (MdIs src dst t) globals c distinct covers =
     either false accepted =
         record { covers = covers; distinct = distinct; others = λ h other. refl }
 
+-- any object at a telegram
 pub takes_heard : (places : List Place) (handle : ℕ) (setup : NodeSetup)
     (telegram : TelegramModel) (globals : Globals) (x : AnyObject)
     → AreDistinct places → Covers places x

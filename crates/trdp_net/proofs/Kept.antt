@@ -1,5 +1,6 @@
 -- What is known of each object, from the moves before.
-use Rattle.std.proofs.Common.{◌≡◌, ℕ, ◌≤◌, List, [], ◌∷◌, length, Option, Some, None, true, false, inr}
+use Rattle.std.proofs.Common.{◌≡◌, ℕ, ◌≤◌, List, [], ◌∷◌, length, Option, Some, None, true, false}
+use Rattle.std.proofs.Common.{inr}
 use Rattle.trdp_base.specs.declared.place.Place.{Place}
 use Rattle.trdp_base.specs.declared.session.SessionId.{SessionId}
 use Rattle.trdp_head.specs.declared.pd.PdKind.{PdKind}
@@ -35,6 +36,7 @@ pub record WasPut (past : List Move) (com_id : ℕ) (bytes : List ℕ) : Type 0 
   pub put : Ever (IsPut com_id bytes) past
   pub limit : length bytes ≤ 1432
 
+-- the value of a publisher, if it has one
 abbrev pub ValueKept : List Move → ℕ → Option (List ℕ) → Type 0
 ValueKept past com_id None = Unit {0}
 ValueKept past com_id (Some bytes) = WasPut past com_id bytes
@@ -47,17 +49,20 @@ pub record AnswerKept (past : List Move) (at : Spot) (session : SessionId) (home
   pub confirmed : a.kind ≡ message.Query → a.confirm_owed ≡ false
       → Ever (IsConfirmedAs at session home a.place) past
 
+-- a caller: it was requested, and each of its answers is known
 pub record CallerKept (past : List Move) (setup : NodeSetup) (at : Spot) (c : AnyCaller)
     : Type 0 where
   pub requested : Ever (IsRequestedAs at c.terms.session) past
   pub answers : Each (AnswerKept past at c.terms.session (place_of Md setup)) c.answers
   pub apart : AreApart c.answers
 
+-- a replier: it was asked, and has queried if it awaits a confirmation
 pub record ReplierKept (past : List Move) (at : Spot) (r : AnyReplier) : Type 0 where
   pub by : Spot
   pub asked : Ever (IsAsked at by r.session r.peer) past
   pub queried : r.stage ≡ AwaitConfirm → Ever (IsQueried at r.session) past
 
+-- what is known of any object
 abbrev pub ObjectKept : List Move → NodeSetup → Spot → AnyObject → Type 0
 ObjectKept past setup at (Publisher p) = ValueKept past p.terms.com_id p.value
 ObjectKept past setup at (Subscription u) =
@@ -67,6 +72,7 @@ ObjectKept past setup at (Listener l) = Unit {0}
 ObjectKept past setup at (Caller c) = CallerKept past setup at c
 ObjectKept past setup at (Replier r) = ReplierKept past at r
 
+-- the same of an entry of slot s of node k
 abbrev pub EntryKept : List Move → NodeSetup → ℕ → ℕ → Entry → Type 0
 EntryKept past setup k s entry = ObjectKept past setup (spot k s entry.handle) entry.object
 
@@ -76,6 +82,7 @@ pub value_later : (past : List Move) (m : Move) (com_id : ℕ) (value : Option (
 value_later past m com_id None h = tt
 value_later past m com_id (Some bytes) h = record { put = inr h.put; limit = h.limit }
 
+-- the same of an answer
 pub answer_later : (past : List Move) (m : Move) (at : Spot) (session : SessionId) (home : Place)
     (a : Answer) → AnswerKept past at session home a → AnswerKept (m ∷ past) at session home a
 answer_later past m at session home a h = record {
@@ -84,6 +91,7 @@ answer_later past m at session home a h = record {
   confirmed = λ query settled. inr (h.confirmed query settled);
 }
 
+-- the same of all answers
 pub answers_later : (past : List Move) (m : Move) (at : Spot) (session : SessionId) (home : Place)
     (answers : List Answer) → Each (AnswerKept past at session home) answers
     → Each (AnswerKept (m ∷ past) at session home) answers
@@ -91,6 +99,7 @@ answers_later past m at session home answers h =
     each_map (AnswerKept past at session home) (AnswerKept (m ∷ past) at session home) answers
     (answer_later past m at session home) h
 
+-- the same of an object
 pub object_later : (past : List Move) (m : Move) (setup : NodeSetup) (at : Spot) (x : AnyObject)
     → ObjectKept past setup at x → ObjectKept (m ∷ past) setup at x
 object_later past m setup at (Publisher p) h = value_later past m p.terms.com_id p.value h
@@ -121,6 +130,7 @@ message_later message.Query past m from to t h = inr h
 message_later message.Error past m from to t h = inr h
 message_later message.Confirm past m from to t h = inr h
 
+-- the same of a telegram
 pub sent_later : (protocol : Protocol) (past : List Move) (m : Move) (from to : Place)
     (bytes : List ℕ) → SentBy protocol past from to bytes
     → SentBy protocol (m ∷ past) from to bytes
@@ -137,6 +147,7 @@ pub record ActKept (past : List Move) (m : Move) (at : Spot) (act : Act) : Type 
   pub stays : StaysKept (m ∷ past) m.before.setup at act.left
   pub tells : Each (ToldBy past m at.node at.slot) act.records
 
+-- an object that does nothing
 pub nothing_kept : (past : List Move) (m : Move) (at : Spot) (x : AnyObject)
     → ObjectKept past m.before.setup at x
     → ActKept past m at (record { left = Some x; records = [] })

@@ -153,6 +153,7 @@ value_limit setup dataset bytes none =
     either true b is none = absurd (cc none)
     either false b is none = grind (arith, nat_tests)
 
+-- at a Put
 pub put_kept : (past : List Move) (m : Move) (at : Spot) (setup : NodeSetup) (bytes : List ℕ)
     (x : AnyObject) → m.event ≡ CallIs at.slot (PutCall at.handle bytes)
     → ObjectKept past m.before.setup at x → Held at x m
@@ -173,6 +174,7 @@ put_kept past m at setup bytes (Caller c) event kept held given =
 put_kept past m at setup bytes (Replier r) event kept held given =
     answers_kept past m at (Replier r) _ kept
 
+-- at an Unpublish, Unsubscribe, ClosePull or Unlisten
 pub ends_kept : (past : List Move) (m : Move) (at : Spot) (kind : Kind) (x : AnyObject)
     → ObjectKept past m.before.setup at x → ActKept past m at (ends kind x)
 ends_kept past m at kind x kept = either (is_same_kind (kind_of x) kind)
@@ -183,10 +185,12 @@ ends_kept past m at kind x kept = either (is_same_kind (kind_of x) kind)
     either true = record { stays = tt; tells = (tt, tt) }
     either false = answers_kept past m at x _ kept
 
+-- at a Get
 pub shows_kept : (past : List Move) (m : Move) (at : Spot) (x : AnyObject)
     → ObjectKept past m.before.setup at x → ActKept past m at (shows x)
 shows_kept past m at x kept = answers_kept past m at x _ kept
 
+-- at a Pull
 pub pull_kept : (past : List Move) (m : Move) (at : Spot) (globals : Globals) (x : AnyObject)
     → IsTypedObject x → ObjectKept past m.before.setup at x → ActKept past m at (pulls globals x)
 pull_kept past m at globals (Requester r) fits kept =
@@ -200,6 +204,7 @@ pull_kept past m at globals (Listener l) fits kept =
 pull_kept past m at globals (Caller c) fits kept = answers_kept past m at (Caller c) _ kept
 pull_kept past m at globals (Replier r) fits kept = answers_kept past m at (Replier r) _ kept
 
+-- at a Reply
 pub reply_kept : (past : List Move) (m : Move) (at : Spot) (com_id : ℕ) (status : ℤ)
     (payload : List ℕ) (x : AnyObject)
     → m.event ≡ CallIs at.slot (ReplyCall at.handle com_id status payload)
@@ -221,6 +226,7 @@ reply_kept past m at com_id status payload (Listener l) event c s fits kept held
 reply_kept past m at com_id status payload (Caller x) event c s fits kept held given =
     answers_kept past m at (Caller x) _ kept
 
+-- at a Query
 pub query_kept : (past : List Move) (m : Move) (at : Spot) (now com_id : ℕ) (status : ℤ)
     (timeout : ℕ) (payload : List ℕ) (x : AnyObject)
     → m.event ≡ CallIs at.slot (QueryCall at.handle com_id status timeout payload)
@@ -229,7 +235,8 @@ pub query_kept : (past : List Move) (m : Move) (at : Spot) (now com_id : ℕ) (s
     → ((content : Content) → In content (queries now com_id status timeout payload x).records
     → Gives at.node at.slot content m)
     → ActKept past m at (queries now com_id status timeout payload x)
-query_kept past m at now com_id status timeout payload (Replier r) event c s t fits kept held given =
+query_kept past m at now com_id status timeout payload
+    (Replier r) event c s t fits kept held given =
     queries_kept past m at now com_id status timeout payload r event fits c s t kept held given
 query_kept past m at now com_id status timeout payload (Publisher p) event c s t fits kept held
     given =
@@ -243,9 +250,11 @@ query_kept past m at now com_id status timeout payload (Requester r) event c s t
 query_kept past m at now com_id status timeout payload (Listener l) event c s t fits kept held
     given =
     answers_kept past m at (Listener l) _ kept
-query_kept past m at now com_id status timeout payload (Caller x) event c s t fits kept held given =
+query_kept past m at now com_id status timeout payload
+    (Caller x) event c s t fits kept held given =
     answers_kept past m at (Caller x) _ kept
 
+-- at a ReplyError
 pub error_kept : (past : List Move) (m : Move) (at : Spot) (com_id : ℕ) (status : ℤ)
     (x : AnyObject) → m.event ≡ CallIs at.slot (ReplyErrorCall at.handle com_id status)
     → com_id < 2 ^ 32 → FitsSigned w32 status
@@ -266,6 +275,7 @@ error_kept past m at com_id status (Listener l) event c s fits kept held given =
 error_kept past m at com_id status (Caller x) event c s fits kept held given =
     answers_kept past m at (Caller x) _ kept
 
+-- at a Confirm
 pub confirm_kept : (past : List Move) (m : Move) (at : Spot) (place : Place) (status : ℤ)
     (x : AnyObject) → m.event ≡ CallIs at.slot (ConfirmCall at.handle place status)
     → FitsSigned w32 status
@@ -287,6 +297,7 @@ confirm_kept past m at place status (Listener l) event s fits kept held given =
 confirm_kept past m at place status (Replier r) event s fits kept held given =
     answers_kept past m at (Replier r) _ kept
 
+-- at an Abort
 pub abort_kept : (past : List Move) (m : Move) (at : Spot) (x : AnyObject)
     → ObjectKept past m.before.setup at x → ActKept past m at (aborts x)
 abort_kept past m at (Caller c) kept = record { stays = tt; tells = (tt, tt) }

@@ -1,45 +1,49 @@
 -- What holds of each item of a list, and tests.
 use Rattle.std.proofs.Common.{◌≡◌, ℕ, zero, suc, List, [], ◌∷◌, ◌++◌, Some}
-use Rattle.std.proofs.Common.{Bool, true, false, ◌&&◌, ◌||◌, refl, ap, ap₂, sym, subst, arith, inl, inr}
+use Rattle.std.proofs.Common.{Bool, true, false, ◌&&◌, refl, ap, sym, subst, inl, inr}
 use Rattle.std.proofs.Common.{slice_get, filter}
-use Rattle.std.specs.Prelude.{slice_set, ◌⊎◌, not, cond}
+use Rattle.std.specs.Prelude.{slice_set, ◌⊎◌, cond}
 use Rattle.std.specs.List.{flat_map}
-use Rattle.std.proofs.lemmas.Bool.Decides.{nat_tests}
-use Rattle.trdp_base.specs.declared.place.Place.{Place}
-use Rattle.trdp_md.specs.Answers.{is_place}
 use Rattle.trdp_net.specs.Provenance.{In}
 use Rattle.trdp_net.specs.Provenance.{Each}
 
+-- of two lists, one after the other
 pub each_append : {A : Type 0} (P : A → Type 0) (xs ys : List A)
     → Each P xs → Each P ys → Each P (xs ++ ys)
 each_append P [] ys h k = k
 each_append P (x ∷ xs) ys h k = (h.0, each_append P xs ys h.1 k)
 
+-- what follows of each item
 pub each_map : {A : Type 0} (P Q : A → Type 0) (xs : List A)
     → ((x : A) → P x → Q x) → Each P xs → Each Q xs
 each_map P Q [] f h = tt
 each_map P Q (x ∷ xs) f h = (f x h.0, each_map P Q xs f h.1)
 
+-- of the item at a number
 pub each_get : {A : Type 0} (P : A → Type 0) (xs : List A) (i : ℕ) (x : A)
     → Each P xs → slice_get xs i ≡ Some x → P x
 each_get P [] i x h is = absurd (cc)
 each_get P (y ∷ xs) zero x h is = let e : y ≡ x = cc in subst P e h.0
 each_get P (y ∷ xs) (suc i) x h is = each_get P xs i x h.1 is
 
+-- of an item of the list
 pub each_in : {A : Type 0} (P : A → Type 0) (xs : List A) (x : A) → Each P xs → In x xs → P x
 each_in P [] x h is = absurd is
 each_in P (y ∷ xs) x h (inl e) = subst P e h.0
 each_in P (y ∷ xs) x h (inr is) = each_in P xs x h.1 is
 
+-- of each, where it holds of any item of the list
 pub in_each : {A : Type 0} (P : A → Type 0) (xs : List A) → ((x : A) → In x xs → P x) → Each P xs
 in_each P [] f = tt
 in_each P (x ∷ xs) f = (f x (inl refl), in_each P xs (λ y is. f y (inr is)))
 
+-- an item of the first of two lists
 pub in_left : {A : Type 0} (x : A) (xs ys : List A) → In x xs → In x (xs ++ ys)
 in_left x [] ys is = absurd is
 in_left x (y ∷ xs) ys (inl e) = inl e
 in_left x (y ∷ xs) ys (inr is) = inr (in_left x xs ys is)
 
+-- an item of the second of two lists
 pub in_right : {A : Type 0} (x : A) (xs ys : List A) → In x ys → In x (xs ++ ys)
 in_right x [] ys is = is
 in_right x (y ∷ xs) ys is = inr (in_right x xs ys is)
@@ -53,6 +57,7 @@ in_flat_map f (z ∷ xs) x y (inl e) there =
 in_flat_map f (z ∷ xs) x y (inr is) there =
     in_right y (f z) (flat_map f xs) (in_flat_map f xs x y is there)
 
+-- of each item of what each item gives
 pub each_flat_map : {A B : Type 0} (P : B → Type 0) (f : A → List B) (xs : List A)
     → ((x : A) → In x xs → Each P (f x)) → Each P (flat_map f xs)
 each_flat_map P f [] all = tt
@@ -60,6 +65,7 @@ each_flat_map P f (x ∷ xs) all =
     each_append P (f x) (flat_map f xs) (all x (inl refl))
     (each_flat_map P f xs (λ y is. all y (inr is)))
 
+-- an item that passes is among those that pass
 pub in_filter : {A : Type 0} (test : A → Bool) (xs : List A) (x : A)
     → In x xs → test x ≡ true → In x (filter test xs)
 in_filter test [] x is passes = absurd is
@@ -76,6 +82,7 @@ in_filter test (y ∷ xs) x (inr is) passes = here (test y) (in_filter test xs x
     here true rest = inr rest
     here false rest = rest
 
+-- what passes is an item
 pub filter_in : {A : Type 0} (test : A → Bool) (xs : List A) (x : A)
     → In x (filter test xs) → In x xs
 filter_in test [] x is = absurd is
@@ -87,34 +94,15 @@ filter_in test (y ∷ xs) x is = here (test y) is (λ later. filter_in test xs x
     here true (inr is) later = inr (later is)
     here false is later = inr (later is)
 
+-- of two tests that both pass, the first
 pub and_left : (a b : Bool) → (a && b) ≡ true → a ≡ true
 and_left true b h = refl
 and_left false b h = absurd (cc)
 
+-- and the second
 pub and_right : (a b : Bool) → (a && b) ≡ true → b ≡ true
 and_right true b h = h
 and_right false b h = absurd (cc)
-
-pub or_left : (a b : Bool) → (a || b) ≡ false → a ≡ false
-or_left true b h = absurd (cc)
-or_left false b h = refl
-
-pub or_right : (a b : Bool) → (a || b) ≡ false → b ≡ false
-or_right true b h = absurd (cc)
-or_right false b h = h
-
-pub flipped : (b : Bool) → not b ≡ true → b ≡ false
-flipped true h = absurd (cc)
-flipped false h = refl
-
-pub same_place : (a b : Place) → is_place a b ≡ true → a ≡ b
-same_place a b is =
-    let ip : a.ip.0 ≡ b.ip.0 = grind (arith, nat_tests) in
-    let port : a.port ≡ b.port = grind (arith, nat_tests) in
-    ap₂ (λ (i p : ℕ). record { ip = record { 0 = i }; port = p }) ip port
-
-pub swapped : (a b : Place) → is_place a b ≡ false → is_place b a ≡ false
-swapped a b is = grind (arith, nat_tests)
 
 -- what is set at k is found there, and the others as before
 pub set_get : {A : Type 0} (xs : List A) (k : ℕ) (y : A) (j : ℕ) (x : A)

@@ -16,7 +16,8 @@ use Rattle.trdp_table.specs.declared.any_object.AnyObject.TheVariants.{Subscript
 use Rattle.trdp_engine.specs.declared.fault.Refusal.{Refusal}
 use Rattle.trdp_engine.specs.Configs.{NodeSetup}
 use Rattle.trdp_engine.specs.Records.{Content, MessageModel, ReplyModel, HandleIs, NotifiedIs}
-use Rattle.trdp_engine.specs.Records.{AskedIs, RepliedIs, ConfirmedIs, ClosedIs, Answers, Indicates}
+use Rattle.trdp_engine.specs.Records.{AskedIs, RepliedIs, ConfirmedIs, ClosedIs, Answers}
+use Rattle.trdp_engine.specs.Records.{Indicates}
 use Rattle.trdp_engine.specs.Slots.{SlotState, Outcome, unchanged}
 use Rattle.trdp_engine.specs.Openings.{opened_with}
 use Rattle.trdp_engine.specs.Requests.{request_refusal, request_sent}
@@ -110,10 +111,12 @@ one_request m past a b sa sb ma mb ra rb =
     sym ra.makes.event_is ∙ rb.makes.event_is in
     let slots : a.slot ≡ b.slot = cc events in
     let here_a : In (Answers (HandleIs a.handle)) (plain_effect m.before.setup a.slot
-    ra.makes.gives.slot m.before.globals (CallIs a.slot (RequestCall ra.terms ma.payload))).records =
+    ra.makes.gives.slot m.before.globals (CallIs a.slot
+    (RequestCall ra.terms ma.payload))).records =
     rw ra.makes.event_is at ra.makes.gives.given in
     let here_b : In (Answers (HandleIs b.handle)) (plain_effect m.before.setup b.slot
-    rb.makes.gives.slot m.before.globals (CallIs b.slot (RequestCall rb.terms mb.payload))).records =
+    rb.makes.gives.slot m.before.globals (CallIs b.slot
+    (RequestCall rb.terms mb.payload))).records =
     rw rb.makes.event_is at rb.makes.gives.given in
     let ha : a.handle ≡ ra.makes.gives.slot.next =
     request_handle m.before.setup a.slot a.slot a.handle ra.makes.gives.slot m.before.globals
@@ -188,12 +191,14 @@ values w kept k s node slot entry u at_node at_slot held is valid =
     (each_in (EntryKept w.history node.setup k s) slot.objects entry
     (kept.nodes k node at_node s slot at_slot) held) valid
 
+-- no invented value
 pub values_put : (configs : List ConfigModel) (steps : List Step) → AreSingle configs
     → Always IsTypedMove (history configs steps)
     → ValuesArePut (network_run (opened_network configs) steps)
 values_put configs steps single typed =
     values (network_run (opened_network configs) steps) (every_run configs steps single typed)
 
+-- no invented reply
 pub replies_made : (configs : List ConfigModel) (steps : List Step) → AreSingle configs
     → Always IsTypedMove (history configs steps) → Always IsFresh (history configs steps)
     → Always RepliesAreMade (history configs steps)
@@ -204,7 +209,8 @@ replies_made configs steps single typed fresh =
     made : (m : Move) (past : List Move) → IsExplained m past → Always IsFresh past
         → RepliesAreMade m past
     made m past is fresh at answer gives =
-        let by = told_by past m at.node at.slot (Indicates (RepliedIs at.handle answer)) is gives in
+        let by = told_by past m at.node at.slot (Indicates
+        (RepliedIs at.handle answer)) is gives in
         record {
           c = by.c;
           held = by.held;
@@ -213,6 +219,7 @@ replies_made configs steps single typed fresh =
               (λ b r. one_caller past by.c.terms.session b at fresh r by.requested) by.answered;
         }
 
+-- no invented confirmation
 pub confirms_made : (configs : List ConfigModel) (steps : List Step) → AreSingle configs
     → Always IsTypedMove (history configs steps) → Always ConfirmsAreMade (history configs steps)
 confirms_made configs steps single typed =
@@ -221,6 +228,7 @@ confirms_made configs steps single typed =
     told_by past m at.node at.slot (Indicates (ConfirmedIs at.handle status)) is gives)
     (history configs steps) (every_run configs steps single typed).always
 
+-- no early completion
 pub done_due : (configs : List ConfigModel) (steps : List Step) → AreSingle configs
     → Always IsTypedMove (history configs steps) → Always DoneIsDue (history configs steps)
 done_due configs steps single typed =
@@ -229,6 +237,7 @@ done_due configs steps single typed =
     told_by past m at.node at.slot (Indicates (ClosedIs at.handle Done)) is gives)
     (history configs steps) (every_run configs steps single typed).always
 
+-- no invented notification
 pub notices_made : (configs : List ConfigModel) (steps : List Step) → AreSingle configs
     → Always IsTypedMove (history configs steps) → Always NoticesAreMade (history configs steps)
 notices_made configs steps single typed =
@@ -237,6 +246,7 @@ notices_made configs steps single typed =
     told_by past m k s (Indicates (NotifiedIs listener said)) is gives)
     (history configs steps) (every_run configs steps single typed).always
 
+-- no invented request
 pub requests_made : (configs : List ConfigModel) (steps : List Step) → AreSingle configs
     → Always IsTypedMove (history configs steps) → Always RequestsAreMade (history configs steps)
 requests_made configs steps single typed =

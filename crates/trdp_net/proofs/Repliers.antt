@@ -57,6 +57,7 @@ confirm_origin : (past : List Move) (from to : Place) (t : MdTelegram)
 confirm_origin past from to t is origin =
     subst (λ (k : MdKind). MessageBy k past from to t) is origin
 
+-- a replier at a telegram that was made
 pub replier_takes : (past : List Move) (m : Move) (at : Spot) (setup : NodeSetup)
     (src dst : Place) (t : MdTelegram) (globals : Globals) (r : AnyReplier)
     → MessageBy t.head.kind past src (place_of Md m.before.setup) t → ReplierKept past at r
@@ -96,6 +97,7 @@ replier_takes past m at setup src dst t globals r origin kept held =
     either false is =
         record { stays = object_later past m m.before.setup at (Replier r) kept; tells = tt }
 
+-- a replier whose moment has come
 pub replier_fires : (past : List Move) (m : Move) (at : Spot) (globals : Globals)
     (r : AnyReplier) → ActKept past m at
     (firing_act globals (record { handle = at.handle; object = Replier r }))
@@ -177,10 +179,12 @@ answered_kept past m at kind com_id status timeout payload None r left call limi
       );
     }
 
+-- a granted Reply carries no more than a telegram of message data holds
 pub reply_limit : (r : AnyReplier) (status : ℤ) (payload : List ℕ)
     → reply_refusal r status payload ≡ None → length payload ≤ 65388
 reply_limit r status payload none =
-    either (not (is_asked r.stage)) (int_lt status (pos 0)) (nat_lt 65388 (length payload)) refl none
+    either (not (is_asked r.stage)) (int_lt status (pos 0)) (nat_lt 65388
+    (length payload)) refl none
   where
     either : (a b c : Bool) → nat_lt 65388 (length payload) ≡ c
         → (if a then Some refusals.State else
@@ -192,6 +196,7 @@ reply_limit r status payload none =
     either false false true is none = absurd (cc none)
     either false false false is none = grind (arith, nat_tests)
 
+-- the same of a granted Query
 pub query_limit : (r : AnyReplier) (status : ℤ) (timeout : ℕ) (payload : List ℕ)
     → query_refusal r status timeout payload ≡ None → length payload ≤ 65388
 query_limit r status timeout payload none =
@@ -205,6 +210,7 @@ query_limit r status timeout payload none =
     either false true none = absurd (cc none)
     either false false none = reply_limit r status payload none
 
+-- a replier at a Reply
 pub replies_kept : (past : List Move) (m : Move) (at : Spot) (com_id : ℕ) (status : ℤ)
     (payload : List ℕ) (r : AnyReplier)
     → m.event ≡ CallIs at.slot (ReplyCall at.handle com_id status payload)
@@ -222,6 +228,7 @@ replies_kept past m at com_id status payload r event fits com_id_fits status_fit
     (refl, refl, refl, refl, refl) fits com_id_fits status_fits (omega arith) kept held
     (λ by made. tt) (λ by made. inl (at, by, made)) given
 
+-- a replier at a Query
 pub queries_kept : (past : List Move) (m : Move) (at : Spot) (now com_id : ℕ) (status : ℤ)
     (timeout : ℕ) (payload : List ℕ) (r : AnyReplier)
     → m.event ≡ CallIs at.slot (QueryCall at.handle com_id status timeout payload)
@@ -240,7 +247,8 @@ queries_kept past m at now com_id status timeout payload r event fits com_id_fit
     timeout_fits kept held given =
     answered_kept past m at message.Query com_id status timeout payload
     (query_refusal r status timeout payload) r (Some (Replier (queried r now timeout)))
-    (QueryCall at.handle com_id status timeout payload) (query_limit r status timeout payload) event
+    (QueryCall at.handle com_id status timeout payload)
+    (query_limit r status timeout payload) event
     (refl, refl, refl, refl, refl) fits com_id_fits status_fits timeout_fits kept held
     (λ by made. record {
       by = kept.by;
@@ -260,6 +268,7 @@ queries_kept past m at now com_id status timeout payload r event fits com_id_fit
     })
     (λ by made. inl (at, by, made)) given
 
+-- a replier at a ReplyError
 pub errors_kept : (past : List Move) (m : Move) (at : Spot) (com_id : ℕ) (status : ℤ)
     (refusal : Option Refusal) (r : AnyReplier)
     → m.event ≡ CallIs at.slot (ReplyErrorCall at.handle com_id status)

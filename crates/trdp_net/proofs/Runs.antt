@@ -21,24 +21,28 @@ use Rattle.trdp_engine.specs.Slots.{Entry, SlotState, opened_slot}
 use Rattle.trdp_engine.specs.Alone.{refused_as, plain_effect}
 use Rattle.trdp_engine.specs.NodeStates.{opened_node}
 use Rattle.trdp_net.specs.Networks.{NetNode, net_node, place_of, Sent, Move, Network, Step, CallAt}
-use Rattle.trdp_net.specs.Networks.{MomentAt, TopologyAt, RoleAt, DeliveryAt, effect_in, slots_after}
+use Rattle.trdp_net.specs.Networks.{MomentAt, TopologyAt, RoleAt, DeliveryAt, effect_in}
+use Rattle.trdp_net.specs.Networks.{slots_after}
 use Rattle.trdp_net.specs.Networks.{node_after, sends_of, sent_by, moves, moves_unless, moves_at}
 use Rattle.trdp_net.specs.Networks.{is_group, reaches, delivered, network_step, network_run}
 use Rattle.trdp_net.specs.Networks.{opened_network}
 use Rattle.trdp_net.specs.Provenance.{Ever, Always, IsReplied, IsAnsweredBySome}
 use Rattle.trdp_net.specs.Provenance.{IsConfirmedBySome}
 use Rattle.trdp_net.specs.Promises.{AreSingle}
-use Rattle.trdp_net.proofs.Parts.{each_append, each_map, each_get, same_place, set_get}
+use Rattle.trdp_net.proofs.Parts.{each_append, each_map, each_get, set_get}
 use Rattle.trdp_net.proofs.Kept.{EntryKept, sent_later}
 use Rattle.trdp_net.proofs.Slots.{OutcomeKept, entries_later}
 use Rattle.trdp_net.proofs.Effects.{IsSent, slot_kept}
 use Rattle.trdp_net.proofs.Explained.{MessageBy, SentBy, ToldBy, IsExplained}
 use Rattle.trdp_net.proofs.TypedMoves.{IsTypedMove}
 use Rattle.trdp_net.specs.Provenance.{Each}
+use Rattle.trdp_md.proofs.Confirming.{place-is_place}
 
+-- what is known of a telegram that was sent
 abbrev pub SentKept : List Move → Sent → Type 0
 SentKept past x = SentBy x.protocol past x.from x.to x.bytes
 
+-- what is known of node k
 abbrev pub NodeKept : List Move → ℕ → NetNode → Type 0
 NodeKept past k node =
     (s : ℕ) (slot : SlotState) → slice_get node.slots s ≡ Some slot
@@ -48,6 +52,7 @@ NodeKept past k node =
 abbrev pub IsSingle : Move → List Move → Type 0
 IsSingle m past = is_group m.before.setup.address ≡ false
 
+-- what is known of a network: of its nodes, of what was sent, and of each move
 pub record NetworkKept (w : Network) : Type 0 where
   pub nodes : (k : ℕ) (node : NetNode) → slice_get w.nodes k ≡ Some node
       → NodeKept w.history k node
@@ -241,7 +246,7 @@ message_here message.Confirm past single from to place t there h =
         → MessageBy message.Confirm past from place t
     either true same b isnt found =
         subst (λ (p : Place). MessageBy message.Confirm past from p t)
-        (same_place to place same) h
+        (place-is_place to place same) h
     either false same true isnt found = absurd (cc isnt)
     either false same false isnt found = absurd (cc found)
 
@@ -329,6 +334,7 @@ step_before P w (RoleAt k group leader) h =
 step_before P w (DeliveryAt k which) h =
     delivered_before P w k (slice_get w.nodes k) (slice_get w.sent which) h
 
+-- what always held of a run always held of the network that it began from
 pub run_before : (P : Move → List Move → Type 0) (w : Network) (steps : List Step)
     → Always P (network_run w steps).history → Always P w.history
 run_before P w [] h = h
@@ -349,6 +355,7 @@ slots_empty (q ∷ quotas) zero slot is =
     let e : opened_slot q.quotas ≡ slot = cc is in ap (λ (x : SlotState). x.objects) (sym e)
 slots_empty (q ∷ quotas) (suc s) slot is = slots_empty quotas s slot is
 
+-- a node that was just opened has no objects
 pub none_opened : (configs : List ConfigModel) (k : ℕ) (node : NetNode)
     → slice_get (opened_network configs).nodes k ≡ Some node
     → (s : ℕ) (slot : SlotState) → slice_get node.slots s ≡ Some slot → slot.objects ≡ []
@@ -374,6 +381,7 @@ single_opened (config ∷ configs) h zero node is =
     subst (λ (x : NetNode). is_group x.setup.address ≡ false) e h.0
 single_opened (config ∷ configs) h (suc k) node is = single_opened configs h.1 k node is
 
+-- all of it is known after any run
 pub every_run : (configs : List ConfigModel) (steps : List Step) → AreSingle configs
     → Always IsTypedMove (network_run (opened_network configs) steps).history
     → NetworkKept (network_run (opened_network configs) steps)

@@ -41,18 +41,21 @@ pub record OutcomeKept (past : List Move) (m : Move) (s : ℕ) (outcome : Outcom
 abbrev pub AreGiven : Move → ℕ → List Content → Type 0
 AreGiven m s records = (content : Content) → In content records → Gives m.node s content m
 
+-- what was known of the entries is known later
 pub entries_later : (past : List Move) (m : Move) (setup : NodeSetup) (k s : ℕ) (es : List Entry)
     → Each (EntryKept past setup k s) es → Each (EntryKept (m ∷ past) setup k s) es
 entries_later past m setup k s es h =
     each_map (EntryKept past setup k s) (EntryKept (m ∷ past) setup k s) es
     (λ e kept. object_later past m setup (spot k s e.handle) e.object kept) h
 
+-- a slot that an event leaves as it is
 pub unchanged_kept : (past : List Move) (m : Move) (s : ℕ) (slot : SlotState)
     → Each (EntryKept past m.before.setup m.node s) slot.objects
     → OutcomeKept past m s (unchanged slot)
 unchanged_kept past m s slot h =
     record { objects = entries_later past m m.before.setup m.node s slot.objects h; tells = tt }
 
+-- a slot that refuses a call
 pub refused_kept : (past : List Move) (m : Move) (s : ℕ) (slot : SlotState) (refusal : Refusal)
     → Each (EntryKept past m.before.setup m.node s) slot.objects
     → OutcomeKept past m s (refused slot refusal)
@@ -148,6 +151,7 @@ inserted_in e f (g ∷ es) is = here (is_before g e) is (λ later. inserted_in e
     here true (inr (inr is)) later = inr (later (inr is))
     here false is later = is
 
+-- an entry in firing order is an entry
 pub order_in : (f : Entry) (es : List Entry) → In f (in_order es) → In f es
 order_in f [] is = is
 order_in f (e ∷ es) is =

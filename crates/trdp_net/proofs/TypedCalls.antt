@@ -41,7 +41,8 @@ use Rattle.trdp_net.proofs.Heads.{confirm_head, answer_head}
 use Rattle.trdp_net.proofs.Repliers.{reply_limit, query_limit}
 use Rattle.trdp_net.proofs.TypedMoves.{IsReplier, IsTypedObject}
 use Rattle.trdp_net.specs.Typed.{IsCallerTerms}
-use Rattle.trdp_net.proofs.TypedObjects.{IsSentTyped, md_typed, LeftTyped, ActTyped, answers_typed, next_fits}
+use Rattle.trdp_net.proofs.TypedObjects.{IsSentTyped, md_typed, LeftTyped, ActTyped, answers_typed}
+use Rattle.trdp_net.proofs.TypedObjects.{next_fits}
 
 -- at a call
 pub puts_typed : (setup : NodeSetup) (bytes : List ℕ) (x : AnyObject) → IsTypedObject x
@@ -60,6 +61,7 @@ puts_typed setup bytes (Listener l) fits = answers_typed (Listener l) _ fits
 puts_typed setup bytes (Caller c) fits = answers_typed (Caller c) _ fits
 puts_typed setup bytes (Replier r) fits = answers_typed (Replier r) _ fits
 
+-- at an Unpublish, Unsubscribe, ClosePull or Unlisten
 pub ends_typed : (kind : Kind) (x : AnyObject) → IsTypedObject x → ActTyped (ends kind x)
 ends_typed kind x fits = either (is_same_kind (kind_of x) kind)
   where
@@ -69,7 +71,9 @@ ends_typed kind x fits = either (is_same_kind (kind_of x) kind)
     either true = record { left = tt; sends = (tt, tt) }
     either false = answers_typed x _ fits
 
-pub pulls_typed : (globals : Globals) (x : AnyObject) → IsTypedObject x → ActTyped (pulls globals x)
+-- at a Pull
+pub pulls_typed : (globals : Globals) (x : AnyObject) → IsTypedObject x
+    → ActTyped (pulls globals x)
 pulls_typed globals (Requester r) fits = either (topo_valid r.terms.topo globals.topo)
   where
     either : (b : Bool) → ActTyped (pulls_if b r)
@@ -99,6 +103,7 @@ answered_typed (Some refusal) r left head payload fits left_fits head_fits limit
 answered_typed None r left head payload fits left_fits head_fits limit =
     record { left = left_fits; sends = (tt, (md_typed head payload head_fits (limit refl), tt)) }
 
+-- at a Reply
 pub replies_typed : (com_id : ℕ) (status : ℤ) (payload : List ℕ) (x : AnyObject)
     → com_id < 2 ^ 32 → FitsSigned w32 status → IsTypedObject x
     → ActTyped (replies com_id status payload x)
@@ -114,6 +119,7 @@ replies_typed com_id status payload (Requester r) c s fits = answers_typed (Requ
 replies_typed com_id status payload (Listener l) c s fits = answers_typed (Listener l) _ fits
 replies_typed com_id status payload (Caller x) c s fits = answers_typed (Caller x) _ fits
 
+-- at a Query
 pub queries_typed : (now com_id : ℕ) (status : ℤ) (timeout : ℕ) (payload : List ℕ) (x : AnyObject)
     → com_id < 2 ^ 32 → FitsSigned w32 status → timeout < 2 ^ 32 → IsTypedObject x
     → ActTyped (queries now com_id status timeout payload x)
@@ -140,7 +146,9 @@ queries_typed now com_id status timeout payload (Listener l) c s t fits =
 queries_typed now com_id status timeout payload (Caller x) c s t fits =
     answers_typed (Caller x) _ fits
 
-pub errors_typed : (com_id : ℕ) (status : ℤ) (x : AnyObject) → com_id < 2 ^ 32 → FitsSigned w32 status
+-- at a ReplyError
+pub errors_typed : (com_id : ℕ) (status : ℤ) (x : AnyObject) → com_id < 2 ^ 32
+    → FitsSigned w32 status
     → IsTypedObject x → ActTyped (reply_errors com_id status x)
 errors_typed com_id status (Replier r) c s fits =
     answered_typed (error_refusal r status) r None (answer_with r message.Error com_id status 0) []
@@ -152,12 +160,15 @@ errors_typed com_id status (Requester r) c s fits = answers_typed (Requester r) 
 errors_typed com_id status (Listener l) c s fits = answers_typed (Listener l) _ fits
 errors_typed com_id status (Caller x) c s fits = answers_typed (Caller x) _ fits
 
-pub confirms_typed : (handle : ℕ) (place : Place) (status : ℤ) (x : AnyObject) → FitsSigned w32 status
+-- at a Confirm
+pub confirms_typed : (handle : ℕ) (place : Place) (status : ℤ) (x : AnyObject)
+    → FitsSigned w32 status
     → IsTypedObject x → ActTyped (confirms handle place status x)
 confirms_typed handle place status (Caller c) s fits = either (confirm_refusal c place status)
   where
     sent : IsSentTyped Md (md_bytes (confirm_of c.terms status) [])
-    sent = md_typed (confirm_of c.terms status) [] (confirm_head c.terms status fits s) (omega arith)
+    sent = md_typed (confirm_of c.terms status) [] (confirm_head c.terms status fits s)
+        (omega arith)
 
     later : IsCallerTerms (confirming c place).terms
     later =
@@ -177,6 +188,7 @@ confirms_typed handle place status (Requester r) s fits = answers_typed (Request
 confirms_typed handle place status (Listener l) s fits = answers_typed (Listener l) _ fits
 confirms_typed handle place status (Replier r) s fits = answers_typed (Replier r) _ fits
 
+-- at an Abort
 pub aborts_typed : (x : AnyObject) → IsTypedObject x → ActTyped (aborts x)
 aborts_typed (Caller c) fits = record { left = tt; sends = (tt, tt) }
 aborts_typed (Replier r) fits = record { left = tt; sends = (tt, tt) }

@@ -6,7 +6,8 @@ use Rattle.trdp_pd.specs.Publishers.{PublisherState}
 use Rattle.trdp_pd.specs.Requesters.{RequesterState}
 use Rattle.trdp_md.specs.declared.replier.Replier.{Replier as AnyReplier}
 use Rattle.trdp_table.specs.declared.any_object.AnyObject.{AnyObject}
-use Rattle.trdp_table.specs.declared.any_object.AnyObject.TheVariants.{Publisher, Requester, Caller}
+use Rattle.trdp_table.specs.declared.any_object.AnyObject.TheVariants.{Publisher, Requester}
+use Rattle.trdp_table.specs.declared.any_object.AnyObject.TheVariants.{Caller}
 use Rattle.trdp_table.specs.declared.any_object.AnyObject.TheVariants.{Replier}
 use Rattle.trdp_engine.specs.Events.{CallModel, NotifyCall, RequestCall, ReplyCall, QueryCall}
 use Rattle.trdp_engine.specs.Events.{ReplyErrorCall, ConfirmCall, EventModel, CallIs}

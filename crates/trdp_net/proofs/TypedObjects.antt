@@ -55,14 +55,17 @@ abbrev pub IsSentTyped : Protocol → List ℕ → Type 0
 IsSentTyped Pd bytes = Unit {0}
 IsSentTyped Md bytes = (t : MdTelegram) → md_telegram_of bytes ≡ Some t → IsMdHead t.head
 
+-- a record that sends a message sends one whose fields fit
 abbrev pub IsTypedRecord : Content → Type 0
 IsTypedRecord (Answers answer) = Unit {0}
 IsTypedRecord (Indicates indication) = Unit {0}
 IsTypedRecord (Sends protocol to bytes) = IsSentTyped protocol bytes
 
+-- the same of each record
 abbrev pub AreTyped : List Content → Type 0
 AreTyped records = Each IsTypedRecord records
 
+-- a message with a header that fits is read with one that fits
 pub md_typed : (head : MdHead) (payload : List ℕ) → IsMdHead head → length payload ≤ 65388
     → IsSentTyped Md (md_bytes head payload)
 md_typed head payload fits limit t is =
@@ -71,25 +74,31 @@ md_typed head payload fits limit t is =
     md_telegram-is (IsMdTelegram-md_bytes head payload fits limit) in
     let one : Some (let w : MdTelegram = record { head = head; payload = payload } in w) ≡ Some t =
     sym read ∙ is in
-    let same : (let w : MdTelegram = record { head = head; payload = payload } in w) ≡ t = cc one in
+    let same : (let w : MdTelegram = record { head = head; payload = payload } in w)
+    ≡ t = cc one in
     subst (λ (u : MdTelegram). IsMdHead u.head) same fits
 
+-- what is left of an object fits
 abbrev pub LeftTyped : Option AnyObject → Type 0
 LeftTyped None = Unit {0}
 LeftTyped (Some x) = IsTypedObject x
 
+-- an act that leaves and sends what fits
 pub record ActTyped (act : Act) : Type 0 where
   pub left : LeftTyped act.left
   pub sends : AreTyped act.records
 
+-- an object that only answers
 pub answers_typed : (x : AnyObject) (answer : AnswerModel) → IsTypedObject x
     → ActTyped (answers x answer)
 answers_typed x answer fits = record { left = fits; sends = (tt, tt) }
 
-value_typed : (to : Place) (head : PdHead) (value : Option (List ℕ)) → AreTyped (value_sent to head value)
+value_typed : (to : Place) (head : PdHead) (value : Option (List ℕ))
+    → AreTyped (value_sent to head value)
 value_typed to head None = tt
 value_typed to head (Some bytes) = (tt, tt)
 
+-- the next sequence counter fits its field
 pub next_fits : (counter : ℕ) → next_counter counter < 2 ^ 32
 next_fits counter = mod-lt (counter + 1) (omega arith)
 
@@ -139,10 +148,16 @@ heard_typed message.Query handle src t = tt
 heard_typed message.Confirm handle src t = tt
 heard_typed message.Error handle src t = tt
 
+-- the act of an object that took a telegram so
 abbrev took_act : NodeSetup → TelegramModel → ℕ → AnyObject → Taken → AnyObject → Act
 took_act setup telegram handle x taken after =
-    record { left = left_taking taken after; records = taken_records setup telegram handle x taken }
+    record {
+      left = left_taking taken after;
+      records = taken_records setup telegram handle x
+          taken;
+    }
 
+-- any object that fits, at a telegram
 pub takes_typed : (handle : ℕ) (setup : NodeSetup) (telegram : TelegramModel)
     (globals : Globals) (x : AnyObject) → IsTypedObject x
     → ActTyped (taking_act setup telegram globals

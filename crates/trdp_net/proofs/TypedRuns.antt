@@ -9,9 +9,11 @@ use Rattle.trdp_engine.specs.Configs.{NodeSetup}
 use Rattle.trdp_engine.specs.Records.{Content, Answers, Indicates, Sends}
 use Rattle.trdp_engine.specs.Events.{CallModel, PublishCall, OpenPullCall, EventModel, MomentIs}
 use Rattle.trdp_engine.specs.Events.{TopologyIs, RoleIs, DatagramIs, CallIs}
-use Rattle.trdp_engine.specs.Events.{PutCall, UnpublishCall, SubscribeCall, GetCall, UnsubscribeCall}
+use Rattle.trdp_engine.specs.Events.{PutCall, UnpublishCall, SubscribeCall, GetCall}
+use Rattle.trdp_engine.specs.Events.{UnsubscribeCall}
 use Rattle.trdp_engine.specs.Events.{PullCall, ClosePullCall, ListenCall, UnlistenCall, NotifyCall}
-use Rattle.trdp_engine.specs.Events.{RequestCall, ReplyCall, QueryCall, ReplyErrorCall, ConfirmCall}
+use Rattle.trdp_engine.specs.Events.{RequestCall, ReplyCall, QueryCall, ReplyErrorCall}
+use Rattle.trdp_engine.specs.Events.{ConfirmCall}
 use Rattle.trdp_engine.specs.Events.{AbortCall}
 use Rattle.trdp_engine.specs.Slots.{Entry, SlotState}
 use Rattle.trdp_engine.specs.Alone.{refused_as, plain_effect}
@@ -29,13 +31,17 @@ use Rattle.trdp_net.proofs.TypedSlots.{IsTypedEvent, effect_typed}
 use Rattle.trdp_net.proofs.TypedMoves.{IsTypedSending, SendsTyped, IsTypedEntry, IsTypedMove}
 use Rattle.trdp_net.specs.Provenance.{Each}
 
+-- a telegram that was sent fits
 abbrev SentTyped : Sent → Type 0
 SentTyped x = IsSentTyped x.protocol x.bytes
 
+-- each object of a node fits
 abbrev NodeTyped : NetNode → Type 0
 NodeTyped node =
-    (s : ℕ) (slot : SlotState) → slice_get node.slots s ≡ Some slot → Each IsTypedEntry slot.objects
+    (s : ℕ) (slot : SlotState) → slice_get node.slots s ≡ Some slot
+    → Each IsTypedEntry slot.objects
 
+-- each object, each telegram and each move fits
 pub record NetworkTyped (w : Network) : Type 0 where
   pub nodes : (k : ℕ) (node : NetNode) → slice_get w.nodes k ≡ Some node → NodeTyped node
   pub sent : Each SentTyped w.sent

@@ -39,7 +39,8 @@ use Rattle.trdp_engine.specs.Requests.{asked_by_hearing}
 use Rattle.trdp_engine.specs.Datagrams.{telegram_of, hearing, is_acting, acting}
 use Rattle.trdp_engine.specs.Datagrams.{taking_act, handed, is_request_kind, requested, received}
 use Rattle.trdp_engine.specs.Datagrams.{is_valid_at, received_if}
-use Rattle.trdp_engine.specs.Calls.{publish_refusal, subscribe_refusal, listen_refusal, puts, shows}
+use Rattle.trdp_engine.specs.Calls.{publish_refusal, subscribe_refusal, listen_refusal, puts}
+use Rattle.trdp_engine.specs.Calls.{shows}
 use Rattle.trdp_engine.specs.Calls.{ends, at_entry, at_object, told_unless, called}
 use Rattle.trdp_engine.specs.Pulls.{pulls}
 use Rattle.trdp_engine.specs.Replies.{replies, queries, reply_errors, confirms, aborts}
@@ -59,11 +60,14 @@ use Rattle.trdp_net.proofs.CallEffects.{request_limit, notify_limit}
 use Rattle.trdp_net.proofs.TypedMoves.{IsTypedObject, IsTypedEntry}
 use Rattle.trdp_net.specs.Provenance.{Each}
 use Rattle.trdp_net.specs.Typed.{IsNotifyTerms}
-use Rattle.trdp_net.proofs.TypedObjects.{IsSentTyped, IsTypedRecord, AreTyped, md_typed, LeftTyped, ActTyped, answers_typed, fires_typed, takes_typed}
-use Rattle.trdp_net.proofs.TypedCalls.{puts_typed, ends_typed, pulls_typed, replies_typed, queries_typed, errors_typed, confirms_typed, aborts_typed}
+use Rattle.trdp_net.proofs.TypedObjects.{IsSentTyped, IsTypedRecord, AreTyped, md_typed, LeftTyped}
+use Rattle.trdp_net.proofs.TypedObjects.{ActTyped, answers_typed, fires_typed, takes_typed}
+use Rattle.trdp_net.proofs.TypedCalls.{puts_typed, ends_typed, pulls_typed, replies_typed}
+use Rattle.trdp_net.proofs.TypedCalls.{queries_typed, errors_typed, confirms_typed, aborts_typed}
 
 -- a slot
 
+-- a slot that fits, with records that fit
 pub record OutcomeTyped (outcome : Outcome) : Type 0 where
   pub objects : Each IsTypedEntry outcome.slot.objects
   pub sends : AreTyped outcome.records
@@ -142,7 +146,8 @@ at_handle_typed slot handle act fits rule = found (entry_of handle slot.objects)
     found None is = refused_typed slot refusals.NoHandle fits
     found (Some e) is =
         let one : ActTyped (act e.object) =
-        rule e.object (each_in IsTypedEntry slot.objects e fits (find_in handle slot.objects e is).0)
+        rule e.object (each_in IsTypedEntry slot.objects e fits
+        (find_in handle slot.objects e is).0)
         in
         record {
           objects =
@@ -300,7 +305,8 @@ received_if_typed slot setup globals (Some t) t_fits fits = either (is_valid_at 
     either false = unchanged_typed slot fits
 
 telegram_typed : (protocol : Protocol) (src dst : Place) (bytes : List ℕ)
-    → IsSentTyped protocol bytes → (t : TelegramModel) → telegram_of protocol src dst bytes ≡ Some t
+    → IsSentTyped protocol bytes → (t : TelegramModel)
+    → telegram_of protocol src dst bytes ≡ Some t
     → IsTypedTelegram t
 telegram_typed Pd src dst bytes sent t is = here (pd_telegram_of bytes) is
   where
@@ -325,6 +331,7 @@ IsTypedEvent (CallIs s call) = IsTypedCall call
 IsTypedEvent (DatagramIs protocol src dst bytes) = IsSentTyped protocol bytes
 IsTypedEvent event = Unit {0}
 
+-- a slot that fits, at an event that fits
 pub effect_typed : (setup : NodeSetup) (s : ℕ) (slot : SlotState) (globals : Globals)
     (event : EventModel) → IsTypedEvent event → Each IsTypedEntry slot.objects
     → OutcomeTyped (plain_effect setup s slot globals event)

@@ -64,8 +64,8 @@ RepliesAreMade m past =
     → Gives at.node at.slot (Indicates (RepliedIs at.handle answer)) m
     → IsReplyMade m past at answer
 
--- the replier that is told of a confirmation had queried, and a caller of its session had confirmed
--- the place of the replier's node, from the address of the replier's peer
+-- the replier that is told of a confirmation had queried, and a caller of its session confirmed
+-- it: the place of the replier's node, from the address of the replier's peer
 pub record IsConfirmMade (m : Move) (past : List Move) (at : Spot) (status : ℤ) : Type 0 where
   pub r : AnyReplier
   pub held : Held at (Replier r) m
@@ -88,8 +88,8 @@ pub record IsSettled (past : List Move) (at : Spot) (session : SessionId) (home 
   pub replied : Ever (IsReplied at session a.place a.kind) past
   pub confirmed : a.kind ≡ message.Query → Ever (IsConfirmedAs at session home a.place) past
 
--- as many places as expected have answered, and at least one, and each query is confirmed. The move
--- that closes the caller may be the one that tells the last answer, or confirms the last query
+-- as many places as expected have answered, and at least one, and each query is confirmed. The
+-- move that closes the caller may be the one that tells the last answer or confirms the last query
 pub record IsDoneDue (m : Move) (past : List Move) (at : Spot) : Type 0 where
   pub c : AnyCaller
   pub held : Held at (Caller c) m

@@ -12,7 +12,8 @@ returns-clause-moves c =
     admits c.step.result
     (refused_as (length c.args.node.now.slots) c.args.node.now.globals
     (event_model c.args.event.now))
-    (c.step.new.self.globals ≡ globals_after c.args.node.now.globals (event_model c.args.event.now))
+    (c.step.new.self.globals ≡ globals_after c.args.node.now.globals
+    (event_model c.args.event.now))
     ((s : ℕ) (slot : SlotState) → slice_get c.args.node.now.slots s ≡ Some slot
     → StepsAsAlone c.args.node.now c.step.new.self c.args.out.now.records
     c.step.new.out.records (event_model c.args.event.now) s slot)
