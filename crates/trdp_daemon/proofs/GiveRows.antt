@@ -2,16 +2,12 @@
 use Rattle.std.proofs.Common.{◌≡◌, suc, zero, ◌+◌, ◌≤◌, ℕ, List, [], ◌∷◌, ◌++◌, refl}
 use Rattle.std.proofs.Common.{sym, ◌∙◌, ap, arith, length, take, drop, length-append}
 use Rattle.std.proofs.lemmas.List.{take_all, take-append-le, drop-append-le}
-use Rattle.std.proofs.lemmas.List.{take-append-drop, length-take-le}
-use Rattle.std.specs.Prelude.{slice_get, Option, Some}
-use Rattle.std.specs.Option.{option_map}
+use Rattle.std.proofs.lemmas.List.{take-append-drop}
 use Rattle.std.specs.List.{flat_map}
 use Rattle.std.proofs.lemmas.List.Concat.{flat_map-cons}
-use Rattle.trdp_base.specs.declared.place.Place.{Place}
-use Rattle.trdp_daemon.specs.declared.port.Port.{Port}
 use Rattle.trdp_daemon.specs.declared.rows.GiveRow.{GiveRow}
 use Rattle.trdp_daemon.specs.Told.{Give}
-use Rattle.trdp_daemon.specs.Rows.{row_give, gives_of, bytes_in, given_to, row_to}
+use Rattle.trdp_daemon.specs.Rows.{row_give, gives_of, bytes_in}
 
 length_rest : (n : ℕ) (xs : List ℕ) → n ≤ length xs → n + length (drop n xs) ≡ length xs
 length_rest zero xs le = omega arith
@@ -65,17 +61,3 @@ gives_bytes (r ∷ rows) bytes whole =
 pub gives_many : (rows : List GiveRow) (bytes : List ℕ) → length (gives_of bytes rows) ≡ length rows
 gives_many [] bytes = refl
 gives_many (r ∷ rows) bytes = ap suc (gives_many rows (drop r.len bytes))
-
--- the give of an index
-pub gives_at : (rows : List GiveRow) (bytes : List ℕ) (i : ℕ) → bytes_in rows ≡ length bytes
-    → option_map given_to (slice_get (gives_of bytes rows) i) ≡ option_map row_to (slice_get rows i)
-gives_at [] bytes i whole = refl
-gives_at (r ∷ rows) bytes zero whole =
-    let within : r.len ≤ length bytes = omega (arith, whole) in
-    ap (λ n. let x : Option (Port × Place × ℕ) = Some (r.port, r.to, n) in
-    x) (length-take-le r.len bytes within)
-gives_at (r ∷ rows) bytes (suc i) whole =
-    let within : r.len ≤ length bytes = omega (arith, whole) in
-    let rest = length_rest r.len bytes within in
-    let left : bytes_in rows ≡ length (drop r.len bytes) = omega (arith, whole, rest) in
-    gives_at rows (drop r.len bytes) i left

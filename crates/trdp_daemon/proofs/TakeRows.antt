@@ -127,7 +127,8 @@ within_row n rows new row is all own = rw is (within_push n rows row all own)
 
 pub takings_push : (arrivals : List ArrivalModel)
     (rows new : List TakeRow) (port : Port) (room : ℕ) (answer : TakeAnswer) (arrived : Arrived)
-    → new ≡ rows ++ (let row : TakeRow = record { port = port; room = room; answer = answer } in row) ∷ []
+    → new ≡ rows
+    ++ (let row : TakeRow = record { port = port; room = room; answer = answer } in row) ∷ []
     → arrived_of arrivals answer ≡ arrived
     → map (row_taking arrivals) new ≡ map (row_taking arrivals) rows
     ++ (let t : Taking = record { port = port; room = room; arrived = arrived } in t) ∷ []

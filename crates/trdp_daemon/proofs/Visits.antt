@@ -246,7 +246,8 @@ pub visited_nothing :
     → found ≡ None → length room ≡ datagram_room → Takes takings_in gives_in a b port found room
     → TakesAtPorts takings_in gives_in s s a b (port ∷ [])
 unfolding taking_effect
-visited_nothing {W} {takings_in} {gives_in} {a} {b} s port found room none roomy p = nothing p.arrived
+visited_nothing {W} {takings_in} {gives_in} {a} {b} s port found room none roomy p =
+    nothing p.arrived
     (subst (λ (f : Option (Place × ℕ)). IsFound p.arrived f room) none p.is_found) p.carried
   where
     nothing : (arrived : Arrived) → IsFound arrived None room → Carries takings_in gives_in
@@ -254,15 +255,18 @@ visited_nothing {W} {takings_in} {gives_in} {a} {b} s port found room none roomy
         taking ∷ []) silence
         → TakesAtPorts takings_in gives_in s s a b (port ∷ [])
     nothing Failed is carried = visited s s port (length room) Failed
-        roomy carried (record { loss = TextsLost []; comes = nothing_comes takings_in gives_in s b })
+        roomy carried
+        (record { loss = TextsLost []; comes = nothing_comes takings_in gives_in s b })
     nothing Nothing is carried = visited s s port (length room) Nothing
-        roomy carried (record { loss = TextsLost []; comes = nothing_comes takings_in gives_in s b })
+        roomy carried
+        (record { loss = TextsLost []; comes = nothing_comes takings_in gives_in s b })
     nothing (Came from bytes) is carried = absurd is
 
 pub visited_datagram : {W : Type 0} {takings_in : W → Option (List Taking)}
     {gives_in : W → Option (List Give)} {a b c : Link W} (old new : Service) (port : Port)
     (found : Option (Place × ℕ)) (from : Place) (len : ℕ) (room bytes : List ℕ) → found
-    ≡ Some (from, len) → bytes ≡ take len room → length room ≡ datagram_room → Takes takings_in gives_in a b port found room
+    ≡ Some (from, len) → bytes ≡ take len room → length room ≡ datagram_room
+    → Takes takings_in gives_in a b port found room
     → ComesWith takings_in gives_in old new b
     c (datagram_effect (service_state old) port from bytes)
     → TakesAtPorts takings_in gives_in old new a c (port ∷ [])

@@ -1,7 +1,5 @@
 -- What a wire in memory remembers of its takes and gives.
-use Rattle.std.specs.Prelude.{ℕ, ◌+◌, ◌<◌, List, [], ◌∷◌, take, drop, length, slice_get}
-use Rattle.trdp_base.specs.declared.place.Place.{Place}
-use Rattle.trdp_daemon.specs.declared.port.Port.{Port}
+use Rattle.std.specs.Prelude.{ℕ, ◌+◌, ◌<◌, List, [], ◌∷◌, take, drop, slice_get}
 use Rattle.trdp_daemon.specs.declared.rows.TakeRow.{TakeRow}
 use Rattle.trdp_daemon.specs.declared.rows.TakeAnswer.{TakeAnswer}
 use Rattle.trdp_daemon.specs.declared.rows.TakeAnswer.TheVariants.{Failed as RowFailed}
@@ -36,14 +34,6 @@ AllWithin n (row ∷ rows) = IsWithin n row.answer × AllWithin n rows
 -- the give of a row with these bytes
 abbrev pub row_give : GiveRow → List ℕ → Give
 row_give row bytes = record { offer = offer_to row.port row.to bytes; failed = row.failed }
-
--- where a give left from, where it went, and how many bytes it had
-abbrev pub given_to : Give → Port × Place × ℕ
-given_to give = (give.offer.port, give.offer.to, length give.offer.bytes)
-
--- the same of a row
-abbrev pub row_to : GiveRow → Port × Place × ℕ
-row_to row = (row.port, row.to, row.len)
 
 -- the gives of rows whose bytes lie one after the other
 abbrev pub gives_of : List ℕ → List GiveRow → List Give

@@ -6,7 +6,9 @@
 //! clock is told where these tell; the system's sockets and clock tell nothing. So a [`UdpWire`] at
 //! which nothing ever comes, or that sends nothing, meets its contract, as a network may be so, and
 //! so does a [`RunClock`] that stands still; that they work is tested. For the same reason no
-//! contract says which sockets [`UdpWire::bind`] binds.
+//! contract says which sockets [`UdpWire::bind`] binds, and its must-fail edit turns all that it
+//! promises, a wire without failures: ports that are shifted or left out are for the tests over
+//! loopback to find.
 #![tactic(auto)]
 
 mod answer;
@@ -18,6 +20,7 @@ mod laws;
 mod link;
 mod memory_clock;
 mod memory_wire;
+mod offers;
 mod port;
 mod ports;
 mod rows;
@@ -36,6 +39,7 @@ pub use fault::WireFault;
 pub use laws::{lost_only_where_memory_is_taken, nothing_missed};
 pub use memory_clock::MemoryClock;
 pub use memory_wire::MemoryWire;
+pub use offers::Offers;
 pub use port::Port;
 pub use run_clock::RunClock;
 pub use totals::Totals;

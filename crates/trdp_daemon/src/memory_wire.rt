@@ -1,13 +1,14 @@
 //! A wire in memory, for tests.
 
 ghost use Rattle.std.specs.Prelude.{◌≡◌, ◌<◌, ◌≤◌, ◌+◌, ◌++◌, ◌∷◌, [], length};
-ghost use Rattle.std.specs.Prelude.{vec_len, vec_capacity, option_map, slice_get};
+ghost use Rattle.std.specs.Prelude.{vec_len, vec_capacity};
 ghost use Rattle.std.specs.Prelude.{◌-◌, ◌^◌, ◌&&◌, nat_lt, is_err, OnErr};
 ghost use Rattle.trdp_daemon.specs.MemoryWires.{one_more_if};
-ghost use Rattle.trdp_daemon.specs.Rows.{bytes_in, gives_of, row_give, row_to};
+ghost use Rattle.trdp_daemon.specs.Rows.{bytes_in, gives_of, row_give};
 
 use crate::arrivals::{Arrival, answer_take, failing_take, is_failing, takes_at};
 use crate::fault::{WireFault, fail};
+use crate::offers::Offers;
 use crate::port::Port;
 use crate::rows::{GiveRow, TakeRow};
 use crate::wire::Wire;
@@ -71,13 +72,12 @@ impl Model for MemoryWire {
 }
 
 impl MemoryWire {
-    ghost use Rattle.std.specs.Prelude.{◌≡◌, [], IfOk, OnOk, OnErr, length, option_map, slice_get};
+    ghost use Rattle.std.specs.Prelude.{◌≡◌, [], IfOk, OnOk, OnErr, map};
     ghost use Rattle.std.specs.Prelude.{true, false, ◌<◌, ◌≤◌};
     ghost use Rattle.std.specs.List.{flat_map};
     ghost use Rattle.trdp_daemon.specs.MemoryWires.{nothing_laid_down, with_arrival};
     ghost use Rattle.trdp_daemon.specs.MemoryWires.{is_give_beyond, with_failing_give};
     ghost use Rattle.trdp_daemon.specs.MemoryWires.{with_failing_take};
-    ghost use Rattle.trdp_daemon.specs.Rows.{given_to};
 
     /// A wire over which nothing arrives yet, with room for so many takes, gives, and bytes of
     /// gives.
@@ -123,19 +123,11 @@ impl MemoryWire {
         &self.bytes
     }
 
-    /// How many datagrams it was given.
-    pub fn len(&self) -> usize
-        ensures { result ≡ length self.now.gives }
+    /// What was offered to it, in order; one at which it failed was offered too.
+    pub fn offers(&self) -> Offers<'_>
+        ensures { result ≡ map (λ give. give.offer) self.now.gives }
     {
-        self.given.len()
-    }
-
-    /// Where the give of that index left from, where it went, and how many bytes it had; None past
-    /// the last.
-    pub fn give_at(&self, index: usize) -> Option<(Port, Place, usize)>
-        ensures { result ≡ option_map given_to (slice_get self.now.gives index) }
-    {
-        given_at(&self.given, index)
+        Offers::new(&self.given, &self.bytes)
     }
 
     /// Lays down that a datagram arrives at that take at the port, counted from 1; of two for one
@@ -277,16 +269,6 @@ impl Wire for MemoryWire {
 
     fn failures(&self) -> u64 {
         self.failures
-    }
-}
-
-/// Where the give of a row left from, where it went, and how many bytes it had.
-fn given_at(given: &[GiveRow], index: usize) -> Option<(Port, Place, usize)>
-    ensures { result ≡ option_map row_to (slice_get given.now index) }
-{
-    match given.get(index) {
-        Some(row) => Some((row.port, row.to, row.len)),
-        None => None,
     }
 }
 

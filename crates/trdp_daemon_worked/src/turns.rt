@@ -135,20 +135,37 @@ fn refused_memory_is_counted(rt: HostRuntime) {
     assert!(rt; is_among(daemon.wire().bytes(), counts), "{counts:?}");
 }
 
+/// Whether the wire was offered these bytes from that port to that place.
+fn is_offer(
+    offer: Option<(Port, Place, &[u8])>,
+    port: Port,
+    place: Place,
+    bytes: &[u8],
+) -> bool {
+    match offer {
+        Some((from, to, offered)) => from == port && to == place && offered == bytes,
+        None => false,
+    }
+}
+
 /// Asserts from where to where the offers of three turns went.
 fn leave_from_their_ports(rt: &(impl Abort + AllocGlobal), wire: &MemoryWire) {
     let device = Place {
         ip: Ip(0x0a00_0002),
         port: 17224,
     };
-    for (give, port, place, length) in [
-        (0, Port::Control(0), APPLICATION, 11),
-        (1, Port::Control(0), APPLICATION, 7),
-        (2, Port::Pd, device, 44),
+    let (answers, telegram) = THREE_TURNS.split_at(18);
+    let (handle, done) = answers.split_at(11);
+    let mut offers = wire.offers();
+    for (give, port, place, bytes) in [
+        (0, Port::Control(0), APPLICATION, handle),
+        (1, Port::Control(0), APPLICATION, done),
+        (2, Port::Pd, device, telegram),
     ] {
-        same(rt, give, wire.give_at(give), Some((port, place, length)));
+        let offer = offers.next();
+        assert!(rt; is_offer(offer, port, place, bytes), "at {give}");
     }
-    assert!(rt; wire.len() == 3);
+    assert!(rt; offers.next().is_none());
 }
 
 #[test]

@@ -1,7 +1,7 @@
 -- The line of a fault, on its way to the error stream.
 use Rattle.std.proofs.Common.{◌≡◌, ℕ, List, [], ◌∷◌, ◌++◌, length, take, sym, ◌∙◌, ap, subst}
-use Rattle.std.proofs.Common.{arith, append_assoc, append-nil, true, Option, Some, None, Result, Ok, Err, OnOk, OnErr, is_ok}
-use Rattle.std.proofs.Common.{IfSome}
+use Rattle.std.proofs.Common.{arith, append_assoc, append-nil, true, Option, Some, None, IfSome}
+use Rattle.std.proofs.Common.{Result, Ok, Err, OnOk, OnErr, is_ok}
 use Rattle.std.proofs.lemmas.List.{take_all}
 use Rattle.std.specs.Io.KnownBytes.{Appends}
 use Rattle.std.specs.declared.fmt.InlineText.{InlineText}
@@ -26,8 +26,9 @@ when_ok (Ok x) good p = p
 when_ok (Err e) good p = absurd (cc)
 
 -- several writes append what they wrote together
-after_calls : {n : ℕ} (s t : InlineText n) (parts : List (List ℕ)) → FoldsTo AppendsIfIntact s parts t
-    → IsIntact s → IsIntact t × (inline_text t ≡ inline_text s ++ concat parts)
+after_calls : {n : ℕ} (s t : InlineText n) (parts : List (List ℕ))
+    → FoldsTo AppendsIfIntact s parts t → IsIntact s
+    → IsIntact t × (inline_text t ≡ inline_text s ++ concat parts)
 after_calls s t [] same intact =
     (subst IsIntact same intact, ap inline_text (sym same) ∙ sym (append-nil (inline_text s)))
 after_calls s t (part ∷ parts) calls intact =

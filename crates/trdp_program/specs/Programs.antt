@@ -29,8 +29,8 @@ pub record TakesNoConfig (bytes : List ℕ) (old new errors errors_then : Option
 
 -- the bytes are a configuration, over which the script was run, where the reader tells its bytes;
 -- the status is that of the script, and the error stream is told its fault
-pub record RunsOverConfig (bytes : List ℕ) (unread left old new errors errors_then : Option (List ℕ))
-    (status : ℕ) : Type 0 where
+pub record RunsOverConfig (bytes : List ℕ)
+    (unread left old new errors errors_then : Option (List ℕ)) (status : ℕ) : Type 0 where
   pub config : ConfigModel
   pub is : Reads config_of bytes (Ok config)
   pub end : Result (Unit {0}) ScriptFault

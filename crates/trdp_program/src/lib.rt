@@ -11,12 +11,12 @@
 //!
 //! What a script gives, and where it stops, is the contract of `trdp_script::run_script`, which
 //! `run_program` repeats with the exit status. What the totals count is the contract of
-//! `trdp_daemon::Daemon::run`: for any wire and clock they are those of so many turns over them, and
-//! `serve_program` repeats this with the exit status and the line. What the system's sockets took
-//! and gave no contract tells, so of them it says only that the totals are those of so many turns.
-//! On `errors` stands nothing at 0, and else a front of the fault's line. No contract says that the
-//! outside works: a `run_program` or a `serve_program` that answers 1 at once meets its contract, as
-//! if memory had run out while the configuration was read.
+//! `trdp_daemon::Daemon::run`: for any wire and clock they are those of so many turns over them,
+//! and `serve_program` repeats this with the exit status and the line. What the system's sockets
+//! took and gave no contract tells, so of them it says only that the totals are those of so many
+//! turns. On `errors` stands nothing at 0, and else a front of the fault's line. No contract says
+//! that the outside works: a `run_program` or a `serve_program` that answers 1 at once meets its
+//! contract, as if memory had run out while the configuration was read.
 #![tactic(auto)]
 
 mod config_names;

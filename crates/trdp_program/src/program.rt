@@ -20,8 +20,8 @@ pub const CONFIG_STATUS: u8 = 1;
 
 /// Runs a script from the reader over a node of that configuration (TOML), writes what the node
 /// gives to the writer, and answers the exit status: 0 at the script's end, 1 where the
-/// configuration isn't taken, 3 for a bad line, and else 4; a fault gives one line on `errors`, or a
-/// front of it where `errors` fails. What was written before a fault stands (profile).
+/// configuration isn't taken, 3 for a bad line, and else 4; a fault gives one line on `errors`, or
+/// a front of it where `errors` fails. What was written before a fault stands (profile).
 ///
 /// The configuration is looked at before the script: where it isn't taken, nothing is written.
 pub fn run_program<H: AllocGlobal, R: Read, W: Write, E: Write>(

@@ -70,7 +70,8 @@ impl From<AllocError> for ScriptFault {
 ///
 /// # Errors
 /// `Line` at the first line with a fault, `Read` where the reader fails or after 4,294,967,295
-/// reads, `Write` where the writer fails, and `OutOfMemory`.
+/// reads, `Write` where the writer fails or is interrupted 1,000 times in a row
+/// ([`WRITE_TRIES`](crate::WRITE_TRIES)), and `OutOfMemory`.
 pub fn run_script<R: Read, W: Write>(
     alloc: Global,
     config: NodeConfig,

@@ -18,11 +18,16 @@ loop-done-preserved g c =
     (held c.write_some.new.writer) (take c.in-Ok.count bs)) rest c.in-Ok.ensures.written in
     record {
       within =
-          omega (arith, some, length-drop c.loop-done.done c.args.bytes.now, c.loop-done.invariant.within);
+          omega (
+            arith,
+            some,
+            length-drop c.loop-done.done c.args.bytes.now,
+            c.loop-done.invariant.within,
+          );
       so_far =
           subst (λ (bs : List ℕ). Appends (held c.args.writer.now) (held c.write_some.new.writer)
           bs) (sym (take-add c.loop-done.done c.in-Ok.count c.args.bytes.now))
           (Appends-trans (held c.args.writer.now) (held c.loop-done.writer)
-          (held c.write_some.new.writer) (take c.loop-done.done c.args.bytes.now) (take c.in-Ok.count
-          (drop c.loop-done.done c.args.bytes.now)) c.loop-done.invariant.so_far more);
+          (held c.write_some.new.writer) (take c.loop-done.done c.args.bytes.now)
+          (take c.in-Ok.count (drop c.loop-done.done c.args.bytes.now)) c.loop-done.invariant.so_far more);
     }

@@ -12,4 +12,5 @@ returns-in-Some-clause-takes g c =
 pub returns-in-None-clause-takes : goal.returns-in-None-clause-takes
 returns-in-None-clause-takes g c =
     let roomy : length c.take.new.room ≡ datagram_room = search rules in
-    visited_nothing c.args.self.now c.args.port _ c.take.new.room c.in-None.is roomy c.take.ensures.takes
+    visited_nothing c.args.self.now c.args.port _ c.take.new.room
+    c.in-None.is roomy c.take.ensures.takes
