@@ -1,8 +1,9 @@
 //! The promises, of every list of steps from nodes that were just opened.
 //!
-//! Two premises come with each: no node's own address is a group address, and each number, URI and
-//! identifier in a call is one that its field in a telegram holds, as the types of a running node
-//! have it.
+//! What they may need: `AreSingle`, no node's own address is a group address; `AreTypedSteps`, each
+//! number, URI and identifier in a call is one that its field in a telegram holds, as the types of
+//! a running node have it; `IsFresh`, no two granted Requests carry the same identifier;
+//! `HaveOwnPlaces`, no two nodes were given the same place for message data.
 
 ghost use Rattle.std.specs.Prelude.{◌≡◌, List};
 ghost use Rattle.trdp_dataset.specs.Configs.{ConfigModel};
@@ -22,8 +23,8 @@ ghost use Rattle.trdp_net.specs.Ties.{IsStep, IsAtHome, HaveOwnPlaces, StepsSo, 
 /// A subscription whose value is valid shows bytes that a granted Put gave to a publisher of its
 /// comId, at some node.
 ///
-/// Not promised: that it is the latest such value, nor that of one publisher rather than another
-/// of the same comId.
+/// Needs `AreSingle` and `AreTypedSteps`. Not promised: that it is the latest such value, nor that
+/// of one publisher rather than another of the same comId.
 pub fn no_invented_value()
     ensures { (configs : List ConfigModel) (steps : List Step) → AreSingle configs
         → AreTypedSteps steps
@@ -35,8 +36,7 @@ pub fn no_invented_value()
 /// with this message type, comId, status and payload. And no caller is told of two answers of one
 /// place.
 ///
-/// The first needs a premise more: no two granted Requests carry the same identifier. The second
-/// needs none at all.
+/// The first needs `AreSingle`, `AreTypedSteps` and `IsFresh`; the second needs nothing.
 pub fn no_invented_reply()
     ensures made { (configs : List ConfigModel) (steps : List Step) → AreSingle configs
         → AreTypedSteps steps → Always IsFresh (history configs steps)
@@ -48,6 +48,8 @@ pub fn no_invented_reply()
 /// A confirmation that a replier is told of was made, by a granted Confirm of this status for the
 /// place of the replier's node, by a caller of its session that had been told of a query from that
 /// place; and the replier had queried.
+///
+/// Needs `AreSingle` and `AreTypedSteps`.
 pub fn no_invented_confirm()
     ensures { (configs : List ConfigModel) (steps : List Step) → AreSingle configs
         → AreTypedSteps steps
@@ -57,7 +59,7 @@ pub fn no_invented_confirm()
 /// A caller that is told that it is done has been told of as many answers as it expected, at least
 /// one, each of a place of its own, and each query among them was confirmed by a granted Confirm.
 ///
-/// Not promised: that the confirmations arrived.
+/// Needs `AreSingle` and `AreTypedSteps`. Not promised: that the confirmations arrived.
 pub fn no_early_done()
     ensures { (configs : List ConfigModel) (steps : List Step) → AreSingle configs
         → AreTypedSteps steps
@@ -68,8 +70,9 @@ pub fn no_early_done()
 /// granted Request of its identifier, at the node of the place that it names, with this comId,
 /// these URIs and this payload.
 ///
-/// Not promised: that it is told once. A notification is told as often as it arrives, and a
-/// request that comes again after its session has closed is asked again.
+/// Needs `AreSingle` and `AreTypedSteps`. Not promised: that it is told once. A notification is
+/// told as often as it arrives, and a request that comes again after its session has closed is
+/// asked again.
 pub fn no_invented_request()
     ensures notified { (configs : List ConfigModel) (steps : List Step) → AreSingle configs
         → AreTypedSteps steps
@@ -80,8 +83,9 @@ pub fn no_invented_request()
 {}
 
 /// The history that the promises speak of is the run itself: each of its moves is a step of the
-/// run, no node changes its place, and where no two nodes were given the same place for message
-/// data, the node of a place is one node.
+/// run, no node changes its place, and the node of a place is one node.
+///
+/// The last needs `HaveOwnPlaces`; the others need nothing.
 pub fn history_is_the_run()
     ensures steps { (configs : List ConfigModel) (steps : List Step)
         → Always (IsStep (opened_network configs) steps) (history configs steps) }

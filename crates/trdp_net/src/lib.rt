@@ -29,7 +29,7 @@
 //! - That a request is asked once: one that comes again after its session has closed is asked
 //!   again.
 //! - Anything of telegrams that no node of the network sent: a peer that does not follow the rules
-//!   can invent what it likes, since the telegrams of this protocol carry no proof of their origin.
+//!   can invent what it likes, since telegrams carry no proof of their origin.
 #![tactic(auto)]
 
 mod laws;
