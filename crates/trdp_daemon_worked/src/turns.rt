@@ -136,12 +136,7 @@ fn refused_memory_is_counted(rt: HostRuntime) {
 }
 
 /// Whether the wire was offered these bytes from that port to that place.
-fn is_offer(
-    offer: Option<(Port, Place, &[u8])>,
-    port: Port,
-    place: Place,
-    bytes: &[u8],
-) -> bool {
+fn is_offer(offer: Option<(Port, Place, &[u8])>, port: Port, place: Place, bytes: &[u8]) -> bool {
     match offer {
         Some((from, to, offered)) => from == port && to == place && offered == bytes,
         None => false,
