@@ -1,10 +1,7 @@
-use Rattle.std.proofs.Common.{◌∙◌, sym}
+use Rattle.std.proofs.Common.{sym}
 use Rattle.trdp_engine.specs.Acting.{slot_at}
 use Rattle.trdp_engine.proofs.HasSession.{in_none}
 use Rattle.trdp_engine.proofs.sessions.has_session.Goals as goal
-
-pub returns-in-Caller : goal.returns-in-Caller
-returns-in-Caller c = rw c.in-Caller.is (c.is_some.ensures ∙ c.session.ensures.variant)
 
 pub returns-in_default : goal.returns-in_default
 returns-in_default c =
