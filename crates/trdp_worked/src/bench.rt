@@ -1,5 +1,6 @@
 //! A node that a test holds in its own hands, and leads by lines.
 
+use crate::same::same;
 use std::alloc::Global;
 use std::process::Abort;
 use std::test::Fail;
@@ -89,7 +90,7 @@ impl Bench {
         lines: &'static str,
     ) -> Result<(), Fail> {
         let text = self.lines(rt.alloc())?;
-        assert_eq!(rt; str::from_utf8(&text)?, lines);
+        same(rt, "the records", str::from_utf8(&text)?, lines);
         self.out.clear();
         Ok(())
     }

@@ -1,7 +1,12 @@
-//! What datagrams cost a node.
+//! What datagrams cost a node, counted exactly.
+//!
+//! A search in the index by comId halves the rows: it compares the middle one, and goes on in the
+//! half before it or behind it. The rows of a comId are found by two searches, for the first of
+//! them, and for the first behind them among the rows from there on.
 
 use crate::bench::Bench;
 use crate::play::CONFIG;
+use crate::same::same;
 use std::alloc::Global;
 use std::test::Fail;
 
@@ -10,6 +15,15 @@ const FIRST: &str = "call 0 subscribe 100 0 0.0.0.0 0.0.0.0 0.0.0.0 0 0 0 zero";
 
 /// The same in the second slot.
 const SECOND: &str = "call 1 subscribe 100 0 0.0.0.0 0.0.0.0 0.0.0.0 0 0 0 zero";
+
+/// A listener to comId 300 in the first slot.
+const LISTENER: &str = "call 0 listen 300 0.0.0.0 0.0.0.0 0.0.0.0 - 0 0";
+
+/// A listener to any comId in the first slot.
+const LISTENER_TO_ANY: &str = "call 0 listen any 0.0.0.0 0.0.0.0 0.0.0.0 - 0 0";
+
+/// The same in the second slot.
+const SECOND_TO_ANY: &str = "call 1 listen any 0.0.0.0 0.0.0.0 0.0.0.0 - 0 0";
 
 /// Pd c=7 com=100 | 0102
 const DATA: &str = "\
@@ -30,36 +44,53 @@ const REPLY: &str = "\
     00000001000000000000000000000000000000000000000000000000000000000000000000000000\
     00000000000000000000000000000000000000000000000000000000000000004488c7480c000000";
 
-/// What a datagram costs a node that has taken lines, in comparisons, filter tests and look-ups of
-/// sessions: at least, and at most.
+/// Mn com=300 | 0d
+const NOTIFICATION: &str = "\
+    md 10.0.0.2:17225 10.0.0.1:17225 \
+    0000000001004d6e0000012c00000000000000000000000100000000000000000000000000000000\
+    00000000000000000000000000000000000000000000000000000000000000000000000000000000\
+    00000000000000000000000000000000000000000000000000000000000000006d6f3c7c0d000000";
+
+/// What a datagram costs a node that has taken lines: comparisons, filter tests and look-ups by
+/// session.
 struct Costing {
+    name: &'static str,
     before: &'static [&'static str],
     datagram: &'static str,
-    least: [u64; 3],
-    most: [u64; 3],
+    counts: [u64; 3],
 }
 
-static COSTINGS: [Costing; 3] = [
-    // Data that a subscription in each slot takes.
+static COSTINGS: [Costing; 4] = [
+    // The first search compares the second row and the first, the other one the second row, behind
+    // which all is looked for. Two objects are asked, and both are handed the telegram.
     Costing {
+        name: "data that a subscription in each slot takes",
         before: &[FIRST, SECOND],
         datagram: DATA,
-        least: [1, 2, 0],
-        most: [u64::MAX, 4, 0],
+        counts: [3, 4, 0],
     },
-    // Data of a comId that nobody has.
+    // Both searches compare the second row and the first.
     Costing {
+        name: "data of a comId that nobody has",
         before: &[FIRST, SECOND, DATA],
         datagram: OTHER_DATA,
-        least: [0, 0, 0],
-        most: [u64::MAX, 0, 0],
+        counts: [4, 0, 0],
     },
-    // A reply, whose session is looked for in each slot.
+    // The rows are those of any, of the first slot and the second, and then that of comId 300,
+    // which comes by 2 comparisons and 1, those of any by 2 and 2. All three are asked, and the
+    // first listener of each slot is handed the telegram.
     Costing {
+        name: "a notification for two listeners of one slot and one of the other",
+        before: &[LISTENER, LISTENER_TO_ANY, SECOND_TO_ANY],
+        datagram: NOTIFICATION,
+        counts: [7, 5, 0],
+    },
+    // Its session is looked for in each slot.
+    Costing {
+        name: "a reply that nobody waits for",
         before: &[],
         datagram: REPLY,
-        least: [0, 0, 2],
-        most: [u64::MAX, 0, 4],
+        counts: [0, 0, 2],
     },
 ];
 
@@ -70,17 +101,10 @@ fn counts_of(alloc: Global, row: &Costing) -> Result<[u64; 3], Fail> {
     Ok(bench.node.counts())
 }
 
-/// Whether no count is greater than in the other.
-fn at_most(counts: &[u64; 3], other: &[u64; 3]) -> bool {
-    counts[0] <= other[0] && counts[1] <= other[1] && counts[2] <= other[2]
-}
-
 #[test]
 fn datagrams_cost_what_they_concern(rt: HostRuntime) -> Result<(), Fail> {
     for row in &COSTINGS {
-        let counts = counts_of(rt.alloc(), row)?;
-        assert!(rt; at_most(&row.least, &counts), "{counts:?}");
-        assert!(rt; at_most(&counts, &row.most), "{counts:?}");
+        same(&rt, row.name, counts_of(rt.alloc(), row)?, row.counts);
     }
     Ok(())
 }

@@ -2,6 +2,7 @@
 
 use crate::bench::Bench;
 use crate::play::CONFIG;
+use crate::same::same;
 use std::alloc::Global;
 use std::process::Abort;
 use std::test::Fail;
@@ -126,9 +127,9 @@ fn put_each(
     bench: &mut Bench,
     rows: &'static [Putting],
 ) -> Result<(), Fail> {
-    for row in rows {
+    for (case, row) in rows.iter().enumerate() {
         let ending = put_counted(bench, rt.alloc(), row)?;
-        assert_eq!(rt; ending, row.ending);
+        same(rt, case, ending, row.ending);
         bench.tells(rt, row.answer)?;
     }
     Ok(())
@@ -205,7 +206,7 @@ fn shows_line(
     let what = What::Answer(Answer::Value(bench.node.peek(0, 1)?));
     let mut text = Vec::new(rt.alloc());
     print_record(&mut text, &Record { slot: 0, what })?;
-    assert_eq!(rt; str::from_utf8(&text)?, line);
+    same(rt, "a look", str::from_utf8(&text)?, line);
     Ok(())
 }
 
@@ -281,11 +282,11 @@ static UNTYPED: [&str; 2] = [
 fn a_look_that_finds_nothing_says_why(rt: HostRuntime) -> Result<(), Fail> {
     let alloc = rt.alloc();
     let bench = Bench::after(alloc, CONFIG, &UNTYPED)?;
-    for row in &UNSEEN {
+    for (case, row) in UNSEEN.iter().enumerate() {
         let peek = bench.node.peek(row.slot, row.handle);
-        assert_eq!(rt; peek.err(), row.peek);
+        same(&rt, case, peek.err(), row.peek);
         let item = bench.node.value_of(alloc, row.slot, row.handle);
-        assert_eq!(rt; item, Err(row.item));
+        same(&rt, case, item.err(), Some(row.item));
     }
     Ok(())
 }
@@ -335,7 +336,8 @@ const HERE: Place = Place {
 fn goes_round(rt: &(impl Abort + AllocGlobal), bench: &mut Bench) -> Result<(), Fail> {
     put_each(rt, bench, &LARGEST)?;
     bench.take(rt.alloc(), PULL)?;
-    assert_eq!(rt; bench.loop_back(rt.alloc(), 0, Protocol::Pd, HERE)?, 1472);
+    let length = bench.loop_back(rt.alloc(), 0, Protocol::Pd, HERE)?;
+    same(rt, "the longest telegram", length, 1472);
     assert!(rt; shows_item(bench, rt.alloc(), 2, 1430)?);
     Ok(())
 }

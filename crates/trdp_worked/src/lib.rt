@@ -44,6 +44,8 @@ mod pulls;
 #[cfg(test)]
 mod repliers;
 #[cfg(test)]
+mod same;
+#[cfg(test)]
 mod slots;
 #[cfg(test)]
 mod subscriptions;

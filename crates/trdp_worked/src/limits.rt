@@ -1,6 +1,7 @@
 //! A node at every limit.
 
 use crate::bench::Bench;
+use crate::same::same;
 use std::alloc::Global;
 use std::process::Abort;
 use std::test::Fail;
@@ -157,10 +158,10 @@ fn fill(rt: &(impl Abort + AllocGlobal), bench: &mut Bench) -> Result<(), Fail> 
 /// Lets everything be due at once: each publisher sends, each subscription is silent, and each
 /// session is over.
 fn let_all_be_due(rt: &(impl Abort + AllocGlobal), bench: &mut Bench) -> Result<(), Fail> {
-    assert_eq!(rt; bench.out.len(), 256);
+    same(rt, "the last opened", bench.out.len(), 256);
     bench.out.clear();
     bench.take(rt.alloc(), "moment 1000")?;
-    assert_eq!(rt; bench.out.len(), 1024);
+    same(rt, "all that is due", bench.out.len(), 1024);
     Ok(())
 }
 

@@ -1,6 +1,7 @@
 //! Lines and their ends.
 
 use crate::play::play;
+use crate::same::same;
 use std::test::Fail;
 use trdp_script::{LineFault, ScriptFault, read_line};
 
@@ -64,8 +65,8 @@ static ENDED: [Ended; 9] = [
 fn scripts_end_at_a_line_with_a_fault(rt: HostRuntime) -> Result<(), Fail> {
     for row in &ENDED {
         let played = play(rt.alloc(), row.script.as_bytes())?;
-        assert_eq!(rt; str::from_utf8(&played.output)?, row.output);
-        assert_eq!(rt; played.ending, row.ending);
+        same(&rt, row.script, str::from_utf8(&played.output)?, row.output);
+        same(&rt, row.script, played.ending, row.ending);
     }
     Ok(())
 }
@@ -118,7 +119,7 @@ fn a_line_is_an_event_or_skipped_or_has_a_fault(rt: HostRuntime) -> Result<(), F
             Ok(line) => Ok(line.event().is_some()),
             Err(fault) => Err(fault),
         };
-        assert_eq!(rt; is_event, row.is_event);
+        same(&rt, row.line, is_event, row.is_event);
     }
     Ok(())
 }

@@ -1,6 +1,7 @@
 //! The longest lines, and those that are too long.
 
 use crate::play::play;
+use crate::same::same;
 use std::alloc::Global;
 use std::test::Fail;
 use trdp_script::{LineFault, ScriptFault};
@@ -389,7 +390,7 @@ fn long_lines(rt: HostRuntime) -> Result<(), Fail> {
     for row in &LONG {
         let played = play(rt.alloc(), &whole(rt.alloc(), &row.script)?)?;
         let output = whole(rt.alloc(), &row.output)?;
-        assert_eq!(rt; played.ending, row.ending, "{}", row.name);
+        same(&rt, row.name, played.ending, row.ending);
         assert!(rt; played.output == output, "{}", row.name);
     }
     Ok(())

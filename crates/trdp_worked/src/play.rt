@@ -1,5 +1,6 @@
 //! Plays scripts over one configuration, and compares what they give.
 
+use crate::same::same;
 use std::alloc::Global;
 use std::process::Abort;
 use std::test::Fail;
@@ -72,8 +73,8 @@ pub fn play_all_on(
 ) -> Result<(), Fail> {
     for row in rows {
         let played = play_on(rt.alloc(), config, row.script.as_bytes())?;
-        assert_eq!(rt; str::from_utf8(&played.output)?, row.output, "{}", row.name);
-        assert_eq!(rt; played.ending, Ok(()), "{}", row.name);
+        same(rt, row.name, str::from_utf8(&played.output)?, row.output);
+        same(rt, row.name, played.ending, Ok(()));
     }
     Ok(())
 }
