@@ -24,3 +24,5 @@ pub mod TypedCalls
 pub mod TypedSlots
 pub mod TypedRuns
 pub mod Ties
+pub mod Tellings
+pub mod Running

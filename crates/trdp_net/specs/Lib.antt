@@ -3,3 +3,5 @@ pub mod Provenance
 pub mod Typed
 pub mod Promises
 pub mod Ties
+pub mod Tellings
+pub mod Running

@@ -32,11 +32,18 @@
 //!   can invent what it likes, since telegrams carry no proof of their origin.
 #![tactic(auto)]
 
+mod fault;
 mod laws;
+mod network;
 mod node;
+mod station;
+mod told;
 
+pub use fault::NetworkFault;
 pub use laws::{
     history_is_the_run, no_early_done, no_invented_confirm, no_invented_reply, no_invented_request,
     no_invented_value, nodes_move_so,
 };
+pub use network::Network;
 pub use node::step;
+pub use told::Sent;

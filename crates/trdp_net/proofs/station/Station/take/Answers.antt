@@ -1,0 +1,23 @@
+use Rattle.std.proofs.Common.{length}
+use Rattle.trdp_engine.specs.Events.{event_model}
+use Rattle.trdp_engine.specs.Alone.{refused_as}
+use Rattle.trdp_net.proofs.Running.{admitted_by, takes}
+use Rattle.trdp_net.proofs.station.Station.take.Goals as goal
+
+pub returns-clause-taken : goal.returns-clause-taken
+returns-clause-taken c =
+    let old = c.self.inside.node in
+    let event = event_model c.args.event.now in
+    let step = c.in_ok-step.ensures in
+    rw (← c.self.view_is) (takes old c.step.new.self c.new-out.result.records event
+    (record { home = c.self.inside.home; slots = c.self.inside.slots; out = c.step.new.out })
+    (record {
+      admitted =
+          admitted_by (refused_as (length old.slots) old.globals event) c.in_ok-step.field-0
+          step.fault;
+      config = step.config;
+      globals = step.globals;
+      count = step.count;
+      slots = step.steps;
+    })
+    step.appends c.new-out.ensures c.self.invariant.0 c.self.invariant.1)

@@ -1,0 +1,9 @@
+use Rattle.std.proofs.Common.{drop}
+use Rattle.trdp_net.specs.Tellings.{sent_in_slot}
+use Rattle.trdp_net.proofs.Tellings.{Remains}
+use Rattle.trdp_net.proofs.told.Told.seek_in_slot.Given as goal
+
+abbrev pub invariant-loop-i : goal.invariant-loop-i
+invariant-loop-i l =
+    Remains (sent_in_slot l.self.home l.slot l.self.out.records) l.which
+    (sent_in_slot l.self.home l.slot (drop l.i l.self.out.records)) l.left
