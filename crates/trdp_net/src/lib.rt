@@ -23,6 +23,15 @@
 //!   `IsAsked`, `IsAnswered`, `IsReplied`, `IsConfirmed`, which names node, slot, handle, call and
 //!   what stood in the call.
 //!
+//! # A network that runs
+//!
+//! [`Network`] holds real nodes. [`Network::take`] lets one of them take a call, a moment, topology
+//! counts or a role, and [`Network::deliver`] brings it a telegram that any of them sent: at once,
+//! later, again, or never. A running network *shows* a network of the definitions: its nodes, what
+//! was sent, and what the latest event told each slot. After each step it shows that network after
+//! the same step, and after a fault it is as it was. So what holds of every run of the definitions
+//! holds of what a user sees here.
+//!
 //! # What is not promised
 //!
 //! - That anything arrives.

@@ -150,7 +150,7 @@ impl Network {
     }
 
     /// How many nodes there are; they are numbered from 0.
-    pub fn len(&self) -> usize
+    pub fn nodes(&self) -> usize
         ensures { result ≡ length self.now.nodes }
     {
         self.stations.len()
