@@ -6,22 +6,21 @@ use Rattle.trdp_net.specs.declared.fault.NetworkFault.{NetworkFault}
 use Rattle.trdp_engine.specs.declared.fault.NodeFault.{NodeFault}
 use Rattle.trdp_engine.specs.Configs.{setup_of}
 use Rattle.trdp_engine.specs.Records.{RecordModel, records_of}
-use Rattle.trdp_engine.specs.Events.{EventModel, MomentIs, TopologyIs, RoleIs, DatagramIs, CallIs}
 use Rattle.trdp_engine.specs.Slots.{SlotState}
 use Rattle.trdp_engine.specs.Alone.{refused_as, plain_effect, FaultIs}
 use Rattle.trdp_engine.specs.NodeStates.{NodeState, Appends}
-use Rattle.trdp_net.specs.Networks.{NetNode, net_node, Sent, Network}
-use Rattle.trdp_net.specs.Networks.{place_of}
-use Rattle.trdp_net.specs.Networks.{moves_unless, moves_at, reaches, delivered}
+use Rattle.trdp_engine.specs.Events.{EventModel, MomentIs, TopologyIs, RoleIs, DatagramIs, CallIs}
+use Rattle.trdp_net.specs.Networks.{NetNode, net_node, Sent, Network, Step, CallAt, MomentAt}
+use Rattle.trdp_net.specs.Networks.{TopologyAt, RoleAt, DeliveryAt, place_of, moves_unless}
+use Rattle.trdp_net.specs.Networks.{moves_at, reaches, delivered, network_step}
+use Rattle.trdp_net.specs.Running.{NetworkState, Shows, Takes, TakesAt, DeliversAt, TellsLatest}
+use Rattle.trdp_net.specs.Running.{event_fault, node_fault, delivery_fault, step_fault}
 use Rattle.trdp_net.specs.Promises.{told_in}
 use Rattle.trdp_net.specs.Ties.{StepsSo, MovesSo}
 use Rattle.trdp_net.specs.Tellings.{IsHome, sent_in, sent_in_slots, all_sent, latest}
-use Rattle.trdp_net.specs.Running.{NetworkState, Shows, Takes, TakesAt, DeliversAt}
-use Rattle.trdp_net.specs.Running.{event_fault, node_fault, delivery_fault}
-use Rattle.trdp_net.specs.declared.fault.NetworkFault.TheVariants.{Elsewhere, Unsent}
+use Rattle.trdp_net.specs.declared.fault.NetworkFault.TheVariants.{Elsewhere}
 use Rattle.trdp_net.specs.declared.told.Told.{Told}
 use Rattle.trdp_net.proofs.Ties.{moves_so}
-use Rattle.trdp_net.specs.Running.{TellsLatest, FollowsIf, is_arrival, own_step_of, own_fault}
 use Rattle.trdp_net.proofs.Tellings.{slots_sent, all_sent_push, latest_push}
 
 -- an event that was taken has no fault
@@ -139,24 +138,6 @@ shows_delivery old nodes k which told d w shows =
         Shows (then_shown old nodes told) (moves_at w k found event)) there
         (shows_move old nodes k event told d.takes w shows)
 
--- an event that a node takes has no fault
-pub taken_has_no_fault : (old nodes : List NetNode) (k : ℕ) (event : EventModel) (told : Told)
-    → TakesAt old nodes k event told → event_fault (slice_get old k) event ≡ None
-taken_has_no_fault old nodes k event told t =
-    ap (λ (found : Option NetNode). event_fault found event) t.before_is
-    ∙ ap node_fault t.takes.admitted
-
-pub delivery_has_no_fault : (old nodes : List NetNode) (k : ℕ) (x : Option Sent) (told : Told)
-    → DeliversAt old nodes k x told → delivery_fault (slice_get old k) x ≡ None
-delivery_has_no_fault old nodes k x told d =
-    ap (delivery_fault (slice_get old k)) d.x_is
-    ∙ (ap (λ (found : Option NetNode). delivery_fault found (Some d.x)) d.takes.before_is
-    ∙ (ap (λ (b : Bool). if b
-    then event_fault (Some d.takes.before)
-    (DatagramIs d.x.protocol d.x.from d.x.to d.x.bytes)
-    else Some Elsewhere) d.reached
-    ∙ ap node_fault d.takes.takes.admitted))
-
 -- what the events show with one more
 pub pushed : (old : NetworkState) (nodes : List NetNode) (events events_then : List Told) (told : Told)
     (w : Network) → events_then ≡ events ++ told ∷ [] → old.sent ≡ all_sent events
@@ -170,33 +151,6 @@ pushed old nodes events events_then told w is same shows = record {
   told = subst (λ (records : List RecordModel). TellsLatest w.history records)
       (sym (ap latest is ∙ latest_push events told)) shows.told;
 }
-
--- an event that is no arrival is a step of its own
-pub own_step : (old new : NetworkState) (k : ℕ) (event : EventModel) → is_arrival event ≡ false
-    → ((w : Network) → Shows old w → Shows new (moves_at w k (slice_get w.nodes k) event))
-    → FollowsIf old (own_step_of k event) new
-own_step old new k (MomentIs t) is moved = moved
-own_step old new k (TopologyIs topo) is moved = moved
-own_step old new k (RoleIs group leader) is moved = moved
-own_step old new k (CallIs slot call) is moved = moved
-own_step old new k (DatagramIs protocol src dst bytes) is moved = absurd (cc is)
-
-pub own_step_fault : (old : NetworkState) (k : ℕ) (event : EventModel)
-    → is_arrival event ≡ false
-    → event_fault (slice_get old.nodes k) event ≡ own_fault old (own_step_of k event)
-own_step_fault old k (MomentIs t) is = refl
-own_step_fault old k (TopologyIs topo) is = refl
-own_step_fault old k (RoleIs group leader) is = refl
-own_step_fault old k (CallIs slot call) is = refl
-own_step_fault old k (DatagramIs protocol src dst bytes) is = absurd (cc is)
-
-pub arrival_fault : (old : NetworkState) (k : ℕ) (event : EventModel) → is_arrival event ≡ true
-    → own_fault old (own_step_of k event) ≡ Some Unsent
-arrival_fault old k (MomentIs t) is = absurd (cc is)
-arrival_fault old k (TopologyIs topo) is = absurd (cc is)
-arrival_fault old k (RoleIs group leader) is = absurd (cc is)
-arrival_fault old k (CallIs slot call) is = absurd (cc is)
-arrival_fault old k (DatagramIs protocol src dst bytes) is = refl
 
 -- a telegram that the node takes, and that reaches it, is delivered
 pub delivers_so : (result : Result Told NetworkFault) (old new : List NetNode) (k : ℕ) (x : Sent)
@@ -216,3 +170,59 @@ delivers_so (Ok told) old new k x seen at reached taken =
       reached = subst (λ (node : NetNode). reaches x.to (place_of x.protocol node.setup) ≡ true)
           e reached;
     }
+
+-- an event that a node refuses changes nothing
+unless_kept : (refusal : Option NodeFault) (w : Network) (k : ℕ) (node : NetNode)
+    (event : EventModel) (fault : NetworkFault) → node_fault refusal ≡ Some fault
+    → moves_unless refusal w k node event ≡ w
+unless_kept None w k node event fault is = absurd (cc is)
+unless_kept (Some refusal) w k node event fault is = refl
+
+at_kept : (w : Network) (k : ℕ) (found : Option NetNode) (event : EventModel)
+    (fault : NetworkFault) → event_fault found event ≡ Some fault
+    → moves_at w k found event ≡ w
+at_kept w k None event fault is = refl
+at_kept w k (Some node) event fault is =
+    unless_kept (refused_as (length node.slots) node.globals event) w k node event fault is
+
+-- the same of a delivery
+delivery_kept : (w : Network) (k : ℕ) (found : Option NetNode) (x : Option Sent)
+    (fault : NetworkFault) → delivery_fault found x ≡ Some fault → delivered w k found x ≡ w
+delivery_kept w k None x fault is = refl
+delivery_kept w k (Some node) None fault is = refl
+delivery_kept w k (Some node) (Some x) fault is =
+    either (reaches x.to (place_of x.protocol node.setup)) is
+  where
+    event : EventModel
+    event = DatagramIs x.protocol x.from x.to x.bytes
+
+    either : (b : Bool)
+        → (if b then event_fault (Some node) event else Some Elsewhere) ≡ Some fault
+        → (if b then moves_at w k (Some node) event else w) ≡ w
+    either true here = at_kept w k (Some node) event fault here
+    either false here = refl
+
+own_kept : (old : NetworkState) (w : Network) (k : ℕ) (event : EventModel)
+    (fault : NetworkFault) → Shows old w
+    → event_fault (slice_get old.nodes k) event ≡ Some fault
+    → moves_at w k (slice_get w.nodes k) event ≡ w
+own_kept old w k event fault shows is =
+    at_kept w k (slice_get w.nodes k) event fault
+    (ap (λ (nodes : List NetNode). event_fault (slice_get nodes k) event) (sym shows.nodes) ∙ is)
+
+-- a step with a fault changes nothing
+pub step_kept : (old : NetworkState) (w : Network) (step : Step) (fault : NetworkFault)
+    → Shows old w → step_fault old step ≡ Some fault → network_step w step ≡ w
+step_kept old w (CallAt k s call) fault shows is =
+    own_kept old w k (CallIs s call) fault shows is
+step_kept old w (MomentAt k t) fault shows is = own_kept old w k (MomentIs t) fault shows is
+step_kept old w (TopologyAt k topo) fault shows is =
+    own_kept old w k (TopologyIs topo) fault shows is
+step_kept old w (RoleAt k group leader) fault shows is =
+    own_kept old w k (RoleIs group leader) fault shows is
+step_kept old w (DeliveryAt k which) fault shows is =
+    delivery_kept w k (slice_get w.nodes k) (slice_get w.sent which) fault
+    (ap (λ (nodes : List NetNode). delivery_fault (slice_get nodes k) (slice_get w.sent which))
+    (sym shows.nodes)
+    ∙ (ap (λ (sent : List Sent). delivery_fault (slice_get old.nodes k) (slice_get sent which))
+    (sym shows.sent) ∙ is))

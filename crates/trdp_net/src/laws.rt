@@ -5,7 +5,7 @@
 //! a running node have it; `IsFresh`, no two granted Requests carry the same identifier;
 //! `HaveOwnPlaces`, no two nodes were given the same place for message data.
 
-ghost use Rattle.std.specs.Prelude.{◌≡◌, List};
+ghost use Rattle.std.specs.Prelude.{◌≡◌, List, Some};
 ghost use Rattle.trdp_dataset.specs.Configs.{ConfigModel};
 ghost use Rattle.trdp_engine.specs.declared.record.Protocol.TheVariants.{Md};
 ghost use Rattle.trdp_engine.specs.Records.{RecordModel};
@@ -18,6 +18,9 @@ ghost use Rattle.trdp_net.specs.Promises.{history, AreSingle, IsFresh, ValuesAre
 ghost use Rattle.trdp_net.specs.Promises.{RepliesAreMade, ConfirmsAreMade, DoneIsDue};
 ghost use Rattle.trdp_net.specs.Promises.{NoticesAreMade, RequestsAreMade, AreDistinct};
 ghost use Rattle.trdp_net.specs.Promises.{all_replied};
+ghost use Rattle.trdp_net.specs.Networks.{Network, network_step};
+ghost use Rattle.trdp_net.specs.Running.{NetworkState, Shows, step_fault};
+ghost use Rattle.trdp_net.specs.declared.fault.NetworkFault.{NetworkFault};
 ghost use Rattle.trdp_net.specs.Ties.{IsStep, IsAtHome, HaveOwnPlaces, StepsSo, MovesSo};
 
 /// A subscription whose value is valid shows bytes that a granted Put gave to a publisher of its
@@ -102,4 +105,11 @@ pub fn nodes_move_so()
     ensures { (old new : NodeState) (records records_then : List RecordModel) (event : EventModel)
         → StepsSo old new records records_then event
         → MovesSo old new records records_then event }
+{}
+
+/// A step that has a fault, as [`crate::Network`] answers it, changes nothing in the network that
+/// is shown.
+pub fn faults_change_nothing()
+    ensures { (old : NetworkState) (w : Network) (step : Step) (fault : NetworkFault)
+        → Shows old w → step_fault old step ≡ Some fault → network_step w step ≡ w }
 {}

@@ -50,8 +50,8 @@ mod told;
 
 pub use fault::NetworkFault;
 pub use laws::{
-    history_is_the_run, no_early_done, no_invented_confirm, no_invented_reply, no_invented_request,
-    no_invented_value, nodes_move_so,
+    faults_change_nothing, history_is_the_run, no_early_done, no_invented_confirm,
+    no_invented_reply, no_invented_request, no_invented_value, nodes_move_so,
 };
 pub use network::Network;
 pub use node::step;

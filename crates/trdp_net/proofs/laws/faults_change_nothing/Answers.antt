@@ -1,0 +1,5 @@
+use Rattle.trdp_net.proofs.Running.{step_kept}
+use Rattle.trdp_net.proofs.laws.faults_change_nothing.Goals as goal
+
+pub returns : goal.returns
+returns c = step_kept
