@@ -54,3 +54,4 @@ pub mod Fitting
 pub mod FittingEvents
 pub mod FittingActs
 pub mod Showing
+pub mod Inert

@@ -31,3 +31,4 @@ pub mod OfKind
 pub mod Timed
 pub mod Sought
 pub mod Costs
+pub mod Inert

@@ -1,6 +1,9 @@
-//! What a slot gets depends on what it sees alone.
+//! What a slot gets depends on what it sees alone, and what is no telegram does nothing.
 
 ghost use Rattle.std.specs.Prelude.{◌≡◌, ℕ, List, None, Some, true, slice_get, map, take};
+ghost use Rattle.trdp_base.specs.declared.place.Place.{Place};
+ghost use Rattle.trdp_head.specs.declared.pd.PdKind.TheVariants.{Error};
+ghost use Rattle.trdp_head.specs.PdTelegrams.{PdTelegram, pd_telegram_of};
 ghost use Rattle.trdp_filter.specs.declared.globals.Globals.{Globals};
 ghost use Rattle.trdp_filter.specs.Telegrams.{TelegramModel};
 ghost use Rattle.trdp_table.specs.declared.any_object.AnyObject.{AnyObject};
@@ -8,13 +11,16 @@ ghost use Rattle.trdp_table.specs.declared.kind.Kind.TheVariants.{Listener as Li
 ghost use Rattle.trdp_table.specs.Kinds.{kind_of};
 ghost use Rattle.trdp_table.specs.Objects.{is_addressed};
 ghost use Rattle.trdp_engine.specs.Configs.{NodeSetup, setup_of};
-ghost use Rattle.trdp_engine.specs.Datagrams.{is_request};
-ghost use Rattle.trdp_engine.specs.Events.{EventModel, event_model};
+ghost use Rattle.trdp_engine.specs.declared.record.Protocol.{Protocol};
+ghost use Rattle.trdp_engine.specs.declared.record.Protocol.TheVariants.{Pd};
+ghost use Rattle.trdp_engine.specs.Datagrams.{is_request, telegram_of};
+ghost use Rattle.trdp_engine.specs.Events.{EventModel, DatagramIs, event_model};
 ghost use Rattle.trdp_engine.specs.Slots.{SlotState};
 ghost use Rattle.trdp_engine.specs.Alone.{refused_as, plain_effect, slot_after, records_after};
 ghost use Rattle.trdp_engine.specs.Alone.{view, alone_in_view};
 ghost use Rattle.trdp_engine.specs.NodeStates.{GetsTheSame};
 ghost use Rattle.trdp_engine.specs.NodeRuns.{HasRun};
+ghost use Rattle.trdp_engine.specs.Inert.{IsInert};
 
 use crate::event::Event;
 use crate::node::Node;
@@ -49,6 +55,21 @@ pub fn requests_are_for_listeners()
     ensures { (object : AnyObject) (telegram : TelegramModel) (globals : Globals)
         → is_request telegram ≡ true → is_addressed object telegram globals ≡ true
         → kind_of object ≡ Listening }
+{}
+
+/// A datagram that is no telegram of its port's protocol is inert: the node takes it, no slot and
+/// no globals change, no slot gets a record, and memory is never wanting.
+pub fn malformed_datagrams_are_inert()
+    ensures { (protocol : Protocol) (src dst : Place) (bytes : List ℕ)
+        → telegram_of protocol src dst bytes ≡ None
+        → IsInert (DatagramIs protocol src dst bytes) }
+{}
+
+/// A process data telegram that tells of an error (`Pe`) is for no object, and as inert.
+pub fn error_telegrams_are_inert()
+    ensures { (src dst : Place) (bytes : List ℕ) (telegram : PdTelegram)
+        → pd_telegram_of bytes ≡ Some telegram → telegram.head.kind ≡ Error
+        → IsInert (DatagramIs Pd src dst bytes) }
 {}
 
 /// Runs two nodes over two lists of events, and answers how many each took. Of each node it says

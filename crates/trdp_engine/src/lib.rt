@@ -54,7 +54,10 @@ mod value;
 
 pub use event::{Call, Event};
 pub use fault::{NodeFault, Refusal};
-pub use laws::{requests_are_for_listeners, run_both, same_view, view_drops_nothing};
+pub use laws::{
+    error_telegrams_are_inert, malformed_datagrams_are_inert, requests_are_for_listeners, run_both,
+    same_view, view_drops_nothing,
+};
 pub use node::Node;
 pub use outbox::Outbox;
 pub use peek::PeekFault;

@@ -3,3 +3,4 @@ pub mod FrameCheck
 pub mod Pieces
 pub mod LookUp
 pub mod Zeros
+pub mod Damage

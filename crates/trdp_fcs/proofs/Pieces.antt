@@ -26,7 +26,7 @@ bits_from_bottom-low (suc k) high low =
     rw (block_odd high k low, block_half high k low, bits_from_bottom-low k high (low / 2)) refl
 
 -- the lowest byte of a number
-abbrev low : ℕ → ℕ
+abbrev pub low : ℕ → ℕ
 low x = x % 256
 
 -- only the lowest byte of each number counts
@@ -40,7 +40,7 @@ message_bits-low (x ∷ xs) =
     ap (λ (bs : List ℕ). bs ++ message_bits (map low xs)) same
     ∙ ap (λ (bs : List ℕ). bits_from_bottom 8 x ++ bs) (message_bits-low xs)
 
-low-is_small : (xs : List ℕ) → AreSmall 8 (map low xs)
+pub low-is_small : (xs : List ℕ) → AreSmall 8 (map low xs)
 low-is_small [] = tt
 low-is_small (x ∷ xs) = (omega arith, low-is_small xs)
 
@@ -66,14 +66,14 @@ unfolding frame_check_of
 frame_check_of-low xs = rw (length-map xs low, message_bits-low xs) refl
 
 -- the register past the lowest bytes
-abbrev register : List ℕ → ℕ
+abbrev pub register : List ℕ → ℕ
 register xs = past (map low xs) 4294967295
 
-register-lt : (xs : List ℕ) → register xs < 2 ^ 32
+pub register-lt : (xs : List ℕ) → register xs < 2 ^ 32
 register-lt xs = rw (past-is (map low xs) 4294967295) (after-fits 8
     24 32 0xEDB88320 refl (lit< tt) (map low xs) 4294967295 (lit< tt) (low-is_small xs))
 
-register-inverted : (xs : List ℕ) → 4294967295 - register xs ≡ frame_check_of xs
+pub register-inverted : (xs : List ℕ) → 4294967295 - register xs ≡ frame_check_of xs
 register-inverted xs =
     ap (λ (r : ℕ). 4294967295 - r) (past-is (map low xs) 4294967295)
     ∙ whole (map low xs) (low-is_small xs)

@@ -1,4 +1,5 @@
 pub mod Bits
+pub mod Damage
 pub mod Division
 pub mod FrameCheck
 pub mod Register

@@ -8,10 +8,12 @@
 ghost use Rattle.std.specs.Prelude.{◌≡◌};
 ghost use Rattle.trdp_fcs.specs.FrameCheck.{frame_check_of};
 
+mod laws;
 mod register;
 mod running;
 mod tables;
 
+pub use laws::one_byte_changes_the_check;
 pub use running::Running;
 
 /// The frame check sequence of IEEE 802.3 (CRC-32) of the bytes: that of no bytes is 0, that of

@@ -7,3 +7,4 @@ pub mod PdBytesFacts
 pub mod PdTelegramFacts
 pub mod MdBytesFacts
 pub mod MdTelegramFacts
+pub mod DamageFacts

@@ -18,12 +18,12 @@ cond-skip : {X : Type 0} (b : Bool) (x y : X) → b ≡ false → cond b x y ≡
 cond-skip b x y h = rw h refl
 
 -- no fault comes of a test that holds
-cond-no_fault : {X : Type 0} (b : Bool) (x : X) (rest : Option X)
+pub cond-no_fault : {X : Type 0} (b : Bool) (x : X) (rest : Option X)
     → cond b (Some x) rest ≡ None → (b ≡ false) × (rest ≡ None)
 cond-no_fault true x rest h = absurd cc
 cond-no_fault false x rest h = (refl, h)
 
-not-false : (b : Bool) → not b ≡ false → b ≡ true
+pub not-false : (b : Bool) → not b ≡ false → b ≡ true
 not-false true h = refl
 not-false false h = absurd cc
 

@@ -8,12 +8,14 @@
 mod check;
 mod fault;
 mod fields;
+mod laws;
 mod md;
 mod payload;
 mod pd;
 mod prefix;
 
 pub use fault::HeadFault;
+pub use laws::one_damaged_byte_is_found;
 pub use md::reading::read_md;
 pub use md::writing::{md_length, push_md, write_md};
 pub use md::{MD_HEAD, MD_PAYLOAD_MAX, MD_TELEGRAM_MAX, MdHead, MdKind, MdView};
