@@ -26,3 +26,7 @@ pub mod TypedRuns
 pub mod Ties
 pub mod Tellings
 pub mod Running
+pub mod Computing
+pub mod Turns
+pub mod ExamplePremises
+pub mod ExampleRun

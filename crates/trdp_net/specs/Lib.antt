@@ -5,3 +5,5 @@ pub mod Promises
 pub mod Ties
 pub mod Tellings
 pub mod Running
+pub mod ExampleTerms
+pub mod Example

@@ -32,6 +32,13 @@
 //! the same step, and after a fault it is as it was. So what holds of every run of the definitions
 //! holds of what a user sees here.
 //!
+//! # An example
+//!
+//! [`the_promises_are_not_empty`] computes a run of two nodes by the definitions (specs/Example.antt
+//! has it, each step with what it tells): the premises of the promises hold in it, and a value is
+//! shown as valid, a listener is notified and asked, a caller is told of a query and that it is
+//! done, and a replier of its confirmation.
+//!
 //! # What is not promised
 //!
 //! - That anything arrives.
@@ -41,6 +48,7 @@
 //!   can invent what it likes, since telegrams carry no proof of their origin.
 #![tactic(auto)]
 
+mod example;
 mod fault;
 mod laws;
 mod network;
@@ -48,6 +56,7 @@ mod node;
 mod station;
 mod told;
 
+pub use example::the_promises_are_not_empty;
 pub use fault::NetworkFault;
 pub use laws::{
     faults_change_nothing, history_is_the_run, no_early_done, no_invented_confirm,
