@@ -1,5 +1,5 @@
 -- The premises of the promises hold in the example.
-use Rattle.std.proofs.Common.{◌≡◌, ℕ, zero, suc, List, [], ◌∷◌, Option, None, Some, Bool}
+use Rattle.std.proofs.Common.{◌≡◌, ℕ, zero, suc, List, [], ◌∷◌, ◌++◌, Option, None, Some, Bool}
 use Rattle.std.proofs.Common.{true, false, ◌&&◌, refl, ap, sym, ◌∙◌, subst, inl, inr, arith, lit<}
 use Rattle.std.proofs.Common.{lit≤}
 use Rattle.std.specs.Prelude.{◌==◌, ◌≢◌, not, All, ◌||◌}
@@ -11,17 +11,20 @@ use Rattle.trdp_engine.specs.Events.{EventModel, RequestCall, CallIs}
 use Rattle.trdp_net.specs.Networks.{Move}
 use Rattle.trdp_net.specs.Provenance.{Ever, Always}
 use Rattle.trdp_net.specs.Typed.{IsTopo, IsPublisherTerms, IsNotifyTerms, IsCallerTerms}
-use Rattle.trdp_net.specs.Typed.{AreTypedSteps}
+use Rattle.trdp_net.specs.Typed.{IsTypedStep, AreTypedSteps}
 use Rattle.trdp_net.specs.Promises.{AreSingle, Requests, IsFresh}
 use Rattle.trdp_net.specs.Ties.{HaveOwnPlaces}
 use Rattle.trdp_net.specs.ExampleTerms.{example_configs, any_topo, publisher_terms}
 use Rattle.trdp_net.specs.ExampleTerms.{door, brake, notify_terms, caller_terms}
-use Rattle.trdp_net.specs.Example.{example_steps}
+use Rattle.trdp_net.specs.Example.{value_rows, notice_rows, request_rows, query_rows}
+use Rattle.trdp_net.specs.Example.{confirm_rows, example_steps, steps_of}
+use Rattle.trdp_net.proofs.Parts.{each_append}
 
 -- no node's address is a group address
 pub single : AreSingle example_configs
 single = (refl, (refl, tt))
 
+-- the address of a node that is there
 address_in : Option ConfigModel → ℕ
 address_in None = 0
 address_in (Some config) = config.address
@@ -88,57 +91,31 @@ caller_is = record {
   dest_uri = brake_is;
 }
 
--- each number, URI and identifier in the calls is one that its field holds
+-- each number, URI and identifier in the calls is one that its field holds: from the query on,
+-- from the request on, from the notification on, and all
+typed_last : AreTypedSteps (steps_of (query_rows ++ confirm_rows))
+typed_last =
+    each_append IsTypedStep (steps_of query_rows) (steps_of confirm_rows)
+    ((lit< tt, record { sfits = lit< tt }, lit< tt), (tt, (tt, tt)))
+    (record { sfits = lit< tt }, (tt, tt))
+
+typed_requests : AreTypedSteps (steps_of (request_rows ++ query_rows ++ confirm_rows))
+typed_requests =
+    each_append IsTypedStep (steps_of request_rows) (steps_of (query_rows ++ confirm_rows))
+    (caller_is, (tt, (tt, tt))) typed_last
+
+typed_notices :
+    AreTypedSteps (steps_of (notice_rows ++ request_rows ++ query_rows ++ confirm_rows))
+typed_notices =
+    each_append IsTypedStep (steps_of notice_rows)
+    (steps_of (request_rows ++ query_rows ++ confirm_rows)) (tt, (notify_is, (tt, tt)))
+    typed_requests
+
 pub typed_steps : AreTypedSteps example_steps
-typed_steps = (
-  publisher_is,
-  (
-    tt,
-    (
-      tt,
-      (
-        tt,
-        (
-          tt,
-          (
-            tt,
-            (
-              tt,
-              (
-                notify_is,
-                (
-                  tt,
-                  (
-                    caller_is,
-                    (
-                      tt,
-                      (
-                        tt,
-                        (
-                          (lit< tt, record { sfits = lit< tt }, lit< tt),
-                          (
-                            tt,
-                            (
-                              tt,
-                              (
-                                record { sfits = lit< tt },
-                                (tt, tt),
-                              ),
-                            ),
-                          ),
-                        ),
-                      ),
-                    ),
-                  ),
-                ),
-              ),
-            ),
-          ),
-        ),
-      ),
-    ),
-  ),
-)
+typed_steps =
+    each_append IsTypedStep (steps_of value_rows)
+    (steps_of (notice_rows ++ request_rows ++ query_rows ++ confirm_rows))
+    (publisher_is, (tt, (tt, (tt, (tt, (tt, tt)))))) typed_notices
 
 -- the event is a request
 abbrev pub is_request : EventModel → Bool

@@ -22,6 +22,7 @@ in_append x (y ∷ xs) ys (inl is) = inl (inl is)
 in_append x (y ∷ xs) ys (inr is) =
     elim (in_append x xs ys is) [ inl first ↦ inl (inr first) | inr second ↦ inr second ]
 
+-- what was told at a move was given there
 given : (m : Move) (found : Option SlotState) (told : List Content) (content : Content)
     → slice_get m.before.slots 0 ≡ found → told_in 0 m found ≡ told → In content told
     → Gives m.node 0 content m

@@ -82,9 +82,12 @@ confirm_rows =
 abbrev pub example_rows : List Row
 example_rows = value_rows ++ notice_rows ++ request_rows ++ query_rows ++ confirm_rows
 
--- the steps alone
+-- the steps of rows
+abbrev pub steps_of : List Row → List Step
+steps_of rows = map (λ row. row.step) rows
+
 abbrev pub example_steps : List Step
-example_steps = map (λ row. row.step) example_rows
+example_steps = steps_of example_rows
 
 -- the network after them, and its history
 abbrev pub example_network : Network
