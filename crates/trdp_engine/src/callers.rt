@@ -1,17 +1,18 @@
 //! Those that ask: how a request is sent, what is told of its answers, and how one is confirmed.
 
-ghost use Rattle.std.specs.Prelude.{◌≡◌, ◌+◌, ◌<◌, ◌≤◌, ◌++◌, ◌∷◌, [], length};
+ghost use Rattle.std.specs.Prelude.{◌≡◌, ◌+◌, ◌<◌, ◌≤◌, ◌++◌, ◌∷◌, [], length, OnOk, OnErr, true};
 ghost use Rattle.trdp_base.specs.Moments.{last_moment};
 ghost use Rattle.trdp_filter.specs.Telegrams.{telegram_model, IsWithinLimit};
 ghost use Rattle.trdp_md.specs.Callers.{called as new_caller};
 ghost use Rattle.trdp_table.specs.declared.any_object.AnyObject.TheVariants.{Caller as Asking};
 ghost use Rattle.trdp_table.specs.Kinds.{kind_of};
 ghost use Rattle.trdp_engine.specs.Records.{labelled, reply_model};
+ghost use Rattle.trdp_engine.specs.Events.{RequestCall};
 ghost use Rattle.trdp_engine.specs.Openings.{opened_with};
 ghost use Rattle.trdp_engine.specs.Requests.{request_refusal, request_sent};
 ghost use Rattle.trdp_engine.specs.Replies.{confirm_refusal, confirms_unless, confirms};
 ghost use Rattle.trdp_engine.specs.Replies.{reply_of, replied};
-ghost use Rattle.trdp_engine.specs.Rooms.{HasRoom, message_room, confirm_room};
+ghost use Rattle.trdp_engine.specs.Rooms.{HasRoom, message_room, confirm_room, makes_buffer};
 ghost use Rattle.trdp_engine.specs.Acting.{slot_at, Becomes};
 ghost use Rattle.trdp_engine.specs.Asked.{left_of};
 ghost use Rattle.trdp_engine.specs.Indexed.{com_of};
@@ -26,6 +27,7 @@ use crate::record::Reply;
 use crate::row::{Form, PlainAnswer};
 use crate::sessions::has_session;
 use crate::store::Store;
+use std::alloc::{AllocError, Global};
 use trdp_base::Place;
 use trdp_filter::{Globals, Telegram, topo_valid};
 use trdp_head::{MD_PAYLOAD_MAX, MdView};
@@ -68,32 +70,42 @@ fn request_refusal(
     opening_refusal(store, s, Kind::Caller)
 }
 
-/// Makes a caller in slot `s`, and records the answer and its request. It needs no memory.
+/// Makes a caller in slot `s`, and records the answer and its request. Every refusal is found
+/// first, then memory is taken, and then the slot changes.
+///
+/// # Errors
+/// Want of memory for the caller; nothing has changed. A caller keeps no bytes yet, so there is
+/// none.
 pub fn request(
     store: &mut Store,
     s: u16,
+    _alloc: Global,
     terms: &CallerTerms,
     payload: &[u8],
     globals: &Globals,
     out: &mut Outbox,
-)
+) -> Result<(), AllocError>
     requires slot { s < length store.old }
     requires now { globals.now.now ≤ last_moment }
     requires room { HasRoom out.old (message_room (length payload.now)) }
-    ensures { Becomes s
+    ensures becomes { OnOk result (Becomes s
         (opened_with
         (request_refusal (slot_at s store.old) globals.entry.now terms.now payload.now)
         (slot_at s store.old) (Asking (new_caller terms.now globals.entry.now.now))
-        (request_sent terms.now payload.now ∷ [])) store.old store.new out.old out.new }
+        (request_sent terms.now payload.now ∷ [])) store.old store.new out.old out.new) }
+    ensures kept { OnErr result (store.new ≡ store.old) }
+    ensures same { OnErr result (out.new ≡ out.old) }
+    ensures makes { OnErr result (makes_buffer (RequestCall terms.now payload.now) ≡ true) }
 {
     if let Some(refusal) = request_refusal(store, s, terms, payload, globals) {
         out.push_plain_answer(s, PlainAnswer::Refused(refusal));
-        return;
+        return Ok(());
     }
     let caller = Caller::new(terms, globals.now);
     let answer = open(store, s, AnyObject::Caller(caller), &mut Counts::none());
     out.push_plain_answer(s, answer);
     out.push_md(s, terms.to, &request_head(terms), payload);
+    Ok(())
 }
 
 /// Why a caller doesn't confirm the query of that place.

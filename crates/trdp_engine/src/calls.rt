@@ -126,7 +126,7 @@ fn serve_slot(
             return Ok(());
         }
         Call::Request { terms, payload } => {
-            request(store, s, &terms, payload, globals, out);
+            request(store, s, alloc, &terms, payload, globals, out)?;
             return Ok(());
         }
         _ => return Ok(()),

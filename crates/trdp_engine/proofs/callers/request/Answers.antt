@@ -3,16 +3,16 @@ use Rattle.trdp_engine.proofs.Requesting.{sends_request}
 use Rattle.trdp_engine.proofs.Tables.{slots_kept}
 use Rattle.trdp_engine.proofs.callers.request.Goals as goal
 
-pub returns-in-Some : goal.returns-in-Some
-returns-in-Some c =
+pub returns-in-Some-clause-becomes : goal.returns-in-Some-clause-becomes
+returns-in-Some-clause-becomes c =
     rw (← c.in-Some.ensures)
     (record {
       slots = sym (slots_kept c.args.store.now c.args.s c.requires.slot);
       records = c.push_plain_answer.ensures.records;
     })
 
-pub returns : goal.returns
-returns c =
+pub returns-clause-becomes : goal.returns-clause-becomes
+returns-clause-becomes c =
     sends_request c.args.store.now c.open-answer.new.store c.args.s c.args.globals.now
     c.args.terms.now c.args.payload.now c.new-caller.result _ c.request_head.result
     c.args.out.now c.push_plain_answer-2.new.self c.push_md.new.self (sym c.in_default.ensures)
