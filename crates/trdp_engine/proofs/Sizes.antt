@@ -13,7 +13,7 @@ use Rattle.trdp_table.specs.declared.kind.Kind.TheVariants.{Listener, Caller, Re
 use Rattle.trdp_table.specs.Tables.{TableState, all_quotas, room_of, slot_in}
 use Rattle.trdp_table.specs.TableLaws.{AreLimited, IsSlotTable, IsTable}
 use Rattle.trdp_timers.specs.declared.order.Order.{Order}
-use Rattle.trdp_engine.specs.Rooms.{kind_room}
+use Rattle.trdp_engine.specs.Rooms.{kind_room, room_rows_limit, room_bytes_limit}
 use Rattle.trdp_engine.specs.Timed.{AllAtMost, IsSchedule, is_same_due, IsOver}
 
 zeros_few : (most n : ℕ) → AllAtMost most (replicate n 0)
@@ -26,11 +26,11 @@ set_few most [] k n all le = tt
 set_few most (x ∷ ns) zero n all le = (le, all.1)
 set_few most (x ∷ ns) (suc k) n all le = (all.0, set_few most ns k n all.1 le)
 
-few_rows : (ns : List ℕ) → AllAtMost 2 ns → sum ns ≤ length ns * 2
+few_rows : (ns : List ℕ) → AllAtMost room_rows_limit ns → sum ns ≤ length ns * room_rows_limit
 few_rows [] all = omega arith
 few_rows (n ∷ ns) all = omega (arith, all.0, few_rows ns all.1, sum_by-cons (λ (x : ℕ). x) n ns)
 
-few_bytes : (ns : List ℕ) → AllAtMost 65388 ns → sum ns ≤ length ns * 65388
+few_bytes : (ns : List ℕ) → AllAtMost room_bytes_limit ns → sum ns ≤ length ns * room_bytes_limit
 few_bytes [] all = omega arith
 few_bytes (n ∷ ns) all = omega (arith, all.0, few_bytes ns all.1, sum_by-cons (λ (x : ℕ). x) n ns)
 
@@ -40,19 +40,19 @@ pub schedule_new : (orders : List (Option Order)) (rows bytes : List ℕ) (room 
 schedule_new orders rows bytes room le count rows_are bytes_are = record {
   rows_count = omega (arith, count, ap length rows_are, length-replicate {A = ℕ} room 0);
   bytes_count = omega (arith, count, ap length bytes_are, length-replicate {A = ℕ} room 0);
-  few_rows = rw rows_are (zeros_few 2 room);
-  few_bytes = rw bytes_are (zeros_few 65388 room);
+  few_rows = rw rows_are (zeros_few room_rows_limit room);
+  few_bytes = rw bytes_are (zeros_few room_bytes_limit room);
   room = omega (arith, le, count);
 }
 
 pub schedule_admits : (orders : List (Option Order)) (rows bytes : List ℕ) (key r b : ℕ)
-    → IsSchedule orders rows bytes → r ≤ 2 → b ≤ 65388
+    → IsSchedule orders rows bytes → r ≤ room_rows_limit → b ≤ room_bytes_limit
     → IsSchedule orders (set rows key r) (set bytes key b)
 schedule_admits orders rows bytes key r b is few_r few_b = record {
   rows_count = length-set rows key r ∙ is.rows_count;
   bytes_count = length-set bytes key b ∙ is.bytes_count;
-  few_rows = set_few 2 rows key r is.few_rows few_r;
-  few_bytes = set_few 65388 bytes key b is.few_bytes few_b;
+  few_rows = set_few room_rows_limit rows key r is.few_rows few_r;
+  few_bytes = set_few room_bytes_limit bytes key b is.few_bytes few_b;
   room = is.room;
 }
 
@@ -76,8 +76,8 @@ pub bytes_fit : (orders : List (Option Order)) (rows bytes : List ℕ)
 bytes_fit orders rows bytes is =
     omega (arith, few_bytes bytes is.few_bytes, is.bytes_count, is.room)
 
--- the room of an object is that of few records
-pub kind_rows : (kind : Kind) → (kind_room kind).rows ≤ 2
+-- the room of an object is within the limits of one object
+pub kind_rows : (kind : Kind) → (kind_room kind).rows ≤ room_rows_limit
 kind_rows Publisher = omega arith
 kind_rows Subscription = omega arith
 kind_rows Requester = omega arith
@@ -85,7 +85,7 @@ kind_rows Listener = omega arith
 kind_rows Caller = omega arith
 kind_rows Replier = omega arith
 
-pub kind_bytes : (kind : Kind) → (kind_room kind).bytes ≤ 65388
+pub kind_bytes : (kind : Kind) → (kind_room kind).bytes ≤ room_bytes_limit
 kind_bytes Publisher = omega arith
 kind_bytes Subscription = omega arith
 kind_bytes Requester = omega arith

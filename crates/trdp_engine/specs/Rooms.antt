@@ -46,6 +46,14 @@ kind_room Listener = record { rows = 1; bytes = 65388 }
 kind_room Caller = record { rows = 2; bytes = 65388 }
 kind_room Replier = record { rows = 1; bytes = 0 }
 
+-- an object of whichever kind gives no more records than this
+abbrev pub room_rows_limit : ℕ
+room_rows_limit = 2
+
+-- and no more bytes
+abbrev pub room_bytes_limit : ℕ
+room_bytes_limit = 65388
+
 -- room for what all these objects may give
 abbrev pub entries_room : List Entry → Room
 entries_room entries = record {

@@ -11,7 +11,7 @@ use Rattle.trdp_table.specs.Kinds.{kind_of}
 use Rattle.trdp_table.specs.Objects.{due_of}
 use Rattle.trdp_table.specs.Tables.{Keyed, TableState, slot_in, by_handle, room_of}
 use Rattle.trdp_table.specs.TableLaws.{object_limit}
-use Rattle.trdp_engine.specs.Rooms.{kind_room}
+use Rattle.trdp_engine.specs.Rooms.{kind_room, room_rows_limit, room_bytes_limit}
 use Rattle.trdp_engine.specs.Indexed.{IsIndexed}
 use Rattle.trdp_engine.specs.InSession.{IsInSession}
 use Rattle.trdp_engine.specs.OfKind.{AllOfKind}
@@ -40,8 +40,8 @@ AllAtMost most (n ∷ ns) = (n ≤ most) × AllAtMost most ns
 pub record IsSchedule (orders : List (Option Order)) (rows bytes : List ℕ) : Type 0 where
   pub rows_count : length rows ≡ length orders
   pub bytes_count : length bytes ≡ length orders
-  pub few_rows : AllAtMost 2 rows
-  pub few_bytes : AllAtMost 65388 bytes
+  pub few_rows : AllAtMost room_rows_limit rows
+  pub few_bytes : AllAtMost room_bytes_limit bytes
   pub room : length orders ≤ 16 * object_limit
 
 -- when an object of a slot acts that has this due moment, if it has one

@@ -13,7 +13,7 @@ ghost use Rattle.trdp_table.specs.Tables.{room_of};
 ghost use Rattle.trdp_engine.specs.Slots.{slots_of};
 ghost use Rattle.trdp_engine.specs.Datagrams.{is_for_entry, is_listening, hearing, acts_where};
 ghost use Rattle.trdp_engine.specs.Datagrams.{acting};
-ghost use Rattle.trdp_engine.specs.Rooms.{entries_room};
+ghost use Rattle.trdp_engine.specs.Rooms.{entries_room, room_rows_limit, room_bytes_limit};
 ghost use Rattle.trdp_engine.specs.Acting.{slot_at};
 ghost use Rattle.trdp_engine.specs.Noted.{noted_as, noted_from};
 ghost use Rattle.trdp_engine.specs.Indexed.{rows_from};
@@ -80,8 +80,8 @@ fn note_part(
         (acting (telegram_model telegram.now) globals.entry.now (slot_at s store.now).objects) }
     ensures room { result ≡ entries_room
         (acting (telegram_model telegram.now) globals.entry.now (slot_at s store.now).objects) }
-    ensures rows { result.rows ≤ 2 }
-    ensures bytes { result.bytes ≤ 65388 }
+    ensures rows { result.rows ≤ room_rows_limit }
+    ensures bytes { result.bytes ≤ room_bytes_limit }
     ensures capacity { vec_capacity noted.new ≡ vec_capacity noted.old }
     ensures length { vec_len noted.new ≤ vec_len noted.old + 1 }
     ensures few { vec_len noted.new ≤ vec_len noted.old
@@ -137,8 +137,8 @@ fn note_row(
         (hit (telegram_model telegram.now) globals.entry.now store.now row.now) }
     ensures room { result
         ≡ entries_room (hit (telegram_model telegram.now) globals.entry.now store.now row.now) }
-    ensures rows { result.rows ≤ 2 }
-    ensures bytes { result.bytes ≤ 65388 }
+    ensures rows { result.rows ≤ room_rows_limit }
+    ensures bytes { result.bytes ≤ room_bytes_limit }
     ensures capacity { vec_capacity noted.new ≡ vec_capacity noted.old }
     ensures length { vec_len noted.new ≤ vec_len noted.old + 1 }
     ensures comparisons { counts.new.comparisons ≡ counts.old.comparisons }

@@ -8,6 +8,7 @@ ghost use Rattle.trdp_timers.specs.Orders.{is_due_by};
 ghost use Rattle.trdp_timers.specs.Contents.{due_sizes};
 ghost use Rattle.trdp_engine.specs.Timed.{empty_schedule, order_at, without_order, is_same_due};
 ghost use Rattle.trdp_engine.specs.Timed.{IsNoneDue, IsFirstDue};
+ghost use Rattle.trdp_engine.specs.Rooms.{room_rows_limit, room_bytes_limit};
 
 use crate::room::Room;
 use std::alloc::{AllocError, Global};
@@ -85,8 +86,8 @@ impl Schedule {
     /// Notes the room that the object of a key may need as it fires.
     pub fn admit(&mut self, key: usize, room: Room)
         requires key { key < length self.old.orders }
-        requires rows { room.rows ≤ 2 }
-        requires bytes { room.bytes ≤ 65388 }
+        requires rows { room.rows ≤ room_rows_limit }
+        requires bytes { room.bytes ≤ room_bytes_limit }
         ensures orders { self.new.orders ≡ self.old.orders }
         ensures rows { self.new.rows ≡ slice_set self.old.rows key room.rows }
         ensures bytes { self.new.bytes ≡ slice_set self.old.bytes key room.bytes }

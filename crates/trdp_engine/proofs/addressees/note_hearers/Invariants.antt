@@ -3,6 +3,7 @@ use Rattle.std.specs.Prelude.{vec_len, vec_capacity}
 use Rattle.trdp_filter.specs.Telegrams.{telegram_model}
 use Rattle.trdp_engine.specs.Slots.{slots_of}
 use Rattle.trdp_engine.specs.Costs.{meant_of}
+use Rattle.trdp_engine.specs.Rooms.{room_bytes_limit}
 use Rattle.trdp_engine.proofs.Noting.{NotesAll}
 use Rattle.trdp_engine.proofs.addressees.note_hearers.Given as goal
 
@@ -12,7 +13,7 @@ invariant-loop-s l = record {
   notes :
       NotesAll (telegram_model l.telegram) l.globals (slots_of l.store) l.noted.items l.room l.s;
   rows : l.room.rows ≤ l.s;
-  bytes : l.room.bytes ≤ 65388 * l.s;
+  bytes : l.room.bytes ≤ room_bytes_limit * l.s;
   capacity : vec_capacity l.noted ≡ vec_capacity l.fn.noted;
   length : vec_len l.noted ≤ l.s;
   few : vec_len l.noted + meant_of (telegram_model l.telegram) (drop l.s (slots_of l.store))

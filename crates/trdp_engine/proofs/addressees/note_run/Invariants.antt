@@ -1,5 +1,6 @@
 use Rattle.std.proofs.Common.{◌≡◌, ◌≤◌, ◌+◌, ◌*◌, vec_len, vec_capacity}
 use Rattle.trdp_filter.specs.Telegrams.{telegram_model}
+use Rattle.trdp_engine.specs.Rooms.{room_rows_limit, room_bytes_limit}
 use Rattle.trdp_engine.proofs.Seeking.{NotesRun}
 use Rattle.trdp_engine.proofs.addressees.note_run.Given as goal
 
@@ -7,8 +8,8 @@ abbrev pub invariant-loop-row : goal.invariant-loop-row
 invariant-loop-row l = record {
   notes : NotesRun (telegram_model l.telegram)
       l.globals l.store l.rows l.fn.noted.items l.noted.items l.room l.row-index;
-  rows : l.room.rows ≤ 2 * l.row-index;
-  bytes : l.room.bytes ≤ 65388 * l.row-index;
+  rows : l.room.rows ≤ room_rows_limit * l.row-index;
+  bytes : l.room.bytes ≤ room_bytes_limit * l.row-index;
   capacity : vec_capacity l.noted ≡ vec_capacity l.fn.noted;
   length : vec_len l.noted ≤ vec_len l.fn.noted + l.row-index;
   comparisons : l.counts.comparisons ≡ l.fn.counts.comparisons;
