@@ -9,14 +9,11 @@ use Rattle.std.proofs.lemmas.List.Sums.{sum_by-cons}
 use Rattle.std.proofs.lemmas.Option.{same_Some}
 use Rattle.trdp_filter.specs.declared.globals.Globals.{Globals}
 use Rattle.trdp_table.specs.declared.any_object.AnyObject.{AnyObject}
-use Rattle.trdp_table.specs.declared.any_object.AnyObject.TheVariants.{Publisher, Subscription}
-use Rattle.trdp_table.specs.declared.any_object.AnyObject.TheVariants.{Requester, Listener}
-use Rattle.trdp_table.specs.declared.any_object.AnyObject.TheVariants.{Caller, Replier}
 use Rattle.trdp_pd.specs.declared.object.Fired.{Fired}
 use Rattle.trdp_pd.specs.declared.object.Fired.TheVariants.{Nothing, Data, Silent, Closed}
 use Rattle.trdp_pd.specs.Due.{is_due_by}
 use Rattle.trdp_table.specs.Objects.{due_of, is_sound, after_firing, fired}
-use Rattle.trdp_table.specs.ObjectLaws.{due-firing}
+use Rattle.trdp_table.specs.ObjectLaws.{due-firing, is_sound-firing}
 use Rattle.trdp_engine.specs.Slots.{Entry, SlotState, entry_of}
 use Rattle.trdp_engine.specs.Acts.{entry_left, left_at, acted}
 use Rattle.trdp_engine.specs.Acting.{act_of}
@@ -24,6 +21,8 @@ use Rattle.trdp_engine.proofs.Handles.{IsRising}
 use Rattle.trdp_engine.specs.Moments.{is_due, is_before, inserted, in_order, left_firing}
 use Rattle.trdp_engine.specs.Moments.{firing_records, firing_act, after_moment, moved_to}
 use Rattle.trdp_engine.specs.Firing.{IsNext}
+use Rattle.trdp_engine.specs.Fitting.{AllSound}
+use Rattle.trdp_engine.proofs.AllObjects.{AllObjects-found, IsLeft, AllObjects-acted}
 use Rattle.trdp_engine.proofs.Orders.{in_order-filter, sum-in_order}
 use Rattle.trdp_engine.proofs.Turns.{followed_by, has_handle, AllFound, AreApart}
 use Rattle.trdp_engine.proofs.Turns.{AllOnly, AllSame, AreThose, those-filter}
@@ -31,14 +30,6 @@ use Rattle.trdp_engine.proofs.Turns.{only_found, flat_map-same, flat_map-flat_ma
 use Rattle.trdp_engine.proofs.Turns.{same_number, differ_either_way, or_left, or_right}
 
 -- What fired isn't due by now.
-
-all_sound : (object : AnyObject) → is_sound object ≡ true
-all_sound (Publisher p) = refl
-all_sound (Subscription s) = refl
-all_sound (Requester r) = refl
-all_sound (Listener l) = refl
-all_sound (Caller c) = refl
-all_sound (Replier r) = refl
 
 quiet_left : (t : ℕ) (did : Fired) (entry : Entry) (object : AnyObject)
     → is_due_by t (due_of object) ≡ false
@@ -48,11 +39,19 @@ quiet_left t (Data head) entry object not = rw not refl
 quiet_left t Silent entry object not = rw not refl
 quiet_left t (Closed reason) entry object not = refl
 
--- nothing of an object that fired is due by now, under whichever handle it stands
-pub is_quiet : (globals : Globals) (entry under : Entry)
+-- nothing of a sound object that fired is due by now, under whichever handle it stands
+pub is_quiet : (globals : Globals) (entry : Entry) → is_sound entry.object ≡ true → (under : Entry)
     → filter (is_due globals.now) (entry_left under (firing_act globals entry).left) ≡ []
-is_quiet globals entry under = quiet_left globals.now (fired entry.object globals) under
-    (after_firing entry.object globals) (due-firing entry.object globals (all_sound entry.object))
+is_quiet globals entry sound under = quiet_left globals.now (fired entry.object globals) under
+    (after_firing entry.object globals) (due-firing entry.object globals sound)
+
+-- and what is left of it is sound
+sound_left : (did : Fired) (object : AnyObject) → is_sound object ≡ true
+    → IsLeft (λ left. is_sound left ≡ true) (left_firing did object)
+sound_left Nothing object sound = sound
+sound_left (Data head) object sound = sound
+sound_left Silent object sound = sound
+sound_left (Closed reason) object sound = tt
 
 -- what is left of an object that fired is what its act leaves
 pub left_by_firing :
@@ -168,12 +167,14 @@ those-in_order p objects es those = record {
 pub record IsNextOf (t : ℕ) (objects rest : List Entry) (entry : Entry) : Type 0 where
   pub order : in_order (filter (is_due t) objects) ≡ entry ∷ rest
   pub found : entry_of entry.handle objects ≡ Some entry
+  pub sound : is_sound entry.object ≡ true
   pub due : is_due t entry ≡ true
   pub alone : has_handle entry.handle rest ≡ false
 
 pub is_next : (t : ℕ) (objects rest : List Entry) (entry : Entry) → IsRising objects
-    → in_order (filter (is_due t) objects) ≡ entry ∷ rest → IsNextOf t objects rest entry
-is_next t objects rest entry rising order =
+    → AllSound objects → in_order (filter (is_due t) objects) ≡ entry ∷ rest
+    → IsNextOf t objects rest entry
+is_next t objects rest entry rising sound order =
     let those = those-in_order (is_due t) objects
     (filter (is_due t) objects) (those-filter (is_due t) objects rising) in
     let found : AllFound objects (entry ∷ rest) =
@@ -184,7 +185,14 @@ is_next t objects rest entry rising order =
     subst (λ (es : List Entry). All (λ x. is_due t x ≡ true) es)
     (sym (in_order-filter (is_due t) objects)
     ∙ order) (filter_passes (is_due t) (in_order objects)) in
-    record { order = order; found = found.0; due = passes 0 entry (omega arith); alone = apart.0 }
+    record {
+      order = order;
+      found = found.0;
+      sound = AllObjects-found
+          (λ object. is_sound object ≡ true) entry.handle objects entry sound found.0;
+      due = passes 0 entry (omega arith);
+      alone = apart.0;
+    }
 
 -- the object of the handle that comes next
 pub record HasNext (t : ℕ) (objects : List Entry) (handle : ℕ) : Type 0 where
@@ -193,16 +201,16 @@ pub record HasNext (t : ℕ) (objects : List Entry) (handle : ℕ) : Type 0 wher
   pub next : IsNextOf t objects rest entry
   pub handle_is : entry.handle ≡ handle
 
-pub next_is : (t : ℕ) (objects : List Entry) (handle : ℕ)
-    → IsRising objects → IsNext t objects handle → HasNext t objects handle
-next_is t objects handle rising is = elim (in_order (filter (is_due t) objects)) as (λ es.
+pub next_is : (t : ℕ) (objects : List Entry) (handle : ℕ) → IsRising objects
+    → AllSound objects → IsNext t objects handle → HasNext t objects handle
+next_is t objects handle rising sound is = elim (in_order (filter (is_due t) objects)) as (λ es.
     in_order (filter (is_due t) objects) ≡ es → Some handle
     ≡ option_map (λ entry. entry.handle) (slice_get es 0) → HasNext t objects handle) [
       | [] ↦ λ order of. absurd (cc)
       | entry ∷ rest ↦ λ order of. record {
         entry = entry;
         rest = rest;
-        next = is_next t objects rest entry rising order;
+        next = is_next t objects rest entry rising sound order;
         handle_is = sym (same_Some handle entry.handle of);
       }
     ] refl is
@@ -252,16 +260,18 @@ rest_left globals objects rest entry next =
     let out : filter (is_other h) (entry ∷ rest) ≡ filter (is_other h) rest =
     rw (same_number h) refl in
     ap in_order
-    (due_left globals.now h (firing_act globals entry).left objects (is_quiet globals entry))
+    (due_left globals.now h (firing_act globals entry).left objects
+    (is_quiet globals entry next.sound))
     ∙ (in_order-filter (is_other h) (filter (is_due globals.now) objects)
     ∙ (ap (filter (is_other h)) next.order
     ∙ (out ∙ others_stay h rest next.alone)))
 
 -- an object that fired is left as it is
-fires_once : (globals : Globals) (entry x : Entry) → is_due globals.now entry ≡ true
-    → ((x.handle == entry.handle) ≡ true → x ≡ entry) → flat_map (after_moment globals)
-    (left_at entry.handle (firing_act globals entry).left x) ≡ after_moment globals x
-fires_once globals entry x due only = either (x.handle == entry.handle) refl
+fires_once : (globals : Globals) (entry x : Entry) → is_sound entry.object ≡ true
+    → is_due globals.now entry ≡ true → ((x.handle == entry.handle) ≡ true → x ≡ entry)
+    → flat_map (after_moment globals) (left_at entry.handle (firing_act globals entry).left x)
+    ≡ after_moment globals x
+fires_once globals entry x sound due only = either (x.handle == entry.handle) refl
   where
     here : (y : Entry) → entry ≡ y → flat_map (after_moment globals)
         (left_at entry.handle (firing_act globals entry).left y) ≡ after_moment globals y
@@ -269,7 +279,7 @@ fires_once globals entry x due only = either (x.handle == entry.handle) refl
         subst (λ (z : Entry). flat_map (after_moment globals)
         (left_at entry.handle (firing_act globals entry).left z) ≡ after_moment globals z) same
         (rw (same_number entry.handle, due) (none_fires globals
-        (entry_left entry (firing_act globals entry).left) (is_quiet globals entry entry)))
+        (entry_left entry (firing_act globals entry).left) (is_quiet globals entry sound entry)))
 
     either : (b : Bool) → (x.handle == entry.handle) ≡ b
         → flat_map (after_moment globals) (left_at entry.handle (firing_act globals entry).left x)
@@ -277,12 +287,13 @@ fires_once globals entry x due only = either (x.handle == entry.handle) refl
     either true own = here x (sym (only own))
     either false own = rw own (append-nil (after_moment globals x))
 
-all_fire_once : (globals : Globals) (entry : Entry) (xs : List Entry) → is_due globals.now entry
-    ≡ true → AllOnly entry xs → AllSame (λ x. flat_map (after_moment globals)
+all_fire_once : (globals : Globals) (entry : Entry) (xs : List Entry) → is_sound entry.object
+    ≡ true → is_due globals.now entry ≡ true → AllOnly entry xs
+    → AllSame (λ x. flat_map (after_moment globals)
     (left_at entry.handle (firing_act globals entry).left x)) (after_moment globals) xs
-all_fire_once globals entry [] due only = tt
-all_fire_once globals entry (x ∷ xs) due only =
-    (fires_once globals entry x due only.0, all_fire_once globals entry xs due only.1)
+all_fire_once globals entry [] sound due only = tt
+all_fire_once globals entry (x ∷ xs) sound due only =
+    (fires_once globals entry x sound due only.0, all_fire_once globals entry xs sound due only.1)
 
 objects_then : (globals : Globals) (objects rest : List Entry) (entry : Entry)
     → IsRising objects → IsNextOf globals.now objects rest entry
@@ -292,7 +303,18 @@ objects_then globals objects rest entry rising next =
     flat_map-flat_map (after_moment globals)
     (left_at entry.handle (firing_act globals entry).left) objects
     ∙ flat_map-same _ _ objects
-    (all_fire_once globals entry objects next.due (only_found entry objects rising next.found))
+    (all_fire_once globals entry objects next.sound next.due
+    (only_found entry objects rising next.found))
+
+-- the objects stay sound
+pub sound_then : (globals : Globals) (objects rest : List Entry) (entry : Entry)
+    → AllSound objects → IsNextOf globals.now objects rest entry
+    → AllSound (once_fired globals entry objects)
+sound_then globals objects rest entry sound next =
+    AllObjects-acted (λ object. is_sound object ≡ true) entry.handle
+    (firing_act globals entry).left
+    (sound_left (fired entry.object globals) (after_firing entry.object globals)
+    (is_sound-firing entry.object globals next.sound)) objects sound
 
 -- the moment is that the next object fires, and then the moment of what is left
 pub fires_then : (globals : Globals) (slot : SlotState) (rest : List Entry) (entry : Entry)

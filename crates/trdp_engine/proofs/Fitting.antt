@@ -1,5 +1,5 @@
--- What keeps the value of a subscription one of its dataset: the first value, a time-out, and what
--- is taken.
+-- What keeps an object fit: the value of a subscription is one of its dataset at first, at a
+-- time-out, and as it is taken, and a caller is sound.
 use Rattle.std.proofs.Common.{◌≡◌, ℕ, List, [], ◌∷◌, ◌++◌, length}
 use Rattle.std.proofs.Common.{Some, None, Option, Bool, true, false, refl}
 use Rattle.std.specs.Prelude.{replicate, not, ◌==◌, ◌&&◌, if◌then◌else◌}
@@ -30,13 +30,14 @@ use Rattle.trdp_pd.specs.declared.terms.Behaviour.TheVariants.{Zero, Keep}
 use Rattle.trdp_pd.specs.declared.terms.SubscriptionTerms.{SubscriptionTerms}
 use Rattle.trdp_pd.specs.Subscriptions.{SubscriptionState, first_size, subscribed}
 use Rattle.trdp_pd.specs.Subscriptions.{is_accepted, is_for, is_stale, value_after_time_out}
-use Rattle.trdp_table.specs.Objects.{after_taking, after_firing, taken, fired}
+use Rattle.trdp_table.specs.Objects.{is_sound, after_taking, after_firing, taken, fired}
+use Rattle.trdp_table.specs.ObjectLaws.{is_sound-taking, is_sound-firing}
 use Rattle.trdp_engine.specs.Configs.{NodeSetup, is_dataset, zero_size_of, is_fitting}
-use Rattle.trdp_engine.specs.Slots.{Entry}
-use Rattle.trdp_engine.specs.Acts.{entry_left, left_at, acted}
+use Rattle.trdp_engine.specs.Slots.{Entry, SlotState}
 use Rattle.trdp_engine.specs.Datagrams.{fits_object, is_acting, left_taking, after_telegram}
 use Rattle.trdp_engine.specs.Moments.{is_due, left_firing, after_moment}
-use Rattle.trdp_engine.specs.Fitting.{ShowsFitting, IsFit, AllFit}
+use Rattle.trdp_engine.specs.Fitting.{ShowsFitting, IsFit, AllFit, EachFits, EachSound}
+use Rattle.trdp_engine.proofs.AllObjects.{IsLeft, AllObjects-left, AllObjects-so}
 
 -- the zero value of a dataset is a value of it
 read_zero : (setup : NodeSetup) (dataset : ℕ)
@@ -114,7 +115,7 @@ firing_fits : (setup : NodeSetup) (globals : Globals) (object : AnyObject)
 firing_fits setup globals (Publisher p) sound fit = tt
 firing_fits setup globals (Requester r) sound fit = tt
 firing_fits setup globals (Listener l) sound fit = tt
-firing_fits setup globals (Caller c) sound fit = tt
+firing_fits setup globals (Caller c) sound fit = is_sound-firing (Caller c) globals fit
 firing_fits setup globals (Replier r) sound fit = tt
 firing_fits setup globals (Subscription s) sound fit = record {
   dataset = fit.dataset;
@@ -160,19 +161,22 @@ taking_fits setup (PdIs src dst telegram) globals (Subscription s) fit =
     storing_fits setup s src dst telegram globals fit
 taking_fits setup (PdIs src dst telegram) globals (Requester r) fit = tt
 taking_fits setup (PdIs src dst telegram) globals (Listener l) fit = tt
-taking_fits setup (PdIs src dst telegram) globals (Caller c) fit = tt
+taking_fits setup (PdIs src dst telegram) globals (Caller c) fit =
+    is_sound-taking (Caller c) (PdIs src dst telegram) globals
+    (fits_object setup (PdIs src dst telegram) (Caller c)) fit
 taking_fits setup (PdIs src dst telegram) globals (Replier r) fit = tt
 taking_fits setup (MdIs src dst telegram) globals (Publisher p) fit = tt
 taking_fits setup (MdIs src dst telegram) globals (Subscription s) fit = fit
 taking_fits setup (MdIs src dst telegram) globals (Requester r) fit = tt
 taking_fits setup (MdIs src dst telegram) globals (Listener l) fit = tt
-taking_fits setup (MdIs src dst telegram) globals (Caller c) fit = tt
+taking_fits setup (MdIs src dst telegram) globals (Caller c) fit =
+    is_sound-taking (Caller c) (MdIs src dst telegram) globals
+    (fits_object setup (MdIs src dst telegram) (Caller c)) fit
 taking_fits setup (MdIs src dst telegram) globals (Replier r) fit = tt
 
--- what is left of an object shows what the object should
+-- what is left of an object is fit
 abbrev pub IsLeftFit : NodeSetup → Option AnyObject → Type 0
-IsLeftFit setup None = Unit {0}
-IsLeftFit setup (Some object) = IsFit setup object
+IsLeftFit setup left = IsLeft (IsFit setup) left
 
 left_taking_fits : (setup : NodeSetup) (taken : Taken) (object : AnyObject)
     → IsFit setup object → IsLeftFit setup (left_taking taken object)
@@ -192,11 +196,6 @@ left_firing_fits setup (Data head) object fit = fit
 left_firing_fits setup Silent object fit = fit
 left_firing_fits setup (Closed reason) object fit = tt
 
-entry_left_fits : (setup : NodeSetup) (entry : Entry) (left : Option AnyObject)
-    → IsLeftFit setup left → AllFit setup (entry_left entry left)
-entry_left_fits setup entry None fit = tt
-entry_left_fits setup entry (Some object) fit = (fit, tt)
-
 pub entry_taking_fits : (setup : NodeSetup) (telegram : TelegramModel)
     (globals : Globals) (objects : List Entry) (entry : Entry)
     → IsFit setup entry.object → AllFit setup (after_telegram setup telegram globals objects entry)
@@ -209,7 +208,7 @@ entry_taking_fits setup telegram globals objects entry fit =
     either : (b : Bool) → is_acting telegram globals objects entry ≡ b
         → AllFit setup (after_telegram setup telegram globals objects entry)
     either true is =
-        rw is (entry_left_fits setup entry _ (left_taking_fits setup (taken entry.object
+        rw is (AllObjects-left (IsFit setup) entry _ (left_taking_fits setup (taken entry.object
         telegram globals fits) _ (taking_fits setup telegram globals entry.object fit)))
     either false is = rw is (fit, tt)
 
@@ -218,32 +217,22 @@ pub entry_firing_fits : (setup : NodeSetup) (globals : Globals) → IsRegistry s
 entry_firing_fits setup globals sound entry fit = either (is_due globals.now entry) refl
   where
     either : (b : Bool) → is_due globals.now entry ≡ b → AllFit setup (after_moment globals entry)
-    either true is = rw is (entry_left_fits setup entry _ (left_firing_fits setup
+    either true is = rw is (AllObjects-left (IsFit setup) entry _ (left_firing_fits setup
         (fired entry.object globals) _ (firing_fits setup globals entry.object sound fit)))
     either false is = rw is (fit, tt)
 
-pub AllFit-append : (setup : NodeSetup) (objects others : List Entry)
-    → AllFit setup objects → AllFit setup others → AllFit setup (objects ++ others)
-AllFit-append setup [] others all more = more
-AllFit-append setup (e ∷ objects) others all more =
-    (all.0, AllFit-append setup objects others all.1 more)
+-- Objects that are fit are sound.
 
-pub AllFit-each : (setup : NodeSetup) (f : Entry → List Entry)
-    → ((e : Entry) → IsFit setup e.object → AllFit setup (f e))
-    → (objects : List Entry) → AllFit setup objects → AllFit setup (flat_map f objects)
-AllFit-each setup f keeps [] all = tt
-AllFit-each setup f keeps (e ∷ objects) all = AllFit-append setup
-    (f e) (flat_map f objects) (keeps e all.0) (AllFit-each setup f keeps objects all.1)
+fit_sound : (setup : NodeSetup) (object : AnyObject) → IsFit setup object → is_sound object ≡ true
+fit_sound setup (Publisher p) fit = refl
+fit_sound setup (Subscription s) fit = refl
+fit_sound setup (Requester r) fit = refl
+fit_sound setup (Listener l) fit = refl
+fit_sound setup (Caller c) fit = fit
+fit_sound setup (Replier r) fit = refl
 
--- one object acted
-pub AllFit-acted : (setup : NodeSetup) (h : ℕ) (left : Option AnyObject) → IsLeftFit setup left
-    → (objects : List Entry) → AllFit setup objects → AllFit setup (acted h left objects)
-AllFit-acted setup h left fit objects all = AllFit-each setup (left_at h left) keeps objects all
-  where
-    either : (e : Entry) (b : Bool) → (e.handle == h) ≡ b
-        → IsFit setup e.object → AllFit setup (left_at h left e)
-    either e true is old = rw is (entry_left_fits setup e left fit)
-    either e false is old = rw is (old, tt)
-
-    keeps : (e : Entry) → IsFit setup e.object → AllFit setup (left_at h left e)
-    keeps e old = either e (e.handle == h) refl old
+pub each_sound : (setup : NodeSetup) (slots : List SlotState) → EachFits setup slots
+    → EachSound slots
+each_sound setup slots fit s slot is =
+    AllObjects-so (IsFit setup) (λ object. is_sound object ≡ true) (fit_sound setup) slot.objects
+    (fit s slot is)

@@ -1,6 +1,8 @@
--- What a call does to one object leaves a subscription a value of its dataset.
-use Rattle.std.proofs.Common.{◌≡◌, ℕ, ℤ, List, [], Some, None, Option, Bool, true, false, refl}
+-- What a call does to one object leaves it fit.
+use Rattle.std.proofs.Common.{◌≡◌, ℕ, ◌≤◌, ℤ, List, [], Some, None, Option, Bool, true, false, refl}
+use Rattle.std.proofs.Common.{arith}
 use Rattle.std.specs.Prelude.{not, nat_lt, if◌then◌else◌}
+use Rattle.std.proofs.lemmas.Bool.Decides.{nat_tests}
 use Rattle.trdp_base.specs.declared.place.Place.{Place}
 use Rattle.trdp_filter.specs.declared.globals.Globals.{Globals}
 use Rattle.trdp_table.specs.declared.any_object.AnyObject.{AnyObject}
@@ -10,22 +12,26 @@ use Rattle.trdp_table.specs.declared.any_object.AnyObject.TheVariants.{Caller, R
 use Rattle.trdp_table.specs.declared.kind.Kind.{Kind}
 use Rattle.trdp_table.specs.declared.kind.Kind.TheVariants.{Subscription as Subscribing}
 use Rattle.trdp_table.specs.Kinds.{kind_of, is_same_kind}
+use Rattle.trdp_table.specs.Objects.{is_sound}
 use Rattle.trdp_pd.specs.declared.object.Reason.{Reason}
 use Rattle.trdp_head.specs.declared.md.MdHead.{MdHead}
 use Rattle.trdp_md.specs.declared.caller.Caller.{Caller as AnyCaller}
 use Rattle.trdp_md.specs.declared.replier.Replier.{Replier as AnyReplier}
-use Rattle.trdp_md.specs.Callers.{confirming, closed_of}
+use Rattle.trdp_md.specs.declared.terms.CallerTerms.{CallerTerms}
+use Rattle.trdp_md.specs.Callers.{called as new_caller, confirming, closed_of}
 use Rattle.trdp_pd.specs.declared.terms.SubscriptionTerms.{SubscriptionTerms}
 use Rattle.trdp_pd.specs.Publishers.{PublisherState}
 use Rattle.trdp_pd.specs.Requesters.{RequesterState}
 use Rattle.trdp_filter.specs.Counts.{topo_valid}
 use Rattle.trdp_engine.specs.declared.fault.Refusal.{Refusal}
-use Rattle.trdp_engine.specs.declared.fault.Refusal.TheVariants.{Timeout, Range, NoDataset, TooLong}
+use Rattle.trdp_engine.specs.declared.fault.Refusal.TheVariants.{State, Timeout, Range}
+use Rattle.trdp_engine.specs.declared.fault.Refusal.TheVariants.{NoDataset, TooLong}
 use Rattle.trdp_engine.specs.Configs.{NodeSetup, is_dataset, zero_size_of}
 use Rattle.trdp_engine.specs.Slots.{SlotState}
 use Rattle.trdp_engine.specs.Calls.{dataset_refusal, subscribe_refusal}
 use Rattle.trdp_engine.specs.Calls.{value_refusal, puts_unless, puts, ends, is_span}
 use Rattle.trdp_engine.specs.Openings.{opening_refusal, opened_with}
+use Rattle.trdp_engine.specs.Requests.{request_refusal}
 use Rattle.trdp_engine.specs.Replies.{reply_refusal, query_refusal, error_refusal}
 use Rattle.trdp_engine.specs.Replies.{answers_unless, replies, queries, reply_errors, concluded}
 use Rattle.trdp_engine.specs.Replies.{confirm_refusal, confirms_unless, confirms, aborts}
@@ -34,7 +40,9 @@ use Rattle.trdp_engine.specs.Pulls.{pulls_if, pulls}
 use Rattle.trdp_marshal.specs.Items.{ItemModel}
 use Rattle.trdp_engine.specs.Values.{item_refusal_of, bytes_for, valued_unless, takes_item}
 use Rattle.trdp_engine.specs.Fitting.{IsFit, AllFit}
-use Rattle.trdp_engine.proofs.Fitting.{IsLeftFit, AllFit-append}
+use Rattle.trdp_engine.proofs.AllObjects.{AllObjects-append}
+use Rattle.trdp_engine.proofs.Fitting.{IsLeftFit}
+use Rattle.trdp_engine.proofs.SessionKeys.{confirming_terms}
 
 -- a subscription that isn't refused is of a dataset that values may be of
 if_none : (b : Bool) (refusal : Refusal) (later : Option Refusal)
@@ -59,13 +67,37 @@ subscribed_dataset setup slot terms is =
     let known = if_none (not (is_dataset setup terms.dataset)) NoDataset longest ranged.1 in
     not_false (is_dataset setup terms.dataset) known.0
 
+-- a caller is sound by its terms
+sound_by_terms : (c d : AnyCaller) → d.terms ≡ c.terms
+    → is_sound (Caller c) ≡ true → is_sound (Caller d) ≡ true
+sound_by_terms c d same sound = cc
+
+-- a request that isn't refused waits for a millisecond at least
+request_waits : (slot : SlotState) (globals : Globals) (terms : CallerTerms) (payload : List ℕ)
+    → request_refusal slot globals terms payload ≡ None → 1000 ≤ terms.timeout
+request_waits slot globals terms payload is =
+    let counted = if_none (not (topo_valid terms.topo globals.topo)) State _ is in
+    let long = (if_none (nat_lt terms.timeout 1000) Timeout _ counted.1).0 in
+    grind (arith, nat_tests)
+
+waiting_sound : (terms : CallerTerms) (now : ℕ) → 1000 ≤ terms.timeout
+    → is_sound (Caller (new_caller terms now)) ≡ true
+waiting_sound terms now long = grind (arith, nat_tests)
+
+-- so its caller is sound
+pub request_fits : (setup : NodeSetup) (slot : SlotState) (globals : Globals)
+    (terms : CallerTerms) (payload : List ℕ) → request_refusal slot globals terms payload ≡ None
+    → IsFit setup (Caller (new_caller terms globals.now))
+request_fits setup slot globals terms payload is =
+    waiting_sound terms globals.now (request_waits slot globals terms payload is)
+
 pub opened_fits :
     (setup : NodeSetup) (refusal : Option Refusal) (slot : SlotState) (object : AnyObject)
     (records : List Content) → AllFit setup slot.objects → (refusal ≡ None → IsFit setup object)
     → AllFit setup (opened_with refusal slot object records).slot.objects
 opened_fits setup (Some refusal) slot object records all fit = all
 opened_fits setup None slot object records all fit =
-    AllFit-append setup slot.objects _ all (fit refl, tt)
+    AllObjects-append (IsFit setup) slot.objects _ all (fit refl, tt)
 
 -- what calls leave of an object
 puts_unless_fits : (setup : NodeSetup) (refusal : Option Refusal)
@@ -80,7 +112,7 @@ puts_fits setup bytes (Publisher p) fit =
 puts_fits setup bytes (Subscription s) fit = fit
 puts_fits setup bytes (Requester r) fit = tt
 puts_fits setup bytes (Listener l) fit = tt
-puts_fits setup bytes (Caller c) fit = tt
+puts_fits setup bytes (Caller c) fit = fit
 puts_fits setup bytes (Replier r) fit = tt
 
 pub ends_fits : (setup : NodeSetup) (kind : Kind) (object : AnyObject)
@@ -104,7 +136,7 @@ pulls_fits setup globals (Subscription s) fit = fit
 pulls_fits setup globals (Requester r) fit =
     pulls_if_fits setup (topo_valid r.terms.topo globals.topo) r
 pulls_fits setup globals (Listener l) fit = tt
-pulls_fits setup globals (Caller c) fit = tt
+pulls_fits setup globals (Caller c) fit = fit
 pulls_fits setup globals (Replier r) fit = tt
 
 answers_unless_fits : (setup : NodeSetup) (refusal : Option Refusal)
@@ -120,7 +152,7 @@ replies_fits setup com_id status payload (Publisher p) fit = tt
 replies_fits setup com_id status payload (Subscription s) fit = fit
 replies_fits setup com_id status payload (Requester r) fit = tt
 replies_fits setup com_id status payload (Listener l) fit = tt
-replies_fits setup com_id status payload (Caller c) fit = tt
+replies_fits setup com_id status payload (Caller c) fit = fit
 replies_fits setup com_id status payload (Replier r) fit =
     answers_unless_fits setup (reply_refusal r status payload) r _ _ payload tt
 
@@ -132,7 +164,7 @@ queries_fits setup now com_id status timeout payload (Publisher p) fit = tt
 queries_fits setup now com_id status timeout payload (Subscription s) fit = fit
 queries_fits setup now com_id status timeout payload (Requester r) fit = tt
 queries_fits setup now com_id status timeout payload (Listener l) fit = tt
-queries_fits setup now com_id status timeout payload (Caller c) fit = tt
+queries_fits setup now com_id status timeout payload (Caller c) fit = fit
 queries_fits setup now com_id status timeout payload (Replier r) fit =
     answers_unless_fits setup (query_refusal r status timeout payload) r _ _ payload tt
 
@@ -142,21 +174,23 @@ reply_errors_fits setup com_id status (Publisher p) fit = tt
 reply_errors_fits setup com_id status (Subscription s) fit = fit
 reply_errors_fits setup com_id status (Requester r) fit = tt
 reply_errors_fits setup com_id status (Listener l) fit = tt
-reply_errors_fits setup com_id status (Caller c) fit = tt
+reply_errors_fits setup com_id status (Caller c) fit = fit
 reply_errors_fits setup com_id status (Replier r) fit =
     answers_unless_fits setup (error_refusal r status) r _ _ [] tt
 
-concluded_fits : (setup : NodeSetup) (reason : Option Reason) (handle : ℕ) (c : AnyCaller)
-    (records : List Content) → IsLeftFit setup (concluded reason handle c records).left
-concluded_fits setup None handle c records = tt
-concluded_fits setup (Some reason) handle c records = tt
+concluded_fits : (setup : NodeSetup) (reason : Option Reason) (handle : ℕ)
+    (c : AnyCaller) (records : List Content) → IsFit setup (Caller c)
+    → IsLeftFit setup (concluded reason handle c records).left
+concluded_fits setup None handle c records fit = fit
+concluded_fits setup (Some reason) handle c records fit = tt
 
 confirms_unless_fits : (setup : NodeSetup) (refusal : Option Refusal)
-    (handle : ℕ) (place : Place) (status : ℤ) (c : AnyCaller)
+    (handle : ℕ) (place : Place) (status : ℤ) (c : AnyCaller) → IsFit setup (Caller c)
     → IsLeftFit setup (confirms_unless refusal handle place status c).left
-confirms_unless_fits setup (Some refusal) handle place status c = tt
-confirms_unless_fits setup None handle place status c =
-    concluded_fits setup (closed_of (confirming c place)) handle (confirming c place) _
+confirms_unless_fits setup (Some refusal) handle place status c fit = fit
+confirms_unless_fits setup None handle place status c fit =
+    concluded_fits setup (closed_of (confirming c place)) handle (confirming c place)
+    _ (sound_by_terms c (confirming c place) (confirming_terms c place) fit)
 
 pub confirms_fits :
     (setup : NodeSetup) (handle : ℕ) (place : Place) (status : ℤ) (object : AnyObject)
@@ -166,7 +200,7 @@ confirms_fits setup handle place status (Subscription s) fit = fit
 confirms_fits setup handle place status (Requester r) fit = tt
 confirms_fits setup handle place status (Listener l) fit = tt
 confirms_fits setup handle place status (Caller c) fit =
-    confirms_unless_fits setup (confirm_refusal c place status) handle place status c
+    confirms_unless_fits setup (confirm_refusal c place status) handle place status c fit
 confirms_fits setup handle place status (Replier r) fit = tt
 
 pub aborts_fits : (setup : NodeSetup) (object : AnyObject)

@@ -1,4 +1,4 @@
--- Each event leaves each subscription a value of its dataset.
+-- Each event leaves each object fit.
 use Rattle.std.proofs.Common.{◌≡◌, ℕ, List, ◌∷◌, Some, None, Option, Ok, Bool, true, false, refl}
 use Rattle.std.specs.Prelude.{◌==◌, if◌then◌else◌, []}
 use Rattle.trdp_dataset.specs.Registries.{IsRegistry}
@@ -43,29 +43,13 @@ use Rattle.trdp_engine.specs.Looks.{as_subscription, subscription_of, subscripti
 use Rattle.trdp_engine.specs.Alone.{plain_effect}
 use Rattle.trdp_engine.specs.Fitting.{ShowsFitting, IsFit, AllFit}
 use Rattle.trdp_engine.proofs.Fitting.{subscribed_fits, IsLeftFit, entry_taking_fits}
-use Rattle.trdp_engine.proofs.Fitting.{entry_firing_fits, AllFit-append, AllFit-each, AllFit-acted}
-use Rattle.trdp_engine.proofs.FittingActs.{subscribed_dataset, opened_fits, puts_fits}
+use Rattle.trdp_engine.proofs.Fitting.{entry_firing_fits}
+use Rattle.trdp_engine.proofs.AllObjects.{AllObjects-found, AllObjects-append}
+use Rattle.trdp_engine.proofs.AllObjects.{AllObjects-each, AllObjects-acted}
+use Rattle.trdp_engine.proofs.FittingActs.{subscribed_dataset, opened_fits, request_fits, puts_fits}
 use Rattle.trdp_engine.proofs.FittingActs.{ends_fits, pulls_fits, replies_fits}
 use Rattle.trdp_engine.proofs.FittingActs.{queries_fits, reply_errors_fits}
 use Rattle.trdp_engine.proofs.FittingActs.{confirms_fits, aborts_fits, takes_item_fits}
-
--- the object of a handle is one of them
-found_fits : (setup : NodeSetup) (handle : ℕ) (objects : List Entry) (entry : Entry)
-    → AllFit setup objects → entry_of handle objects ≡ Some entry → IsFit setup entry.object
-found_fits setup handle [] entry all is = absurd (cc)
-found_fits setup handle (e ∷ objects) entry all is = either setup handle
-    e objects entry (e.handle == handle) refl all is (found_fits setup handle objects entry all.1)
-  where
-    either : (setup : NodeSetup) (handle : ℕ) (e : Entry) (objects : List Entry)
-        (entry : Entry) (b : Bool) → (e.handle == handle) ≡ b
-        → AllFit setup (e ∷ objects) → entry_of handle (e ∷ objects) ≡ Some entry
-        → (entry_of handle objects ≡ Some entry → IsFit setup entry.object)
-        → IsFit setup entry.object
-    either setup handle e objects entry true same all is rest =
-        let found : Some e ≡ Some entry = rw same at is in
-        let one : e ≡ entry = cc in
-        rw (← one) all.0
-    either setup handle e objects entry false same all is rest = rest (rw same at is)
 
 -- a call at one object
 at_object_fits : (setup : NodeSetup) (slot : SlotState) (handle : ℕ) (act : AnyObject → Act)
@@ -76,14 +60,14 @@ at_object_fits setup slot handle act keeps all = either (entry_of handle slot.ob
     either : (found : Option Entry) → entry_of handle slot.objects ≡ found
         → AllFit setup (at_entry found slot handle act).slot.objects
     either None is = all
-    either (Some entry) is = AllFit-acted setup handle (act entry.object).left
-        (keeps entry.object (found_fits setup handle slot.objects entry all is)) slot.objects all
+    either (Some entry) is = AllObjects-acted (IsFit setup) handle (act entry.object).left
+        (keeps entry.object (AllObjects-found (IsFit setup) handle slot.objects entry all is)) slot.objects all
 
 -- a moment
 pub moved_fits : (setup : NodeSetup) (slot : SlotState) (globals : Globals)
     → IsRegistry setup.registry → AllFit setup slot.objects
     → AllFit setup (moved_to slot globals).slot.objects
-moved_fits setup slot globals sound all = AllFit-each setup
+moved_fits setup slot globals sound all = AllObjects-each (IsFit setup)
     (after_moment globals) (entry_firing_fits setup globals sound) slot.objects all
 
 -- a request
@@ -92,7 +76,7 @@ asked_unless_fits : (setup : NodeSetup) (refusal : Option Refusal) (slot : SlotS
     → AllFit setup (asked_unless refusal slot listener globals src telegram).slot.objects
 asked_unless_fits setup (Some refusal) slot listener globals src telegram all = all
 asked_unless_fits setup None slot listener globals src telegram all =
-    AllFit-append setup slot.objects _ all (tt, tt)
+    AllObjects-append (IsFit setup) slot.objects _ all (tt, tt)
 
 asked_fits : (setup : NodeSetup) (slot : SlotState) (listener : ℕ)
     (globals : Globals) (src : Place) (telegram : MdTelegram) → AllFit setup slot.objects
@@ -129,7 +113,7 @@ telegram_fits setup slot globals telegram all = either (is_request telegram) ref
     either : (b : Bool) → is_request telegram ≡ b
         → AllFit setup (received setup slot globals telegram).slot.objects
     either true is = rw is (requested_fits setup slot globals telegram all)
-    either false is = rw is (AllFit-each setup (after_telegram setup telegram globals slot.objects)
+    either false is = rw is (AllObjects-each (IsFit setup) (after_telegram setup telegram globals slot.objects)
         (entry_taking_fits setup telegram globals slot.objects) slot.objects all)
 
 -- a datagram
@@ -183,7 +167,7 @@ called_fits setup slot globals (NotifyCall terms payload) sound all =
     told_fits setup (notify_refusal globals terms payload) slot (notice terms payload ∷ []) all
 called_fits setup slot globals (RequestCall terms payload) sound all =
     opened_fits setup (request_refusal slot globals terms payload)
-    slot _ (request_sent terms payload ∷ []) all (λ is. tt)
+    slot _ (request_sent terms payload ∷ []) all (request_fits setup slot globals terms payload)
 called_fits setup slot globals (ReplyCall handle com_id status payload) sound all = at_object_fits
     setup slot handle (replies com_id status payload) (replies_fits setup com_id status payload) all
 called_fits setup slot globals (QueryCall handle com_id status timeout payload) sound all =
@@ -223,7 +207,7 @@ subscription_fits setup handle objects s all is =
         → AllFit setup objects → subscription_of entry ≡ Ok s → ShowsFitting setup s
     either setup handle objects s None found all is = absurd (cc)
     either setup handle objects s (Some entry) found all is = as_subscription_fits setup
-        entry.object s (found_fits setup handle objects entry all found) is
+        entry.object s (AllObjects-found (IsFit setup) handle objects entry all found) is
 
 -- any call, whether of the slot's own or not
 pub plain_call_fits :

@@ -21,6 +21,7 @@ pub mod Asking
 pub mod Turns
 pub mod Rooms
 pub mod Orders
+pub mod AllObjects
 pub mod Firing
 pub mod Moving
 pub mod SlotMoves

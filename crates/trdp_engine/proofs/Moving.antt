@@ -18,6 +18,7 @@ use Rattle.trdp_engine.specs.Acting.{slot_at, MayAct, ActsAt, act_of}
 use Rattle.trdp_engine.specs.NodeStates.{HasOutcome, Appends}
 use Rattle.trdp_engine.specs.Moments.{is_due, in_order, firing_act, moved_to}
 use Rattle.trdp_engine.specs.Firing.{ComesNext}
+use Rattle.trdp_engine.specs.Fitting.{AllSound, EachSound}
 use Rattle.trdp_engine.specs.Outboxes.{OutboxState}
 use Rattle.trdp_engine.specs.Rooms.{HasRoom, entries_room, moment_room}
 use Rattle.trdp_engine.proofs.Handles.{IsRising}
@@ -27,7 +28,8 @@ use Rattle.trdp_engine.proofs.Found.{at_each}
 use Rattle.trdp_engine.proofs.Sweeps.{get-set_other, appends_next, records_of-append}
 use Rattle.trdp_engine.proofs.Sweeps.{records_of-labelled, records_of-other}
 use Rattle.trdp_engine.proofs.Turns.{IsRising-acted, is_acted}
-use Rattle.trdp_engine.proofs.Firing.{HasNext, next_is, none_fires, rest_left, fires_then, sum_then}
+use Rattle.trdp_engine.proofs.Firing.{HasNext, next_is, none_fires, rest_left, sound_then}
+use Rattle.trdp_engine.proofs.Firing.{fires_then, sum_then}
 
 -- what is due in slot s
 abbrev pub due_at : Globals → ℕ → TableState → List Entry
@@ -63,6 +65,7 @@ next_may globals slot handle out n room = record {
 record Fires (globals : Globals) (s : ℕ) (table table_then : TableState)
     (out out_then : OutboxState) : Type 0 where
   rising : IsRising (slot_at s table_then).objects
+  sound : AllSound (slot_at s table_then).objects
   slots : slots_of table_then ≡ slice_set (slots_of table) s (slot_at s table_then)
   left : (moved_to (slot_at s table_then) globals).slot ≡ (moved_to (slot_at s table) globals).slot
   told : List Content
@@ -78,11 +81,11 @@ record Fires (globals : Globals) (s : ℕ) (table table_then : TableState)
 
 fires_one :
     (globals : Globals) (s handle : ℕ) (table table_then : TableState) (out out_then : OutboxState)
-    → s < length table → IsRising (slot_at s table).objects
+    → s < length table → IsRising (slot_at s table).objects → AllSound (slot_at s table).objects
     → HasNext globals.now (slot_at s table).objects handle
     → ActsAt s handle (firing_act globals) table table_then out out_then
     → Fires globals s table table_then out out_then
-fires_one globals s handle table table_then out out_then lt rising n acts =
+fires_one globals s handle table table_then out out_then lt rising sound n acts =
     let slot = slot_at s table in
     let act = firing_act globals in
     let a = is_acted s handle act table table_then
@@ -97,6 +100,8 @@ fires_one globals s handle table table_then out out_then lt rising n acts =
     record {
       rising = subst (λ (x : SlotState). IsRising x.objects)
           (sym a.slot) (IsRising-acted n.entry.handle (act n.entry).left slot.objects rising);
+      sound = subst (λ (x : SlotState). AllSound x.objects)
+          (sym a.slot) (sound_then globals slot.objects n.rest n.entry sound n.next);
       slots = a.slots;
       left = ap (λ (x : SlotState). (moved_to x globals).slot) a.slot
           ∙ ap (λ (o : Outcome). o.slot) all;
@@ -171,6 +176,7 @@ pub record IsMoving (globals : Globals) (start : TableState) (records : List Rec
     (table : TableState) (out : OutboxState) : Type 0 where
   pub count : length table ≡ length start
   pub rising : (s : ℕ) → s < length start → IsRising (slot_at s table).objects
+  pub sound : (s : ℕ) → s < length start → AllSound (slot_at s table).objects
   pub left : (s : ℕ) → s < length start
       → (moved_to (slot_at s table) globals).slot ≡ (moved_to (slot_at s start) globals).slot
   pub told : (s : ℕ)
@@ -180,11 +186,13 @@ pub record IsMoving (globals : Globals) (start : TableState) (records : List Rec
   pub room : HasRoom out (moment_room globals.now (slots_of table))
 
 pub moving_first : (globals : Globals) (table : TableState) (out : OutboxState)
-    → IsTable table → HasRoom out (moment_room globals.now (slots_of table))
+    → IsTable table → EachSound (slots_of table)
+    → HasRoom out (moment_room globals.now (slots_of table))
     → IsMoving globals table out.records table out
-moving_first globals table out sound room = record {
+moving_first globals table out is sound room = record {
   count = refl;
-  rising = λ s lt. rising table s sound;
+  rising = λ s lt. rising table s is;
+  sound = λ s lt. sound s (slot_at s table) (slot_there table s lt);
   left = λ s lt. refl;
   told = λ s lt. refl;
   appends = record { more = []; front = sym (append-nil out.records); none_else = λ s none. refl };
@@ -203,7 +211,7 @@ nexts globals start table records out order moving next =
     let lt : order.slot < length start = omega (arith, next.0, moving.count) in (
       next.0,
       next_is globals.now (slot_at order.slot table).objects
-          order.handle (moving.rising order.slot lt) next.1,
+          order.handle (moving.rising order.slot lt) (moving.sound order.slot lt) next.1,
     )
 
 -- there is room for what one slot gives
@@ -247,9 +255,8 @@ moves_on globals start table table_then records out out_then order moving next a
     record {
       moving = record {
         count = count;
-        rising = λ r lt. at_each (λ n. n < length start → IsRising (slot_at n table_then).objects)
-            s (λ _. f.rising) (λ n apart within. subst (λ (x : SlotState). IsRising x.objects)
-            (sym (same n apart within)) (moving.rising n within)) r lt;
+        rising = objects_then IsRising f.rising moving.rising;
+        sound = objects_then AllSound f.sound moving.sound;
         left =
             λ r lt. at_each (λ n. n < length start → (moved_to (slot_at n table_then) globals).slot
             ≡ (moved_to (slot_at n start) globals).slot) s (λ within. f.left ∙ moving.left s within)
@@ -289,7 +296,7 @@ moves_on globals start table table_then records out out_then order moving next a
 
     f : Fires globals s table table_then out out_then
     f = fires_one globals s order.handle table
-        table_then out out_then next.0 (moving.rising s here) next.1 acts
+        table_then out out_then next.0 (moving.rising s here) (moving.sound s here) next.1 acts
 
     count : length table_then ≡ length start
     count =
@@ -308,6 +315,15 @@ moves_on globals start table table_then records out out_then order moving next a
         ∙ (ap (λ (xs : List SlotState). slice_get xs n) f.slots
         ∙ (get-set_other (slots_of table) s n (slot_at s table_then) differ
         ∙ slot_there table n within)))
+
+    -- what was true of the objects of each slot is so yet
+    objects_then : (P : List Entry → Type 0) → P (slot_at s table_then).objects
+        → ((n : ℕ) → n < length start → P (slot_at n table).objects)
+        → (n : ℕ) → n < length start → P (slot_at n table_then).objects
+    objects_then P this before = at_each
+        (λ n. n < length start → P (slot_at n table_then).objects) s (λ within. this)
+        (λ n apart within. subst (λ (x : SlotState). P x.objects)
+        (sym (same n apart within)) (before n within))
 
     told_here : s < length start
         → records_of s out_then.records ++ (moved_to (slot_at s table_then) globals).records

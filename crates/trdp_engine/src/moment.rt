@@ -17,6 +17,7 @@ ghost use Rattle.trdp_engine.specs.Rooms.{HasRoom, kind_room, moment_room};
 ghost use Rattle.trdp_engine.specs.Acting.{TookWithin};
 ghost use Rattle.trdp_engine.specs.Indexed.{com_of};
 ghost use Rattle.trdp_engine.specs.InSession.{session_of};
+ghost use Rattle.trdp_engine.specs.Fitting.{EachSound};
 
 use crate::asked::Left;
 use crate::counts::Counts;
@@ -82,6 +83,7 @@ pub fn fire_object(
 /// moments and handles.
 pub fn fire_all(store: &mut Store, globals: &Globals, out: &mut Outbox, counts: &mut Counts)
     requires now { globals.now.now ≤ last_moment }
+    requires sound { EachSound (slots_of store.old) }
     requires room { HasRoom out.old (moment_room globals.now.now (slots_of store.old)) }
     ensures count { length store.new ≡ length store.old }
     ensures parts { (s : ℕ) (slot : SlotState) → slice_get (slots_of store.old) s ≡ Some slot

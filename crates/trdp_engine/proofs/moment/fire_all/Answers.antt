@@ -10,7 +10,7 @@ use Rattle.trdp_engine.proofs.moment.fire_all.Goals as goal
 pub loop-order-init : goal.loop-order-init
 loop-order-init c = record {
   moving = moving_first c.args.globals.now c.args.store.now
-      c.args.out.now c.sound.ensures.sound c.requires.room;
+      c.args.out.now c.sound.ensures.sound c.requires.sound c.requires.room;
   counting =
       counting_first c.args.globals.now c.args.store.now c.args.counts.now c.compared.new.self
       c.compared.ensures.comparisons c.compared.ensures.tests c.compared.ensures.look_ups;

@@ -9,6 +9,7 @@ use Rattle.trdp_engine.specs.Configs.{setup_of}
 use Rattle.trdp_engine.specs.Events.{MomentIs}
 use Rattle.trdp_engine.specs.Slots.{slots_of}
 use Rattle.trdp_engine.specs.Moments.{moved_to}
+use Rattle.trdp_engine.proofs.Fitting.{each_sound}
 use Rattle.trdp_engine.proofs.FittingEvents.{moved_fits}
 use Rattle.trdp_engine.proofs.Parts.{same_count, lacks_due}
 use Rattle.trdp_engine.proofs.Steps.{plain_steps, moment_admitted, has_outcome, outcomes_fit}
@@ -19,6 +20,11 @@ returns-in_err-reserve-clause-memory c _ =
     rw (← c.self.view_is)
     (lacks_due c.args.t (slots_of c.self.inside.store)
     c.args.out.now (rw c.due_room-comparisons.ensures.room at c.in_err-reserve.ensures.full))
+
+pub fire_all-requires-clause-sound : goal.fire_all-requires-clause-sound
+fire_all-requires-clause-sound c =
+    rw c.due_room-comparisons.ensures.kept
+    (each_sound (setup_of c.self.inside.config) (slots_of c.self.inside.store) c.self.invariant.2)
 
 pub returns-clause-steps : goal.returns-clause-steps
 returns-clause-steps c =
