@@ -1,9 +1,8 @@
 -- What keeps an object fit: the value of a subscription is one of its dataset at first, at a
 -- time-out, and as it is taken, and a caller is sound.
-use Rattle.std.proofs.Common.{◌≡◌, ℕ, List, [], ◌∷◌, ◌++◌, length}
-use Rattle.std.proofs.Common.{Some, None, Option, Bool, true, false, refl}
+use Rattle.std.proofs.Common.{◌≡◌, ℕ, List, length}
+use Rattle.std.proofs.Common.{Some, Option, Bool, true, false, refl}
 use Rattle.std.specs.Prelude.{replicate, not, ◌==◌, ◌&&◌, if◌then◌else◌}
-use Rattle.std.specs.List.{flat_map}
 use Rattle.trdp_dataset.specs.Datasets.{is_known}
 use Rattle.trdp_dataset.specs.Registries.{IsRegistry}
 use Rattle.trdp_dataset.specs.ZeroSizes.{zero_size as registry_zero_size}
