@@ -1,0 +1,70 @@
+//! A request and its answer, over a network that brings each of them twice.
+
+use crate::bench::{Act, Step, play};
+use std::test::Fail;
+
+/// The reply comes twice, and is told once. The request comes twice while its replier is open, and
+/// is told once; then it comes again, and is asked again.
+static ANSWERED: [Step; 8] = [
+    Step {
+        node: 1,
+        act: Act::Take("call 0 listen 300 0.0.0.0 0.0.0.0 0.0.0.0 - 0 0"),
+        tells: "0 handle 1\n",
+    },
+    Step {
+        node: 0,
+        act: Act::Take(
+            "\
+                call 0 request 300 00000000-0000-0000-0000-000000000001 1 1000 - - 0 0 \
+                10.0.0.2:17225 0d",
+        ),
+        tells: "\
+            0 handle 1\n\
+            0 send md 10.0.0.2:17225 \
+            0000000001004d720000012c00000000000000000000000100000000000000000000000000000000\
+            00000001000003e80000000000000000000000000000000000000000000000000000000000000000\
+            0000000000000000000000000000000000000000000000000000000000000000e2d25e9e0d000000\n",
+    },
+    Step {
+        node: 1,
+        act: Act::Deliver(0),
+        tells: "\
+            0 asked 1 2 00000000-0000-0000-0000-000000000001 10.0.0.1:17225 300 - - 0d\n",
+    },
+    Step {
+        node: 1,
+        act: Act::Deliver(0),
+        tells: "",
+    },
+    Step {
+        node: 1,
+        act: Act::Take("call 0 reply 2 301 0 0c"),
+        tells: "\
+            0 done\n\
+            0 send md 10.0.0.1:17225 \
+            0000000001004d700000012d00000000000000000000000100000000000000000000000000000000\
+            00000001000000000000000000000000000000000000000000000000000000000000000000000000\
+            00000000000000000000000000000000000000000000000000000000000000004488c7480c000000\n",
+    },
+    Step {
+        node: 0,
+        act: Act::Deliver(1),
+        tells: "0 replied 1 10.0.0.2:17225 Mp 0 301 0c\n0 closed 1 Done\n",
+    },
+    Step {
+        node: 0,
+        act: Act::Deliver(1),
+        tells: "",
+    },
+    Step {
+        node: 1,
+        act: Act::Deliver(0),
+        tells: "\
+            0 asked 1 3 00000000-0000-0000-0000-000000000001 10.0.0.1:17225 300 - - 0d\n",
+    },
+];
+
+#[test]
+fn a_request_is_answered_once(rt: HostRuntime) -> Result<(), Fail> {
+    play(&rt, "a request", &[&ANSWERED])
+}
