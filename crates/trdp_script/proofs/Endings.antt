@@ -1,21 +1,23 @@
 -- A script from its start to its end.
-use Rattle.std.proofs.Common.{◌≡◌, zero, suc, ℕ, List, [], ◌∷◌, ◌++◌, length, take, Ok, Err}
-use Rattle.std.proofs.Common.{Option, Result, refl, sym, ◌∙◌, ap, append_assoc, append-nil, subst}
+use Rattle.std.proofs.Common.{inr, ◌≡◌, ℕ, List, [], ◌++◌, length, take, Ok, Err}
+use Rattle.std.proofs.Common.{Option, Result, refl, sym, ◌∙◌, ap, append-nil, subst}
 use Rattle.std.proofs.Math.Seq.{take-append_seam}
 use Rattle.std.specs.Str.Lines.{lines}
 use Rattle.std.specs.Io.KnownBytes.{Appends}
-use Rattle.trdp_engine.specs.Events.{EventModel}
 use Rattle.trdp_dataset.specs.Configs.{ConfigModel}
 use Rattle.trdp_engine.specs.NodeStates.{NodeState, opened_node, uncounted}
-use Rattle.trdp_script.specs.ScriptRuns.{RunsScript, WritesFront}
+use Rattle.trdp_script.specs.Pieces.{ended_lines}
+use Rattle.trdp_script.specs.ScriptRuns.{PlaysLines, RunsScript, WritesFront}
 use Rattle.trdp_script.specs.declared.script.Script.{Script}
 use Rattle.trdp_script.specs.declared.script.ScriptFault.{ScriptFault}
 use Rattle.trdp_script.specs.declared.script.ScriptFault.TheVariants.{Line, Read, Write}
 use Rattle.trdp_script.specs.declared.script.ScriptFault.TheVariants.{OutOfMemory}
-use Rattle.trdp_script.specs.ScriptText.{event_text, events_of, events_text, fault_from}
-use Rattle.trdp_script.specs.ScriptText.{node_after, script_events, script_fault, script_text}
-use Rattle.trdp_script.specs.ScriptSteps.{node_of, ComesTo, Starts, Stops}
+use Rattle.trdp_script.specs.ScriptText.{events_of, events_text, fault_from}
+use Rattle.trdp_script.specs.ScriptText.{script_events, script_fault, script_text}
+use Rattle.trdp_script.specs.ScriptSteps.{node_of, ComesTo, PlaysFirst, Starts, Stops}
+use Rattle.trdp_script.specs.Wants.{NextMayWant}
 use Rattle.trdp_script.specs.Writes.{PassesOn, PassesSome}
+use Rattle.trdp_script.proofs.LineFronts.{lines_front}
 use Rattle.trdp_script.proofs.Writing.{passes_both, passes_some_after, passes_some_of}
 
 starts_fault : {config : ConfigModel} {s : Script} → Starts config s
@@ -51,19 +53,6 @@ passed_front {v} {w} {held} {text} empty some =
           some.passed.written,
     )
 
--- a front of the text of some events is a front of the text of all
-events_front : (node : NodeState) (events : List EventModel) (n : ℕ)
-    → (rest : List ℕ) × (events_text node events ≡ events_text node (take n events) ++ rest)
-events_front node [] zero = ([], refl)
-events_front node [] (suc n) = ([], refl)
-events_front node (event ∷ events) zero = (events_text node (event ∷ events), refl)
-events_front node (event ∷ events) (suc n) =
-    let more = events_front (node_after node event) events n in (
-      more.0,
-      ap (λ l. event_text node event ++ l) more.1 ∙ sym (append_assoc (event_text node event)
-          (events_text (node_after node event) (take n events)) more.0),
-    )
-
 -- what was told, where all of it was written
 starts_text : (config : ConfigModel) (s : Script) → Starts config s
     → (input : List ℕ) → events_text (node_of s.player) (events_of (lines (s.line.items ++ input)))
@@ -72,12 +61,35 @@ starts_text config s start input =
     ap (λ n. events_text (uncounted n) (events_of (lines (s.line.items ++ input)))) start.node
     ∙ ap (events_text (opened_node config)) (starts_events start input)
 
-starts_front : (config : ConfigModel) (s : Script) → Starts config s → (input : List ℕ) (n : ℕ)
-    → events_text (node_of s.player) (take n (events_of (lines (s.line.items ++ input))))
-    ≡ events_text (opened_node config) (take n (script_events input))
-starts_front config s start input n = ap (λ m.
-    events_text (uncounted m) (take n (events_of (lines (s.line.items ++ input))))) start.node
-    ∙ ap (λ es. events_text (opened_node config) (take n es)) (starts_events start input)
+-- the same of the first lines
+starts_first : (config : ConfigModel) (s : Script) → Starts config s → (input : List ℕ) (n : ℕ)
+    → events_text (node_of s.player) (events_of (take n (lines (s.line.items ++ input))))
+    ≡ events_text (opened_node config) (events_of (take n (lines input)))
+starts_first config s start input n = ap (λ m. events_text (uncounted m)
+    (events_of (take n (lines (s.line.items ++ input))))) start.node
+    ∙ ap (λ l. events_text (opened_node config) (events_of (take n (lines (l ++ input)))))
+    start.line
+
+-- the first lines of a script were played, and what was told of them is written
+first_written : (config : ConfigModel) (a b c : Script) (u v w : Option (List ℕ)) (input : List ℕ)
+    (n : ℕ) → Starts config a → c.player.output.items ≡ [] → PlaysFirst a b u v input n
+    → PassesOn v w b.player.output.items c.player.output.items [] → PlaysLines config input n u w
+first_written config a b c u v w input n start empty first flushed = record {
+  no_fault = sym (ap (λ k. fault_from k (take n (lines (a.line.items ++ input)))) start.number
+      ∙ ap (λ l. fault_from 1 (take n (lines (l ++ input)))) start.line) ∙ first.no_fault;
+  written = subst (λ (l : List ℕ). Appends u w l)
+      (append-nil first.text ∙ first.text_is ∙ starts_first config a start input n)
+      (passed_whole start.output empty (passes_both first.passed flushed));
+}
+
+-- the line behind them
+starts_next : (config : ConfigModel) (s : Script) → Starts config s → (input : List ℕ) (n : ℕ)
+    → NextMayWant (node_of s.player) (lines (s.line.items ++ input)) n
+    → NextMayWant (opened_node config) (lines input) n
+starts_next config s start input n next =
+    subst (λ (l : List ℕ). NextMayWant (opened_node config) (lines (l ++ input)) n) start.line
+    (subst (λ (m : NodeState). NextMayWant (uncounted m) (lines (s.line.items ++ input)) n)
+    start.node next)
 
 -- a run that comes to its end, whose output is written
 pub run_written : (config : ConfigModel) (a b c : Script) (u v w : Option (List ℕ))
@@ -102,19 +114,20 @@ run_written config a b c u v w input left (Err (Line n fault)) start empty came 
           (passed_whole start.output empty (passes_both came.passed flushed));
     }
 run_written config a b c u v w input left (Err Read) start empty came other flushed = record {
-  count = came.count;
-  written = subst (λ (l : List ℕ). Appends u w l)
-      (append-nil came.text ∙ came.text_is ∙ starts_front config a start input came.count)
-      (passed_whole start.output empty (passes_both came.passed flushed));
+  read = came.read;
+  behind = came.behind;
+  whole = came.whole;
+  left_is = came.left_is;
+  played = first_written config a b c u v w input (ended_lines came.read) start empty came.played
+      flushed;
 }
 run_written config a b c u v w input left (Err Write) start empty came other flushed =
     absurd (other refl)
 run_written config a b c u v w input left (Err OutOfMemory) start empty came other flushed =
     record {
       count = came.count;
-      written = subst (λ (l : List ℕ). Appends u w l)
-          (append-nil came.text ∙ came.text_is ∙ starts_front config a start input came.count)
-          (passed_whole start.output empty (passes_both came.passed flushed));
+      played = first_written config a b c u v w input came.count start empty came.played flushed;
+      wanting = inr (starts_next config a start input came.count came.wanting);
     }
 
 -- a run that ends at a write
@@ -145,6 +158,17 @@ told_front config a b u v w input text rest start told is some =
     let front = passed_front start.output all in
     record { length = front.0; written = front.1 }
 
+-- the first lines were played, and a front of what was told of them is written
+first_unwritten : (config : ConfigModel) (a b : Script) (u v w : Option (List ℕ)) (input : List ℕ)
+    (n : ℕ) → Starts config a → PlaysFirst a b u v input n
+    → PassesSome v w b.player.output.items [] → WritesFront config input u w
+first_unwritten config a b u v w input n start first some =
+    let front = lines_front (node_of a.player) a.number (lines (a.line.items ++ input)) n
+    first.no_fault in
+    told_front config a b u v w input first.text front.0 start first.passed
+    (sym (starts_text config a start input) ∙ front.1 ∙ ap (λ l. l ++ front.0) (sym first.text_is))
+    some
+
 -- a run that comes to its end, whose output can't be written
 pub run_unwritten : (config : ConfigModel) (a b : Script) (u v w : Option (List ℕ))
     (input : List ℕ) (left : Option (List ℕ)) (r : Result (Unit {0}) ScriptFault) → Starts config a
@@ -158,16 +182,10 @@ run_unwritten config a b u v w input left (Err (Line n fault)) start came other 
     told_front config a b u v w input came.text [] start came.passed
     (sym (append-nil came.text ∙ came.text_is ∙ starts_text config a start input)) some
 run_unwritten config a b u v w input left (Err Read) start came other some =
-    let more = events_front (opened_node config) (script_events input) came.count in
-    told_front config a b u v w input came.text more.0 start came.passed (more.1
-    ∙ ap (λ l. l ++ more.0) (sym (came.text_is ∙ starts_front config a start input came.count)))
-    some
+    first_unwritten config a b u v w input (ended_lines came.read) start came.played some
 run_unwritten config a b u v w input left (Err Write) start came other some = absurd (other refl)
 run_unwritten config a b u v w input left (Err OutOfMemory) start came other some =
-    let more = events_front (opened_node config) (script_events input) came.count in
-    told_front config a b u v w input came.text more.0 start came.passed (more.1
-    ∙ ap (λ l. l ++ more.0) (sym (came.text_is ∙ starts_front config a start input came.count)))
-    some
+    first_unwritten config a b u v w input came.count start came.played some
 
 -- a run whose last output can't be written
 pub run_fails : (config : ConfigModel) (a b : Script) (u v w : Option (List ℕ)) (input : List ℕ)

@@ -1,6 +1,7 @@
 pub mod Endings
 pub mod FieldLemmas
 pub mod FormLemmas
+pub mod LineFronts
 pub mod LineLists
 pub mod LineSteps
 pub mod Orders

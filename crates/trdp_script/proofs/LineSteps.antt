@@ -1,5 +1,5 @@
 -- A script on its way: one line.
-use Rattle.std.proofs.Common.{◌≡◌, suc, ◌+◌, ◌<◌, ℕ, Bool, true, false, List, []}
+use Rattle.std.proofs.Common.{inl, ◌≡◌, suc, ◌+◌, ◌<◌, ℕ, Bool, true, false, List, []}
 use Rattle.std.proofs.Common.{◌∷◌, ◌++◌, length, Some, None, Ok, Err, Option}
 use Rattle.std.proofs.Common.{Result, refl, sym, ◌∙◌, ap, arith, append-nil, subst}
 use Rattle.std.specs.Prelude.{nat_eq, nat_lt, if◌then◌else◌, IfErr, OnOk}
@@ -21,11 +21,13 @@ use Rattle.trdp_script.specs.Pieces.{IsBare}
 use Rattle.trdp_script.specs.ScriptText.{after_line, events_of, events_text}
 use Rattle.trdp_script.specs.ScriptText.{fault_from, fault_or, nodes_after}
 use Rattle.trdp_script.specs.ScriptSteps.{node_of, Ends, LineComesTo, Plays}
-use Rattle.trdp_script.specs.ScriptSteps.{PlaysLine, Stops, StopsAt, line_events}
+use Rattle.trdp_script.specs.ScriptSteps.{PlaysLine, Stops, StopsAt, StopsWanting, line_events}
+use Rattle.trdp_script.specs.Wants.{LineMayWant, NextMayWant}
 use Rattle.trdp_script.specs.Writes.{PassesOn, PassesSome}
 use Rattle.trdp_script.proofs.LineLists.{lines_first, lines_last}
 use Rattle.trdp_script.proofs.Writing.{passes_some_of}
-use Rattle.trdp_script.proofs.Steps.{text_append, stops_here, passes_nothing}
+use Rattle.trdp_script.proofs.LineFronts.{text_append}
+use Rattle.trdp_script.proofs.Steps.{first_here, passes_nothing}
 
 -- events of a line without a fault come first
 line_then : (line : List ℕ) (event : Option EventModel) (later : List (List ℕ))
@@ -33,32 +35,47 @@ line_then : (line : List ℕ) (event : Option EventModel) (later : List (List �
 line_then line None later is = rw is refl
 line_then line (Some event) later is = rw is refl
 
+-- the events of a line without a fault
+events_one : (line : List ℕ) (event : Option EventModel)
+    → line_of line ≡ Ok event → events_of (line ∷ []) ≡ line_events (Ok event)
+events_one line event is = line_then line event [] is ∙ append-nil (line_events (Ok event))
+
 -- a line without a fault before its newline
 pub line_plays : (old new : Script) (v w : Option (List ℕ)) (event : Option EventModel)
     → IsBare old.line.items → line_of (strip_carriage_return old.line.items) ≡ Ok event
     → PlaysLine old.player new.player v w (line_events (Ok event))
     → new.line.items ≡ [] → new.number ≡ old.number + 1 → Plays old new v w (10 ∷ [])
 line_plays old new v w event bare is played empty next =
-    let first : (later : List ℕ) → lines (old.line.items ++ 10 ∷ later)
-    ≡ strip_carriage_return old.line.items ∷ lines later =
-    λ later. lines_first old.line.items later bare in
-    let number : suc old.number ≡ new.number = omega (arith, next) in
+    let line = strip_carriage_return old.line.items in
+    let events = events_one line event is in
     record {
       text = events_text (node_of old.player) (line_events (Ok event));
       passed = played.passed;
       taken = record {
-        events = line_events (Ok event);
-        node_is = played.node_is;
-        text_is = refl;
-        later_events = λ later. ap events_of (first later)
-            ∙ line_then (strip_carriage_return old.line.items) event (lines later) is
-            ∙ ap (λ l. line_events (Ok event) ++ events_of (lines (l ++ later))) (sym empty);
-        later_fault = λ later. ap (fault_from old.number) (first later)
-            ∙ ap (λ m. fault_or old.number m (fault_from (suc old.number) (lines later))) is
-            ∙ ap (λ n. fault_from n (lines later)) number
-            ∙ ap (λ l. fault_from new.number (lines (l ++ later))) (sym empty);
+        ended = line ∷ [];
+        lines_are = λ later. lines_first old.line.items later bare
+            ∙ ap (λ l. line ∷ lines (l ++ later)) (sym empty);
+        count = refl;
+        number = omega (arith, next);
+        no_fault = ap (λ m. fault_or old.number m None) is;
+        node_is = played.node_is ∙ ap (nodes_after (node_of old.player)) (sym events);
+        text_is = ap (events_text (node_of old.player)) (sym events);
       };
     }
+
+-- a good line for which memory is wanting
+line_wants : (old new : Script) (v w : Option (List ℕ)) (event : Option EventModel)
+    (line rest : List ℕ) (later : List (List ℕ))
+    → line_of line ≡ Ok event → lines (old.line.items ++ rest) ≡ line ∷ later
+    → PassesOn v w old.player.output.items new.player.output.items []
+    → LineMayWant (node_of old.player) (Ok event) → StopsWanting old new v w rest
+line_wants old new v w event line rest later is first passed wants = record {
+  count = 0;
+  played = first_here rest passed;
+  wanting = subst (λ (l : List (List ℕ)). NextMayWant (node_of old.player) l 0) (sym first)
+      (subst (λ (m : Result (Option EventModel) LineFault). LineMayWant (node_of old.player) m)
+      (sym is) wants);
+}
 
 bad_stops : (old new : Script) (v w : Option (List ℕ))
     (line rest : List ℕ) (later : List (List ℕ)) (bad : LineFault) (n : ℕ) (fault : LineFault)
@@ -99,7 +116,7 @@ line_stops_as old new v w line rest later (Ok event) (Err Write) is first came =
     (passes_some_of (events_text (nodes_after (node_of old.player) (line_events (Ok event)))
     (events_of later)) came)
 line_stops_as old new v w line rest later (Ok event) (Err OutOfMemory) is first came =
-    stops_here rest came
+    line_wants old new v w event line rest later is first came.0 came.1
 
 -- a line that stops the script
 pub line_stops : (old new : Script) (v w : Option (List ℕ))
@@ -118,8 +135,8 @@ line_ends old new v w event first is played = record {
   text = events_text (node_of old.player) (line_events (Ok event));
   passed = played.passed;
   no_fault = ap (fault_from old.number) first ∙ ap (λ m. fault_or old.number m None) is;
-  text_is = ap (events_text (node_of old.player)) (sym (ap events_of first
-      ∙ line_then old.line.items event [] is ∙ append-nil (line_events (Ok event))));
+  text_is = ap (events_text (node_of old.player))
+      (sym (ap events_of first ∙ events_one old.line.items event is));
 }
 
 -- a line that was played, by what came of it
@@ -210,5 +227,6 @@ memory_came p w n text bad is reads = memory_of (line_of text) (never_memory tex
   where
     memory_of : (meaning : Result (Option EventModel) LineFault) → NeverMemory meaning
         → Reads meaning (Err bad) → LineComesTo p p w w n meaning (Err OutOfMemory)
-    memory_of (Ok event) never reads = passes_nothing w p.output.items
+    memory_of (Ok None) never reads = let none = reads.1 in absurd (cc)
+    memory_of (Ok (Some event)) never reads = (passes_nothing w p.output.items, inl reads.1)
     memory_of (Err fault) never reads = absurd (never (ap (λ f. Err f) (sym reads ∙ is)))

@@ -1,13 +1,17 @@
 -- Records slot by slot.
 use Rattle.std.proofs.Common.{◌≡◌, ◌⊎◌, inl, inr, zero, suc, ◌+◌, ◌<◌, ◌≤◌, ℕ, true, false, List}
 use Rattle.std.proofs.Common.{[], ◌∷◌, ◌++◌, refl, sym, ◌∙◌, ap, arith, append_assoc, append-nil}
-use Rattle.std.specs.Prelude.{◌==◌, filter}
+use Rattle.std.proofs.Common.{Some, codes, if◌then◌else◌}
+use Rattle.std.specs.Prelude.{◌==◌, filter, slice_get}
 use Rattle.std.specs.List.{flat_map}
 use Rattle.std.proofs.lemmas.Grind.{flat_map-append}
 use Rattle.std.proofs.lemmas.List.Concat.{flat_map-cons}
 use Rattle.std.proofs.lemmas.Bool.{cases_lt}
 use Rattle.std.proofs.lemmas.Bool.Decides.{nat_tests, eqb_tells}
 use Rattle.trdp_engine.specs.Records.{RecordModel}
+use Rattle.trdp_base.specs.NumberText.{text_of_number}
+use Rattle.trdp_engine.specs.declared.fault.NodeFault.{NodeFault}
+use Rattle.trdp_script.specs.RecordText.{name_of_fault, text_of_content, text_of_fault}
 use Rattle.trdp_script.specs.RecordText.{text_of_record}
 use Rattle.trdp_script.specs.SlotOrder.{IsRising, by_slot, slot_text}
 
@@ -150,3 +154,74 @@ pub slots_untold : (records : List RecordModel) (told : List ℕ)
     → told ≡ told ++ flat_map text_of_record (by_slot 0 records)
 slots_untold records told =
     sym (ap (λ l. told ++ flat_map text_of_record l) (by_slot_zero records) ∙ append-nil told)
+
+-- what is empty in two parts is empty in each
+front_empty : (xs ys : List ℕ) → xs ++ ys ≡ [] → xs ≡ []
+front_empty [] ys none = refl
+front_empty (x ∷ xs) ys none = absurd (cc)
+
+back_empty : (xs ys : List ℕ) → xs ++ ys ≡ [] → ys ≡ []
+back_empty [] ys none = none
+back_empty (x ∷ xs) ys none = absurd (cc)
+
+-- a record has some text
+record_told : (r : RecordModel) → text_of_record r ≡ [] → ⊥
+unfolding text_of_record
+record_told r none =
+    let newline = back_empty (text_of_number r.slot ++ text_of_content r.content)
+    (codes "\n") none in
+    absurd (cc)
+
+-- so has a fault
+pub fault_told : (fault : NodeFault) → text_of_fault fault ≡ [] → ⊥
+unfolding text_of_fault
+fault_told fault none =
+    let word = front_empty (codes "fault ") (name_of_fault fault ++ codes "\n") none in
+    absurd (cc)
+
+-- and a record of the slot, among the slot's
+pub own_line : (n : ℕ) (r : RecordModel) → r.slot ≡ n → slot_text n r ≡ [] → ⊥
+own_line n r is none = let same : (r.slot == n) ≡ true = grind (arith, nat_tests) in
+    record_told r (ap (λ b. if b then text_of_record r else []) (sym same) ∙ none)
+
+-- where one of some texts isn't empty, all of them aren't
+some_told : {A : Type 0} (f : A → List ℕ) (xs : List A) (i : ℕ) (x : A)
+    → slice_get xs i ≡ Some x → (f x ≡ [] → ⊥) → flat_map f xs ≡ [] → ⊥
+some_told f [] i x here some none = absurd (cc)
+some_told f (y ∷ xs) zero x here some none =
+    let same : y ≡ x = cc in
+    some (ap f (sym same)
+    ∙ front_empty (f y) (flat_map f xs) (sym (flat_map-cons f y xs) ∙ none))
+some_told f (y ∷ xs) (suc i) x here some none =
+    some_told f xs i x here some
+    (back_empty (f y) (flat_map f xs) (sym (flat_map-cons f y xs) ∙ none))
+
+pub record_among : (records : List RecordModel) (i : ℕ) (r : RecordModel)
+    → slice_get records i ≡ Some r → flat_map text_of_record records ≡ [] → ⊥
+record_among records i r here none =
+    some_told text_of_record records i r here (record_told r) none
+
+pub own_among : (n : ℕ) (records : List RecordModel) (i : ℕ) (r : RecordModel)
+    → slice_get records i ≡ Some r → (slot_text n r ≡ [] → ⊥)
+    → flat_map text_of_record (slots_own n records) ≡ [] → ⊥
+own_among n records i r here some none =
+    some_told (slot_text n) records i r here some (own_text n records ∙ none)
+
+-- where a slot has some text, all slots have
+pub slot_among : (n s : ℕ) (records : List RecordModel) → s < n
+    → (flat_map text_of_record (slots_own s records) ≡ [] → ⊥)
+    → flat_map text_of_record (by_slot n records) ≡ [] → ⊥
+slot_among zero s records below some none = absurd (omega (arith, below))
+slot_among (suc n) s records below some none =
+    let parts = sym (ap (flat_map text_of_record) (by_slot_suc n records)
+    ∙ flat_map-append text_of_record (by_slot n records) (slots_own n records)) ∙ none in
+    by_place (λ lower. slot_among n s records lower some) parts (cases_lt s n)
+  where
+    by_place : (s < n → flat_map text_of_record (by_slot n records) ≡ [] → ⊥)
+        → flat_map text_of_record (by_slot n records)
+        ++ flat_map text_of_record (slots_own n records) ≡ [] → (s < n) ⊎ (n ≤ s) → ⊥
+    by_place front parts (inl lower) =
+        front lower (front_empty (flat_map text_of_record (by_slot n records)) _ parts)
+    by_place front parts (inr past) = let same : s ≡ n = omega (arith, below, past) in
+        some (ap (λ m. flat_map text_of_record (slots_own m records)) same
+        ∙ back_empty (flat_map text_of_record (by_slot n records)) _ parts)

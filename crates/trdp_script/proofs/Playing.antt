@@ -1,6 +1,6 @@
 -- An event's way through a node with any number of slots.
 use Rattle.std.proofs.Common.{inl, inr, ◌≡◌, zero, suc, ◌+◌, ◌-◌, ◌≤◌, ℕ, true, false}
-use Rattle.std.proofs.Common.{List, [], ◌∷◌, ◌++◌, length, Some, None, Ok, Option}
+use Rattle.std.proofs.Common.{List, [], ◌∷◌, ◌++◌, length, Some, None, Ok, Err, Option}
 use Rattle.std.proofs.Common.{refl, sym, ◌∙◌, ap, arith, append_assoc, append-nil}
 use Rattle.std.specs.Prelude.{◌==◌, slice_get}
 use Rattle.std.specs.List.{flat_map}
@@ -10,12 +10,14 @@ use Rattle.std.proofs.lemmas.Option.{slice_get_past}
 use Rattle.trdp_engine.specs.Configs.{NodeSetup, setup_of}
 use Rattle.trdp_filter.specs.declared.globals.Globals.{Globals}
 use Rattle.trdp_engine.specs.declared.fault.NodeFault.{NodeFault}
-use Rattle.trdp_engine.specs.Events.{EventModel}
+use Rattle.trdp_engine.specs.declared.fault.NodeFault.TheVariants.{OutOfMemory}
+use Rattle.trdp_engine.specs.Events.{EventModel, MomentIs, TopologyIs, RoleIs, DatagramIs, CallIs}
 use Rattle.trdp_engine.specs.Records.{RecordModel, labelled, records_of}
 use Rattle.trdp_engine.specs.Slots.{SlotState}
 use Rattle.trdp_engine.specs.Alone.{FaultIs, refused_as, globals_after, slot_after, records_after}
-use Rattle.trdp_engine.specs.NodeStates.{NodeState, StepsAsAlone, Appends, no_counts, uncounted}
-use Rattle.trdp_script.specs.RecordText.{text_of_record}
+use Rattle.trdp_engine.specs.NodeStates.{NodeState, MayTakeMemory, StepsAsAlone, Appends}
+use Rattle.trdp_engine.specs.NodeStates.{no_counts, uncounted}
+use Rattle.trdp_script.specs.RecordText.{text_of_fault, text_of_record}
 use Rattle.trdp_script.specs.ScriptText.{slots_after, slots_text, node_after}
 use Rattle.trdp_script.specs.ScriptText.{event_text, node_unless, text_unless}
 use Rattle.trdp_script.specs.SlotOrder.{by_slot}
@@ -178,3 +180,19 @@ text_played n old new records records_then event text taken fits empty steps app
     event records_then old.slots 0 (length old.slots) (sym whole) each)
     ∙ ap (λ fault. text_unless fault (uncounted old) event)
     (sym (no_fault (refused_as (length old.slots) old.globals event) taken))
+
+-- what the latest event cost decides nothing of the next
+pub may_uncounted : (node : NodeState) (event : EventModel)
+    → MayTakeMemory node event → MayTakeMemory (uncounted node) event
+may_uncounted node (MomentIs t) may = may
+may_uncounted node (TopologyIs topo) may = may
+may_uncounted node (RoleIs group leader) may = may
+may_uncounted node (DatagramIs protocol src dst bytes) may = may
+may_uncounted node (CallIs s call) may = may
+
+-- what is told of an event that the node took no notice of
+pub text_refused : (node : NodeState) (event : EventModel) (refused : Option NodeFault)
+    (fault : NodeFault) → FaultIs refused (Err fault) → (fault ≡ OutOfMemory → ⊥)
+    → text_of_fault fault ≡ text_unless refused node event
+text_refused node event None fault is other = absurd (other is)
+text_refused node event (Some own) fault is other = ap text_of_fault is

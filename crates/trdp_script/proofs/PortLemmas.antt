@@ -1,15 +1,23 @@
--- Facts on lines at the control port of a slot.
+-- Facts on lines at the control port of a slot and at the operator's port.
 use Rattle.std.proofs.Common.{◌≡◌, ℕ, ◌+◌, ◌^◌, ◌<◌, ◌≤◌, ◌==◌, nat_lt, Bool, true, false, List, []}
-use Rattle.std.proofs.Common.{◌∷◌, ◌++◌, length, Err, refl, sym, ap, ◌∙◌, inl, arith, length-append}
+use Rattle.std.proofs.Common.{◌∷◌, ◌++◌, length, Ok, Err, refl, sym, ap, ◌∙◌, inl, arith, length-append}
+use Rattle.std.proofs.Common.{Option, Some, None, Result, IfErr, if◌then◌else◌, nat_eq}
+use Rattle.std.specs.Option.{option_and_then}
 use Rattle.std.proofs.lemmas.Bool.Decides.{nat_tests}
 use Rattle.std.proofs.lemmas.List.Elements.{All-nil, All-cons}
 use Rattle.std.proofs.lemmas.List.Splits.{slice_split_at}
 use Rattle.trdp_base.specs.NumberText.{text_of_number}
-use Rattle.trdp_script.specs.Forms.{call_word, forms}
+use Rattle.trdp_engine.specs.Events.{EventModel, MomentIs, TopologyIs, RoleIs, DatagramIs}
+use Rattle.trdp_engine.specs.Events.{CallIs}
+use Rattle.trdp_script.specs.Forms.{call_word, event_in, event_of_words, forms, has_keywords}
+use Rattle.trdp_script.specs.Forms.{role_form, topology_form}
 use Rattle.trdp_script.specs.Words.{words_of}
-use Rattle.trdp_script.specs.Lines.{form_among, is_skipped, line_among, words_say}
-use Rattle.trdp_script.specs.PortLines.{call_line, control_line_of, without_end}
-use Rattle.trdp_script.specs.declared.fault.LineFault.TheVariants.{TooLong}
+use Rattle.trdp_script.specs.Lines.{Reads, event_or_fault, form_among, is_skipped, line_among}
+use Rattle.trdp_script.specs.Lines.{words_say}
+use Rattle.trdp_script.specs.PortLines.{call_line, control_line_of, operator_line_of, without_end}
+use Rattle.trdp_script.specs.declared.line.Line.{Line}
+use Rattle.trdp_script.specs.declared.fault.LineFault.{LineFault}
+use Rattle.trdp_script.specs.declared.fault.LineFault.TheVariants.{TooLong, Count, OutOfMemory}
 use Rattle.trdp_script.proofs.FieldLemmas.{Lacks, number_lacks_byte}
 
 -- the words of the line of a call
@@ -56,3 +64,89 @@ control_says slot digits text bytes shown small is some short =
     let tells : nat_lt 140000 (length (call_line slot text)) ≡ false =
     grind (arith, nat_tests, call_length slot text, ap length shown, short) in
     rw (sym is, some, tells, call_begins slot text, call_words slot text small, shown) refl
+
+-- what a line can mean at the operator's port: topology counts, a role, nothing, or a fault
+abbrev pub IsOperators : Result (Option EventModel) LineFault → Type 0
+IsOperators (Err fault) = fault ≡ OutOfMemory → ⊥
+IsOperators (Ok None) = Unit {0}
+IsOperators (Ok (Some (MomentIs t))) = ⊥
+IsOperators (Ok (Some (TopologyIs topo))) = Unit {0}
+IsOperators (Ok (Some (RoleIs group leader))) = Unit {0}
+IsOperators (Ok (Some (DatagramIs protocol src dst bytes))) = ⊥
+IsOperators (Ok (Some (CallIs slot call))) = ⊥
+
+topology_said : (etb op_trn : Option ℕ) → IsOperators (event_or_fault (option_and_then (λ e.
+    option_and_then (λ o. Some (TopologyIs (record { etb = e; op_trn = o }))) op_trn) etb))
+topology_said None op_trn = λ is. absurd (cc)
+topology_said (Some e) None = λ is. absurd (cc)
+topology_said (Some e) (Some o) = tt
+
+role_said : (group : Option ℕ) (leader : Option Bool) → IsOperators (event_or_fault
+    (option_and_then (λ g. option_and_then (λ l. Some (RoleIs g l)) leader) group))
+role_said None leader = λ is. absurd (cc)
+role_said (Some g) None = λ is. absurd (cc)
+role_said (Some g) (Some l) = tt
+
+-- of the right number of words or not
+counted_said : (right : Bool) (event : Option EventModel) → IsOperators (event_or_fault event)
+    → IsOperators (if right then event_or_fault event else Err Count)
+counted_said true event is = is
+counted_said false event is = λ same. absurd (cc)
+
+topology_words : (words : List (List ℕ)) → IsOperators (words_say (Some topology_form) words)
+unfolding words_say event_of_words
+topology_words words = counted_said (nat_eq (length words) 3) (event_in topology_form words)
+    (topology_said _ _)
+
+role_words : (words : List (List ℕ)) → IsOperators (words_say (Some role_form) words)
+unfolding words_say event_of_words
+role_words words = counted_said (nat_eq (length words) 3) (event_in role_form words)
+    (role_said _ _)
+
+other_words_said : (words : List (List ℕ)) → IsOperators (words_say None words)
+unfolding words_say
+other_words_said words = λ is. absurd (cc)
+
+operators_words : (words : List (List ℕ))
+    → IsOperators (words_say (form_among (topology_form ∷ role_form ∷ []) words) words)
+unfolding form_among
+operators_words words = by_form (has_keywords topology_form.parts words)
+    (has_keywords role_form.parts words)
+  where
+    by_form : (topology role : Bool) → IsOperators (words_say (if topology then Some topology_form
+        else (if role then Some role_form else None)) words)
+    by_form true role = topology_words words
+    by_form false true = role_words words
+    by_form false false = other_words_said words
+
+-- what a line means at the operator's port
+pub operators_line : (bytes : List ℕ) → IsOperators (operator_line_of bytes)
+unfolding operator_line_of line_among
+operators_line bytes = by_text (nat_lt 140000 (length (without_end bytes)))
+    (is_skipped (without_end bytes))
+  where
+    by_text : (long skipped : Bool) → IsOperators (if long then Err TooLong
+        else (if skipped then Ok None
+        else words_say (form_among (topology_form ∷ role_form ∷ []) (words_of (without_end bytes)))
+        (words_of (without_end bytes))))
+    by_text true skipped = λ is. absurd (cc)
+    by_text false true = tt
+    by_text false false = operators_words (words_of (without_end bytes))
+
+-- memory is never wanting for it
+operators_never_want : (meaning : Result (Option EventModel) LineFault) (fault : LineFault)
+    → IsOperators meaning → Reads meaning (Err fault) → fault ≡ OutOfMemory → ⊥
+operators_never_want (Err bad) fault never reads is = never (sym reads ∙ is)
+operators_never_want (Ok None) fault of reads is = let none = reads.1 in absurd (cc)
+operators_never_want (Ok (Some (MomentIs t))) fault of reads is = absurd of
+operators_never_want (Ok (Some (TopologyIs topo))) fault of reads is =
+    let none = reads.1 in absurd (cc)
+operators_never_want (Ok (Some (RoleIs group leader))) fault of reads is =
+    let none = reads.1 in absurd (cc)
+operators_never_want (Ok (Some (DatagramIs protocol src dst bytes))) fault of reads is = absurd of
+operators_never_want (Ok (Some (CallIs slot call))) fault of reads is = absurd of
+
+pub operators_sure : (meaning : Result (Option EventModel) LineFault) (r : Result Line LineFault)
+    → IsOperators meaning → Reads meaning r → IfErr r (λ fault. fault ≡ OutOfMemory → ⊥)
+operators_sure meaning (Ok line) of reads = tt
+operators_sure meaning (Err fault) of reads = operators_never_want meaning fault of reads

@@ -1,13 +1,18 @@
 -- A script on its way: what was read of its input.
-use Rattle.std.proofs.Common.{◌≡◌, ◌<◌, ℕ, List, [], ◌++◌, length, take, Some, None, Ok}
-use Rattle.std.proofs.Common.{Err, Option, Result, refl, sym, ◌∙◌, ap, append-nil, subst}
+use Rattle.std.proofs.Common.{◌≡◌, ◌+◌, ◌<◌, ℕ, List, [], ◌++◌, length, take, Some, None, Ok}
+use Rattle.std.proofs.Common.{Err, Option, Result, refl, sym, ◌∙◌, ap, arith, append-nil, subst}
 use Rattle.std.specs.Prelude.{IfErr, OnOk}
 use Rattle.std.proofs.KnownBytes.{Consumes-nil, Consumes-trans}
-use Rattle.std.specs.Io.KnownBytes.{Consumes, IsAtEnd}
+use Rattle.std.specs.Io.KnownBytes.{Consumes, IsAtEnd, Keeps}
 use Rattle.trdp_script.specs.declared.script.Script.{Script}
 use Rattle.trdp_script.specs.declared.script.ScriptFault.{ScriptFault}
-use Rattle.trdp_script.specs.ScriptSteps.{ComesTo, Ends, IsSound, Plays, Stops}
-use Rattle.trdp_script.proofs.Steps.{plays_both, stops_after, ends_after, plays_nothing}
+use Rattle.trdp_script.specs.declared.script.ScriptFault.TheVariants.{Line, Read, Write}
+use Rattle.trdp_script.specs.declared.script.ScriptFault.TheVariants.{OutOfMemory}
+use Rattle.trdp_script.specs.Pieces.{ended_lines}
+use Rattle.trdp_script.specs.ScriptSteps.{ComesTo, Ends, IsSound, Plays, PlaysFirst, Stops}
+use Rattle.trdp_script.specs.ScriptSteps.{StopsUnread}
+use Rattle.trdp_script.proofs.Steps.{ends_after, first_after, first_here, passes_nothing}
+use Rattle.trdp_script.proofs.Steps.{plays_both, plays_nothing, stops_after}
 
 -- what was read of the input so far was played
 pub record Reading (old here : Script) (v w left left_then : Option (List ℕ)) : Type 0 where
@@ -86,6 +91,15 @@ at_end left_then left_last rest read none is =
     at_end_of (Some xs) behind none = let same : xs ≡ behind.0 = cc in
         (behind.2 ∙ sym same ∙ none, ap (λ (l : List ℕ). Some l) none)
 
+-- a script that stops
+pub comes_stopped : (a c : Script) (u w : Option (List ℕ)) (input : List ℕ) (left : Option (List ℕ))
+    (fault : ScriptFault) → Stops a c u w input fault → ComesTo a c u w input left (Err fault)
+unfolding ComesTo Stops
+comes_stopped a c u w input left (Line n fault) stops = stops
+comes_stopped a c u w input left Read stops = absurd stops
+comes_stopped a c u w input left Write stops = stops
+comes_stopped a c u w input left OutOfMemory stops = stops
+
 -- the input was read and played to its end
 pub reading_ends : {a b : Script} (c : Script) {u v : Option (List ℕ)}
     (w : Option (List ℕ)) {left left_then : Option (List ℕ)} (left_last : Option (List ℕ))
@@ -102,14 +116,39 @@ reading_ends {a} {b} c {u} {v} w {left} {left_then} left_last
     (subst (λ (l : List ℕ). Ends a c u w l) (sym all) (ends_after [] reading.plays ends), end.1)
 reading_ends {a} {b} c {u} {v} w {left} {left_then} left_last
     (Err fault) reading read none ends stops input is =
-    reading_stops c w fault reading (λ rest there. let end = at_end left_then left_last rest
-    read none there in subst (λ (l : List ℕ). Stops b c v w l fault) (sym end.0) stops) input is
+    comes_stopped a c u w input left_last fault (reading_stops c w fault reading (λ rest there.
+    let end = at_end left_then left_last rest read none there in
+    subst (λ (l : List ℕ). Stops b c v w l fault) (sym end.0) stops) input is)
 
--- a script that stops
-pub comes_stopped : (a c : Script) (u w : Option (List ℕ)) (input : List ℕ) (left : Option (List ℕ))
-    (fault : ScriptFault) → Stops a c u w input fault → ComesTo a c u w input left (Err fault)
+-- what a reader has left that failed, where the whole input is known
+kept_rest : (left_then left_last : Option (List ℕ)) (rest : List ℕ)
+    → Keeps left_then left_last → left_then ≡ Some rest → left_last ≡ Some rest
+kept_rest None left_last rest kept is = absurd (cc)
+kept_rest (Some xs) None rest kept is = absurd kept
+kept_rest (Some xs) (Some ys) rest kept is = ap (λ (l : List ℕ). Some l) kept ∙ is
+
+-- the reader gives no more
+pub reader_stops : {a b : Script} {u v : Option (List ℕ)} {left left_then : Option (List ℕ)}
+    (left_last : Option (List ℕ)) (fault : ScriptFault) → Reading a b u v left left_then
+    → Keeps left_then left_last → fault ≡ Read → (input : List ℕ) → left ≡ Some input
+    → ComesTo a b u v input left_last (Err fault)
 unfolding ComesTo
-comes_stopped a c u w input left fault stops = stops
+reader_stops {a} {b} {u} {v} {left} {left_then} left_last fault reading kept is input known =
+    let rest = rest_of left left_then reading.consumed input reading.read known in
+    let count : length reading.plays.taken.ended + 0 ≡ ended_lines reading.consumed =
+    omega (arith, reading.plays.taken.count) in
+    let first = first_after rest.0 0 reading.plays
+    (first_here rest.0 (passes_nothing v b.player.output.items)) in
+    let unread : StopsUnread a b u v input left_last = record {
+      read = reading.consumed;
+      behind = rest.0;
+      whole = rest.2;
+      left_is = kept_rest left_then left_last rest.0 kept rest.1;
+      played = subst (λ (l : List ℕ). PlaysFirst a b u v l (ended_lines reading.consumed))
+          (sym rest.2) (subst (λ (k : ℕ). PlaysFirst a b u v (reading.consumed ++ rest.0) k)
+          count first);
+    } in
+    rw is unread
 
 -- a read of nothing
 pub read_none : (left left_then : Option (List ℕ)) (n : ℕ) (piece : List ℕ)

@@ -1,5 +1,6 @@
 -- What holds of a result, by what else holds of it.
-use Rattle.std.specs.Prelude.{Result, Ok, Err, OnOk, OnErr, IfErr}
+use Rattle.std.specs.Prelude.{◌≡◌, Result, Ok, Err, OnOk, OnErr, IfErr, IsOk, is_ok}
+use Rattle.std.specs.Prelude.{if◌then◌else◌}
 
 pub on_ok : {A E : Type 0} {P Q : Type 0} (r : Result A E) → (P → Q) → OnOk r P → OnOk r Q
 on_ok (Ok x) f p = f p
@@ -17,3 +18,13 @@ if_err (Err e) f p = f e p
 pub all_ok : {A E : Type 0} {Q : Type 0} (r : Result A E) → Q → OnOk r Q
 all_ok (Ok x) q = q
 all_ok (Err e) q = tt
+
+pub all_err : {A E : Type 0} {Q : Type 0} (r : Result A E) → Q → OnErr r Q
+all_err (Ok x) q = tt
+all_err (Err e) q = q
+
+-- what a call that can't fail gives
+pub when_ok : {A E X : Type 0} (r : Result A E) (new good bad : X)
+    → IsOk r → new ≡ (if is_ok r then good else bad) → new ≡ good
+when_ok (Ok x) new good bad ok is = is
+when_ok (Err e) new good bad ok is = absurd (cc)

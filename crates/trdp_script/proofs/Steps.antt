@@ -1,6 +1,6 @@
 -- A script on its way, step after step.
-use Rattle.std.proofs.Common.{◌≡◌, suc, ◌+◌, ◌<◌, ℕ, false, List, [], ◌∷◌, ◌++◌, length}
-use Rattle.std.proofs.Common.{take, Ok, Err, Option, Result, refl, sym, ◌∙◌, ap, arith}
+use Rattle.std.proofs.Common.{◌≡◌, ◌+◌, ◌<◌, ℕ, false, List, [], ◌∷◌, ◌++◌, length}
+use Rattle.std.proofs.Common.{take, None, Ok, Err, Option, Result, refl, sym, ◌∙◌, ap, arith}
 use Rattle.std.proofs.Common.{append_assoc, append-nil, length-append, subst}
 use Rattle.std.specs.Prelude.{◌==◌, IfErr, OnErr}
 use Rattle.std.proofs.KnownBytes.{Appends-nil}
@@ -14,58 +14,68 @@ use Rattle.trdp_script.specs.declared.script.ScriptFault.{ScriptFault}
 use Rattle.trdp_script.specs.declared.script.ScriptFault.TheVariants.{Line, Read, Write}
 use Rattle.trdp_script.specs.declared.script.ScriptFault.TheVariants.{OutOfMemory}
 use Rattle.trdp_script.specs.Pieces.{IsBare}
-use Rattle.trdp_script.specs.ScriptText.{event_text, events_of, events_text}
-use Rattle.trdp_script.specs.ScriptText.{fault_from, node_after, nodes_after}
-use Rattle.trdp_script.specs.ScriptSteps.{node_of, Ends, Going, Plays, Stops, StopsAmong, Takes}
+use Rattle.trdp_script.specs.ScriptText.{events_of, events_text, fault_from, nodes_after}
+use Rattle.trdp_script.specs.ScriptSteps.{node_of, Ends, Going, Plays, PlaysFirst, Stops}
+use Rattle.trdp_script.specs.ScriptSteps.{StopsWanting, Takes}
+use Rattle.trdp_script.specs.Wants.{NextMayWant}
 use Rattle.trdp_script.specs.Writes.{PassesOn, PassesSome}
+use Rattle.trdp_script.proofs.LineFronts.{ended_append, events_append, fault_append, next_append}
+use Rattle.trdp_script.proofs.LineFronts.{nodes_append, none_ended, take_append, text_append}
 use Rattle.trdp_script.proofs.LineLists.{LongFirst, long_line, too_long_events, too_long_fault}
 use Rattle.trdp_script.proofs.Writing.{passes_both, passes_some_after, passes_some_of}
 
-pub nodes_append : (node : NodeState) (xs ys : List EventModel)
-    → nodes_after node (xs ++ ys) ≡ nodes_after (nodes_after node xs) ys
-nodes_append node [] ys = refl
-nodes_append node (x ∷ xs) ys = nodes_append (node_after node x) xs ys
+-- what comes later means the same
+pub later_fault : {old new : Going} {bytes text : List ℕ} (p : Takes old new bytes text)
+    (later : List ℕ) → fault_from old.number (lines (old.line ++ (bytes ++ later)))
+    ≡ fault_from new.number (lines (new.line ++ later))
+later_fault {old} {new} p later =
+    ap (fault_from old.number) (p.lines_are later)
+    ∙ fault_append old.number p.ended (lines (new.line ++ later)) p.no_fault
+    ∙ ap (λ n. fault_from n (lines (new.line ++ later))) (sym p.number)
 
-pub text_append : (node : NodeState) (xs ys : List EventModel)
-    → events_text node (xs ++ ys) ≡ events_text node xs ++ events_text (nodes_after node xs) ys
-text_append node [] ys = refl
-text_append node (x ∷ xs) ys =
-    ap (λ l. event_text node x ++ l) (text_append (node_after node x) xs ys)
-    ∙ sym (append_assoc (event_text node x) (events_text (node_after node x) xs)
-    (events_text (nodes_after (node_after node x) xs) ys))
-
-pub take_append : {A : Type 0} (xs ys : List A) (k : ℕ)
-    → take (length xs + k) (xs ++ ys) ≡ xs ++ take k ys
-take_append [] ys k = let same : 0 + k ≡ k = omega arith in ap (λ n. take n ys) same
-take_append (x ∷ xs) ys k =
-    let one : length (x ∷ xs) + k ≡ suc (length xs + k) = omega arith in
-    ap (λ n. take n (x ∷ (xs ++ ys))) one ∙ ap (λ l. x ∷ l) (take_append xs ys k)
+pub later_events : {old new : Going} {bytes text : List ℕ} (p : Takes old new bytes text)
+    (later : List ℕ) → events_of (lines (old.line ++ (bytes ++ later)))
+    ≡ events_of p.ended ++ events_of (lines (new.line ++ later))
+later_events {old} {new} p later =
+    ap events_of (p.lines_are later)
+    ∙ events_append old.number p.ended (lines (new.line ++ later)) p.no_fault
 
 -- what is told of some bytes and then of others
 pub text_joined : {old new : Going} {bytes text : List ℕ}
     (p : Takes old new bytes text) (events : List EventModel)
-    → events_text old.node (p.events ++ events) ≡ text ++ events_text new.node events
+    → events_text old.node (events_of p.ended ++ events) ≡ text ++ events_text new.node events
 text_joined {old} {new} {bytes} {text} p events =
-    text_append old.node p.events events
-    ∙ ap (λ l. l ++ events_text (nodes_after old.node p.events) events) (sym p.text_is)
+    text_append old.node (events_of p.ended) events
+    ∙ ap (λ l. l ++ events_text (nodes_after old.node (events_of p.ended)) events) (sym p.text_is)
     ∙ ap (λ n. text ++ events_text n events) (sym p.node_is)
 
 -- bytes that are taken one after another
 pub takes_both : {a b c : Going} {bs cs xs ys : List ℕ}
     → Takes a b bs xs → Takes b c cs ys → Takes a c (bs ++ cs) (xs ++ ys)
-takes_both {a} {b} {c} {bs} {cs} {xs} {ys} p q = record {
-  events = p.events ++ q.events;
-  node_is = q.node_is ∙ ap (λ n. nodes_after n q.events) p.node_is
-      ∙ sym (nodes_append a.node p.events q.events);
-  text_is = ap (λ l. xs ++ l) q.text_is ∙ sym (text_joined p q.events);
-  later_events = λ later. ap (λ l. events_of (lines (a.line ++ l))) (append_assoc bs cs later)
-      ∙ p.later_events (cs ++ later)
-      ∙ ap (λ l. p.events ++ l) (q.later_events later)
-      ∙ sym (append_assoc p.events q.events (events_of (lines (c.line ++ later))));
-  later_fault =
-      λ later. ap (λ l. fault_from a.number (lines (a.line ++ l))) (append_assoc bs cs later)
-      ∙ p.later_fault (cs ++ later) ∙ q.later_fault later;
-}
+takes_both {a} {b} {c} {bs} {cs} {xs} {ys} p q =
+    let events = events_append a.number p.ended q.ended p.no_fault in
+    record {
+      ended = p.ended ++ q.ended;
+      lines_are = λ later. ap (λ l. lines (a.line ++ l)) (append_assoc bs cs later)
+          ∙ p.lines_are (cs ++ later)
+          ∙ ap (λ l. p.ended ++ l) (q.lines_are later)
+          ∙ sym (append_assoc p.ended q.ended (lines (c.line ++ later)));
+      count = omega (
+        arith,
+        length-append p.ended q.ended,
+        p.count,
+        q.count,
+        ended_append bs cs,
+      );
+      number = omega (arith, length-append p.ended q.ended, p.number, q.number);
+      no_fault = fault_append a.number p.ended q.ended p.no_fault
+          ∙ ap (λ n. fault_from n q.ended) (sym p.number) ∙ q.no_fault;
+      node_is = q.node_is ∙ ap (λ n. nodes_after n (events_of q.ended)) p.node_is
+          ∙ sym (ap (nodes_after a.node) events
+          ∙ nodes_append a.node (events_of p.ended) (events_of q.ended));
+      text_is = ap (λ l. xs ++ l) q.text_is
+          ∙ sym (ap (events_text a.node) events ∙ text_joined p (events_of q.ended));
+    }
 
 pub plays_both : {a b c : Script} {v w x : Option (List ℕ)} {bs cs : List ℕ}
     → Plays a b v w bs → Plays b c w x cs → Plays a c v x (bs ++ cs)
@@ -80,29 +90,54 @@ pub rest_text :
     {a b : Script} {v w : Option (List ℕ)} {bs : List ℕ} (p : Plays a b v w bs) (rest : List ℕ)
     → events_text (node_of a.player) (events_of (lines (a.line.items ++ (bs ++ rest))))
     ≡ p.text ++ events_text (node_of b.player) (events_of (lines (b.line.items ++ rest)))
-rest_text {a} {b} p rest = ap (events_text (node_of a.player)) (p.taken.later_events rest)
+rest_text {a} {b} p rest = ap (events_text (node_of a.player)) (later_events p.taken rest)
     ∙ text_joined p.taken (events_of (lines (b.line.items ++ rest)))
 
--- the same up to so many events
-pub front_text : {a b : Script} {v w : Option (List ℕ)}
-    {bs : List ℕ} (p : Plays a b v w bs) (rest : List ℕ) (k : ℕ) → events_text (node_of a.player)
-    (take (length p.taken.events + k) (events_of (lines (a.line.items ++ (bs ++ rest)))))
-    ≡ p.text ++ events_text (node_of b.player) (take k (events_of (lines (b.line.items ++ rest))))
-front_text {a} {b} p rest k =
-    let more = events_of (lines (b.line.items ++ rest)) in
-    ap (λ l. events_text (node_of a.player) (take (length p.taken.events + k) l))
-    (p.taken.later_events rest)
-    ∙ ap (events_text (node_of a.player)) (take_append p.taken.events more k)
-    ∙ text_joined p.taken (take k more)
+-- the lines that end in bytes that were played, and the first of the rest
+front_lines : {a b : Script} {v w : Option (List ℕ)} {bs : List ℕ} (p : Plays a b v w bs)
+    (rest : List ℕ) (k : ℕ)
+    → take (length p.taken.ended + k) (lines (a.line.items ++ (bs ++ rest)))
+    ≡ p.taken.ended ++ take k (lines (b.line.items ++ rest))
+front_lines {a} {b} p rest k =
+    ap (take (length p.taken.ended + k)) (p.taken.lines_are rest)
+    ∙ take_append p.taken.ended (lines (b.line.items ++ rest)) k
 
-pub among_after : {a b c : Script} {v w x : Option (List ℕ)} {bs : List ℕ} (rest : List ℕ)
-    → Plays a b v w bs → StopsAmong b c w x rest → StopsAmong a c v x (bs ++ rest)
-among_after rest p q = record {
-  text = p.text ++ q.text;
-  passed = passes_both p.passed q.passed;
-  count = length p.taken.events + q.count;
-  text_is = ap (λ l. p.text ++ l) q.text_is ∙ sym (front_text p rest q.count);
-}
+pub first_after : {a b c : Script} {v w x : Option (List ℕ)} {bs : List ℕ} (rest : List ℕ) (k : ℕ)
+    (p : Plays a b v w bs) → PlaysFirst b c w x rest k
+    → PlaysFirst a c v x (bs ++ rest) (length p.taken.ended + k)
+first_after {a} {b} rest k p q =
+    let first = front_lines p rest k in
+    let more = take k (lines (b.line.items ++ rest)) in
+    record {
+      text = p.text ++ q.text;
+      passed = passes_both p.passed q.passed;
+      no_fault = ap (fault_from a.number) first
+          ∙ fault_append a.number p.taken.ended more p.taken.no_fault
+          ∙ ap (λ n. fault_from n more) (sym p.taken.number) ∙ q.no_fault;
+      text_is = ap (λ l. p.text ++ l) q.text_is ∙ sym (ap (events_text (node_of a.player))
+          (ap events_of first ∙ events_append a.number p.taken.ended more p.taken.no_fault)
+          ∙ text_joined p.taken (events_of more));
+    }
+
+-- before any line of the rest
+pub first_here : {a b : Script} {v w : Option (List ℕ)} (rest : List ℕ)
+    → PassesOn v w a.player.output.items b.player.output.items [] → PlaysFirst a b v w rest 0
+first_here rest passed = record { text = []; passed = passed; no_fault = refl; text_is = refl }
+
+pub wanting_after : {a b c : Script} {v w x : Option (List ℕ)} {bs : List ℕ} (rest : List ℕ)
+    → Plays a b v w bs → StopsWanting b c w x rest → StopsWanting a c v x (bs ++ rest)
+wanting_after {a} {b} rest p q =
+    let later = lines (b.line.items ++ rest) in
+    let next = subst (λ (n : NodeState). NextMayWant n later q.count) p.taken.node_is q.wanting in
+    record {
+      count = length p.taken.ended + q.count;
+      played = first_after rest q.count p q.played;
+      wanting = subst (λ (l : List (List ℕ)).
+          NextMayWant (node_of a.player) l (length p.taken.ended + q.count))
+          (sym (p.taken.lines_are rest))
+          (next_append (node_of a.player) a.number p.taken.ended later q.count p.taken.no_fault
+          next);
+    }
 
 -- a fault that comes after bytes that were played
 pub stops_after : {a b : Script} (c : Script) {v w : Option (List ℕ)}
@@ -112,14 +147,14 @@ unfolding Stops
 stops_after c x rest (Line n fault) p q = record {
   text = p.text ++ q.text;
   passed = passes_both p.passed q.passed;
-  first = p.taken.later_fault rest ∙ q.first;
+  first = later_fault p.taken rest ∙ q.first;
   text_is = ap (λ l. p.text ++ l) q.text_is ∙ sym (rest_text p rest);
 }
-stops_after c x rest Read p q = among_after rest p q
+stops_after c x rest Read p q = q
 stops_after {a} {b} c {v} {w} x {bs} rest Write p q =
     subst (λ (l : List ℕ). PassesSome v x a.player.output.items l)
     (sym (rest_text p rest)) (passes_some_after p.passed q)
-stops_after c x rest OutOfMemory p q = among_after rest p q
+stops_after c x rest OutOfMemory p q = wanting_after rest p q
 
 -- an end that comes after bytes that were played
 pub ends_after : {a b c : Script} {v w x : Option (List ℕ)} {bs : List ℕ} (rest : List ℕ)
@@ -127,25 +162,33 @@ pub ends_after : {a b c : Script} {v w x : Option (List ℕ)} {bs : List ℕ} (r
 ends_after rest p q = record {
   text = p.text ++ q.text;
   passed = passes_both p.passed q.passed;
-  no_fault = p.taken.later_fault rest ∙ q.no_fault;
+  no_fault = later_fault p.taken rest ∙ q.no_fault;
   text_is = ap (λ l. p.text ++ l) q.text_is ∙ sym (rest_text p rest);
 }
-
--- a stop before any event of the rest
-pub stops_here : {a b : Script} {v w : Option (List ℕ)} (rest : List ℕ)
-    → PassesOn v w a.player.output.items b.player.output.items [] → StopsAmong a b v w rest
-stops_here rest passed = record { text = []; passed = passed; count = 0; text_is = refl }
 
 -- nothing was told
 pub passes_nothing : (w : Option (List ℕ)) (held : List ℕ) → PassesOn w w held held []
 passes_nothing w held = record { part = []; written = Appends-nil w; rest = append-nil held }
 
--- where memory was refused before anything was told
-pub gather_stops : (a b : Script) (w : Option (List ℕ)) (rest : List ℕ)
-    → a.player.output.items ≡ b.player.output.items → Stops a b w w rest OutOfMemory
-unfolding Stops
-gather_stops a b w rest same = stops_here rest (subst (λ (l : List ℕ).
-    PassesOn w w a.player.output.items l []) same (passes_nothing w a.player.output.items))
+-- bytes were added to the line that has begun
+pub gathered : (old new : Script) (w : Option (List ℕ)) (bytes : List ℕ) → IsBare bytes
+    → new.line.items ≡ old.line.items ++ bytes → new.player ≡ old.player → new.number ≡ old.number
+    → Plays old new w w bytes
+gathered old new w bytes bare grown same number = record {
+  text = [];
+  passed = subst (λ (l : List ℕ). PassesOn w w old.player.output.items l [])
+      (sym (ap (λ p. p.output.items) same)) (passes_nothing w old.player.output.items);
+  taken = record {
+    ended = [];
+    lines_are = λ later. ap lines (sym (append_assoc old.line.items bytes later)
+        ∙ ap (λ l. l ++ later) (sym grown));
+    count = sym (none_ended bytes bare);
+    number = omega (arith, number);
+    no_fault = refl;
+    node_is = ap node_of same;
+    text_is = refl;
+  };
+}
 
 -- a line that is too long, however it goes on
 pub too_long_stops : (s : Script) (w : Option (List ℕ)) (bytes later : List ℕ)
@@ -182,19 +225,12 @@ plays_nothing s w = record {
   text = [];
   passed = passes_nothing w s.player.output.items;
   taken = record {
-    events = [];
+    ended = [];
+    lines_are = λ later. refl;
+    count = refl;
+    number = omega arith;
+    no_fault = refl;
     node_is = refl;
     text_is = refl;
-    later_events = λ later. refl;
-    later_fault = λ later. refl;
   };
 }
-
--- a reader that failed
-pub read_stops : (s : Script) (w : Option (List ℕ)) (rest : List ℕ) (fault : ScriptFault)
-    → fault ≡ Read → Stops s s w w rest fault
-unfolding Stops
-read_stops s w rest (Line n bad) is = absurd (cc)
-read_stops s w rest Read is = stops_here rest (passes_nothing w s.player.output.items)
-read_stops s w rest Write is = absurd (cc)
-read_stops s w rest OutOfMemory is = stops_here rest (passes_nothing w s.player.output.items)

@@ -1,3 +1,4 @@
+pub mod EventBytes
 pub mod FormNames
 pub mod Forms
 pub mod LineCalls
@@ -9,6 +10,7 @@ pub mod ScriptRuns
 pub mod ScriptSteps
 pub mod ScriptText
 pub mod SlotOrder
+pub mod Wants
 pub mod Words
 pub mod WordsLeft
 pub mod Writes

@@ -2,6 +2,7 @@
 use Rattle.std.specs.Prelude.{◌≡◌, ℕ, ◌==◌, List, [], ◌∷◌, length, nat_lt, nat_eq, Bool, true}
 use Rattle.std.specs.Prelude.{Option, Some, None, Result, Ok, Err, if◌then◌else◌, find}
 use Rattle.trdp_engine.specs.Events.{EventModel, MomentIs, TopologyIs, RoleIs, DatagramIs, CallIs}
+use Rattle.trdp_script.specs.EventBytes.{carries_bytes}
 use Rattle.trdp_script.specs.Forms.{LineForm, forms, has_keywords, event_in}
 use Rattle.trdp_script.specs.LineCalls.{plain_call_of, bytes_call_of}
 use Rattle.trdp_script.specs.Words.{words_of}
@@ -56,9 +57,10 @@ event_of (Datagram protocol src dst bytes) = Some (DatagramIs protocol src dst b
 event_of (Call slot call) = Some (CallIs slot (plain_call_of call))
 event_of (BytesCall slot call) = Some (CallIs slot (bytes_call_of call))
 
--- what was read is what the line says, or memory ran out where nothing else is wrong
+-- what was read is what the line says, or memory ran out for the bytes of a line that carries some,
+-- where nothing else is wrong
 abbrev pub Reads : Result (Option EventModel) LineFault → Result Line LineFault → Type 0
 Reads (Ok event) (Ok line) = event_of line ≡ event
-Reads (Ok event) (Err fault) = fault ≡ OutOfMemory
+Reads (Ok event) (Err fault) = (fault ≡ OutOfMemory) × (carries_bytes event ≡ true)
 Reads (Err fault) (Ok line) = ⊥
 Reads (Err fault) (Err other) = other ≡ fault

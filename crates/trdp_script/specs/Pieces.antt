@@ -1,5 +1,5 @@
 -- Bytes between newlines.
-use Rattle.std.specs.Prelude.{◌≡◌, ℕ, List, ◌∷◌, ◌++◌, ◌==◌, false}
+use Rattle.std.specs.Prelude.{◌≡◌, ℕ, List, ◌∷◌, ◌++◌, ◌==◌, false, count_by}
 use Rattle.std.specs.List.{All}
 
 -- no newline is among the bytes
@@ -10,3 +10,7 @@ IsBare bytes = All (λ byte. (byte == 10) ≡ false) bytes
 pub record IsSplit (bytes before behind : List ℕ) : Type 0 where
   pub whole : bytes ≡ before ++ 10 ∷ behind
   pub bare : IsBare before
+
+-- how many lines have their end among the bytes
+abbrev pub ended_lines : List ℕ → ℕ
+ended_lines bytes = count_by (λ byte. byte == 10) bytes

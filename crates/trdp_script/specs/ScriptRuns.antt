@@ -1,20 +1,47 @@
 -- What the run of a script comes to, where the reader and the writer tell their bytes.
-use Rattle.std.specs.Prelude.{◌≡◌, ℕ, List, [], Option, Some, None, Result, Ok, Err, take}
+use Rattle.std.specs.Prelude.{◌≡◌, ◌⊎◌, ◌++◌, ℕ, List, [], take}
+use Rattle.std.specs.Prelude.{Option, Some, None, Result, Ok, Err}
 use Rattle.std.specs.Io.KnownBytes.{Appends}
+use Rattle.std.specs.Str.Lines.{lines}
 use Rattle.trdp_dataset.specs.Configs.{ConfigModel}
 use Rattle.trdp_engine.specs.NodeStates.{opened_node}
 use Rattle.trdp_script.specs.declared.fault.LineFault.{LineFault}
 use Rattle.trdp_script.specs.declared.script.ScriptFault.{ScriptFault}
 use Rattle.trdp_script.specs.declared.script.ScriptFault.TheVariants.{Line, Read, Write}
 use Rattle.trdp_script.specs.declared.script.ScriptFault.TheVariants.{OutOfMemory}
-use Rattle.trdp_script.specs.ScriptText.{script_events, script_fault, script_text, events_text}
+use Rattle.trdp_script.specs.Pieces.{ended_lines}
+use Rattle.trdp_script.specs.ScriptText.{events_of, events_text, fault_from}
+use Rattle.trdp_script.specs.ScriptText.{script_fault, script_text}
+use Rattle.trdp_script.specs.Wants.{NextMayWant}
 
--- the text of the first events of a script was written, of so many
-pub record WritesEvents (config : ConfigModel) (input : List ℕ) (old new : Option (List ℕ))
+-- the first lines of a script, so many, have no fault, and the text of their events was written
+pub record PlaysLines (config : ConfigModel) (input : List ℕ) (count : ℕ)
+    (old new : Option (List ℕ)) : Type 0 where
+  pub no_fault : fault_from 1 (take count (lines input)) ≡ None
+  pub written : Appends old new
+      (events_text (opened_node config) (events_of (take count (lines input))))
+
+-- the reader gave a front of the input and then failed, and the lines that had their end in it were
+-- played
+pub record StopsReading (config : ConfigModel) (input : List ℕ) (left old new : Option (List ℕ))
+    : Type 0 where
+  pub read : List ℕ
+  pub behind : List ℕ
+  pub whole : input ≡ read ++ behind
+  pub left_is : left ≡ Some behind
+  pub played : PlaysLines config input (ended_lines read) old new
+
+-- nothing was read, and no line was played
+abbrev pub HasNotBegun : List ℕ → Option (List ℕ) → ℕ → Type 0
+HasNotBegun input left count = (left ≡ Some input) × (count ≡ 0)
+
+-- memory was refused, before the first line was read or for the line behind those that were played
+pub record StopsForMemory (config : ConfigModel) (input : List ℕ) (left old new : Option (List ℕ))
     : Type 0 where
   pub count : ℕ
-  pub written : Appends old new
-      (events_text (opened_node config) (take count (script_events input)))
+  pub played : PlaysLines config input count old new
+  pub wanting : HasNotBegun input left count
+      ⊎ NextMayWant (opened_node config) (lines input) count
 
 -- a front of the script's text was written
 pub record WritesFront (config : ConfigModel) (input : List ℕ) (old new : Option (List ℕ))
@@ -43,6 +70,6 @@ abbrev pub RunsScript : ConfigModel → List ℕ → Option (List ℕ) → Optio
 RunsScript config input left old new (Ok done) = RunsToEnd config input left old new
 RunsScript config input left old new (Err (Line n fault)) =
     RunsToFault config input n fault old new
-RunsScript config input left old new (Err Read) = WritesEvents config input old new
+RunsScript config input left old new (Err Read) = StopsReading config input left old new
 RunsScript config input left old new (Err Write) = WritesFront config input old new
-RunsScript config input left old new (Err OutOfMemory) = WritesEvents config input old new
+RunsScript config input left old new (Err OutOfMemory) = StopsForMemory config input left old new

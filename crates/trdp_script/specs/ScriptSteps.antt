@@ -1,5 +1,5 @@
 -- A script on its way: what was told of the bytes that were read, and what is to come.
-use Rattle.std.specs.Prelude.{◌≡◌, ◌≤◌, ◌++◌, ◌∷◌, ℕ, List, [], length, take}
+use Rattle.std.specs.Prelude.{◌≡◌, ◌≤◌, ◌+◌, ◌++◌, ◌∷◌, ℕ, List, [], length, take, vec_capacity}
 use Rattle.std.specs.Prelude.{Option, Some, None, Result, Ok, Err}
 use Rattle.std.specs.Str.Lines.{lines}
 use Rattle.trdp_dataset.specs.Configs.{ConfigModel}
@@ -11,8 +11,9 @@ use Rattle.trdp_script.specs.declared.script.Script.{Script}
 use Rattle.trdp_script.specs.declared.script.ScriptFault.{ScriptFault}
 use Rattle.trdp_script.specs.declared.script.ScriptFault.TheVariants.{Line, Read, Write}
 use Rattle.trdp_script.specs.declared.script.ScriptFault.TheVariants.{OutOfMemory}
-use Rattle.trdp_script.specs.Pieces.{IsBare}
+use Rattle.trdp_script.specs.Pieces.{IsBare, ended_lines}
 use Rattle.trdp_script.specs.ScriptText.{events_of, events_text, fault_from, nodes_after}
+use Rattle.trdp_script.specs.Wants.{LineMayWant, NextMayWant}
 use Rattle.trdp_script.specs.Writes.{PassesOn, PassesSome}
 
 -- the event of a line without a fault, if it has one
@@ -47,7 +48,7 @@ LineComesTo old new v w number (Ok event) (Err Read) = ⊥
 LineComesTo old new v w number (Ok event) (Err Write) =
     PassesSome v w old.output.items (events_text (node_of old) (line_events (Ok event)))
 LineComesTo old new v w number (Ok event) (Err OutOfMemory) =
-    PassesOn v w old.output.items new.output.items []
+    PassesOn v w old.output.items new.output.items [] × LineMayWant (node_of old) (Ok event)
 
 -- where a script is: the node, the bytes of the line that has begun, and the number of that line
 pub record Going : Type 0 where
@@ -58,16 +59,17 @@ pub record Going : Type 0 where
 abbrev pub going : Script → Going
 going s = record { node = node_of s.player; line = s.line.items; number = s.number }
 
--- bytes were taken: the events that end in them were played and told, and what comes later means
--- the same
+-- bytes were taken: the lines that have their end in them have no fault, and their events were
+-- played and told; what comes later means the same
 pub record Takes (old new : Going) (bytes text : List ℕ) : Type 0 where
-  pub events : List EventModel
-  pub node_is : new.node ≡ nodes_after old.node events
-  pub text_is : text ≡ events_text old.node events
-  pub later_events : (later : List ℕ) → events_of (lines (old.line ++ (bytes ++ later)))
-      ≡ events ++ events_of (lines (new.line ++ later))
-  pub later_fault : (later : List ℕ) → fault_from old.number (lines (old.line ++ (bytes ++ later)))
-      ≡ fault_from new.number (lines (new.line ++ later))
+  pub ended : List (List ℕ)
+  pub lines_are : (later : List ℕ)
+      → lines (old.line ++ (bytes ++ later)) ≡ ended ++ lines (new.line ++ later)
+  pub count : length ended ≡ ended_lines bytes
+  pub number : new.number ≡ old.number + length ended
+  pub no_fault : fault_from old.number ended ≡ None
+  pub node_is : new.node ≡ nodes_after old.node (events_of ended)
+  pub text_is : text ≡ events_text old.node (events_of ended)
 
 -- bytes were taken, and what is told of them went on its way; what the writer holds is v, then w
 pub record Plays (old new : Script) (v w : Option (List ℕ)) (bytes : List ℕ) : Type 0 where
@@ -90,33 +92,55 @@ pub record StopsAt (old new : Script) (v w : Option (List ℕ)) (rest : List ℕ
   pub first : fault_from old.number (lines (old.line.items ++ rest)) ≡ Some (n, fault)
   pub text_is : text ≡ events_text (node_of old.player) (events_of (lines (old.line.items ++ rest)))
 
--- some of the events of the rest of the input were played
-pub record StopsAmong (old new : Script) (v w : Option (List ℕ)) (rest : List ℕ) : Type 0 where
+-- the first lines of the rest of the input, so many, have no fault, and were played
+pub record PlaysFirst (old new : Script) (v w : Option (List ℕ)) (rest : List ℕ) (count : ℕ)
+    : Type 0 where
   pub text : List ℕ
   pub passed : PassesOn v w old.player.output.items new.player.output.items text
-  pub count : ℕ
-  pub text_is : text
-      ≡ events_text (node_of old.player) (take count (events_of (lines (old.line.items ++ rest))))
+  pub no_fault : fault_from old.number (take count (lines (old.line.items ++ rest))) ≡ None
+  pub text_is : text ≡ events_text (node_of old.player)
+      (events_of (take count (lines (old.line.items ++ rest))))
 
--- where a script with this rest of its input stops for a fault
+-- of the rest of the input the reader gave a front, and the lines that have their end in it were
+-- played
+pub record StopsUnread (old new : Script) (v w : Option (List ℕ)) (rest : List ℕ)
+    (left : Option (List ℕ)) : Type 0 where
+  pub read : List ℕ
+  pub behind : List ℕ
+  pub whole : rest ≡ read ++ behind
+  pub left_is : left ≡ Some behind
+  pub played : PlaysFirst old new v w rest (ended_lines read)
+
+-- memory was refused for a line of the rest of the input, and those before it were played
+pub record StopsWanting (old new : Script) (v w : Option (List ℕ)) (rest : List ℕ) : Type 0 where
+  pub count : ℕ
+  pub played : PlaysFirst old new v w rest count
+  pub wanting : NextMayWant (node_of old.player) (lines (old.line.items ++ rest)) count
+
+-- where a script with this rest of its input stops for a fault of its own, and not of its reader
 unfoldable pub Stops : Script → Script → Option (List ℕ) → Option (List ℕ) → List ℕ
     → ScriptFault → Type 0
 Stops old new v w rest (Line n fault) = StopsAt old new v w rest n fault
-Stops old new v w rest Read = StopsAmong old new v w rest
+Stops old new v w rest Read = ⊥
 Stops old new v w rest Write = PassesSome v w old.player.output.items
     (events_text (node_of old.player) (events_of (lines (old.line.items ++ rest))))
-Stops old new v w rest OutOfMemory = StopsAmong old new v w rest
+Stops old new v w rest OutOfMemory = StopsWanting old new v w rest
 
--- no newline is among the bytes of the line that has begun, and the node has at most 16 slots
+-- no newline is among the bytes of the line that has begun, which has room for the longest line and
+-- a carriage return, and the node has at most 16 slots
 pub record IsSound (s : Script) : Type 0 where
   pub bare : IsBare s.line.items
+  pub room : 140001 ≤ vec_capacity s.line
   pub slots : length s.player.node.slots ≤ 16
 
 -- how the rest of a script is run, of which the reader has this left in the end
 unfoldable pub ComesTo : Script → Script → Option (List ℕ) → Option (List ℕ) → List ℕ
     → Option (List ℕ) → Result (Unit {0}) ScriptFault → Type 0
 ComesTo old new v w rest left (Ok done) = Ends old new v w rest × (left ≡ Some [])
-ComesTo old new v w rest left (Err fault) = Stops old new v w rest fault
+ComesTo old new v w rest left (Err (Line n fault)) = Stops old new v w rest (Line n fault)
+ComesTo old new v w rest left (Err Read) = StopsUnread old new v w rest left
+ComesTo old new v w rest left (Err Write) = Stops old new v w rest Write
+ComesTo old new v w rest left (Err OutOfMemory) = Stops old new v w rest OutOfMemory
 
 -- a script over a node of the configuration that was just opened
 pub record Starts (config : ConfigModel) (s : Script) : Type 0 where

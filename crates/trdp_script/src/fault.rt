@@ -17,7 +17,7 @@ pub enum LineFault {
     /// A word isn't the written form of a value in its range.
     #[error("a word of the line can't be read or is out of its range")]
     BadWord = 4,
-    /// The line is good, and there is no memory for its bytes.
+    /// The line is good and carries bytes, for which there is no memory.
     #[error("there is no memory for the bytes of the line")]
     OutOfMemory = 5,
 }

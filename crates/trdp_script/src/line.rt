@@ -94,7 +94,8 @@ impl Line {
 /// bytes takes memory for them, once; no other line takes any.
 ///
 /// # Errors
-/// Every [`LineFault`], in their order. Want of memory is found when nothing else is wrong.
+/// Every [`LineFault`], in their order. `OutOfMemory` comes only where the line carries bytes, and
+/// is found when nothing else is wrong.
 #[tactic(auto, unfolding(crate::specs::Forms::forms))]
 pub fn read_line(alloc: Global, text: &[u8]) -> Result<Line, LineFault>
     ensures meaning { Reads (line_of text.now) result }

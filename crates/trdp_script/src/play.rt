@@ -1,6 +1,7 @@
 //! An event's way through the node, and the text of what the node gives.
 
-ghost use Rattle.std.specs.Prelude.{◌≡◌, ◌≤◌, ◌++◌, ◌==◌, [], length, filter, OnOk};
+ghost use Rattle.std.specs.Prelude.{◌≡◌, ◌≢◌, ◌≤◌, ◌++◌, ◌==◌, [], length, filter};
+ghost use Rattle.std.specs.Prelude.{OnOk, OnErr};
 ghost use Rattle.std.specs.List.{flat_map};
 ghost use Rattle.trdp_engine.specs.Events.{event_model};
 ghost use Rattle.trdp_engine.specs.NodeStates.{uncounted};
@@ -8,6 +9,7 @@ ghost use Rattle.trdp_script.specs.RecordText.{text_of_record};
 ghost use Rattle.trdp_script.specs.ScriptText.{event_text, node_after};
 ghost use Rattle.trdp_engine.specs.Records.{record_model};
 ghost use Rattle.trdp_script.specs.SlotOrder.{by_slot, slot_text};
+ghost use Rattle.trdp_script.specs.Wants.{EventMayWant};
 
 use crate::order::{SLOTS_MAX, is_rising};
 use crate::print::{print_fault, print_record};
@@ -18,7 +20,8 @@ use trdp_engine::{Event, Node, NodeFault, Outbox, Record};
 /// slot, slots rising, each slot's in their order, or the line of the event's fault (profile).
 ///
 /// # Errors
-/// `AllocError` where memory for the event or for its text was refused.
+/// `AllocError` where memory for the event or for its text was refused. An event that takes none
+/// and gives no text is always played.
 pub fn play(
     node: &mut Node,
     event: &Event<'_>,
@@ -30,6 +33,8 @@ pub fn play(
         (uncounted node.new ≡ node_after (uncounted node.old) (event_model event.now)) }
     ensures text { OnOk result
         (text.new.items ≡ event_text (uncounted node.old) (event_model event.now)) }
+    ensures wanting { OnErr result
+        (EventMayWant (uncounted node.old) (event_model event.now)) }
     ensures count { length node.new.slots ≡ length node.old.slots }
 {
     records.clear();
@@ -44,8 +49,9 @@ pub fn play(
 /// Appends the lines of records: in their order where that is one of rising slots, and else slot
 /// by slot.
 fn push_records(text: &mut Vec<u8>, records: &Outbox) -> Result<(), AllocError>
-    ensures { OnOk result (text.new.items
+    ensures ok { OnOk result (text.new.items
         ≡ text.old.items ++ flat_map text_of_record (by_slot 16 records.now.records)) }
+    ensures err { OnErr result (flat_map text_of_record (by_slot 16 records.now.records) ≢ []) }
 {
     if is_rising(records) {
         push_all(text, records)
@@ -56,8 +62,9 @@ fn push_records(text: &mut Vec<u8>, records: &Outbox) -> Result<(), AllocError>
 
 /// Appends the lines of all records in their order.
 fn push_all(text: &mut Vec<u8>, records: &Outbox) -> Result<(), AllocError>
-    ensures { OnOk result (text.new.items
+    ensures ok { OnOk result (text.new.items
         ≡ text.old.items ++ flat_map text_of_record records.now.records) }
+    ensures err { OnErr result (flat_map text_of_record records.now.records ≢ []) }
 {
     for i in 0..records.len() {
         match records.get(i) {
@@ -70,8 +77,9 @@ fn push_all(text: &mut Vec<u8>, records: &Outbox) -> Result<(), AllocError>
 
 /// Appends the lines of all records slot by slot, slots rising, each slot's in their order.
 fn push_by_slot(text: &mut Vec<u8>, records: &Outbox) -> Result<(), AllocError>
-    ensures { OnOk result (text.new.items
+    ensures ok { OnOk result (text.new.items
         ≡ text.old.items ++ flat_map text_of_record (by_slot 16 records.now.records)) }
+    ensures err { OnErr result (flat_map text_of_record (by_slot 16 records.now.records) ≢ []) }
 {
     for slot in 0..SLOTS_MAX {
         push_slot(text, records, slot)?;
@@ -81,8 +89,10 @@ fn push_by_slot(text: &mut Vec<u8>, records: &Outbox) -> Result<(), AllocError>
 
 /// Appends the lines of one slot's records in their order.
 fn push_slot(text: &mut Vec<u8>, records: &Outbox, slot: u16) -> Result<(), AllocError>
-    ensures { OnOk result (text.new.items ≡ text.old.items
+    ensures ok { OnOk result (text.new.items ≡ text.old.items
         ++ flat_map text_of_record (filter (λ r. r.slot == slot) records.now.records)) }
+    ensures err { OnErr result
+        (flat_map text_of_record (filter (λ r. r.slot == slot) records.now.records) ≢ []) }
 {
     for i in 0..records.len() {
         match records.get(i) {
@@ -95,8 +105,9 @@ fn push_slot(text: &mut Vec<u8>, records: &Outbox, slot: u16) -> Result<(), Allo
 
 /// Appends the line of a record, if it is one of the slot.
 fn print_of_slot(text: &mut Vec<u8>, record: &Record<'_>, slot: u16) -> Result<(), AllocError>
-    ensures { OnOk result (text.new.items ≡ text.old.items
+    ensures ok { OnOk result (text.new.items ≡ text.old.items
         ++ slot_text slot (record_model «record».now)) }
+    ensures err { OnErr result (slot_text slot (record_model «record».now) ≢ []) }
 {
     if record.slot == slot {
         print_record(text, record)

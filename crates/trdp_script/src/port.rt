@@ -1,7 +1,7 @@
 //! Lines that come in datagrams, one in each: at the control port of a slot the calls of its
 //! application, and at the operator's port what concerns the whole node.
 
-ghost use Rattle.std.specs.Prelude.{◌≡◌};
+ghost use Rattle.std.specs.Prelude.{◌≡◌, ◌≢◌, IfErr};
 ghost use Rattle.trdp_script.specs.Lines.{Reads};
 ghost use Rattle.trdp_script.specs.PortLines.{control_line_of, operator_line_of};
 ghost use Rattle.trdp_script.specs.PortLines.{without_end as line_without_end};
@@ -22,8 +22,8 @@ use std::alloc::Global;
 /// for them, once; no other line takes any.
 ///
 /// # Errors
-/// Every [`LineFault`] of the line with `call SLOT ` before it, in their order. Want of memory is
-/// found when nothing else is wrong.
+/// Every [`LineFault`] of the line with `call SLOT ` before it, in their order. `OutOfMemory` comes
+/// only where the line carries bytes, and is found when nothing else is wrong.
 #[tactic(auto, unfolding(crate::specs::PortLines::control_line_of))]
 pub fn read_control(alloc: Global, slot: u16, bytes: &[u8]) -> Result<Line, LineFault>
     ensures meaning { Reads (control_line_of slot bytes.now) result }
@@ -47,11 +47,12 @@ pub fn read_control(alloc: Global, slot: u16, bytes: &[u8]) -> Result<Line, Line
 /// empty or begins with `#` is skipped, unless it is too long.
 ///
 /// # Errors
-/// Every [`LineFault`], in their order: `Unknown` at any other first word. Want of memory is found
-/// when nothing else is wrong.
+/// `TooLong`, `Unknown` at any other first word, `Count` and `BadWord`, in their order. None of
+/// these lines carries bytes, so that none can want memory.
 #[tactic(auto, unfolding(crate::specs::PortLines::operator_line_of))]
 pub fn read_operator(alloc: Global, bytes: &[u8]) -> Result<Line, LineFault>
     ensures meaning { Reads (operator_line_of bytes.now) result }
+    ensures memory { IfErr result (λ fault. fault ≢ LineFault.OutOfMemory) }
 {
     read_among(alloc, &OPERATOR_FORMS, without_end(bytes))
 }

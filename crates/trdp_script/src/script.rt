@@ -1,7 +1,7 @@
 //! A script's way through the node: its lines in, the text of its records out.
 
 ghost use Rattle.std.specs.Prelude.{◌≡◌, ◌<◌, ◌≤◌, ◌+◌, ◌^◌, ◌++◌, ◌∷◌, ℕ, List, [], length};
-ghost use Rattle.std.specs.Prelude.{Option, Some, Ok, Err, true, false, vec_len};
+ghost use Rattle.std.specs.Prelude.{Option, Some, Ok, Err, true, false, vec_capacity, vec_len};
 ghost use Rattle.std.specs.Prelude.{IfOk, OnOk, OnErr, IfErr};
 ghost use Rattle.trdp_engine.specs.NodeStates.{opened_node};
 ghost use Rattle.trdp_engine.specs.Events.{event_model};
@@ -65,13 +65,14 @@ impl From<AllocError> for ScriptFault {
 /// order, or the line `fault NAME` of an event that the node took no notice of (profile).
 ///
 /// Lines end with a newline, or with a carriage return and a newline; the last may lack its end.
-/// Output is collected, and written when the room for it is full, before more is read, and at the
-/// end. What was written before a fault stands.
+/// Output is collected, and written when its room is full, before more is read, and at the end.
 ///
 /// # Errors
-/// `Line` at the first line with a fault, `Read` where the reader fails or after 4,294,967,295
-/// reads, `Write` where the writer fails or is interrupted 1,000 times in a row
-/// ([`WRITE_TRIES`](crate::WRITE_TRIES)), and `OutOfMemory`.
+/// `Line` at the first line with a fault, and `OutOfMemory` before anything is read or at a line
+/// for which there is no memory: the lines before it were played. `Read` where the reader fails or
+/// after 4,294,967,295 reads, a number that no clause names: the lines whose end had been read were
+/// played. `Write` where the writer fails or is interrupted 1,000 times in a row
+/// ([`WRITE_TRIES`](crate::WRITE_TRIES)): a front of the output was written.
 pub fn run_script<R: Read, W: Write>(
     alloc: Global,
     config: NodeConfig,
@@ -115,6 +116,7 @@ impl Script {
     fn new(alloc: Global, config: NodeConfig) -> Result<(Script, Vec<u8>), AllocError>
         ensures start { IfOk result (λ made. Starts config made.0) }
         ensures slots { IfOk result (λ made. length made.0.player.node.slots ≤ 16) }
+        ensures room { IfOk result (λ made. 140001 ≤ vec_capacity made.0.line) }
         ensures piece { IfOk result (λ made. length made.1.items ≡ PIECE_ROOM) }
     {
         let piece = zeros(alloc, PIECE_ROOM)?;
@@ -254,7 +256,7 @@ impl Script {
         }
     }
 
-    /// Adds bytes to the line that has begun.
+    /// Adds bytes to the line that has begun, which has room for all that it may have.
     fn gather(&mut self, bytes: &[u8]) -> Result<(), ScriptFault>
         requires sound { IsSound self.old }
         requires bare { IsBare bytes.now }
@@ -267,10 +269,8 @@ impl Script {
         if self.line.len() + bytes.len() > LINE_ROOM {
             return Err(ScriptFault::Line(self.number, LineFault::TooLong));
         }
-        match self.line.extend_from_slice(bytes) {
-            Ok(()) => Ok(()),
-            Err(_) => Err(ScriptFault::OutOfMemory),
-        }
+        self.line.extend_from_slice(bytes).unwrap();
+        Ok(())
     }
 
     /// Plays the line that has begun, behind which a newline stands.

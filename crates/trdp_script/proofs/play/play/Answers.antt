@@ -1,18 +1,12 @@
-use Rattle.std.proofs.Common.{◌∙◌, ap, ◌++◌}
-use Rattle.std.specs.Prelude.{OnOk, Result, Ok, Err}
+use Rattle.std.proofs.Common.{inr, ◌∙◌, ap, refl, rules, ◌++◌}
 use Rattle.std.specs.List.{flat_map}
 use Rattle.trdp_script.specs.RecordText.{text_of_record}
 use Rattle.trdp_script.specs.SlotOrder.{by_slot}
-use Rattle.trdp_script.proofs.Playing.{node_played, text_played}
+use Rattle.trdp_engine.specs.NodeStates.{uncounted}
+use Rattle.trdp_script.proofs.Orders.{fault_told}
+use Rattle.trdp_script.proofs.Playing.{node_played, text_played, text_refused}
+use Rattle.trdp_script.proofs.Results.{all_err, all_ok, on_err, on_ok}
 use Rattle.trdp_script.proofs.play.play.Goals as goal
-
-on_ok : {A E : Type 0} {P Q : Type 0} (r : Result A E) → (P → Q) → OnOk r P → OnOk r Q
-on_ok (Ok x) f p = f p
-on_ok (Err e) f p = tt
-
-all_ok : {A E : Type 0} {Q : Type 0} (r : Result A E) → Q → OnOk r Q
-all_ok (Ok x) q = q
-all_ok (Err e) q = tt
 
 pub returns-in-Ok-clause-node : goal.returns-in-Ok-clause-node
 returns-in-Ok-clause-node c =
@@ -26,4 +20,18 @@ returns-in-Ok-clause-text c =
     text_played 16 c.args.node.now c.step.new.self _ _ _ _ c.in-Ok.ensures.fault
     c.requires.slots c.clear.ensures.records c.in-Ok.ensures.steps c.step.ensures.appends
     (told ∙ ap (λ l. l ++ flat_map text_of_record (by_slot 16 c.step.new.out.records))
-    c.clear-2.ensures.items)) c.push_records.ensures
+    c.clear-2.ensures.items)) c.push_records.ensures.ok
+
+pub returns-in-Ok-clause-wanting : goal.returns-in-Ok-clause-wanting
+returns-in-Ok-clause-wanting c =
+    let told = text_played 16 c.args.node.now c.step.new.self _ _ _
+    (flat_map text_of_record (by_slot 16 c.step.new.out.records)) c.in-Ok.ensures.fault
+    c.requires.slots c.clear.ensures.records c.in-Ok.ensures.steps c.step.ensures.appends refl in
+    on_err c.push_records.result (λ some. inr (λ none. some (told ∙ none)))
+    c.push_records.ensures.err
+
+pub returns-in-Err-clause-wanting : goal.returns-in-Err-clause-wanting
+returns-in-Err-clause-wanting c =
+    all_err c.print_fault.result (inr (λ none. fault_told c.in-Err.fault
+    (text_refused (uncounted c.args.node.now) _ _ c.in-Err.fault c.in-Err.ensures.fault
+    (search rules) ∙ none)))

@@ -2,6 +2,8 @@ use Rattle.std.proofs.Common.{sym, ◌∙◌, ap}
 use Rattle.std.specs.Option.{option_map}
 use Rattle.trdp_engine.specs.Records.{record_model}
 use Rattle.trdp_script.specs.RecordText.{text_of_record}
+use Rattle.trdp_script.proofs.Orders.{record_among}
+use Rattle.trdp_script.proofs.Results.{all_err}
 use Rattle.trdp_script.proofs.Turns.{told_one, told_all, some_within}
 use Rattle.trdp_script.proofs.play.push_all.Goals as goal
 use Rattle.trdp_script.proofs.play.push_all.Goals.{in-Some+in_ok-print_record-in-Some, in-None}
@@ -19,6 +21,13 @@ loop-i-preserved c =
           absurd (some_within all c.loop-i.i _ c.loop-i-test.true c.len-i-end.ensures none)
     ]
 
-pub returns : goal.returns
-returns c = told_all text_of_record c.args.records.now.records
+pub returns-clause-ok : goal.returns-clause-ok
+returns-clause-ok c = told_all text_of_record c.args.records.now.records
     c.loop-i.i _ _ _ c.loop-i-test.false c.len-i-end.ensures c.loop-i.invariant
+
+pub returns-in_err-print_record-in-Some-clause-err :
+    goal.returns-in_err-print_record-in-Some-clause-err
+returns-in_err-print_record-in-Some-clause-err c =
+    let here = sym c.get.ensures ∙ ap (option_map record_model) c.in-Some.is in
+    all_err c.from_residual.result
+    (record_among c.args.records.now.records c.loop-i.i (record_model c.in-Some.record) here)

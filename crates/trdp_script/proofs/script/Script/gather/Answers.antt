@@ -1,5 +1,6 @@
-use Rattle.std.proofs.Common.{◌++◌, ◌<◌, ◌+◌, length, arith, refl}
-use Rattle.trdp_script.proofs.Steps.{too_long_stops, gather_stops}
+use Rattle.std.proofs.Common.{◌<◌, ◌≤◌, ◌+◌, length, arith, refl, vec_capacity, vec_len}
+use Rattle.trdp_script.proofs.Results.{when_ok}
+use Rattle.trdp_script.proofs.Steps.{gathered, too_long_stops}
 use Rattle.trdp_script.proofs.script.Script.gather.Goals as goal
 
 pub returns-then-len-bytes-gt-LINE_ROOM-clause-err :
@@ -10,5 +11,11 @@ returns-then-len-bytes-gt-LINE_ROOM-clause-err c = λ w later.
     too_long_stops c.args.self.now w c.args.bytes.now
     later c.requires.sound.bare c.requires.bare long
 
-pub returns-in-Err-clause-err : goal.returns-in-Err-clause-err
-returns-in-Err-clause-err c = λ w later. gather_stops _ _ w (c.args.bytes.now ++ later) refl
+pub returns-clause-ok : goal.returns-clause-ok
+returns-clause-ok c = λ w.
+    let fits : vec_len c.args.self.now.line + length c.args.bytes.now
+    ≤ vec_capacity c.args.self.now.line =
+    omega (arith, c.if-len-bytes-gt-LINE_ROOM.false, c.len.ensures, c.requires.sound.room) in
+    gathered c.args.self.now _ w c.args.bytes.now c.requires.bare
+    (when_ok c.extend_from_slice.result _ _ _ (c.extend_from_slice.ensures.succeeds fits)
+    c.extend_from_slice.ensures.items) refl refl

@@ -1,10 +1,10 @@
 use Rattle.std.proofs.Common.{◌<◌, List, ℕ, length, arith, refl, sym, subst}
 use Rattle.std.specs.Io.KnownBytes.{Consumes}
+use Rattle.std.proofs.KnownBytes.{Keeps-refl}
 use Rattle.trdp_script.specs.declared.script.ScriptFault.TheVariants.{Read}
-use Rattle.trdp_script.proofs.Readings.{comes_stopped, piece_stops, read_none}
+use Rattle.trdp_script.proofs.Readings.{comes_stopped, piece_stops, read_none, reader_stops}
 use Rattle.trdp_script.proofs.Readings.{reading_ends, reading_more, reading_starts}
 use Rattle.trdp_script.proofs.Readings.{reading_stops, reading_written}
-use Rattle.trdp_script.proofs.Steps.{read_stops}
 use Rattle.trdp_script.proofs.script.Script.run.Goals as goal
 
 pub loop-read-init : goal.loop-read-init
@@ -67,17 +67,13 @@ returns-in-Err-read_piece g c =
     let written = reading_written c.write_out.new.self _ c.loop-read.invariant.reading
     c.in_default.ensures.ok (c.write_out.ensures.sound c.loop-read.invariant.reading.sound) in
     record {
-      run = λ input is. comes_stopped _ _ _ _ input _ c.in-Err-read_piece.fault
-          (reading_stops c.write_out.new.self _ c.in-Err-read_piece.fault written (λ rest there.
-          read_stops _ _ rest c.in-Err-read_piece.fault c.in-Err-read_piece.ensures.fault)
-          input is);
+      run = reader_stops _ c.in-Err-read_piece.fault written
+          c.in-Err-read_piece.ensures.bytes c.in-Err-read_piece.ensures.fault;
     }
 
 pub returns : goal.returns
 returns g c = record {
-  run = λ input is. comes_stopped _ _ _ _ input _ Read
-      (reading_stops c.loop-read.self _ Read c.loop-read.invariant.reading
-      (λ rest there. read_stops _ _ rest Read refl) input is);
+  run = reader_stops _ Read c.loop-read.invariant.reading (Keeps-refl _) refl;
 }
 
 pub loop-read-preserved : goal.loop-read-preserved

@@ -1,0 +1,10 @@
+use Rattle.std.proofs.Common.{rules}
+use Rattle.trdp_engine.specs.Records.{record_model}
+use Rattle.trdp_script.proofs.Orders.{own_line}
+use Rattle.trdp_script.proofs.Results.{all_err}
+use Rattle.trdp_script.proofs.play.print_of_slot.Goals as goal
+
+pub returns-then-record-slot-clause-err : goal.returns-then-record-slot-clause-err
+returns-then-record-slot-clause-err c =
+    all_err c.print_record.result
+    (own_line c.args.slot (record_model c.args.record.now) (search rules))
