@@ -1,3 +1,4 @@
+pub mod LineLosses
 pub mod Links
 pub mod Tellings
 pub mod Steps

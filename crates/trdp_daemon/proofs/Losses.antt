@@ -4,6 +4,7 @@ use Rattle.std.proofs.Common.{Result, Ok, Err, refl, ◌∙◌, ap, arith, map, 
 use Rattle.trdp_base.specs.declared.place.Place.{Place}
 use Rattle.trdp_engine.specs.Events.{EventModel}
 use Rattle.trdp_engine.specs.Records.{RecordModel, Content, Answers, Indicates, Sends}
+use Rattle.trdp_script.specs.EventBytes.{carries_bytes}
 use Rattle.trdp_script.specs.declared.fault.LineFault.{LineFault}
 use Rattle.trdp_script.specs.PortLines.{control_line_of, operator_line_of}
 use Rattle.trdp_script.specs.RecordText.{text_of_record}
@@ -16,7 +17,7 @@ use Rattle.trdp_daemon.specs.Effects.{event_records, ServiceState, Loss, LineLos
 use Rattle.trdp_daemon.specs.Effects.{TextsLost, then_effect, telling_only, event_effect}
 use Rattle.trdp_daemon.specs.Effects.{event_taken, Effect, may_take_memory, missing}
 use Rattle.trdp_daemon.specs.Visits.{operator_answer, operator_taken, operator_event}
-use Rattle.trdp_daemon.specs.Visits.{skipped_line, operator_effect, with_place, control_event}
+use Rattle.trdp_daemon.specs.Visits.{operator_effect, with_place, control_event}
 use Rattle.trdp_daemon.specs.Visits.{control_effect, datagram_effect, taking_effect}
 use Rattle.trdp_daemon.specs.Turns.{Visit, visit_effect, visits_effect, Turn, turn_effect}
 use Rattle.trdp_daemon.specs.Turns.{turns_effect, moment_of, unlost, unlost_visit}
@@ -75,7 +76,7 @@ operator_event_kept : (s : ServiceState) (from : Place) (event : EventModel) (lo
     → (operator_event s from event loss).telling.missed ≡ 0
     → operator_event s from event loss ≡ operator_event s from event (TextsLost [])
 unfolding operator_event
-operator_event_kept s from event LineLost none = absurd (omega (arith, none))
+operator_event_kept s from event LineLost none = refl
 operator_event_kept s from event EventLost none =
     lost_kept (may_take_memory s.node event) s (operator_taken s from event []) none
 operator_event_kept s from event (TextsLost marks) none =
@@ -83,26 +84,21 @@ operator_event_kept s from event (TextsLost marks) none =
     ap (λ e. then_effect e (λ after. telling_only after (operator_answer s from event)))
     (event_kept s event (TextsLost marks) first)
 
-skipped_kept : (s : ServiceState) (loss : Loss)
-    → (skipped_line s loss).telling.missed ≡ 0 → skipped_line s loss ≡ skipped_line s (TextsLost [])
-unfolding skipped_line
-skipped_kept s LineLost none = absurd (omega (arith, none))
-skipped_kept s EventLost none = refl
-skipped_kept s (TextsLost marks) none = refl
-
 operator_kept : (s : ServiceState) (from : Place) (line : Result (Option EventModel) LineFault)
     (loss : Loss) → (operator_effect s from line loss).telling.missed ≡ 0
     → operator_effect s from line loss ≡ operator_effect s from line (TextsLost [])
 unfolding operator_effect
 operator_kept s from (Err fault) loss none = refl
-operator_kept s from (Ok None) loss none = skipped_kept s loss none
+operator_kept s from (Ok None) loss none = refl
 operator_kept s from (Ok (Some event)) loss none = operator_event_kept s from event loss none
 
 control_event_kept : (s : ServiceState) (slot : ℕ) (from : Place) (event : EventModel) (loss : Loss)
     → (control_event s slot from event loss).telling.missed ≡ 0
     → control_event s slot from event loss ≡ control_event s slot from event (TextsLost [])
 unfolding control_event
-control_event_kept s slot from event LineLost none = absurd (omega (arith, none))
+control_event_kept s slot from event LineLost none =
+    lost_kept (carries_bytes (Some event)) s
+    (event_effect (with_place s slot from) event (TextsLost [])) none
 control_event_kept s slot from event EventLost none =
     event_kept (with_place s slot from) event EventLost none
 control_event_kept s slot from event (TextsLost marks) none =
@@ -114,9 +110,7 @@ control_kept : (s : ServiceState) (slot : ℕ) (from : Place)
     → control_effect s slot from line loss ≡ control_effect s slot from line (TextsLost [])
 unfolding control_effect
 control_kept s slot from (Err fault) loss none = refl
-control_kept s slot from (Ok None) LineLost none = absurd (omega (arith, none))
-control_kept s slot from (Ok None) EventLost none = refl
-control_kept s slot from (Ok None) (TextsLost marks) none = refl
+control_kept s slot from (Ok None) loss none = refl
 control_kept s slot from (Ok (Some event)) loss none =
     control_event_kept s slot from event loss none
 

@@ -10,6 +10,7 @@ use Rattle.trdp_engine.specs.Alone.{refused_as}
 use Rattle.trdp_script.specs.ScriptText.{node_after}
 use Rattle.trdp_script.specs.SlotOrder.{by_slot}
 use Rattle.trdp_script.proofs.Orders.{by_slot_suc, by_slot_zero}
+use Rattle.trdp_script.proofs.Playing.{may_uncounted}
 use Rattle.trdp_daemon.specs.declared.link.Link.{Link}
 use Rattle.trdp_daemon.specs.declared.service.Service.{Service}
 use Rattle.trdp_daemon.specs.Told.{Taking, Give}
@@ -84,15 +85,6 @@ is_wanting node (TopologyIs topo) may = absurd (cc)
 is_wanting node (RoleIs group leader) may = absurd (cc)
 is_wanting node (DatagramIs protocol src dst bytes) may = may
 is_wanting node (CallIs s call) may = tt
-
--- what an event cost decides nothing
-may_uncounted : (node : NodeState) (event : EventModel)
-    → MayTakeMemory node event → MayTakeMemory (uncounted node) event
-may_uncounted node (MomentIs t) may = may
-may_uncounted node (TopologyIs topo) may = may
-may_uncounted node (RoleIs group leader) may = may
-may_uncounted node (DatagramIs protocol src dst bytes) may = may
-may_uncounted node (CallIs s call) may = may
 
 -- an event is lost there
 lost_there : (s : ServiceState) (event : EventModel) (effect : Effect)

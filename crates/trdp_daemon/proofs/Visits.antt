@@ -1,5 +1,5 @@
 -- What a datagram at a port came to.
-use Rattle.std.proofs.Common.{◌≡◌, ℕ, List, [], ◌∷◌, Option, Some, None}
+use Rattle.std.proofs.Common.{◌≡◌, ℕ, true, List, [], ◌∷◌, Option, Some, None}
 use Rattle.std.proofs.Common.{Result, Ok, Err, refl, sym, ◌∙◌, ap, subst, length, take}
 use Rattle.std.specs.Prelude.{slice_set}
 use Rattle.trdp_base.specs.declared.place.Place.{Place}
@@ -9,6 +9,7 @@ use Rattle.trdp_engine.specs.declared.record.Protocol.TheVariants.{Pd as PdData,
 use Rattle.trdp_script.specs.declared.fault.LineFault.{LineFault}
 use Rattle.trdp_script.specs.declared.fault.LineFault.TheVariants.{OutOfMemory}
 use Rattle.trdp_script.specs.declared.line.Line.{Line}
+use Rattle.trdp_script.specs.EventBytes.{carries_bytes}
 use Rattle.trdp_script.specs.Lines.{Reads, event_of}
 use Rattle.trdp_script.specs.PortLines.{control_line_of, operator_line_of}
 use Rattle.trdp_daemon.specs.declared.link.Link.{Link}
@@ -17,12 +18,12 @@ use Rattle.trdp_daemon.specs.declared.port.Port.TheVariants.{Pd, Md, Operator, C
 use Rattle.trdp_daemon.specs.declared.service.Service.{Service}
 use Rattle.trdp_daemon.specs.Told.{Arrived, Failed, Nothing, Came, Taking, Give}
 use Rattle.trdp_daemon.specs.Effects.{ServiceState, Loss, LineLost, EventLost, TextsLost}
-use Rattle.trdp_daemon.specs.Effects.{Telling, silence, missing, event_effect, still}
+use Rattle.trdp_daemon.specs.Effects.{Effect, Telling, silence, missing, event_effect, still}
 use Rattle.trdp_daemon.specs.Links.{Carries, IsFound, Takes}
 use Rattle.trdp_daemon.specs.Services.{Comes, ComesWith, TakesAtPorts, service_state}
 use Rattle.trdp_daemon.specs.Turns.{Visit, datagram_room}
 use Rattle.trdp_daemon.specs.Visits.{fault_telling, operator_event, operator_effect}
-use Rattle.trdp_daemon.specs.Visits.{skipped_line, control_effect, control_event}
+use Rattle.trdp_daemon.specs.Visits.{line_lost_or, control_effect, control_event}
 use Rattle.trdp_daemon.specs.Visits.{datagram_effect, taking_effect, with_place, own_place}
 use Rattle.trdp_daemon.proofs.Links.{carries_none, carries_both}
 use Rattle.trdp_daemon.proofs.Tellings.{both_silence, silence_both}
@@ -56,20 +57,12 @@ refused_telling {W} {takings_in} {gives_in} {a} {b} port from fault lost carried
 pub operator_refused : {W : Type 0} {takings_in : W → Option (List Taking)}
     {gives_in : W → Option (List Give)} {a b : Link W} (s : Service) (from : Place)
     (meaning : Result (Option EventModel) LineFault) (fault : LineFault) → Reads meaning (Err fault)
+    → (fault ≡ OutOfMemory → ⊥)
     → Carries takings_in gives_in a b [] (fault_telling Operator from fault)
     → ComesWith takings_in gives_in s s a b (operator_effect (service_state s) from meaning)
-unfolding operator_effect skipped_line operator_event
-operator_refused s from (Ok None) fault reads carried = record {
-  loss = LineLost;
-  comes =
-      record { service_is = refl; carried = refused_telling Operator from fault reads carried };
-}
-operator_refused s from (Ok (Some event)) fault reads carried = record {
-  loss = LineLost;
-  comes =
-      record { service_is = refl; carried = refused_telling Operator from fault reads carried };
-}
-operator_refused {W} {takings_in} {gives_in} {a} {b} s from (Err bad) fault reads carried =
+unfolding operator_effect
+operator_refused s from (Ok event) fault reads never carried = absurd (never reads.0)
+operator_refused {W} {takings_in} {gives_in} {a} {b} s from (Err bad) fault reads never carried =
     record {
       loss = TextsLost [];
       comes = record {
@@ -84,7 +77,7 @@ pub operator_skipped :
     (a : Link W) (s : Service) (from : Place) (meaning : Result (Option EventModel) LineFault)
     → meaning ≡ Ok None
     → ComesWith takings_in gives_in s s a a (operator_effect (service_state s) from meaning)
-unfolding operator_effect skipped_line
+unfolding operator_effect
 operator_skipped takings_in gives_in a s from meaning is =
     rw is (record { loss = TextsLost []; comes = nothing_comes takings_in gives_in s a })
 
@@ -98,28 +91,27 @@ unfolding operator_effect
 operator_took old new from meaning event is comes =
     rw is (record { loss = comes.loss; comes = comes.comes })
 
+-- a line that carries bytes was lost
+line_lost : {W : Type 0} {takings_in : W → Option (List Taking)} {gives_in : W → Option (List Give)}
+    {a b : Link W} (s : Service) (event : EventModel) (effect : Effect)
+    → carries_bytes (Some event) ≡ true → Carries takings_in gives_in a b [] missing
+    → Comes takings_in gives_in s s a b [] (line_lost_or (service_state s) event effect)
+line_lost {W} {takings_in} {gives_in} {a} {b} s event effect carries carried =
+    rw carries (record { service_is = refl; carried = carried })
+
 pub control_refused : {W : Type 0} {takings_in : W → Option (List Taking)}
     {gives_in : W → Option (List Give)} {a b : Link W} (s : Service) (slot : ℕ) (from : Place)
     (meaning : Result (Option EventModel) LineFault) (fault : LineFault) → Reads meaning (Err fault)
     → Carries takings_in gives_in a b [] (fault_telling (Control slot) from fault)
     → ComesWith takings_in gives_in s s a b (control_effect (service_state s) slot from meaning)
 unfolding control_effect control_event
-control_refused s slot from (Ok None) fault reads carried =
-    record {
-      loss = LineLost;
-      comes = record {
-        service_is = refl;
-        carried = refused_telling (Control slot) from fault reads carried;
-      };
-    }
-control_refused s slot from (Ok (Some event)) fault reads carried =
-    record {
-      loss = LineLost;
-      comes = record {
-        service_is = refl;
-        carried = refused_telling (Control slot) from fault reads carried;
-      };
-    }
+control_refused s slot from (Ok None) fault reads carried = let none = reads.1 in absurd (cc)
+control_refused s slot from (Ok (Some event)) fault reads carried = record {
+  loss = LineLost;
+  comes = line_lost s event
+      (event_effect (with_place (service_state s) slot from) event (TextsLost [])) reads.1
+      (refused_telling (Control slot) from fault reads.0 carried);
+}
 control_refused {W} {takings_in} {gives_in} {a} {b} s slot from (Err bad) fault reads carried =
     record {
       loss = TextsLost [];

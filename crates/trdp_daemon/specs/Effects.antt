@@ -115,7 +115,7 @@ pub record ServiceState : Type 0 where
 
 -- what was lost for want of memory of a reading of the clock or of a datagram
 pub data Loss : Type 0 where
-  LineLost : Loss  -- it wasn't read as a line
+  LineLost : Loss  -- it wasn't read as a line, where that carries bytes
   EventLost : Loss  -- it was read, and the node didn't take it, where memory may be wanting
   TextsLost : (marks : List Bool) → Loss  -- the texts of those of its records
 

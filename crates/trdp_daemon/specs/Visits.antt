@@ -1,12 +1,13 @@
 -- What a datagram at one of the ports gives.
 use Rattle.std.specs.Prelude.{ℕ, List, [], ◌++◌, length, codes, slice_set, Bool}
-use Rattle.std.specs.Prelude.{Option, Some, None, Result, Ok, Err}
+use Rattle.std.specs.Prelude.{Option, Some, None, Result, Ok, Err, if◌then◌else◌}
 use Rattle.trdp_base.specs.declared.place.Place.{Place}
 use Rattle.trdp_dataset.specs.Configs.{ConfigModel}
 use Rattle.trdp_engine.specs.declared.fault.NodeFault.{NodeFault}
 use Rattle.trdp_engine.specs.declared.record.Protocol.TheVariants.{Pd as PdData, Md as MdData}
 use Rattle.trdp_engine.specs.Alone.{refused_as}
 use Rattle.trdp_engine.specs.Events.{EventModel, DatagramIs}
+use Rattle.trdp_script.specs.EventBytes.{carries_bytes}
 use Rattle.trdp_script.specs.declared.fault.LineFault.{LineFault}
 use Rattle.trdp_script.specs.declared.fault.LineFault.TheVariants.{TooLong, Unknown, Count}
 use Rattle.trdp_script.specs.declared.fault.LineFault.TheVariants.{BadWord, OutOfMemory}
@@ -52,25 +53,20 @@ operator_taken service from event marks =
     then_effect (event_effect service event (TextsLost marks))
     (λ after. telling_only after (operator_answer service from event))
 
--- an event of the operator: one that is lost has no answer
+-- an event of the operator: one that is lost has no answer; its line carries no bytes, and isn't
+-- lost
 unfoldable pub operator_event : ServiceState → Place → EventModel → Loss → Effect
-operator_event service from event LineLost = telling_only service missing
+operator_event service from event LineLost = operator_taken service from event []
 operator_event service from event EventLost =
     lost_or service event (operator_taken service from event [])
 operator_event service from event (TextsLost marks) = operator_taken service from event marks
 
--- a skipped line has no answer
-unfoldable pub skipped_line : ServiceState → Loss → Effect
-skipped_line service LineLost = telling_only service missing
-skipped_line service EventLost = still service
-skipped_line service (TextsLost marks) = still service
-
--- a datagram at the operator's port
+-- a datagram at the operator's port: a skipped line has no answer, and isn't lost
 unfoldable pub operator_effect : ServiceState → Place → Result (Option EventModel) LineFault
     → Loss → Effect
 operator_effect service from (Err fault) loss =
     telling_only service (fault_telling Operator from fault)
-operator_effect service from (Ok None) loss = skipped_line service loss
+operator_effect service from (Ok None) loss = still service
 operator_effect service from (Ok (Some event)) loss = operator_event service from event loss
 
 -- what reads as a line at a slot's control port sets the slot's control place
@@ -78,23 +74,26 @@ abbrev pub with_place : ServiceState → ℕ → Place → ServiceState
 with_place service slot from =
     record service { places = slice_set service.places slot (Some from) }
 
+-- a line is lost where it carries bytes; elsewhere it comes to this effect
+abbrev pub line_lost_or : ServiceState → EventModel → Effect → Effect
+line_lost_or service event effect =
+    if carries_bytes (Some event) then telling_only service missing else effect
+
 -- a call of a slot
 unfoldable pub control_event : ServiceState → ℕ → Place → EventModel → Loss → Effect
-control_event service slot from event LineLost = telling_only service missing
+control_event service slot from event LineLost = line_lost_or service event
+    (event_effect (with_place service slot from) event (TextsLost []))
 control_event service slot from event EventLost =
     event_effect (with_place service slot from) event EventLost
 control_event service slot from event (TextsLost marks) =
     event_effect (with_place service slot from) event (TextsLost marks)
 
--- a datagram at the control port of a slot
+-- a datagram at the control port of a slot: a skipped line isn't lost
 unfoldable pub control_effect : ServiceState → ℕ → Place → Result (Option EventModel) LineFault
     → Loss → Effect
 control_effect service slot from (Err fault) loss =
     telling_only service (fault_telling (Control slot) from fault)
-control_effect service slot from (Ok None) LineLost = telling_only service missing
-control_effect service slot from (Ok None) EventLost = still (with_place service slot from)
-control_effect service slot from (Ok None) (TextsLost marks) =
-    still (with_place service slot from)
+control_effect service slot from (Ok None) loss = still (with_place service slot from)
 control_effect service slot from (Ok (Some event)) loss =
     control_event service slot from event loss
 

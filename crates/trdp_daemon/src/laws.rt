@@ -1,13 +1,17 @@
 //! What follows from the definitions.
 
-ghost use Rattle.std.specs.Prelude.{◌≡◌, ◌↔◌, List, [], map, true};
+ghost use Rattle.std.specs.Prelude.{◌≡◌, ◌↔◌, ℕ, List, [], map, true, false, IfOk};
 ghost use Rattle.trdp_base.specs.declared.place.Place.{Place};
 ghost use Rattle.trdp_engine.specs.Events.{EventModel};
 ghost use Rattle.trdp_engine.specs.NodeStates.{NodeState, MayTakeMemory};
-ghost use Rattle.trdp_daemon.specs.Effects.{EventLost, Loss, ServiceState, event_effect};
+ghost use Rattle.trdp_script.specs.EventBytes.{carries_bytes};
+ghost use Rattle.trdp_script.specs.PortLines.{control_line_of};
+ghost use Rattle.trdp_daemon.specs.declared.port.Port.TheVariants.{Control, Operator};
+ghost use Rattle.trdp_daemon.specs.Effects.{EventLost, LineLost, Loss, ServiceState, TextsLost};
+ghost use Rattle.trdp_daemon.specs.Effects.{event_effect};
 ghost use Rattle.trdp_daemon.specs.Effects.{event_taken, may_take_memory, texts_lost};
 ghost use Rattle.trdp_daemon.specs.Turns.{Turn, turns_effect, unlost};
-ghost use Rattle.trdp_daemon.specs.Visits.{operator_event, operator_taken};
+ghost use Rattle.trdp_daemon.specs.Visits.{datagram_effect, operator_event, operator_taken};
 
 /// Turns in which nothing was counted as lost for want of memory are turns in which nothing was
 /// lost: what they come to and offer follows from the readings and the takes alone.
@@ -19,7 +23,9 @@ pub fn nothing_missed()
 
 /// An event may be lost only where the node says that memory may be wanting for it: elsewhere one
 /// that is marked as lost, or its line, comes to what it comes to where it is taken, and so does
-/// its turn. An event of the operator is then taken, and answered.
+/// its turn. An event of the operator is then taken, and answered. A line may be lost only where it
+/// carries bytes: elsewhere one that is marked as lost comes to what it comes to where it is read.
+/// So no skipped line is lost, and nothing of what comes to the operator's port.
 pub fn lost_only_where_memory_is_taken()
     ensures tested { (node : NodeState) (event : EventModel)
         → (may_take_memory node event ≡ true) ↔ MayTakeMemory node event }
@@ -29,4 +35,11 @@ pub fn lost_only_where_memory_is_taken()
     ensures operator { (service : ServiceState) (from : Place) (event : EventModel)
         → ¬ MayTakeMemory service.node event
         → operator_event service from event EventLost ≡ operator_taken service from event [] }
+    ensures operator_line { (service : ServiceState) (from : Place) (bytes : List ℕ) (loss : Loss)
+        → datagram_effect service Operator from bytes loss
+        ≡ datagram_effect service Operator from bytes (TextsLost []) }
+    ensures control_line { (service : ServiceState) (slot : ℕ) (from : Place) (bytes : List ℕ)
+        → IfOk (control_line_of slot bytes) (λ event. carries_bytes event ≡ false)
+        → datagram_effect service (Control slot) from bytes LineLost
+        ≡ datagram_effect service (Control slot) from bytes (TextsLost []) }
 {}

@@ -20,4 +20,5 @@ returns-in-Ok-clause-comes g c =
 
 pub returns-clause-comes : goal.returns-clause-comes
 returns-clause-comes g c = operator_refused c.args.self.now c.args.from
-    (operator_line_of c.args.bytes.now) c.in-Err.fault c.in-Err.ensures.meaning c.refuse.ensures
+    (operator_line_of c.args.bytes.now) c.in-Err.fault c.in-Err.ensures.meaning
+    c.in-Err.ensures.memory c.refuse.ensures
