@@ -5,11 +5,14 @@ ghost use Rattle.std.specs.Prelude.{◌≡◌, ◌<◌, ◌≤◌, length, None,
 use crate::fault::{WireFault, fail};
 use crate::port::Port;
 use crate::wire::Wire;
-use std::io;
 use std::net::{Ipv4Addr, Net, SocketAddr, SocketAddrV4, UdpSocket};
+use std::{array, io};
 use thiserror::Error;
 use trdp_base::{Ip, Place};
 use trdp_dataset::NodeConfig;
+
+/// The most control ports that a node can have: one for each slot.
+const CONTROL_PORTS_MAX: usize = 16;
 
 /// Why the ports of a node aren't bound.
 #[derive(Clone, Copy, Debug, PartialEq, Eq, Error)]
@@ -17,7 +20,7 @@ pub enum BindFault {
     /// The system refuses one of the ports.
     #[error("a port of the node can't be bound")]
     Bind = 1,
-    /// Memory was refused.
+    /// The system has no memory for one of the ports.
     #[error("there is no memory for the sockets")]
     OutOfMemory = 2,
 }
@@ -32,17 +35,20 @@ pub struct UdpWire {
     /// The operator's port; None where the node has none.
     operator: Option<UdpSocket>,
     /// The control port of each slot; None where the slot has none.
-    controls: Vec<Option<UdpSocket>>,
+    controls: [Option<UdpSocket>; CONTROL_PORTS_MAX],
     /// How often the system refused a take or a give, at most 2^64 - 1.
     failures: u64,
 }
 
 impl UdpWire {
-    /// Binds the ports that a configuration names, at its address.
+    /// Binds the ports that a configuration names, at its address: process data, message data, the
+    /// operator's, and the control ports of the slots, one after another. It takes no memory of its
+    /// own, so that a port which can't be bound is found whatever memory is there.
     ///
     /// # Errors
-    /// `Bind` where the system refuses one, `OutOfMemory`.
-    pub fn bind<R: Net + AllocGlobal>(rt: &R, config: &NodeConfig) -> Result<UdpWire, BindFault>
+    /// At the first port that isn't bound: `OutOfMemory` where the system has no memory for it, and
+    /// else `Bind`.
+    pub fn bind<R: Net>(rt: &R, config: &NodeConfig) -> Result<UdpWire, BindFault>
         ensures failures { IfOk result (λ wire. wire.failures ≡ 0) }
     {
         let ip = config.address();
@@ -172,17 +178,14 @@ fn open_unless_0<R: Net>(rt: &R, ip: Ip, port: u16) -> Result<Option<UdpSocket>,
 ///
 /// # Errors
 /// `Bind` and `OutOfMemory`.
-fn open_controls<R: Net + AllocGlobal>(
+fn open_controls<R: Net>(
     rt: &R,
     config: &NodeConfig,
-) -> Result<Vec<Option<UdpSocket>>, BindFault> {
-    let mut controls = Vec::new(rt.alloc());
+) -> Result<[Option<UdpSocket>; CONTROL_PORTS_MAX], BindFault> {
+    let mut controls = array::from_fn(|_| None);
     for slot in 0..config.slots() {
         if let Some(port) = config.control_port(slot) {
-            let control = open_unless_0(rt, config.address(), port)?;
-            if controls.push(control).is_err() {
-                return Err(BindFault::OutOfMemory);
-            }
+            controls[slot] = open_unless_0(rt, config.address(), port)?;
         }
     }
     Ok(controls)

@@ -1,5 +1,5 @@
 -- The first lines of a script, and those behind them.
-use Rattle.std.proofs.Common.{◌≡◌, zero, suc, ◌+◌, ℕ, cond, false, List, [], ◌∷◌, ◌++◌, length}
+use Rattle.std.proofs.Common.{◌≡◌, suc, ◌+◌, ℕ, cond, false, List, [], ◌∷◌, ◌++◌, length}
 use Rattle.std.proofs.Common.{take, drop, Some, None, Ok, Err, Option, Result, refl, sym, ◌∙◌, ap}
 use Rattle.std.proofs.Common.{arith, append_assoc, subst, take-append-drop}
 use Rattle.std.specs.Prelude.{◌==◌, slice_get}

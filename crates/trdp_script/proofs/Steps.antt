@@ -1,6 +1,6 @@
 -- A script on its way, step after step.
-use Rattle.std.proofs.Common.{◌≡◌, ◌+◌, ◌<◌, ℕ, false, List, [], ◌∷◌, ◌++◌, length}
-use Rattle.std.proofs.Common.{take, None, Ok, Err, Option, Result, refl, sym, ◌∙◌, ap, arith}
+use Rattle.std.proofs.Common.{◌≡◌, ◌+◌, ◌<◌, ℕ, false, List, [], ◌++◌, length}
+use Rattle.std.proofs.Common.{take, Ok, Err, Option, Result, refl, sym, ◌∙◌, ap, arith}
 use Rattle.std.proofs.Common.{append_assoc, append-nil, length-append, subst}
 use Rattle.std.specs.Prelude.{◌==◌, IfErr, OnErr}
 use Rattle.std.proofs.KnownBytes.{Appends-nil}
