@@ -120,14 +120,7 @@ pub(crate) struct Changed {
 }
 
 /// The telegram of comId 100, changed.
-static CHANGED: [Changed; 7] = [
-    // Another type under the old frame check.
-    Changed {
-        offset: 6,
-        bytes: [0x50, 0x72],
-        check: [0xec, 0x17, 0x9c, 0x94],
-        read: Err(HeadFault::Fcs),
-    },
+static CHANGED: [Changed; 6] = [
     // The frame check with its highest byte first.
     Changed {
         offset: 6,
@@ -189,25 +182,48 @@ fn changed_telegrams_have_their_faults(rt: HostRuntime) {
     }
 }
 
-/// What is read of so many zeros.
-fn fault_of_zeros(length: usize) -> Option<HeadFault>
-    requires { length ≤ 1473 }
-{
-    let zeros = [0; PD_TELEGRAM_MAX + 1];
-    let (front, _) = zeros.split_at(length);
-    read_pd(front).err()
+/// What is read of so many bytes of the telegram.
+fn cut_to(length: usize) -> Result<&'static [u8], HeadFault> {
+    match length {
+        0..=39 => Err(HeadFault::Short),
+        40 | 41 => Err(HeadFault::Length),
+        _ => Ok(b"\x0a\x0b"),
+    }
 }
 
 #[test]
-fn telegrams_have_40_to_1472_bytes(rt: HostRuntime) {
-    for (length, fault) in [
-        (39, HeadFault::Short),
-        (40, HeadFault::Fcs),
-        (1472, HeadFault::Fcs),
-        (1473, HeadFault::TooLong),
+fn a_telegram_is_cut(rt: HostRuntime) {
+    for length in 0..DATA.len() + 1 {
+        let read = read_pd(&DATA[..length]).map(|view| view.payload);
+        same(&rt, length, read, cut_to(length));
+    }
+}
+
+/// Changes one bit of the bytes, counted from the first byte's lowest.
+pub(crate) fn change_bit(bytes: &mut [u8], bit: usize) {
+    if let Some(byte) = bytes.get_mut(bit / 8) {
+        *byte ^= 1 << (bit % 8);
+    }
+}
+
+#[test]
+fn each_changed_bit_of_the_header_is_found(rt: HostRuntime) {
+    for bit in 0..320 {
+        let mut telegram = DATA;
+        change_bit(&mut telegram, bit);
+        same(&rt, bit, read_pd(&telegram).err(), Some(HeadFault::Fcs));
+    }
+}
+
+#[test]
+fn telegrams_have_at_most_1472_bytes(rt: HostRuntime) {
+    let zeros = [0; PD_TELEGRAM_MAX + 1];
+    let (longest, _) = zeros.split_at(PD_TELEGRAM_MAX);
+    for (bytes, fault) in [
+        (longest, HeadFault::Fcs),
+        (zeros.as_slice(), HeadFault::TooLong),
     ] {
-        assert!(rt; length <= 1473);
-        same(&rt, length, fault_of_zeros(length), Some(fault));
+        same(&rt, bytes.len(), read_pd(bytes).err(), Some(fault));
     }
 }
 

@@ -3,7 +3,7 @@
 
 ghost use Rattle.std.specs.Prelude.{◌≤◌};
 
-use crate::head::Changed;
+use crate::head::{Changed, change_bit};
 use crate::same::same;
 use std::test::Fail;
 use trdp_base::{SessionId, Topo, Uri};
@@ -105,14 +105,7 @@ fn telegrams_are_added_to_a_list(rt: HostRuntime) -> Result<(), Fail> {
 }
 
 /// The telegram of comId 300, changed.
-static CHANGED: [Changed; 6] = [
-    // Another type under the old frame check.
-    Changed {
-        offset: 6,
-        bytes: [0x4d, 0x72],
-        check: [0x6d, 0x6f, 0x3c, 0x7c],
-        read: Err(HeadFault::Fcs),
-    },
+static CHANGED: [Changed; 5] = [
     Changed {
         offset: 4,
         bytes: [2, 0],
@@ -163,25 +156,40 @@ fn changed_telegrams_have_their_faults(rt: HostRuntime) {
     }
 }
 
-/// What is read of so many zeros.
-fn fault_of_zeros(length: usize) -> Option<HeadFault>
-    requires { length ≤ 65505 }
-{
-    let zeros = [0; MD_TELEGRAM_MAX + 1];
-    let (front, _) = zeros.split_at(length);
-    payload_length(front).err()
+/// What is read of so many bytes of the telegram: the length of its payload.
+fn cut_to(length: usize) -> Result<usize, HeadFault> {
+    match length {
+        0..=115 => Err(HeadFault::Short),
+        116 => Err(HeadFault::Length),
+        _ => Ok(1),
+    }
 }
 
 #[test]
-fn telegrams_have_116_to_65504_bytes(rt: HostRuntime) {
-    for (length, fault) in [
-        (115, HeadFault::Short),
-        (116, HeadFault::Fcs),
-        (65504, HeadFault::Fcs),
-        (65505, HeadFault::TooLong),
+fn a_telegram_is_cut(rt: HostRuntime) {
+    for length in 0..NOTIFY.len() + 1 {
+        same(&rt, length, payload_length(&NOTIFY[..length]), cut_to(length));
+    }
+}
+
+#[test]
+fn each_changed_bit_of_the_header_is_found(rt: HostRuntime) {
+    for bit in 0..928 {
+        let mut telegram = NOTIFY;
+        change_bit(&mut telegram, bit);
+        same(&rt, bit, payload_length(&telegram), Err(HeadFault::Fcs));
+    }
+}
+
+#[test]
+fn telegrams_have_at_most_65504_bytes(rt: HostRuntime) {
+    let zeros = [0; MD_TELEGRAM_MAX + 1];
+    let (longest, _) = zeros.split_at(MD_TELEGRAM_MAX);
+    for (bytes, fault) in [
+        (longest, HeadFault::Fcs),
+        (zeros.as_slice(), HeadFault::TooLong),
     ] {
-        assert!(rt; length <= 65505);
-        same(&rt, length, fault_of_zeros(length), Some(fault));
+        same(&rt, bytes.len(), payload_length(bytes), Err(fault));
     }
 }
 
