@@ -4,9 +4,13 @@
 #![tactic(auto)]
 
 #[cfg(test)]
+mod failing;
+#[cfg(test)]
 mod forms;
 #[cfg(test)]
 mod lines;
+#[cfg(test)]
+mod play;
 #[cfg(test)]
 mod ports;
 #[cfg(test)]

@@ -1,77 +1,22 @@
-//! Scripts through the whole, over readers and writers in memory, and over some that fail.
+//! Scripts through the whole, over readers and writers in memory, and over one that is interrupted.
 
+use crate::play::{FailingReader, play};
 use crate::same::same;
 use std::alloc::{AllocError, Global};
 use std::io;
-use std::io::{Read, Write};
+use std::io::Write;
 use std::test::Fail;
-use trdp_dataset::NodeConfig;
-use trdp_script::{LineFault, ScriptFault, run_script};
-
-/// A node with one slot that takes process data.
-const CONFIG: &[u8] =
-    b"[node]\naddress = \"10.0.0.1\"\n[[slot]]\npublishers = 4\nsubscriptions = 4\n";
+use trdp_script::{LineFault, ScriptFault};
 
 /// A publisher that is given a value and sends it (IEC 61375-2-3), then a moment that is past,
 /// and a bad line.
-const SCRIPT: &[u8] = b"call 0 publish 100 0 100000 0 0 0 10.0.0.2:17224\r\n\n\
+pub const SCRIPT: &[u8] = b"call 0 publish 100 0 100000 0 0 0 10.0.0.2:17224\r\n\n\
     call 0 put 1 0a0b\nmoment 100000\nmoment 5\nmoment";
 
 /// What this script gives: two answers, a telegram, and the fault of an event.
-const OUTPUT: &[u8] = b"0 handle 1\n0 done\n0 send pd 10.0.0.2:17224 \
+pub const OUTPUT: &[u8] = b"0 handle 1\n0 done\n0 send pd 10.0.0.2:17224 \
     0000000001005064000000640000000000000000\
     00000002000000000000000000000000ec179c940a0b0000\nfault Past\n";
-
-/// A reader that gives its bytes one at a time, and fails where so many were given.
-#[derive(Drop)]
-struct FailingReader<'a> {
-    rest: &'a [u8],
-    calls: usize,
-}
-
-impl Read for FailingReader<'_> {
-    fn read(&mut self, buf: &mut [u8]) -> io::Result<usize> {
-        if self.calls == 0 {
-            return Err(io::Error::from(io::ErrorKind::BrokenPipe));
-        }
-        self.calls -= 1;
-        match (self.rest.split_first(), buf.first_mut()) {
-            (Some((byte, rest)), Some(place)) => {
-                *place = *byte;
-                self.rest = rest;
-                Ok(1)
-            }
-            _ => Ok(0),
-        }
-    }
-}
-
-/// A writer that takes a byte at a time, and fails after so many.
-#[derive(Drop)]
-struct FailingWriter {
-    held: Vec<u8>,
-    calls: usize,
-}
-
-impl Write for FailingWriter {
-    fn write(&mut self, buf: &[u8]) -> io::Result<usize> {
-        if self.calls == 0 {
-            return Err(io::Error::from(io::ErrorKind::BrokenPipe));
-        }
-        self.calls -= 1;
-        match buf.first() {
-            Some(byte) => {
-                self.held.push(*byte)?;
-                Ok(1)
-            }
-            None => Ok(0),
-        }
-    }
-
-    fn flush(&mut self) -> io::Result<()> {
-        Ok(())
-    }
-}
 
 /// A writer that is interrupted at each call but every so-manieth, which takes a byte.
 #[derive(Drop)]
@@ -96,16 +41,6 @@ impl Write for InterruptedWriter {
     fn flush(&mut self) -> io::Result<()> {
         Ok(())
     }
-}
-
-/// Plays a script over the configuration. A configuration that isn't taken is a test that fails.
-fn play<R: Read, W: Write>(
-    alloc: Global,
-    reader: &mut R,
-    writer: &mut W,
-) -> Result<Result<(), ScriptFault>, Fail> {
-    let config = NodeConfig::from_toml(alloc, CONFIG)?;
-    Ok(run_script(alloc, config, reader, writer))
 }
 
 /// A script, what it gives, and how it ends.
@@ -138,7 +73,7 @@ fn scripts_run_up_to_their_first_bad_line(rt: HostRuntime) -> Result<(), Fail> {
     for (case, (script, output, ending)) in ROWS.iter().enumerate() {
         let mut reader = *script;
         let mut writer = Vec::new(rt.alloc());
-        let end = play(rt.alloc(), &mut reader, &mut writer)?;
+        let end = play(rt.alloc(), &mut reader, &mut writer);
         same(&rt, case, writer.as_slice(), *output);
         same(&rt, case, end, *ending);
     }
@@ -161,42 +96,13 @@ fn a_script_that_comes_byte_by_byte_runs_to_its_end(rt: HostRuntime) -> Result<(
     let script = remarks(rt.alloc(), 8_000)?;
     let mut reader = FailingReader {
         rest: &script,
+        piece: 1,
         calls: usize::MAX,
     };
     let mut writer = Vec::new(rt.alloc());
-    let end = play(rt.alloc(), &mut reader, &mut writer)?;
+    let end = play(rt.alloc(), &mut reader, &mut writer);
     same(&rt, "72,018 reads", writer.as_slice(), b"fault Past\n");
     same(&rt, "72,018 reads", end, Ok(()));
-    Ok(())
-}
-
-#[test]
-fn a_reader_fails_at_every_call(rt: HostRuntime) -> Result<(), Fail> {
-    for calls in 0..SCRIPT.len() {
-        let mut reader = FailingReader {
-            rest: SCRIPT,
-            calls,
-        };
-        let mut writer = Vec::new(rt.alloc());
-        let end = play(rt.alloc(), &mut reader, &mut writer)?;
-        same(&rt, calls, end, Err(ScriptFault::Read));
-        assert!(&rt; OUTPUT.starts_with(&writer), "at {calls}");
-    }
-    Ok(())
-}
-
-#[test]
-fn a_writer_fails_at_every_call(rt: HostRuntime) -> Result<(), Fail> {
-    for calls in 0..OUTPUT.len() {
-        let mut reader = SCRIPT;
-        let mut writer = FailingWriter {
-            held: Vec::new(rt.alloc()),
-            calls,
-        };
-        let end = play(rt.alloc(), &mut reader, &mut writer)?;
-        same(&rt, calls, end, Err(ScriptFault::Write));
-        same(&rt, calls, writer.held.as_slice(), &OUTPUT[..calls]);
-    }
     Ok(())
 }
 
@@ -221,7 +127,7 @@ fn a_writer_may_be_interrupted_up_to_a_limit(rt: HostRuntime) -> Result<(), Fail
             calls: 0,
             every,
         };
-        let end = play(rt.alloc(), &mut reader, &mut writer)?;
+        let end = play(rt.alloc(), &mut reader, &mut writer);
         same(&rt, every, writer.held.as_slice(), held);
         same(&rt, every, writer.calls, calls);
         same(&rt, every, end, ending);
