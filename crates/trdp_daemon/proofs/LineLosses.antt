@@ -1,5 +1,6 @@
 -- Lines that can't be lost.
-use Rattle.std.proofs.Common.{◌≡◌, ℕ, suc, Bool, true, false, List, [], ◌∷◌, ◌++◌, Option, Some, None}
+use Rattle.std.proofs.Common.{◌≡◌, ℕ, suc, Bool, true, false, List, [], ◌∷◌, ◌++◌, Option, Some}
+use Rattle.std.proofs.Common.{None}
 use Rattle.std.proofs.Common.{Result, Ok, Err, IfOk, refl, sym, ◌∙◌, ap, not, if◌then◌else◌}
 use Rattle.std.specs.Prelude.{◌==◌}
 use Rattle.trdp_base.specs.declared.place.Place.{Place}

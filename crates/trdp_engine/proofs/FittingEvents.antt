@@ -61,7 +61,8 @@ at_object_fits setup slot handle act keeps all = either (entry_of handle slot.ob
         → AllFit setup (at_entry found slot handle act).slot.objects
     either None is = all
     either (Some entry) is = AllObjects-acted (IsFit setup) handle (act entry.object).left
-        (keeps entry.object (AllObjects-found (IsFit setup) handle slot.objects entry all is)) slot.objects all
+        (keeps entry.object (AllObjects-found (IsFit setup) handle slot.objects entry all is))
+        slot.objects all
 
 -- a moment
 pub moved_fits : (setup : NodeSetup) (slot : SlotState) (globals : Globals)
@@ -113,7 +114,8 @@ telegram_fits setup slot globals telegram all = either (is_request telegram) ref
     either : (b : Bool) → is_request telegram ≡ b
         → AllFit setup (received setup slot globals telegram).slot.objects
     either true is = rw is (requested_fits setup slot globals telegram all)
-    either false is = rw is (AllObjects-each (IsFit setup) (after_telegram setup telegram globals slot.objects)
+    either false is = rw is (AllObjects-each (IsFit setup)
+        (after_telegram setup telegram globals slot.objects)
         (entry_taking_fits setup telegram globals slot.objects) slot.objects all)
 
 -- a datagram

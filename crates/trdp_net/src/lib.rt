@@ -34,10 +34,10 @@
 //!
 //! # An example
 //!
-//! [`the_promises_are_not_empty`] computes a run of two nodes by the definitions (specs/Example.antt
-//! has it, each step with what it tells): the premises of the promises hold in it, and a value is
-//! shown as valid, a listener is notified and asked, a caller is told of a query and that it is
-//! done, and a replier of its confirmation.
+//! [`the_promises_are_not_empty`] computes a run of two nodes by the definitions
+//! (specs/Example.antt has it, each step with what it tells): the premises of the promises hold in
+//! it, and a value is shown as valid, a listener is notified and asked, a caller is told of a query
+//! and that it is done, and a replier of its confirmation.
 //!
 //! # What is not promised
 //!

@@ -1,6 +1,7 @@
 -- Facts on lines at the control port of a slot and at the operator's port.
 use Rattle.std.proofs.Common.{◌≡◌, ℕ, ◌+◌, ◌^◌, ◌<◌, ◌≤◌, ◌==◌, nat_lt, Bool, true, false, List, []}
-use Rattle.std.proofs.Common.{◌∷◌, ◌++◌, length, Ok, Err, refl, sym, ap, ◌∙◌, inl, arith, length-append}
+use Rattle.std.proofs.Common.{◌∷◌, ◌++◌, length, Ok, Err, refl, sym, ap, ◌∙◌, inl, arith}
+use Rattle.std.proofs.Common.{length-append}
 use Rattle.std.proofs.Common.{Option, Some, None, Result, IfErr, if◌then◌else◌, nat_eq}
 use Rattle.std.specs.Option.{option_and_then}
 use Rattle.std.proofs.lemmas.Bool.Decides.{nat_tests}

@@ -4,8 +4,8 @@
 //! What no contract can say is that memory is there and that the outside works: a `read_line` that
 //! answers want of memory at each line that carries bytes meets its contract, and so does a
 //! `run_script` that answers it before it reads anything. A reader that always fails, and so a
-//! `read_piece` that always answers `Read`, meets the contracts too, since a reader may always fail;
-//! so does a writer that always fails, and a `write_whole` that always answers `Write`.
+//! `read_piece` that always answers `Read`, meets the contracts too, since a reader may always
+//! fail; so does a writer that always fails, and a `write_whole` that always answers `Write`.
 //! `trdp_script_worked` shows that both work: with ample memory the lines are read and the scripts
 //! played.
 #![tactic(auto)]
