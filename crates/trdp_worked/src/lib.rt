@@ -8,7 +8,7 @@
 //! the payload; what isn't named is 0 or empty. Where the telegram isn't as it should be, it also
 //! says how: another version (v) or length (n), a wrong frame check (bad), no zeros behind the
 //! payload (nopad), or so many bytes alone (cut). What a script can't say stands in `counts`,
-//! `items`, `node` and `limits`.
+//! `items`, `node`, `limits` and `refused`.
 #![tactic(auto)]
 
 #[cfg(test)]
@@ -41,6 +41,8 @@ mod play;
 mod publishers;
 #[cfg(test)]
 mod pulls;
+#[cfg(test)]
+mod refused;
 #[cfg(test)]
 mod repliers;
 #[cfg(test)]

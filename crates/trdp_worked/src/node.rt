@@ -2,10 +2,11 @@
 
 use crate::bench::Bench;
 use crate::play::CONFIG;
+use crate::same::same;
 use std::process::Abort;
 use std::test::Fail;
 use trdp_base::{Ip, Place, Topo};
-use trdp_engine::{Call, Event, run_both, same_view, view_drops_nothing};
+use trdp_engine::{Call, Event, Outbox, What, run_both, same_view, view_drops_nothing};
 use trdp_pd::PublisherTerms;
 
 /// A publisher of comId 100 with a cycle of 100 ms, to 10.0.0.2.
@@ -85,6 +86,37 @@ fn run(rt: &(impl Abort + AllocGlobal), bench: &mut Bench) -> Result<(), Fail> {
 fn a_run_takes_all_events(rt: HostRuntime) -> Result<(), Fail> {
     let mut bench = Bench::new(rt.alloc(), CONFIG)?;
     run(&rt, &mut bench)
+}
+
+/// The counter of the telegram that is the one record of an outbox.
+fn counter(out: &Outbox) -> Option<[u8; 4]> {
+    if out.len() != 1 {
+        return None;
+    }
+    match out.get(0)?.what {
+        What::Send {
+            telegram: [a, b, c, d, ..],
+            ..
+        } => Some([*a, *b, *c, *d]),
+        _ => None,
+    }
+}
+
+/// The moments go on by one cycle of the publisher at a time, from 0.2 to 1,000 seconds.
+#[test]
+fn ten_thousand_telegrams(rt: HostRuntime) -> Result<(), Fail> {
+    let mut bench = Bench::new(rt.alloc(), CONFIG)?;
+    run(&rt, &mut bench)?;
+    let mut last = None;
+    for count in 1..10_000u32 {
+        let moment = Event::Moment((u64::from(count) + 1) * 100_000);
+        same(&rt, count, bench.node.step(&moment, &mut bench.out), Ok(()));
+        last = counter(&bench.out);
+        same(&rt, count, last, Some(count.to_be_bytes()));
+        bench.out.clear();
+    }
+    same(&rt, "the last", last, Some([0, 0, 0x27, 0x0f]));
+    Ok(())
 }
 
 /// The datasets, the address and the ports of the other configuration, the same slot 0, and a
