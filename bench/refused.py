@@ -1,0 +1,46 @@
+"""Runs a program of which one call is refused: a request for memory, a read or a write."""
+import contextlib
+import os
+import re
+import subprocess
+import tempfile
+
+BENCH = os.path.dirname(os.path.abspath(__file__))
+
+
+class Library:
+    """What stands between a program and its system; made by built()."""
+
+    def __init__(self, path):
+        self.path = path
+
+    def run(self, words, refused=None, **settings):
+        """Runs the words, where the call of that kind and number is refused, as ("memory", 3), and answers as subprocess.run does.
+
+        The settings are READ_PIECE and WRITE_PIECE of refused_calls.c, in small letters, and those of subprocess.run.
+        """
+        environment = {name: text for name, text in os.environ.items() if name not in ("REFUSED", "READ_PIECE", "WRITE_PIECE")}
+        environment["LD_PRELOAD"] = self.path
+        if refused is not None:
+            environment["REFUSED"] = f"{refused[0]} {refused[1]}"
+        for name in ("read_piece", "write_piece"):
+            if name in settings:
+                environment[name.upper()] = str(settings.pop(name))
+        return subprocess.run(words, env=environment, capture_output=True, text=True, errors="replace", timeout=60, **settings)
+
+    def count(self, words, kind, **settings):
+        """How many calls of that kind there are where none is refused, and what the program said then."""
+        ran = self.run(words, **settings)
+        told = re.findall(rf"^calls {kind} (\d+)\n", ran.stderr, re.MULTILINE)
+        ran.stderr = re.sub(r"^calls \w+ \d+\n", "", ran.stderr, flags=re.MULTILINE)
+        return int(told[0]) if told else 0, ran
+
+
+@contextlib.contextmanager
+def built():
+    """The library, which gcc builds of refused_calls.c."""
+    with tempfile.TemporaryDirectory() as folder:
+        path = os.path.join(folder, "refused_calls.so")
+        words = ["gcc", "-Wall", "-Wextra", "-O2", "-shared", "-fPIC", "-o", path, f"{BENCH}/refused_calls.c", "-ldl"]
+        subprocess.run(words, check=True)
+        yield Library(path)
