@@ -168,7 +168,12 @@ fn cut_to(length: usize) -> Result<usize, HeadFault> {
 #[test]
 fn a_telegram_is_cut(rt: HostRuntime) {
     for length in 0..NOTIFY.len() + 1 {
-        same(&rt, length, payload_length(&NOTIFY[..length]), cut_to(length));
+        same(
+            &rt,
+            length,
+            payload_length(&NOTIFY[..length]),
+            cut_to(length),
+        );
     }
 }
 

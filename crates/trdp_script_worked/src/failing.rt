@@ -109,7 +109,11 @@ const WHOLE: usize = 65_536;
 
 /// How many newlines stand in the first so many bytes.
 fn newlines(bytes: &[u8], count: usize) -> usize {
-    bytes.iter().take(count).filter(|byte| **byte == b'\n').count()
+    bytes
+        .iter()
+        .take(count)
+        .filter(|byte| **byte == b'\n')
+        .count()
 }
 
 /// The first so many lines of a text.
