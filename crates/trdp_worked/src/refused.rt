@@ -61,7 +61,7 @@ listeners = 2
 repliers = 1
 ";
 
-static ROWS: [Row; 5] = [
+static ROWS: [Row; 6] = [
     Row {
         name: "a publisher",
         before: &[],
@@ -72,6 +72,12 @@ static ROWS: [Row; 5] = [
         name: "a subscription",
         before: &[],
         line: "call 0 subscribe 100 0 0.0.0.0 0.0.0.0 0.0.0.0 0 0 50000 zero",
+        gives: "0 handle 1\n",
+    },
+    Row {
+        name: "a listener",
+        before: &[],
+        line: "call 0 listen 300 0.0.0.0 0.0.0.0 0.0.0.0 - 0 0",
         gives: "0 handle 1\n",
     },
     // Mr s=1 com=300 t=1000000 | 0d
