@@ -134,14 +134,26 @@ static ROWS: [Row; 6] = [
     },
 ];
 
+/// Hands the event of a line to a node, and answers whether memory was there.
+fn take(alloc: Global, node: &mut Node, line: &str, out: &mut Outbox) -> bool {
+    match read_line(alloc, line.as_bytes()) {
+        Err(_) => false,
+        Ok(line) => match line.event() {
+            None => false,
+            Some(event) => node.step(&event, out).is_ok(),
+        },
+    }
+}
+
 /// A node that has taken these lines; None for want of memory.
 fn node_after(alloc: Global, lines: &[&str]) -> Option<Node> {
     let config = NodeConfig::from_toml(alloc, CONFIG).ok()?;
     let mut node = Node::new(alloc, config).ok()?;
     let mut out = Outbox::new(alloc);
     for line in lines {
-        let line = read_line(alloc, line.as_bytes()).ok()?;
-        node.step(&line.event()?, &mut out).ok()?;
+        if !take(alloc, &mut node, line, &mut out) {
+            return None;
+        }
     }
     Some(node)
 }
@@ -190,9 +202,10 @@ fn gives_again(rt: &(impl Abort + AllocGlobal), row: &Row) -> Result<(), Fail> {
     let mut node = again(rt, before, "no memory")?;
     let read = || read_line(alloc, row.line.as_bytes());
     let line = again(rt, read, LineFault::OutOfMemory)?;
-    let event = line.event().ok_or("no event")?;
     let mut out = Outbox::new(alloc);
-    step_again(rt, row.name, &mut node, &event, &mut out);
+    if let Some(event) = line.event() {
+        step_again(rt, row.name, &mut node, &event, &mut out);
+    }
     let text = again(rt, || lines_of(alloc, &out), AllocError)?;
     same(rt, row.name, str::from_utf8(&text)?, row.gives);
     Ok(())
