@@ -6,7 +6,7 @@ use std::process::Abort;
 use std::test::Fail;
 use trdp_base::Place;
 use trdp_dataset::NodeConfig;
-use trdp_engine::{Event, Node, Outbox, Protocol, What};
+use trdp_engine::{Node, Outbox, Protocol, What};
 use trdp_script::{Line, print_record, read_line};
 
 /// A node, with the records that it has given.
@@ -36,8 +36,10 @@ impl Bench {
 
     /// Time comes to that moment, in microseconds.
     pub fn moment(&mut self, moment: u64) -> Result<(), Fail> {
-        let event = Event::Moment(moment);
-        self.node.step(&event, &mut self.out)?;
+        let line = Line::Moment(moment);
+        if let Some(event) = line.event() {
+            self.node.step(&event, &mut self.out)?;
+        }
         Ok(())
     }
 
