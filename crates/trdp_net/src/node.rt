@@ -1,6 +1,7 @@
 //! A running node as one of the network.
 
-ghost use Rattle.std.specs.Prelude.{◌≡◌, OnOk, OnErr};
+ghost use Rattle.std.specs.Prelude.{◌≡◌, length, OnOk, OnErr};
+ghost use Rattle.trdp_engine.specs.Alone.{FaultIs, refused_as};
 ghost use Rattle.trdp_engine.specs.Events.{event_model};
 ghost use Rattle.trdp_net.specs.Ties.{MovesSo};
 
@@ -15,6 +16,8 @@ pub fn step(node: &mut Node, event: &Event<'_>, out: &mut Outbox) -> Result<(), 
     ensures moves { OnOk result (MovesSo node.old node.new out.old.records out.new.records
         (event_model event.now)) }
     ensures kept { OnErr result (node.new ≡ node.old) }
+    ensures fault { FaultIs
+        (refused_as (length node.old.slots) node.old.globals (event_model event.now)) result }
 {
     node.step(event, out)
 }
