@@ -25,10 +25,13 @@ local MSG_TYPES = {
     [0x4d65] = "Me, error",
 }
 
+local REQUEST = 0x4d72
+
 local CHECK_STATES = { [0] = "Bad", [1] = "Good" }
 
 local fields = {
     sequenceCounter = ProtoField.uint32("trdp.sequenceCounter", "sequenceCounter"),
+    sentAgain = ProtoField.uint32("trdp.sentAgain", "request sent again, number of the repeat"),
     protocolVersion = ProtoField.uint16("trdp.protocolVersion", "protocolVersion", base.HEX),
     msgType = ProtoField.uint16("trdp.msgType", "msgType", base.HEX, MSG_TYPES),
     comId = ProtoField.uint32("trdp.comId", "comId"),
@@ -102,6 +105,17 @@ local function frame_check(bytes)
         register = xor(REMAINDERS[xor(register % 256, bytes:byte(i))], math.floor(register / 256))
     end
     return xor(register, 0xFFFFFFFF)
+end
+
+-- Tells of a request that was sent before that it is sent again, for the n-th time: its counter is how often it was sent before
+-- (a rule of this node's own). Answers what the list of packets says of it.
+local function add_repeat(buffer, tree)
+    local count = buffer(0, 4):uint()
+    if buffer(6, 2):uint() ~= REQUEST or count == 0 then
+        return ""
+    end
+    tree:add(fields.sentAgain, buffer(0, 4)):set_generated()
+    return string.format(" [sent again, %s time]", ({ "1st", "2nd", "3rd" })[count] or count .. "th")
 end
 
 -- Adds fields from an offset on, and answers the offset behind them.
@@ -192,13 +206,14 @@ function trdp.dissector(buffer, pinfo, root)
     end
     local offset = add_fields(START, buffer, 0, tree)
     offset = add_fields(is_md and MD_REST or PD_REST, buffer, offset, tree)
+    local repeated = is_md and add_repeat(buffer, tree) or ""
     local is_right = add_check(buffer, offset, tree)
     add_faults(buffer, header, port, tree)
     tree:set_len(header)
     add_dataset(buffer, header, pinfo, tree, root)
     local kind = MSG_TYPES[buffer(6, 2):uint()] or "unknown msgType"
-    pinfo.cols.info = string.format("%s, comId %d, sequenceCounter %d, %d bytes%s", kind, buffer(8, 4):uint(),
-        buffer(0, 4):uint(), buffer(20, 4):uint(), is_right and "" or " [headerFcs is wrong]")
+    pinfo.cols.info = string.format("%s, comId %d, sequenceCounter %d, %d bytes%s%s", kind, buffer(8, 4):uint(),
+        buffer(0, 4):uint(), buffer(20, 4):uint(), repeated, is_right and "" or " [headerFcs is wrong]")
 end
 
 local ports = DissectorTable.get("udp.port")

@@ -7,7 +7,7 @@ use std::test::Fail;
 use trdp_base::{Ip, MOMENT_MAX, Place};
 use trdp_engine::Refusal;
 use trdp_filter::{Globals, Telegram};
-use trdp_head::{PD_PAYLOAD_MAX, PdHead};
+use trdp_head::{MdHead, PD_PAYLOAD_MAX, PdHead};
 use trdp_md::{Caller, Replier, Stage};
 use trdp_pd::{Fired, Object, Publisher, Reason, Taken};
 use trdp_table::AnyObject;
@@ -25,6 +25,14 @@ fn send_value(
         }
     }
     Ok(())
+}
+
+/// Sends the request of a caller.
+fn send_request(object: &AnyObject, head: &MdHead, given: &mut Given) -> Result<(), Fail> {
+    match object {
+        AnyObject::Caller(caller) => given.sent_md(caller.to(), head, caller.payload()),
+        _ => Ok(()),
+    }
 }
 
 /// What an object does if it is due.
@@ -45,6 +53,7 @@ pub fn fire(
     match fired(object, globals) {
         Fired::Nothing => {}
         Fired::Data(head) => send_value(object, None, &head, given)?,
+        Fired::Again(head) => send_request(object, &head, given)?,
         Fired::Silent => given.silent(handle)?,
         Fired::Closed(reason) => {
             given.closed(handle, reason)?;

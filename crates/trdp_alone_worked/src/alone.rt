@@ -11,7 +11,7 @@ use trdp_base::{MOMENT_MAX, Place, Quotas, SessionId, Topo};
 use trdp_dataset::NodeConfig;
 use trdp_engine::{Call, Event, Protocol, Refusal};
 use trdp_filter::{Globals, Groups, Telegram};
-use trdp_head::{MdKind, MdView, read_md, read_pd};
+use trdp_head::{MD_PAYLOAD_MAX, MdKind, MdView, read_md, read_pd};
 use trdp_md::{Caller, CallerTerms, Listener, NotifyTerms, Replier, notification, request_head};
 use trdp_pd::{Object, Publisher, Requester, Subscription};
 use trdp_table::{AnyObject, Kind};
@@ -293,8 +293,13 @@ impl Alone {
         if self.is_full(Kind::Caller) {
             return self.given.refused(Refusal::Quota);
         }
-        self.open(AnyObject::Caller(Caller::new(terms, self.globals.now)))?;
-        self.given.sent_md(terms.to, &request_head(terms), payload)
+        if terms.retries > 2 || payload.len() > MD_PAYLOAD_MAX {
+            return self.given.refused(Refusal::Retries);
+        }
+        let caller = Caller::new(self.given.alloc, terms, payload, self.globals.now)?;
+        self.open(AnyObject::Caller(caller))?;
+        self.given
+            .sent_md(terms.to, &request_head(terms, 0), payload)
     }
 
     /// Where the object of that handle is; None where there is none.

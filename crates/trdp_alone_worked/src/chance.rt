@@ -162,6 +162,7 @@ impl Chance {
             session: self.session(),
             expected: self.below(3) as u8,
             timeout: self.span(),
+            retries: self.below(4) as u8,
             topo: ANY_TRAIN,
             to: self.place(),
             source_uri: Uri::empty(),

@@ -6,9 +6,9 @@
 //! is told of a wire and a clock is told where these tell; the system's sockets and clock tell
 //! nothing. So a [`UdpWire`] at which nothing ever comes, or that sends nothing, meets its
 //! contract, as a network may be so, and so does a [`RunClock`] that stands still; that they work
-//! is tested. For the same reason no contract says which sockets [`UdpWire::bind`] binds, and its must-fail
-//! edit turns all that it promises, a wire without failures: ports that are shifted or left out are
-//! for the tests over loopback to find.
+//! is tested. For the same reason no contract says which sockets [`UdpWire::bind`] binds, and its
+//! must-fail edit turns all that it promises, a wire without failures: ports that are shifted or
+//! left out are for the tests over loopback to find.
 #![tactic(auto)]
 
 mod answer;

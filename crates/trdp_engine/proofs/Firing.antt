@@ -10,7 +10,8 @@ use Rattle.std.proofs.lemmas.Option.{same_Some}
 use Rattle.trdp_filter.specs.declared.globals.Globals.{Globals}
 use Rattle.trdp_table.specs.declared.any_object.AnyObject.{AnyObject}
 use Rattle.trdp_pd.specs.declared.object.Fired.{Fired}
-use Rattle.trdp_pd.specs.declared.object.Fired.TheVariants.{Nothing, Data, Silent, Closed}
+use Rattle.trdp_pd.specs.declared.object.Fired.TheVariants.{Nothing, Data, Again, Silent}
+use Rattle.trdp_pd.specs.declared.object.Fired.TheVariants.{Closed}
 use Rattle.trdp_pd.specs.Due.{is_due_by}
 use Rattle.trdp_table.specs.Objects.{due_of, is_sound, after_firing, fired}
 use Rattle.trdp_table.specs.ObjectLaws.{due-firing, is_sound-firing}
@@ -36,6 +37,7 @@ quiet_left : (t : ℕ) (did : Fired) (entry : Entry) (object : AnyObject)
     → filter (is_due t) (entry_left entry (left_firing did object)) ≡ []
 quiet_left t Nothing entry object not = rw not refl
 quiet_left t (Data head) entry object not = rw not refl
+quiet_left t (Again head) entry object not = rw not refl
 quiet_left t Silent entry object not = rw not refl
 quiet_left t (Closed reason) entry object not = refl
 
@@ -50,6 +52,7 @@ sound_left : (did : Fired) (object : AnyObject) → is_sound object ≡ true
     → IsLeft (λ left. is_sound left ≡ true) (left_firing did object)
 sound_left Nothing object sound = sound
 sound_left (Data head) object sound = sound
+sound_left (Again head) object sound = sound
 sound_left Silent object sound = sound
 sound_left (Closed reason) object sound = tt
 

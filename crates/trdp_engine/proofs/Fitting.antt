@@ -19,7 +19,8 @@ use Rattle.trdp_table.specs.declared.any_object.AnyObject.TheVariants.{Publisher
 use Rattle.trdp_table.specs.declared.any_object.AnyObject.TheVariants.{Requester, Listener}
 use Rattle.trdp_table.specs.declared.any_object.AnyObject.TheVariants.{Caller, Replier}
 use Rattle.trdp_pd.specs.declared.object.Fired.{Fired}
-use Rattle.trdp_pd.specs.declared.object.Fired.TheVariants.{Nothing, Data, Silent, Closed}
+use Rattle.trdp_pd.specs.declared.object.Fired.TheVariants.{Nothing, Data, Again, Silent}
+use Rattle.trdp_pd.specs.declared.object.Fired.TheVariants.{Closed}
 use Rattle.trdp_pd.specs.declared.object.Taken.{Taken}
 use Rattle.trdp_pd.specs.declared.object.Taken.TheVariants.{Nothing as TakenNothing, Stored}
 use Rattle.trdp_pd.specs.declared.object.Taken.TheVariants.{Alive, Pulled, Heard, Replied}
@@ -192,6 +193,7 @@ left_firing_fits : (setup : NodeSetup) (fired : Fired) (object : AnyObject)
     → IsFit setup object → IsLeftFit setup (left_firing fired object)
 left_firing_fits setup Nothing object fit = fit
 left_firing_fits setup (Data head) object fit = fit
+left_firing_fits setup (Again head) object fit = fit
 left_firing_fits setup Silent object fit = fit
 left_firing_fits setup (Closed reason) object fit = tt
 

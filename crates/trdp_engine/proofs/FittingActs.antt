@@ -18,7 +18,7 @@ use Rattle.trdp_head.specs.declared.md.MdHead.{MdHead}
 use Rattle.trdp_md.specs.declared.caller.Caller.{Caller as AnyCaller}
 use Rattle.trdp_md.specs.declared.replier.Replier.{Replier as AnyReplier}
 use Rattle.trdp_md.specs.declared.terms.CallerTerms.{CallerTerms}
-use Rattle.trdp_md.specs.Callers.{called as new_caller, confirming, closed_of}
+use Rattle.trdp_md.specs.Callers.{called as new_caller, confirming, closed_of, is_sound_caller}
 use Rattle.trdp_pd.specs.declared.terms.SubscriptionTerms.{SubscriptionTerms}
 use Rattle.trdp_pd.specs.Publishers.{PublisherState}
 use Rattle.trdp_pd.specs.Requesters.{RequesterState}
@@ -70,6 +70,7 @@ subscribed_dataset setup slot terms is =
 -- a caller is sound by its terms
 sound_by_terms : (c d : AnyCaller) → d.terms ≡ c.terms
     → is_sound (Caller c) ≡ true → is_sound (Caller d) ≡ true
+unfolding is_sound_caller
 sound_by_terms c d same sound = cc
 
 -- a request that isn't refused waits for a millisecond at least
@@ -80,16 +81,17 @@ request_waits slot globals terms payload is =
     let long = (if_none (nat_lt terms.timeout 1000) Timeout _ counted.1).0 in
     grind (arith, nat_tests)
 
-waiting_sound : (terms : CallerTerms) (now : ℕ) → 1000 ≤ terms.timeout
-    → is_sound (Caller (new_caller terms now)) ≡ true
-waiting_sound terms now long = grind (arith, nat_tests)
+waiting_sound : (terms : CallerTerms) (payload : List ℕ) (now : ℕ) → 1000 ≤ terms.timeout
+    → is_sound (Caller (new_caller terms payload now)) ≡ true
+unfolding is_sound_caller
+waiting_sound terms payload now long = grind (arith, nat_tests)
 
 -- so its caller is sound
 pub request_fits : (setup : NodeSetup) (slot : SlotState) (globals : Globals)
     (terms : CallerTerms) (payload : List ℕ) → request_refusal slot globals terms payload ≡ None
-    → IsFit setup (Caller (new_caller terms globals.now))
+    → IsFit setup (Caller (new_caller terms payload globals.now))
 request_fits setup slot globals terms payload is =
-    waiting_sound terms globals.now (request_waits slot globals terms payload is)
+    waiting_sound terms payload globals.now (request_waits slot globals terms payload is)
 
 pub opened_fits :
     (setup : NodeSetup) (refusal : Option Refusal) (slot : SlotState) (object : AnyObject)

@@ -3,6 +3,7 @@ use Rattle.std.proofs.Common.{◌≡◌, ℕ, ◌<◌, ◌≤◌, List, [], ◌�
 use Rattle.std.proofs.Common.{filter, Option, Some, None, Bool, true, false}
 use Rattle.std.proofs.Common.{refl, ◌∙◌, sym, ap, subst, arith, append_assoc}
 use Rattle.std.specs.Prelude.{slice_set, ◌&&◌, not, nat_lt, if◌then◌else◌}
+use Rattle.std.specs.Option.{option_or}
 use Rattle.std.proofs.lemmas.List.{append-nil}
 use Rattle.std.proofs.lemmas.List.Sums.{sum_by-cons}
 use Rattle.trdp_base.specs.declared.place.Place.{Place}
@@ -31,6 +32,7 @@ use Rattle.trdp_engine.specs.Records.{RecordModel, AnswerModel, HandleIs, Answer
 use Rattle.trdp_engine.specs.Slots.{Entry, SlotState, Outcome, unchanged, with_object, slots_of}
 use Rattle.trdp_engine.specs.Openings.{answered, opening_refusal, opened_unless, opened_with}
 use Rattle.trdp_engine.specs.Requests.{has_session, request_refusal, request_sent, asked}
+use Rattle.trdp_engine.specs.Requests.{retries_refusal}
 use Rattle.trdp_engine.specs.Datagrams.{is_for_entry, is_listening, hearing}
 use Rattle.trdp_engine.specs.Datagrams.{acts_where, acting, requested}
 use Rattle.trdp_engine.specs.Outboxes.{OutboxState}
@@ -59,28 +61,34 @@ later : (b : Bool) (refusal : Refusal) (rest : Option Refusal)
 later true refusal rest is = absurd (cc)
 later false refusal rest is = is
 
+-- where neither of two refuses, the first doesn't
+first_none : (first second : Option Refusal) → option_or first second ≡ None → first ≡ None
+first_none (Some refusal) second is = absurd (cc)
+first_none None second is = refl
+
 -- a request that isn't refused finds a place for its caller
 pub request_opens : (slot : SlotState) (globals : Globals) (terms : CallerTerms) (payload : List ℕ)
     → request_refusal slot globals terms payload ≡ None → opening_refusal slot kind.Caller ≡ None
 request_opens slot globals terms payload is =
-    later (has_session kind.Caller terms.session slot.objects) SessionOpen _
+    first_none (opening_refusal slot kind.Caller) (retries_refusal terms)
+    (later (has_session kind.Caller terms.session slot.objects) SessionOpen _
     (later (nat_lt 65388 (length payload)) TooLong _
     (later (nat_lt 8 terms.expected) Expected _
     (later (nat_lt terms.timeout 1000) Timeout _
-    (later (not (topo_valid terms.topo globals.topo)) State _ is))))
+    (later (not (topo_valid terms.topo globals.topo)) State _ is)))))
 
 pub sends_request : (table table_then : TableState)
     (s : ℕ) (globals : Globals) (terms : CallerTerms) (payload : List ℕ) (caller : AnyCaller)
     (answer : AnswerModel) (head : MdHead) (out out_between out_then : OutboxState)
     → request_refusal (slot_at s table) globals terms payload ≡ None
-    → caller ≡ new_caller terms globals.now → head ≡ request_of terms
+    → caller ≡ new_caller terms payload globals.now → head ≡ request_of terms 0
     → opened_unless (opening_refusal (slot_at s table) kind.Caller)
     (slot_at s table) (Caller caller) ≡ answered (slot_at s table_then) answer
     → slots_of table_then ≡ slice_set (slots_of table) s (slot_at s table_then)
     → out_between.records ≡ out.records ++ labelled s (Answers answer ∷ []) → out_then.records
     ≡ out_between.records ++ labelled s (Sends Md terms.to (md_bytes head payload) ∷ [])
     → Becomes s (opened_with (request_refusal (slot_at s table) globals terms payload)
-    (slot_at s table) (Caller (new_caller terms globals.now)) (request_sent terms payload ∷ []))
+    (slot_at s table) (Caller (new_caller terms payload globals.now)) (request_sent terms payload ∷ []))
     table table_then out out_then
 sends_request table table_then s globals terms
     payload caller answer head out out_between out_then none made same is others told sent =

@@ -150,7 +150,7 @@ called setup slot globals (NotifyCall terms payload) =
     told_unless (notify_refusal globals terms payload) slot (notice terms payload ∷ [])
 called setup slot globals (RequestCall terms payload) =
     opened_with (request_refusal slot globals terms payload) slot
-    (Caller (new_caller terms globals.now)) (request_sent terms payload ∷ [])
+    (Caller (new_caller terms payload globals.now)) (request_sent terms payload ∷ [])
 called setup slot globals (ReplyCall handle com_id status payload) =
     at_object slot handle (replies com_id status payload)
 called setup slot globals (QueryCall handle com_id status timeout payload) =

@@ -4,14 +4,18 @@ use Rattle.std.specs.Prelude.{Some, None}
 use Rattle.std.specs.Prelude.{if◌then◌else◌, unwrap_or}
 use Rattle.std.specs.List.{flat_map}
 use Rattle.trdp_head.specs.declared.pd.PdHead.{PdHead}
+use Rattle.trdp_head.specs.declared.md.MdHead.{MdHead}
+use Rattle.trdp_head.specs.MdBytes.{md_bytes}
 use Rattle.trdp_filter.specs.declared.globals.Globals.{Globals}
 use Rattle.trdp_table.specs.declared.any_object.AnyObject.{AnyObject}
-use Rattle.trdp_table.specs.declared.any_object.AnyObject.TheVariants.{Publisher}
+use Rattle.trdp_table.specs.declared.any_object.AnyObject.TheVariants.{Publisher, Caller}
 use Rattle.trdp_pd.specs.declared.object.Fired.{Fired}
-use Rattle.trdp_pd.specs.declared.object.Fired.TheVariants.{Nothing, Data, Silent, Closed}
+use Rattle.trdp_pd.specs.declared.object.Fired.TheVariants.{Nothing, Data, Again, Silent}
+use Rattle.trdp_pd.specs.declared.object.Fired.TheVariants.{Closed}
 use Rattle.trdp_pd.specs.Due.{is_due_by}
 use Rattle.trdp_table.specs.Objects.{due_of, after_firing, fired}
-use Rattle.trdp_engine.specs.Records.{Content, Indicates, SilentIs, value_sent}
+use Rattle.trdp_engine.specs.declared.record.Protocol.TheVariants.{Md}
+use Rattle.trdp_engine.specs.Records.{Content, Indicates, SilentIs, Sends, value_sent}
 use Rattle.trdp_engine.specs.Slots.{Entry, SlotState, Outcome}
 use Rattle.trdp_engine.specs.Acts.{Act, entry_left}
 use Rattle.trdp_engine.specs.Replies.{closing}
@@ -42,10 +46,16 @@ abbrev pub sends_data : AnyObject → PdHead → List Content
 sends_data (Publisher p) head = value_sent p.terms.to head p.value
 sends_data object head = []
 
+-- a caller's request goes to its destination again, with its payload
+abbrev pub sends_again : AnyObject → MdHead → List Content
+sends_again (Caller c) head = Sends Md c.terms.to (md_bytes head c.payload) ∷ []
+sends_again object head = []
+
 -- the records of an object that did this
 abbrev pub firing_records : ℕ → AnyObject → Fired → List Content
 firing_records handle object Nothing = []
 firing_records handle object (Data head) = sends_data object head
+firing_records handle object (Again head) = sends_again object head
 firing_records handle object Silent = Indicates (SilentIs handle) ∷ []
 firing_records handle object (Closed reason) = closing handle reason ∷ []
 
@@ -53,6 +63,7 @@ firing_records handle object (Closed reason) = closing handle reason ∷ []
 abbrev pub left_firing : Fired → AnyObject → Option AnyObject
 left_firing Nothing object = Some object
 left_firing (Data head) object = Some object
+left_firing (Again head) object = Some object
 left_firing Silent object = Some object
 left_firing (Closed reason) object = None
 

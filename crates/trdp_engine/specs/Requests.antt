@@ -2,6 +2,7 @@
 use Rattle.std.specs.Prelude.{ℕ, List, [], ◌∷◌, length, Option, Some, None, Bool, false, not, ◌==◌}
 use Rattle.std.specs.Prelude.{◌&&◌, nat_lt, if◌then◌else◌}
 use Rattle.std.specs.List.{list_any}
+use Rattle.std.specs.Option.{option_or}
 use Rattle.trdp_base.specs.declared.place.Place.{Place}
 use Rattle.trdp_base.specs.declared.session.SessionId.{SessionId}
 use Rattle.trdp_head.specs.MdTelegrams.{MdTelegram}
@@ -19,7 +20,7 @@ use Rattle.trdp_table.specs.declared.kind.Kind.TheVariants.{Replier as Replying}
 use Rattle.trdp_table.specs.Kinds.{kind_of, is_same_kind}
 use Rattle.trdp_engine.specs.declared.fault.Refusal.{Refusal}
 use Rattle.trdp_engine.specs.declared.fault.Refusal.TheVariants.{State, Timeout, Expected, TooLong}
-use Rattle.trdp_engine.specs.declared.fault.Refusal.TheVariants.{SessionOpen}
+use Rattle.trdp_engine.specs.declared.fault.Refusal.TheVariants.{SessionOpen, Retries}
 use Rattle.trdp_engine.specs.declared.record.Protocol.TheVariants.{Md}
 use Rattle.trdp_engine.specs.Records.{Content, Indicates, AskedIs, OverrunIs, Sends}
 use Rattle.trdp_engine.specs.Slots.{Entry, SlotState, Outcome, unchanged, with_object}
@@ -39,9 +40,13 @@ has_session kind session objects =
     (λ entry. is_same_kind (kind_of entry.object) kind && is_of_session session entry.object)
     objects
 
+-- more repeats than two are refused
+abbrev pub retries_refusal : CallerTerms → Option Refusal
+retries_refusal terms = if nat_lt 2 terms.retries then Some Retries else None
+
 -- first refusal of a request: topology counts that don't match the node's, a timeout below 1,000
 -- microseconds, more than eight places expected, more bytes than message data carries, a session
--- that a caller of the slot has, the quota, the handles
+-- that a caller of the slot has, the quota, the handles, more repeats than two
 abbrev pub request_refusal : SlotState → Globals → CallerTerms → List ℕ → Option Refusal
 request_refusal slot globals terms payload =
     if not (topo_valid terms.topo globals.topo) then Some State else
@@ -49,11 +54,11 @@ request_refusal slot globals terms payload =
     if nat_lt 8 terms.expected then Some Expected else
     if nat_lt 65388 (length payload) then Some TooLong else
     if has_session Calling terms.session slot.objects then Some SessionOpen else
-    opening_refusal slot Calling
+    option_or (opening_refusal slot Calling) (retries_refusal terms)
 
--- a request as it is sent
+-- a request as it is sent at first, with sequence counter 0
 abbrev pub request_sent : CallerTerms → List ℕ → Content
-request_sent terms payload = Sends Md terms.to (md_bytes (request_of terms) payload)
+request_sent terms payload = Sends Md terms.to (md_bytes (request_of terms 0) payload)
 
 -- what a slot makes of a request of a session that no replier of it has: a new replier, which is
 -- told with its handle; where it takes none, it is told that

@@ -37,13 +37,13 @@ no_room = record { rows = 0; bytes = 0 }
 
 -- the most that an object of a kind gives at a moment or a telegram: a publisher one telegram of
 -- at most 1472 bytes, a subscription or replier one indication, a listener one with at most 65388
--- bytes, a caller one like that, and that it is over
+-- bytes, a caller one like that and that it is over, or its request of at most 65504 bytes again
 abbrev pub kind_room : Kind → Room
 kind_room Publisher = record { rows = 1; bytes = 1472 }
 kind_room Subscription = record { rows = 1; bytes = 0 }
 kind_room Requester = no_room
 kind_room Listener = record { rows = 1; bytes = 65388 }
-kind_room Caller = record { rows = 2; bytes = 65388 }
+kind_room Caller = record { rows = 2; bytes = 65504 }
 kind_room Replier = record { rows = 1; bytes = 0 }
 
 -- an object of whichever kind gives no more records than this
@@ -52,7 +52,7 @@ room_rows_limit = 2
 
 -- and no more bytes
 abbrev pub room_bytes_limit : ℕ
-room_bytes_limit = 65388
+room_bytes_limit = 65504
 
 -- room for what all these objects may give
 abbrev pub entries_room : List Entry → Room
@@ -105,14 +105,16 @@ call_room (ReplyErrorCall handle com_id status) = message_room 0
 call_room (ConfirmCall handle place status) = confirm_room
 call_room _ = answer_room
 
--- the calls that make a publisher or a subscription, which need memory for its value
+-- the calls that make a publisher, a subscription or a caller, which need memory for its value or
+-- its request's payload
 abbrev pub makes_buffer : CallModel → Bool
 makes_buffer (PublishCall terms) = true
 makes_buffer (SubscribeCall terms) = true
+makes_buffer (RequestCall terms payload) = true
 makes_buffer _ = false
 
--- where memory may be wanting for a call: it makes a publisher or a subscription, or the outbox
--- lacks room for its records
+-- where memory may be wanting for a call: it makes a publisher, a subscription or a caller, or the
+-- outbox lacks room for its records
 abbrev pub CallMayLack : OutboxState → CallModel → Type 0
 CallMayLack out call = (makes_buffer call ≡ true) ⊎ LacksRoom out (call_room call)
 

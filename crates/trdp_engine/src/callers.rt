@@ -1,6 +1,7 @@
 //! Those that ask: how a request is sent, what is told of its answers, and how one is confirmed.
 
 ghost use Rattle.std.specs.Prelude.{◌≡◌, ◌+◌, ◌<◌, ◌≤◌, ◌++◌, ◌∷◌, [], length, OnOk, OnErr, true};
+ghost use Rattle.std.specs.Prelude.{IfNone};
 ghost use Rattle.trdp_base.specs.Moments.{last_moment};
 ghost use Rattle.trdp_filter.specs.Telegrams.{telegram_model, IsWithinLimit};
 ghost use Rattle.trdp_md.specs.Callers.{called as new_caller};
@@ -40,6 +41,9 @@ pub const TIMEOUT_MIN: u32 = 1_000;
 /// The most places that a request may expect answers from (profile).
 const EXPECTED_MAX: u8 = 8;
 
+/// How often a request may be sent again at most (profile).
+const RETRIES_MAX: u8 = 2;
+
 /// Why slot `s` doesn't send a request.
 fn request_refusal(
     store: &Store,
@@ -49,8 +53,9 @@ fn request_refusal(
     globals: &Globals,
 ) -> Option<Refusal>
     requires { s < length store.now }
-    ensures { result
+    ensures value { result
         ≡ request_refusal (slot_at s store.now) globals.entry.now terms.now payload.now }
+    ensures within { IfNone result (length payload.now ≤ 65388) }
 {
     if !topo_valid(terms.topo, globals.topo) {
         return Some(Refusal::State);
@@ -67,19 +72,24 @@ fn request_refusal(
     if has_session(store, s, Kind::Caller, terms.session) {
         return Some(Refusal::SessionOpen);
     }
-    opening_refusal(store, s, Kind::Caller)
+    if let Some(refusal) = opening_refusal(store, s, Kind::Caller) {
+        return Some(refusal);
+    }
+    if terms.retries > RETRIES_MAX {
+        return Some(Refusal::Retries);
+    }
+    None
 }
 
 /// Makes a caller in slot `s`, and records the answer and its request. Every refusal is found
 /// first, then memory is taken, and then the slot changes.
 ///
 /// # Errors
-/// Want of memory for the caller; nothing has changed. A caller keeps no bytes yet, so there is
-/// none.
+/// Want of memory for the caller, which keeps its payload; nothing has changed.
 pub fn request(
     store: &mut Store,
     s: u16,
-    _alloc: Global,
+    alloc: Global,
     terms: &CallerTerms,
     payload: &[u8],
     globals: &Globals,
@@ -91,7 +101,7 @@ pub fn request(
     ensures becomes { OnOk result (Becomes s
         (opened_with
         (request_refusal (slot_at s store.old) globals.entry.now terms.now payload.now)
-        (slot_at s store.old) (Asking (new_caller terms.now globals.entry.now.now))
+        (slot_at s store.old) (Asking (new_caller terms.now payload.now globals.entry.now.now))
         (request_sent terms.now payload.now ∷ [])) store.old store.new out.old out.new) }
     ensures kept { OnErr result (store.new ≡ store.old) }
     ensures same { OnErr result (out.new ≡ out.old) }
@@ -101,10 +111,10 @@ pub fn request(
         out.push_plain_answer(s, PlainAnswer::Refused(refusal));
         return Ok(());
     }
-    let caller = Caller::new(terms, globals.now);
+    let caller = Caller::new(alloc, terms, payload, globals.now)?;
     let answer = open(store, s, AnyObject::Caller(caller), &mut Counts::none());
     out.push_plain_answer(s, answer);
-    out.push_md(s, terms.to, &request_head(terms), payload);
+    out.push_md(s, terms.to, &request_head(terms, 0), payload);
     Ok(())
 }
 

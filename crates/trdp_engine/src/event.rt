@@ -95,12 +95,14 @@ pub enum Call<'a> {
         /// What it says, at most 65,388 bytes.
         payload: &'a [u8],
     },
-    /// Makes a caller, answers its handle, and sends its request.
+    /// Makes a caller, answers its handle, and sends its request; the caller sends it again at its
+    /// deadlines, as often as its terms say, while no answer came.
     ///
     /// # Errors
     /// Refused: the first that applies of `State` where its topology counts don't match the
     /// node's, `Timeout` (below 1,000 microseconds), `Expected` (above 8), `TooLong` (above 65,388
-    /// bytes), `SessionOpen` where a caller of the slot has the session, `Quota` and `Exhausted`.
+    /// bytes), `SessionOpen` where a caller of the slot has the session, `Quota`, `Exhausted` and
+    /// `Retries` (above 2).
     Request {
         /// Under which header it is sent, where to, and for what it waits.
         terms: CallerTerms,

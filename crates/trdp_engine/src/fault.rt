@@ -96,6 +96,9 @@ pub enum Refusal {
     /// The slot has given out its last handle.
     #[error("the slot has given out its last handle")]
     Exhausted = 14,
+    /// The request is to be sent again more than twice.
+    #[error("the request is to be sent again more than twice")]
+    Retries = 15,
 }
 
 impl From<LookFault> for Refusal {

@@ -4,13 +4,15 @@ ghost use Rattle.std.specs.Prelude.{◌≡◌, ◌+◌, ◌*◌, ◌^◌, ◌<�
 ghost use Rattle.std.specs.Prelude.{slice_get};
 ghost use Rattle.trdp_base.specs.Moments.{last_moment};
 ghost use Rattle.trdp_head.specs.declared.pd.TheConstants.{PD_TELEGRAM_MAX};
+ghost use Rattle.trdp_head.specs.declared.md.TheConstants.{MD_TELEGRAM_MAX};
 ghost use Rattle.trdp_pd.specs.Due.{is_due_by};
 ghost use Rattle.trdp_table.specs.Kinds.{kind_of};
 ghost use Rattle.trdp_table.specs.Tables.{room_of};
 ghost use Rattle.trdp_table.specs.Objects.{due_of, after_firing, fired};
 ghost use Rattle.trdp_engine.specs.Records.{labelled};
 ghost use Rattle.trdp_engine.specs.Slots.{SlotState, slots_of};
-ghost use Rattle.trdp_engine.specs.Moments.{sends_data, firing_records, left_firing, moved_to};
+ghost use Rattle.trdp_engine.specs.Moments.{sends_data, sends_again, firing_records, left_firing};
+ghost use Rattle.trdp_engine.specs.Moments.{moved_to};
 ghost use Rattle.trdp_engine.specs.NodeStates.{HasOutcome, Appends, due_in};
 ghost use Rattle.trdp_engine.specs.Asked.{left_of};
 ghost use Rattle.trdp_engine.specs.Rooms.{HasRoom, kind_room, moment_room};
@@ -25,7 +27,7 @@ use crate::outbox::Outbox;
 use crate::row::Form;
 use crate::store::Store;
 use trdp_filter::Globals;
-use trdp_head::{PD_TELEGRAM_MAX, PdHead};
+use trdp_head::{MD_TELEGRAM_MAX, MdHead, PD_TELEGRAM_MAX, PdHead};
 use trdp_pd::{Fired, Object};
 use trdp_table::AnyObject;
 
@@ -42,6 +44,20 @@ fn push_data(object: &AnyObject, head: &PdHead, s: u16, out: &mut Outbox)
         if let Some(value) = publisher.value() {
             out.push_pd(s, publisher.to(), head, value);
         }
+    }
+}
+
+/// Records the request of a caller again, with its payload, under this header.
+fn push_again(object: &AnyObject, head: &MdHead, s: u16, out: &mut Outbox)
+    requires row { 0 < out.old.row_room }
+    requires bytes { MD_TELEGRAM_MAX ≤ out.old.byte_room }
+    ensures records { out.new.records
+        ≡ out.old.records ++ labelled s (sends_again object.now head.now) }
+    ensures row_room { out.old.row_room ≤ out.new.row_room + 1 }
+    ensures byte_room { out.old.byte_room ≤ out.new.byte_room + MD_TELEGRAM_MAX }
+{
+    if let AnyObject::Caller(caller) = object {
+        out.push_md(s, caller.to(), head, caller.payload());
     }
 }
 
@@ -70,6 +86,7 @@ pub fn fire_object(
     match object.fire(globals) {
         Fired::Nothing => {}
         Fired::Data(head) => push_data(object, &head, s, out),
+        Fired::Again(head) => push_again(object, &head, s, out),
         Fired::Silent => out.push(s, Form::Silent(handle)),
         Fired::Closed(reason) => {
             out.push(s, Form::Closed(handle, reason));

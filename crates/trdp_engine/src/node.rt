@@ -308,7 +308,7 @@ impl Node {
     /// The event's own fault, as [`Event`] lists it. `OutOfMemory` comes last, and only at a
     /// call, at a moment by which something is due, or at a datagram that concerns a slot; where
     /// the outbox has room for the most that such a call, or objects of the kinds that act, may
-    /// give, only at Publish and Subscribe. Node and outbox are as before.
+    /// give, only at Publish, Subscribe and Request. Node and outbox are as before.
     pub fn step(&mut self, event: &Event<'_>, out: &mut Outbox) -> Result<(), NodeFault>
         ensures fault { FaultIs
             (refused_as (length self.old.slots) self.old.globals (event_model event.now)) result }

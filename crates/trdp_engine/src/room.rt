@@ -7,7 +7,7 @@ ghost use Rattle.trdp_engine.specs.Rooms.{kind_room, no_room, call_room, message
 ghost use Rattle.trdp_engine.specs.Rooms.{confirm_room};
 
 use crate::event::Call;
-use trdp_head::{MD_PAYLOAD_MAX, PD_PAYLOAD_MAX, PD_TELEGRAM_MAX, md_length};
+use trdp_head::{MD_PAYLOAD_MAX, MD_TELEGRAM_MAX, PD_PAYLOAD_MAX, PD_TELEGRAM_MAX, md_length};
 use trdp_table::{AnyObject, Kind};
 
 /// Room in an outbox: for so many records, and so many bytes of theirs.
@@ -56,7 +56,7 @@ impl Room {
             },
             Kind::Caller => Room {
                 rows: 2,
-                bytes: MD_PAYLOAD_MAX,
+                bytes: MD_TELEGRAM_MAX,
             },
             Kind::Requester => Room::none(),
         }

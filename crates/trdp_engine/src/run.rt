@@ -17,7 +17,7 @@ impl Node {
     /// refused for a cause of its own, and stops before the first that lacks memory: only before a
     /// call, a moment by which something is due, or a datagram that concerns a slot, and, where
     /// the outbox has room for the most that such a call, or objects of the kinds that act, may
-    /// give, only before Publish and Subscribe.
+    /// give, only before Publish, Subscribe and Request.
     pub fn run(&mut self, events: &[Event<'_>], out: &mut Outbox) -> usize
         ensures within { result ≤ length events.now }
         ensures stops { IfSome (slice_get events.now result)

@@ -29,9 +29,9 @@ false-true is = absurd (cc)
 
 -- a new caller isn't due by now
 pub called-later :
-    (terms : CallerTerms) (now : ℕ) → 0 < terms.timeout
-    → is_due_by now (caller_due (called terms now)) ≡ false
-called-later terms now some =
+    (terms : CallerTerms) (payload : List ℕ) (now : ℕ) → 0 < terms.timeout
+    → is_due_by now (caller_due (called terms payload now)) ≡ false
+called-later terms payload now some =
     nat_le-past (now + terms.timeout) now (omega (arith, some))
 
 -- a telegram keeps the terms
@@ -177,8 +177,9 @@ query-is_query Error is = absurd (false-true is)
 abbrev IsSound : Answer → Type 0
 IsSound answer = answer.confirm_owed ≡ true → answer.kind ≡ Query
 
-pub queries-new : (terms : CallerTerms) (now : ℕ) → AwaitsQueriesOnly (called terms now).answers
-queries-new terms now = All-nil IsSound
+pub queries-new : (terms : CallerTerms) (payload : List ℕ) (now : ℕ)
+    → AwaitsQueriesOnly (called terms payload now).answers
+queries-new terms payload now = All-nil IsSound
 
 pub queries-taking :
     (c : Caller) (telegram : TelegramModel) (globals : Globals) (fits : Bool)

@@ -9,6 +9,7 @@ use Rattle.std.proofs.lemmas.List.Elements.{All-map, All-weaker}
 use Rattle.trdp_base.specs.declared.place.Place.{Place}
 use Rattle.trdp_head.specs.declared.md.MdKind.TheVariants.{Query}
 use Rattle.trdp_filter.specs.declared.globals.Globals.{Globals}
+use Rattle.trdp_filter.specs.Counts.{topo_valid}
 use Rattle.trdp_filter.specs.Telegrams.{TelegramModel, PdIs, MdIs}
 use Rattle.trdp_pd.specs.declared.object.Reason.{Reason}
 use Rattle.trdp_pd.specs.declared.object.Reason.TheVariants.{Done, NoReply, NotAllReplies}
@@ -20,7 +21,8 @@ use Rattle.trdp_md.specs.declared.answers.Answer.{Answer}
 use Rattle.trdp_md.specs.declared.caller.Caller.{Caller}
 use Rattle.trdp_md.specs.Answers.{is_place, awaits, awaits_any, confirmed, confirmed_if}
 use Rattle.trdp_md.specs.Callers.{caller_taking, caller_firing, is_accepted, is_complete, replied}
-use Rattle.trdp_md.specs.Callers.{answering, confirming, closed_of, reason_of}
+use Rattle.trdp_md.specs.Callers.{answering, confirming, closed_of, reason_of, is_repeating}
+use Rattle.trdp_md.specs.Callers.{repeating}
 use Rattle.trdp_md.specs.Sessions.{AwaitsQueriesOnly, HasAwaiting, IsDone}
 
 false-true : false ≡ true → ⊥
@@ -221,4 +223,18 @@ done-reason c done = by_count (length c.answers == 0) refl
 
 pub fired-done :
     (c : Caller) (globals : Globals) → (caller_firing c globals).fired ≡ Closed Done → IsDone c
-fired-done c globals fired = let done : reason_of c ≡ Done = cc in done-reason c done
+fired-done c globals fired = either (is_repeating c) refl
+  where
+    sent : (b : Bool) → topo_valid c.terms.topo globals.topo ≡ b
+        → (repeating c globals).fired ≡ Closed Done → ⊥
+    sent true is told = let h = rw is at told in absurd (cc)
+    sent false is told = let h = rw is at told in absurd (cc)
+
+    either : (b : Bool) → is_repeating c ≡ b → IsDone c
+    either true is =
+        let h = rw is at fired in
+        absurd (sent (topo_valid c.terms.topo globals.topo) refl h)
+    either false is =
+        let h = rw is at fired in
+        let done : reason_of c ≡ Done = cc in
+        done-reason c done

@@ -3,3 +3,4 @@ pub mod Calling
 pub mod Confirming
 pub mod Replying
 pub mod Apart
+pub mod Repeating

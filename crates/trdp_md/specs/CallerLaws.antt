@@ -1,7 +1,7 @@
 -- What is true of every caller: the proofs that it gives to the trait of all objects.
 -- They stand here because what a trait's implementation names in src/ may stand in specs/ alone.
 use Rattle.std.proofs.Common.{◌≡◌, ℕ, Option, Some, None, Bool, true, false, refl, arith}
-use Rattle.std.specs.Prelude.{nat_le, max}
+use Rattle.std.specs.Prelude.{nat_le, max, ◌+◌}
 use Rattle.std.proofs.Math.Nat.{le-max_left}
 use Rattle.std.proofs.lemmas.Bool.Decides.{nat_tests}
 use Rattle.trdp_base.specs.declared.place.Place.{Place}
@@ -13,6 +13,8 @@ use Rattle.trdp_pd.specs.Due.{is_due_by}
 use Rattle.trdp_md.specs.declared.caller.Caller.{Caller}
 use Rattle.trdp_md.specs.Callers.{is_query, is_for_caller, is_accepted, deadline_after, caller_due}
 use Rattle.trdp_md.specs.Callers.{caller_addressed, caller_taking, caller_firing}
+use Rattle.trdp_md.specs.Callers.{is_repeating, repeating, is_sound_caller}
+use Rattle.trdp_filter.specs.Counts.{topo_valid}
 use Rattle.trdp_md.specs.Waiting.{reply_by}
 
 -- a message that isn't for a caller isn't accepted
@@ -31,11 +33,59 @@ caller_taking-unaddressed c (PdIs src dst telegram) globals fits is = refl
 caller_taking-unaddressed c (MdIs src dst telegram) globals fits is =
     rw (is_accepted-unaddressed c src telegram.head is) refl
 
--- a caller that fired has no deadline
+-- a sound caller that fired has a later deadline, or none
 pub caller_due-firing :
-    (c : Caller) (globals : Globals)
+    (c : Caller) (globals : Globals) → is_sound_caller c ≡ true
     → is_due_by globals.now (caller_due (caller_firing c globals).object) ≡ false
-caller_due-firing c globals = refl
+unfolding is_sound_caller
+caller_due-firing c globals sound = either (is_repeating c) refl
+  where
+    later : is_due_by globals.now (Some (globals.now + c.terms.timeout)) ≡ false
+    later = grind (arith, nat_tests)
+
+    sent : (b : Bool) → topo_valid c.terms.topo globals.topo ≡ b
+        → is_due_by globals.now (caller_due (repeating c globals).object) ≡ false
+    sent true is = rw is later
+    sent false is = rw is later
+
+    either :
+        (b : Bool) → is_repeating c ≡ b
+        → is_due_by globals.now (caller_due (caller_firing c globals).object) ≡ false
+    either true is = rw is (sent (topo_valid c.terms.topo globals.topo) refl)
+    either false is = rw is refl
+
+-- a caller stays sound: its terms stay
+pub caller_sound-taking :
+    (c : Caller) (telegram : TelegramModel) (globals : Globals) (fits : Bool)
+    → is_sound_caller c ≡ true
+    → is_sound_caller (caller_taking c telegram globals fits).object ≡ true
+unfolding is_sound_caller
+caller_sound-taking c (PdIs src dst telegram) globals fits sound = sound
+caller_sound-taking c (MdIs src dst telegram) globals fits sound =
+    either (is_accepted c src telegram.head) refl
+  where
+    either :
+        (b : Bool) → is_accepted c src telegram.head ≡ b
+        → is_sound_caller (caller_taking c (MdIs src dst telegram) globals fits).object ≡ true
+    either true is = rw is sound
+    either false is = rw is sound
+
+pub caller_sound-firing :
+    (c : Caller) (globals : Globals) → is_sound_caller c ≡ true
+    → is_sound_caller (caller_firing c globals).object ≡ true
+unfolding is_sound_caller
+caller_sound-firing c globals sound = either (is_repeating c) refl
+  where
+    sent : (b : Bool) → topo_valid c.terms.topo globals.topo ≡ b
+        → is_sound_caller (repeating c globals).object ≡ true
+    sent true is = rw is sound
+    sent false is = rw is sound
+
+    either :
+        (b : Bool) → is_repeating c ≡ b
+        → is_sound_caller (caller_firing c globals).object ≡ true
+    either true is = rw is (sent (topo_valid c.terms.topo globals.topo) refl)
+    either false is = rw is sound
 
 -- a moment that hasn't come hasn't come if it is put off
 nat_le-max : (a b t : ℕ) → nat_le a t ≡ false → nat_le (max a b) t ≡ false

@@ -1,5 +1,5 @@
 -- A caller: a request that waits for its answers.
-use Rattle.std.specs.Prelude.{ℕ, ◌+◌, ℤ, pos, [], ◌∷◌, ◌++◌, length, Option, Some, None}
+use Rattle.std.specs.Prelude.{ℕ, ◌+◌, ◌-◌, ℤ, pos, List, [], ◌∷◌, ◌++◌, length, Option, Some, None}
 use Rattle.std.specs.Prelude.{Bool, true, false, not, nat_lt, nat_le, max, ◌==◌, ◌&&◌, ◌||◌}
 use Rattle.std.specs.Prelude.{if◌then◌else◌}
 use Rattle.std.specs.Option.{option_map}
@@ -17,7 +17,8 @@ use Rattle.trdp_pd.specs.declared.object.Reason.TheVariants.{NotConfirmed}
 use Rattle.trdp_pd.specs.declared.object.Taken.{Taken}
 use Rattle.trdp_pd.specs.declared.object.Taken.TheVariants.{Nothing as NotTaken}
 use Rattle.trdp_pd.specs.declared.object.Taken.TheVariants.{Replied, RepliedLast}
-use Rattle.trdp_pd.specs.declared.object.Fired.TheVariants.{Closed}
+use Rattle.trdp_pd.specs.declared.object.Fired.TheVariants.{Nothing as NotFired, Again, Closed}
+use Rattle.trdp_pd.specs.Publishers.{next_counter}
 use Rattle.trdp_pd.specs.Effects.{Taking, Firing}
 use Rattle.trdp_md.specs.declared.answers.Answer.{Answer}
 use Rattle.trdp_md.specs.declared.caller.Caller.{Caller}
@@ -25,15 +26,21 @@ use Rattle.trdp_md.specs.declared.terms.CallerTerms.{CallerTerms}
 use Rattle.trdp_md.specs.Answers.{has_answered, awaits, awaits_any, confirmed}
 use Rattle.trdp_md.specs.Waiting.{reply_by}
 
--- a new caller has no answers, and its timeout begins now
-abbrev pub called : CallerTerms → ℕ → Caller
-called terms now =
-    record { terms = terms; answers = []; deadline = Some (now + terms.timeout) }
+-- a new caller has no answers, its timeout begins now, and its first request, of counter 0, is sent
+abbrev pub called : CallerTerms → List ℕ → ℕ → Caller
+called terms payload now = record {
+  terms = terms;
+  answers = [];
+  deadline = Some (now + terms.timeout);
+  payload = payload;
+  left = terms.retries;
+  counter = 1;
+}
 
--- the header of its request
-unfoldable pub request_of : CallerTerms → MdHead
-request_of terms = record {
-  counter = 0;
+-- the header of its request, of that sequence counter
+unfoldable pub request_of : CallerTerms → ℕ → MdHead
+request_of terms counter = record {
+  counter = counter;
   kind = Request;
   com_id = terms.com_id;
   topo = terms.topo;
@@ -150,10 +157,35 @@ reason_of c =
     if nat_lt (length c.answers) c.terms.expected then NotAllReplies else
     if awaits_any c.answers then NotConfirmed else Done
 
--- the deadline closes the caller
+-- no answer came, and a repeat is left
+unfoldable pub is_repeating : Caller → Bool
+is_repeating c = length c.answers == 0 && nat_lt 0 c.left
+
+-- one repeat is used up, and the timeout begins anew
+abbrev pub waiting_again : Caller → ℕ → Caller
+waiting_again c now = record c { left = c.left - 1; deadline = Some (now + c.terms.timeout) }
+
+-- a repeat: the request is sent again under the number of those sent before, where its counts
+-- match the node's; else nothing is sent, and that number stays
+abbrev pub repeating : Caller → Globals → Firing Caller
+repeating c globals =
+    if topo_valid c.terms.topo globals.topo
+    then record {
+      object = record (waiting_again c globals.now) { counter = next_counter c.counter };
+      fired = Again (request_of c.terms c.counter);
+    }
+    else record { object = waiting_again c globals.now; fired = NotFired }
+
+-- the deadline: a repeat, or the end
 abbrev pub caller_firing : Caller → Globals → Firing Caller
 caller_firing c globals =
-    record { object = record c { deadline = None }; fired = Closed (reason_of c) }
+    if is_repeating c
+    then repeating c globals
+    else record { object = record c { deadline = None }; fired = Closed (reason_of c) }
+
+-- what the laws of objects ask of a caller: that it waits for a time
+unfoldable pub is_sound_caller : Caller → Bool
+is_sound_caller c = nat_lt 0 c.terms.timeout
 
 -- a confirmation to a place that awaits one ends this; to any other it changes nothing
 unfoldable pub confirming : Caller → Place → Caller

@@ -1,16 +1,29 @@
 //! A caller: a request that waits for its answers.
+//!
+//! ```text
+//! the request is sent
+//!   |
+//!   v
+//! waits --+-- an answer, or the confirmation of one, and not all is there --> waits
+//!         +-- its deadline, no answer came, a retry is left: sent again ----> waits
+//!         +-- all expected answers are there, all queries confirmed: Done --> over
+//!         +-- its deadline, else: NoReply, NotAllReplies, NotConfirmed, Done > over
+//!         +-- an abort -----------------------------------------------------> over
+//! ```
 
-ghost use Rattle.std.specs.Prelude.{◌≡◌, ◌<◌, ◌≤◌, length, IsTrue};
+ghost use Rattle.std.specs.Prelude.{◌≡◌, ◌<◌, ◌≤◌, length, IsTrue, IfOk};
 ghost use Rattle.trdp_base.specs.Moments.{last_moment};
 ghost use Rattle.trdp_md.specs.Answers.{awaits};
 ghost use Rattle.trdp_md.specs.Callers.{called, request_of, confirm_of, is_answer, is_query};
 ghost use Rattle.trdp_md.specs.Callers.{is_for_caller, has_place, is_accepted, deadline_after};
 ghost use Rattle.trdp_md.specs.Callers.{answering, is_complete, replied, reason_of, confirming};
-ghost use Rattle.trdp_md.specs.Callers.{closed_of};
+ghost use Rattle.trdp_md.specs.Callers.{closed_of, is_repeating, repeating};
 
 use crate::answers::{self, Answer, Answers, PLACES_MAX};
+use crate::payload::Payload;
 use crate::terms::CallerTerms;
 use crate::waiting::reply_by;
+use std::alloc::{AllocError, Global};
 use trdp_base::{Place, SessionId};
 use trdp_filter::{Globals, Telegram, topo_valid};
 use trdp_head::{MdHead, MdKind};
@@ -23,8 +36,14 @@ pub struct Caller {
     terms: CallerTerms,
     /// The answers that it took, each from a place of its own.
     answers: Answers,
-    /// When it closes, in microseconds; None once it closed.
+    /// When it sends its request again or closes, in microseconds; None once it closed.
     deadline: Option<u64>,
+    /// What its request carries; never changed.
+    payload: Payload,
+    /// How often it sends its request again at most from now on.
+    left: u8,
+    /// The sequence counter that its next request carries: how many it has sent.
+    counter: u32,
 }
 
 /// Whether messages of this type answer a request.
@@ -65,13 +84,13 @@ fn deadline_after(deadline: Option<u64>, head: &MdHead, now: u64) -> Option<u64>
     }
 }
 
-/// The header of the request of a caller: with sequence counter and status 0 (profile).
+/// The header of the request of a caller, of that sequence counter and with status 0 (profile).
 #[tactic(auto, unfolding(crate::specs::Callers::request_of))]
-pub fn request_head(terms: &CallerTerms) -> MdHead
-    ensures { result ≡ request_of terms.now }
+pub fn request_head(terms: &CallerTerms, counter: u32) -> MdHead
+    ensures { result ≡ request_of terms.now counter }
 {
     MdHead {
-        counter: 0,
+        counter,
         kind: MdKind::Request,
         com_id: terms.com_id,
         topo: terms.topo,
@@ -84,16 +103,45 @@ pub fn request_head(terms: &CallerTerms) -> MdHead
 }
 
 impl Caller {
-    /// A caller without answers, whose timeout begins now, in microseconds.
-    pub fn new(terms: &CallerTerms, now: u64) -> Caller
-        requires { now ≤ last_moment }
-        ensures { result ≡ called terms.now now }
+    /// A caller without answers, whose timeout begins now, in microseconds, and whose first request
+    /// is sent by whom it is made. It keeps the request's payload.
+    ///
+    /// # Errors
+    /// [`AllocError`] where there is no memory for the payload.
+    pub fn new(
+        alloc: Global,
+        terms: &CallerTerms,
+        payload: &[u8],
+        now: u64,
+    ) -> Result<Caller, AllocError>
+        requires now { now ≤ last_moment }
+        requires payload { length payload.now ≤ 65388 }
+        ensures { IfOk result (λ caller. caller ≡ called terms.now payload.now now) }
     {
-        Caller {
+        let payload = Payload::new(alloc, payload)?;
+        Ok(Caller {
             terms: *terms,
             answers: Answers::none(),
             deadline: Some(now + u64::from(terms.timeout)),
-        }
+            payload,
+            left: terms.retries,
+            counter: 1,
+        })
+    }
+
+    /// Where its request goes.
+    pub fn to(&self) -> Place
+        ensures { result ≡ self.now.terms.to }
+    {
+        self.terms.to
+    }
+
+    /// What its request carries, at most 65,388 bytes.
+    pub fn payload(&self) -> &[u8]
+        ensures value { result.now ≡ self.now.payload }
+        ensures within { length result.now ≤ 65388 }
+    {
+        self.payload.bytes()
     }
 
     /// The session of its request, its answers and its confirmations.
@@ -228,6 +276,32 @@ impl Caller {
         }
     }
 
+    /// Whether its request may be sent again: no answer came, and a repeat is left.
+    #[tactic(auto, unfolding(crate::specs::Callers::is_repeating))]
+    fn is_repeating(&self) -> bool
+        ensures value { result ≡ is_repeating self.now }
+        ensures left { IsTrue result → 0 < self.now.left }
+    {
+        self.answers.as_slice().is_empty() && self.left > 0
+    }
+
+    /// Waits once more, and sends its request again where its counts match the node's.
+    fn repeat(&mut self, globals: &Globals) -> Fired
+        requires left { 0 < self.old.left }
+        requires now { globals.now.now ≤ last_moment }
+        ensures state { self.new ≡ (repeating self.old globals.entry.now).object }
+        ensures outcome { result ≡ (repeating self.old globals.entry.now).fired }
+    {
+        self.left -= 1;
+        self.deadline = Some(globals.now + u64::from(self.terms.timeout));
+        if !topo_valid(self.terms.topo, globals.topo) {
+            return Fired::Nothing;
+        }
+        let head = request_head(&self.terms, self.counter);
+        self.counter = self.counter.wrapping_add(1);
+        Fired::Again(head)
+    }
+
     /// Why it closes at its deadline.
     #[tactic(auto, unfolding(crate::specs::Callers::reason_of))]
     fn reason(&self) -> Reason
@@ -247,17 +321,19 @@ impl Caller {
 }
 
 impl Object for Caller {
-    ghost use Rattle.std.specs.Prelude.{None, true};
+    ghost use Rattle.std.specs.Prelude.{None};
     ghost use Rattle.trdp_md.specs.Callers.{caller_due, caller_addressed};
     ghost use Rattle.trdp_md.specs.Callers.{caller_taking, caller_firing};
     ghost use Rattle.trdp_md.specs.CallerLaws.{caller_taking-unaddressed};
+    ghost use Rattle.trdp_md.specs.Callers.{is_sound_caller};
     ghost use Rattle.trdp_md.specs.CallerLaws.{caller_due-firing, caller_due-taking};
+    ghost use Rattle.trdp_md.specs.CallerLaws.{caller_sound-firing, caller_sound-taking};
 
     ghost due_of = { caller_due };
 
     ghost dataset_of = { λ _. None };
 
-    ghost is_sound = { λ _. true };
+    ghost is_sound = { is_sound_caller };
 
     ghost is_addressed = { caller_addressed };
 
@@ -267,15 +343,15 @@ impl Object for Caller {
 
     ghost unaddressed = { caller_taking-unaddressed };
 
-    ghost later = { λ c globals _. caller_due-firing c globals };
+    ghost later = { caller_due-firing };
 
     ghost undue = { λ c telegram globals fits _. caller_due-taking c telegram globals fits };
 
-    ghost kept_sound_by_taking = { λ _ _ _ _ sound. sound };
+    ghost kept_sound_by_taking = { caller_sound-taking };
 
-    ghost kept_sound_by_firing = { λ _ _ sound. sound };
+    ghost kept_sound_by_firing = { caller_sound-firing };
 
-    /// When it closes, in microseconds; None once it closed.
+    /// When it sends its request again or closes, in microseconds; None once it closed.
     fn due(&self) -> Option<u64> {
         self.deadline
     }
@@ -307,8 +383,11 @@ impl Object for Caller {
         }
     }
 
-    /// Closes at its deadline.
-    fn fire(&mut self, _globals: &Globals) -> Fired {
+    /// Sends its request again at its deadline, or closes.
+    fn fire(&mut self, globals: &Globals) -> Fired {
+        if self.is_repeating() {
+            return self.repeat(globals);
+        }
         let reason = self.reason();
         self.deadline = None;
         Fired::Closed(reason)

@@ -1,7 +1,7 @@
 //! What is true of every object of one kind, whatever came before, beside the laws of the trait
 //! [`trdp_pd::Object`].
 
-ghost use Rattle.std.specs.Prelude.{◌≡◌, ◌↔◌, ℕ, ℤ, ◌<◌, ◌⊎◌, Bool, true, false, Some, []};
+ghost use Rattle.std.specs.Prelude.{◌≡◌, ◌↔◌, ℕ, ℤ, ◌<◌, ◌⊎◌, Bool, true, false, Some, List, []};
 ghost use Rattle.trdp_base.specs.declared.place.Place.{Place};
 ghost use Rattle.trdp_head.specs.declared.md.MdHead.{MdHead};
 ghost use Rattle.trdp_filter.specs.declared.globals.Globals.{Globals};
@@ -17,7 +17,7 @@ ghost use Rattle.trdp_md.specs.declared.replier.Replier.{Replier};
 ghost use Rattle.trdp_md.specs.Listeners.{listener_taking, listener_firing, IsHeard};
 ghost use Rattle.trdp_md.specs.Answers.{has_answered, awaits};
 ghost use Rattle.trdp_md.specs.Callers.{called, caller_due, caller_taking, caller_firing};
-ghost use Rattle.trdp_md.specs.Callers.{confirming, closed_of};
+ghost use Rattle.trdp_md.specs.Callers.{confirming, closed_of, request_of};
 ghost use Rattle.trdp_md.specs.Repliers.{asked_by, queried, replier_due, replier_taking};
 ghost use Rattle.trdp_md.specs.Repliers.{replier_firing};
 ghost use Rattle.trdp_md.specs.Sessions.{IsReplied, IsAccepted, HasAdded, AwaitsQueriesOnly};
@@ -42,8 +42,8 @@ pub fn listener_hears_its_own()
 
 /// A session that begins, and a confirmation that is awaited from now on, end later than now.
 pub fn session_ends_later()
-    ensures caller { (terms : CallerTerms) (now : ℕ) → 0 < terms.timeout
-        → is_due_by now (caller_due (called terms now)) ≡ false }
+    ensures caller { (terms : CallerTerms) (payload : List ℕ) (now : ℕ) → 0 < terms.timeout
+        → is_due_by now (caller_due (called terms payload now)) ≡ false }
     ensures replier { (peer : Place) (head : MdHead) (now : ℕ)
         → is_due_by now (replier_due (asked_by peer head now)) ≡ false }
     ensures query { (r : Replier) (now timeout : ℕ) → 0 < timeout
@@ -57,6 +57,24 @@ pub fn caller_keeps()
     ensures fired { (c : Caller) (globals : Globals)
         → (caller_firing c globals).object.terms ≡ c.terms }
     ensures confirmed { (c : Caller) (place : Place) → (confirming c place).terms ≡ c.terms }
+    ensures taken_payload { (c : Caller) (telegram : TelegramModel) (globals : Globals)
+        (fits : Bool) → (caller_taking c telegram globals fits).object.payload ≡ c.payload }
+    ensures fired_payload { (c : Caller) (globals : Globals)
+        → (caller_firing c globals).object.payload ≡ c.payload }
+{}
+
+/// What a caller sends again is its request, under the number of those sent before, and only
+/// while no answer came; each repeat, sent or not, uses up one of those that are left.
+pub fn caller_repeats_its_request()
+    ensures unanswered { (c : Caller) (globals : Globals) (head : MdHead)
+        → (caller_firing c globals).fired ≡ Fired.Again head → c.answers ≡ [] }
+    ensures same { (c : Caller) (globals : Globals) (head : MdHead)
+        → (caller_firing c globals).fired ≡ Fired.Again head → head ≡ request_of c.terms c.counter }
+    ensures fewer { (c : Caller) (globals : Globals) (head : MdHead)
+        → (caller_firing c globals).fired ≡ Fired.Again head
+        → (caller_firing c globals).object.left < c.left }
+    ensures answers { (c : Caller) (globals : Globals)
+        → (caller_firing c globals).object.answers ≡ c.answers }
 {}
 
 /// A caller tells each answer that it accepts, and no other telegram, and keeps it as it came.
@@ -83,7 +101,8 @@ pub fn caller_hears_each_place_once()
 /// No two answers of a caller are of one place: a new caller has none, and whatever it takes, fires
 /// or confirms, they stay of places apart.
 pub fn caller_answers_stay_apart()
-    ensures new { (terms : CallerTerms) (now : ℕ) → AreApart (called terms now).answers }
+    ensures new { (terms : CallerTerms) (payload : List ℕ) (now : ℕ)
+        → AreApart (called terms payload now).answers }
     ensures taken { (c : Caller) (telegram : TelegramModel) (globals : Globals) (fits : Bool)
         → AreApart c.answers → AreApart (caller_taking c telegram globals fits).object.answers }
     ensures fired { (c : Caller) (globals : Globals) → AreApart c.answers
@@ -109,7 +128,8 @@ pub fn caller_confirms_one_place()
 /// Only queries await a confirmation: a new caller has none, and neither a telegram nor a
 /// confirmation adds another answer that awaits one.
 pub fn caller_awaits_queries_only()
-    ensures new { (terms : CallerTerms) (now : ℕ) → AwaitsQueriesOnly (called terms now).answers }
+    ensures new { (terms : CallerTerms) (payload : List ℕ) (now : ℕ)
+        → AwaitsQueriesOnly (called terms payload now).answers }
     ensures taken { (c : Caller) (telegram : TelegramModel) (globals : Globals) (fits : Bool)
         → AwaitsQueriesOnly c.answers
         → AwaitsQueriesOnly (caller_taking c telegram globals fits).object.answers }

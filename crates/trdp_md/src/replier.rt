@@ -1,4 +1,18 @@
 //! A replier: a request that was heard, and waits for its answer.
+//!
+//! ```text
+//! a request is heard
+//!   |
+//!   v
+//! Asked --+-- a reply or an error is sent -------> over
+//!         +-- a query is sent -------------------> AwaitConfirm
+//!         +-- its deadline: ReplyMissed ---------> over
+//!         +-- an abort --------------------------> over
+//!
+//! AwaitConfirm --+-- its peer's confirmation ----> over
+//!                +-- its deadline: NoConfirm ----> over
+//!                +-- an abort -------------------> over
+//! ```
 
 ghost use Rattle.std.specs.Prelude.{◌≡◌, ◌≤◌, pos};
 ghost use Rattle.trdp_base.specs.Moments.{last_moment};

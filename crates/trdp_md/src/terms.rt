@@ -28,6 +28,8 @@ pub struct CallerTerms {
     pub expected: u8,
     /// Microseconds that it waits for answers, 1 or more; the request carries them.
     pub timeout: u32,
+    /// How often the request is sent again at most while no answer came, 0 to 2 (profile).
+    pub retries: u8,
     /// The topology counts that the request and its confirmations carry.
     pub topo: Topo,
     /// Where the request goes.

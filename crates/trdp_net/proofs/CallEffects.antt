@@ -3,8 +3,8 @@ use Rattle.std.proofs.Common.{◌≡◌, ℕ, ◌≤◌, List, [], ◌∷◌, le
 use Rattle.std.proofs.Common.{None, Bool, true, false, refl, arith, inl}
 use Rattle.std.proofs.Common.{slice_get, filter}
 use Rattle.std.specs.Prelude.{nat_lt, not, if◌then◌else◌}
+use Rattle.std.specs.Option.{option_or}
 use Rattle.std.proofs.lemmas.Bool.Decides.{nat_tests}
-use Rattle.trdp_base.specs.declared.place.Place.{Place}
 use Rattle.trdp_filter.specs.declared.globals.Globals.{Globals}
 use Rattle.trdp_filter.specs.Counts.{topo_valid}
 use Rattle.trdp_pd.specs.declared.terms.ValueState.TheVariants.{Never, Valid}
@@ -24,12 +24,13 @@ use Rattle.trdp_engine.specs.declared.record.Protocol.TheVariants.{Md}
 use Rattle.trdp_engine.specs.declared.fault.Refusal.{Refusal}
 use Rattle.trdp_engine.specs.declared.fault.Refusal.TheVariants as refusals
 use Rattle.trdp_engine.specs.Configs.{NodeSetup, zero_size_of}
-use Rattle.trdp_engine.specs.Records.{MessageModel, HandleIs, DoneIs}
+use Rattle.trdp_engine.specs.Records.{HandleIs, DoneIs}
 use Rattle.trdp_engine.specs.Records.{Answers}
 use Rattle.trdp_engine.specs.Slots.{SlotState}
 use Rattle.trdp_engine.specs.Openings.{opening_refusal, opened_with}
 use Rattle.trdp_engine.specs.Notices.{notify_refusal, notice}
 use Rattle.trdp_engine.specs.Requests.{has_session, request_refusal, request_sent}
+use Rattle.trdp_engine.specs.Requests.{retries_refusal}
 use Rattle.trdp_engine.specs.Calls.{publish_refusal, subscribe_refusal, listen_refusal, puts}
 use Rattle.trdp_engine.specs.Calls.{shows}
 use Rattle.trdp_engine.specs.Calls.{ends, told_unless, called}
@@ -43,7 +44,7 @@ use Rattle.trdp_engine.specs.Events.{ConfirmCall, AbortCall}
 use Rattle.trdp_engine.specs.Events.{CallIs}
 use Rattle.trdp_net.specs.Networks.{Move, place_of}
 use Rattle.trdp_net.specs.Provenance.{Gives, IsNotified, IsRequested}
-use Rattle.trdp_net.proofs.Kept.{EntryKept}
+use Rattle.trdp_net.proofs.Kept.{EntryKept, said_by}
 use Rattle.trdp_net.proofs.Heads.{request_head, notification_head}
 use Rattle.trdp_net.proofs.Sending.{sends_md}
 use Rattle.trdp_net.proofs.Objects.{put_kept, ends_kept}
@@ -56,16 +57,6 @@ use Rattle.trdp_net.proofs.Explained.{spot}
 use Rattle.trdp_net.proofs.TypedMoves.{IsTypedSending, IsTypedEntry}
 use Rattle.trdp_net.specs.Provenance.{Each}
 use Rattle.trdp_net.specs.Typed.{IsNotifyTerms, IsCallerTerms}
-
--- a request as it is told of, at the node of that place
-abbrev said_by : Place → CallerTerms → List ℕ → MessageModel
-said_by home terms payload = record {
-  src = home;
-  com_id = terms.com_id;
-  source_uri = terms.source_uri;
-  dest_uri = terms.dest_uri;
-  payload = payload;
-}
 
 request_made : (past : List Move) (m : Move) (s : ℕ) (slot : SlotState) (terms : CallerTerms)
     (payload : List ℕ) → m.event ≡ CallIs s (RequestCall terms payload)
@@ -91,7 +82,7 @@ request_limit slot globals terms payload none =
   where
     rest : Option Refusal
     rest = if has_session kinds.Caller terms.session slot.objects then Some refusals.SessionOpen
-        else opening_refusal slot kinds.Caller
+        else option_or (opening_refusal slot kinds.Caller) (retries_refusal terms)
 
     either : (a b c d : Bool) → nat_lt 65388 (length payload) ≡ d
         → (if a then Some refusals.State else
@@ -109,24 +100,23 @@ requested_kept : (past : List Move) (m : Move) (s : ℕ) (slot : SlotState) (glo
     (terms : CallerTerms) (payload : List ℕ) → m.event ≡ CallIs s (RequestCall terms payload)
     → IsCallerTerms terms → Each (EntryKept past m.before.setup m.node s) slot.objects
     → AreGiven m s (opened_with (request_refusal slot globals terms payload) slot
-    (Caller (new_caller terms globals.now)) (request_sent terms payload ∷ [])).records
+    (Caller (new_caller terms payload globals.now)) (request_sent terms payload ∷ [])).records
     → OutcomeKept past m s (opened_with (request_refusal slot globals terms payload) slot
-    (Caller (new_caller terms globals.now)) (request_sent terms payload ∷ []))
+    (Caller (new_caller terms payload globals.now)) (request_sent terms payload ∷ []))
 unfolding request_of
 requested_kept past m s slot globals terms payload event fits kept given =
     opened_kept past m s slot (request_refusal slot globals terms payload)
-    (Caller (new_caller terms globals.now)) (request_sent terms payload ∷ []) kept
+    (Caller (new_caller terms payload globals.now)) (request_sent terms payload ∷ []) kept
     (λ none by. record {
-      requested = inl (
-        said_by (place_of Md m.before.setup) terms payload,
-        request_made past m s slot terms payload event by,
-      );
+      requested = inl (request_made past m s slot terms payload event by);
+      limit = request_limit slot globals terms payload none;
       answers = tt;
       apart = tt;
     })
     (λ none by. (
-      sends_md (m ∷ past) (place_of Md m.before.setup) terms.to (request_of terms)
-          payload (request_head terms fits) (request_limit slot globals terms payload none)
+      sends_md (m ∷ past) (place_of Md m.before.setup) terms.to (request_of terms 0)
+          payload (request_head terms 0 fits (omega arith))
+          (request_limit slot globals terms payload none)
           (inl (spot m.node s slot.next, request_made past m s slot terms payload event by)),
       tt,
     ))

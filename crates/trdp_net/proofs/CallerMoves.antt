@@ -18,43 +18,60 @@ use Rattle.trdp_pd.specs.declared.object.Reason.TheVariants.{Done, NoReply, NotA
 use Rattle.trdp_pd.specs.declared.object.Reason.TheVariants.{NotConfirmed, ReplyMissed, NoConfirm}
 use Rattle.trdp_pd.specs.declared.object.Taken.TheVariants as took
 use Rattle.trdp_pd.specs.declared.object.Fired.TheVariants as fires
-use Rattle.trdp_pd.specs.Effects.{Taking}
+use Rattle.trdp_pd.specs.Effects.{Taking, Firing}
+use Rattle.trdp_pd.specs.Publishers.{next_counter}
 use Rattle.trdp_md.specs.declared.caller.Caller.{Caller as AnyCaller}
 use Rattle.trdp_md.specs.Answers.{has_answered, awaits, confirmed}
 use Rattle.trdp_md.specs.Callers.{is_answer, is_for_caller, has_place, is_accepted}
 use Rattle.trdp_md.specs.Callers.{answer_of, answering, is_complete, replied}
 use Rattle.trdp_md.specs.Callers.{caller_firing, reason_of, confirming, closed_of}
-use Rattle.trdp_md.specs.Callers.{confirm_of}
+use Rattle.trdp_md.specs.Callers.{confirm_of, request_of}
+use Rattle.trdp_md.specs.Callers.{is_repeating, waiting_again, repeating}
 use Rattle.trdp_md.proofs.Confirming.{closed-done, fired-done, terms-confirming}
 use Rattle.trdp_table.specs.declared.any_object.AnyObject.TheVariants.{Caller}
 use Rattle.trdp_engine.specs.declared.record.Protocol.TheVariants.{Md}
 use Rattle.trdp_engine.specs.declared.fault.Refusal.{Refusal}
 use Rattle.trdp_engine.specs.declared.fault.Refusal.TheVariants.{State, Status}
 use Rattle.trdp_engine.specs.Configs.{NodeSetup}
-use Rattle.trdp_engine.specs.Records.{Content, ReplyModel, DoneIs, RepliedIs, Answers, Indicates}
+use Rattle.trdp_engine.specs.Records.{Content, MessageModel, ReplyModel, DoneIs, RepliedIs, Answers, Indicates}
 use Rattle.trdp_engine.specs.Records.{Sends}
 use Rattle.trdp_engine.specs.Acts.{Act}
 use Rattle.trdp_engine.specs.Replies.{reply_of, closing, concluded, confirms_unless}
 use Rattle.trdp_engine.specs.Replies.{confirm_refusal}
-use Rattle.trdp_engine.specs.Moments.{firing_act}
+use Rattle.trdp_engine.specs.Moments.{firing_act, firing_records, left_firing}
 use Rattle.trdp_engine.specs.Datagrams.{taking_act, taken_records, left_taking}
 use Rattle.trdp_engine.specs.Events.{ConfirmCall, CallIs}
 use Rattle.trdp_net.specs.Networks.{Move, place_of}
 use Rattle.trdp_net.specs.Provenance.{Ever, In, Spot, Gives, Held}
 use Rattle.trdp_net.specs.Provenance.{IsAnsweredBySome, IsConfirmed, IsConfirmedAs}
-use Rattle.trdp_net.proofs.Parts.{each_append, in_left, and_left, and_right}
+use Rattle.trdp_net.specs.Provenance.{IsRequested, IsRequestedBySome, IsRequestedAs}
+use Rattle.trdp_net.proofs.Parts.{each_append, in_left, and_left, and_right, ever_map}
 use Rattle.trdp_net.proofs.Kept.{AnswerKept, CallerKept, answers_later}
-use Rattle.trdp_net.proofs.Kept.{object_later, ActKept}
-use Rattle.trdp_net.proofs.Heads.{confirm_head}
+use Rattle.trdp_net.proofs.Kept.{object_later, ActKept, said_by}
+use Rattle.trdp_net.proofs.Heads.{confirm_head, request_head}
 use Rattle.trdp_net.proofs.Sending.{sends_md}
 use Rattle.trdp_net.proofs.Callers.{answer_origin, query_owes}
 use Rattle.trdp_net.proofs.Callers.{asked_there, answers_confirmed, done_by}
 use Rattle.trdp_net.proofs.Explained.{MessageBy, ClosedBy, ToldBy}
 use Rattle.trdp_net.specs.Provenance.{Each}
-use Rattle.trdp_net.specs.Typed.{IsCallerTerms}
+use Rattle.trdp_net.proofs.TypedMoves.{IsCaller}
 use Rattle.trdp_md.proofs.Apart.{flipped, all_apart_push, all_apart_map}
 use Rattle.trdp_md.proofs.Calling.{query-is_query}
 use Rattle.trdp_md.proofs.Confirming.{IsDone-is_complete}
+
+-- a request was made, whichever caller it opened
+by_some : (at : Spot) (session : SessionId) (said : MessageModel) (past : List Move)
+    → Ever (IsRequested at session said) past → Ever (IsRequestedBySome session said) past
+by_some at session said past e =
+    ever_map (IsRequested at session said) (IsRequestedBySome session said) (λ m past r. (at, r))
+    past e
+
+-- the same, whatever it said
+some_request : (at : Spot) (session : SessionId) (said : MessageModel) (past : List Move)
+    → Ever (IsRequested at session said) past → Ever (IsRequestedAs at session) past
+some_request at session said past e =
+    ever_map (IsRequested at session said) (IsRequestedAs at session) (λ m past r. (said, r))
+    past e
 
 -- the act of a caller that took a telegram so
 abbrev took_act : NodeSetup → TelegramModel → ℕ → AnyCaller → Taking AnyCaller → Act
@@ -73,6 +90,7 @@ caller_answered : (past : List Move) (m : Move) (at : Spot) (src : Place) (t : M
 unfolding is_accepted
 caller_answered past m at src t now c accepted answered given kept = record {
   requested = inr kept.requested;
+  limit = kept.limit;
   answers =
       each_append (AnswerKept (m ∷ past) at c.terms.session (place_of Md m.before.setup))
       c.answers (answer_of src t.head ∷ [])
@@ -161,7 +179,7 @@ caller_takes past m at setup src dst to t globals c origin kept held given =
         record {
           c = c;
           held = held;
-          requested = kept.requested;
+          requested = some_request at c.terms.session _ past kept.requested;
           answered = answered accepted;
         },
         (done_by past m at c after held refl (IsDone-is_complete after complete) later, tt),
@@ -173,7 +191,7 @@ caller_takes past m at setup src dst to t globals c origin kept held given =
         record {
           c = c;
           held = held;
-          requested = kept.requested;
+          requested = some_request at c.terms.session _ past kept.requested;
           answered = answered accepted;
         },
         tt,
@@ -195,25 +213,79 @@ caller_takes past m at setup src dst to t globals c origin kept held given =
     either false accepted gives =
         record { stays = object_later past m m.before.setup at (Caller c) kept; tells = tt }
 
+-- the act of a caller that fired so
+abbrev fired_act : ℕ → AnyCaller → Firing AnyCaller → Act
+fired_act handle c f = record {
+  left = left_firing f.fired (Caller f.object);
+  records = firing_records handle (Caller c) f.fired;
+}
+
+-- a request that is sent again is one that was made
+again_origin : (past : List Move) (m : Move) (at : Spot) (home : Place) (c : AnyCaller)
+    → Ever (IsRequested at c.terms.session (said_by home c.terms c.payload)) past
+    → MessageBy (request_of c.terms c.counter).kind (m ∷ past) home c.terms.to
+    (record { head = request_of c.terms c.counter; payload = c.payload })
+unfolding request_of
+again_origin past m at home c e = inr (by_some at c.terms.session _ past e)
+
 -- a caller's deadline
 pub caller_fires : (past : List Move) (m : Move) (at : Spot) (globals : Globals)
-    (c : AnyCaller) → CallerKept past m.before.setup at c → Held at (Caller c) m
+    (c : AnyCaller) → IsCaller c → CallerKept past m.before.setup at c → Held at (Caller c) m
     → ActKept past m at
     (firing_act globals (record { handle = at.handle; object = Caller c }))
-caller_fires past m at globals c kept held =
-    record { stays = tt; tells = (by_reason (reason_of c) refl, tt) }
+caller_fires past m at globals c fits kept held = either (is_repeating c) refl
   where
-    by_reason : (reason : Reason) → reason_of c ≡ reason → ClosedBy past m at reason
-    by_reason Done is =
-        let fired : (caller_firing c globals).fired ≡ fires.Closed Done = ap fires.Closed is in
-        let later : CallerKept (m ∷ past) m.before.setup at c =
-        object_later past m m.before.setup at (Caller c) kept in
+    later : CallerKept (m ∷ past) m.before.setup at c
+    later = object_later past m m.before.setup at (Caller c) kept
+
+    by_reason : is_repeating c ≡ false → (reason : Reason) → reason_of c ≡ reason
+        → ClosedBy past m at reason
+    by_reason none Done is =
+        let fired : (caller_firing c globals).fired ≡ fires.Closed Done =
+        rw none (ap fires.Closed is) in
         done_by past m at c c held refl (fired-done c globals fired) later
-    by_reason NoReply is = tt
-    by_reason NotAllReplies is = tt
-    by_reason NotConfirmed is = tt
-    by_reason ReplyMissed is = tt
-    by_reason NoConfirm is = tt
+    by_reason none NoReply is = tt
+    by_reason none NotAllReplies is = tt
+    by_reason none NotConfirmed is = tt
+    by_reason none ReplyMissed is = tt
+    by_reason none NoConfirm is = tt
+
+    repeats : (b : Bool) → ActKept past m at (fired_act at.handle c
+        (if b then record {
+          object = record (waiting_again c globals.now) { counter = next_counter c.counter };
+          fired = fires.Again (request_of c.terms c.counter);
+        }
+        else record { object = waiting_again c globals.now; fired = fires.Nothing }))
+    repeats true = record {
+      stays = record {
+        requested = later.requested;
+        limit = later.limit;
+        answers = later.answers;
+        apart = later.apart;
+      };
+      tells = (
+        sends_md (m ∷ past) (place_of Md m.before.setup) c.terms.to
+            (request_of c.terms c.counter) c.payload
+            (request_head c.terms c.counter fits.terms fits.counter) kept.limit
+            (again_origin past m at (place_of Md m.before.setup) c kept.requested),
+        tt,
+      );
+    }
+    repeats false = record {
+      stays = record {
+        requested = later.requested;
+        limit = later.limit;
+        answers = later.answers;
+        apart = later.apart;
+      };
+      tells = tt;
+    }
+
+    either : (b : Bool) → is_repeating c ≡ b → ActKept past m at (fired_act at.handle c
+        (if b then repeating c globals
+        else record { object = record c { deadline = None }; fired = fires.Closed (reason_of c) }))
+    either true is = repeats (topo_valid c.terms.topo globals.topo)
+    either false none = record { stays = tt; tells = (by_reason none (reason_of c) refl, tt) }
 
 -- a confirmation that is sent
 concluded_in : (reason : Option Reason) (handle : ℕ) (c : AnyCaller) (content : Content)
@@ -240,6 +312,7 @@ caller_confirmed past m at place c is made kept =
     (sym (confirming_is c place is))
     (record {
       requested = inr kept.requested;
+      limit = kept.limit;
       answers =
           answers_confirmed past m at c.terms.session (place_of Md m.before.setup) place c.answers
           made kept.answers;
@@ -288,7 +361,7 @@ pub confirms_kept : (past : List Move) (m : Move) (at : Spot) (refusal : Option 
     (place : Place) (status : ℤ) (c : AnyCaller)
     → confirm_refusal c place status ≡ refusal
     → m.event ≡ CallIs at.slot (ConfirmCall at.handle place status)
-    → IsCallerTerms c.terms → FitsSigned w32 status
+    → IsCaller c → FitsSigned w32 status
     → CallerKept past m.before.setup at c → Held at (Caller c) m
     → ((content : Content)
     → In content (confirms_unless refusal at.handle place status c).records
@@ -322,7 +395,7 @@ confirms_kept past m at None place status c is event fits status_fits kept held 
       tt,
       (
         sends_md (m ∷ past) home place (confirm_of c.terms status) []
-            (confirm_head c.terms status fits status_fits) (omega arith)
+            (confirm_head c.terms status fits.terms status_fits) (omega arith)
             (confirm_origin past m at home place status c made),
         tt,
       ),

@@ -68,11 +68,12 @@ zero_fits : FitsSigned w32 (pos 0)
 zero_fits = omega arith
 
 -- the same of a request
-pub request_head : (terms : CallerTerms) → IsCallerTerms terms → IsMdHead (request_of terms)
+pub request_head : (terms : CallerTerms) (counter : ℕ) → IsCallerTerms terms → counter < 2 ^ 32
+    → IsMdHead (request_of terms counter)
 unfolding request_of
-request_head terms fits = record {
+request_head terms counter fits small = record {
   prefix = record {
-    counter = omega arith;
+    counter = small;
     code = md_code_within message.Request;
     com_id = fits.com_id;
     etb = fits.topo.etb;

@@ -337,7 +337,7 @@ called_heard old slot setup globals (NotifyCall terms payload) h =
     (λ n. refl) h
 called_heard old slot setup globals (RequestCall terms payload) h =
     opened_heard old slot (request_refusal slot globals terms payload)
-    (Caller (new_caller terms globals.now)) (request_sent terms payload ∷ []) (λ n. refl)
+    (Caller (new_caller terms payload globals.now)) (request_sent terms payload ∷ []) (λ n. refl)
     (λ ps is p none. subst (λ (qs : List Place). IsNew p qs) (sym is) tt) h
 called_heard old slot setup globals (ReplyCall handle com_id status payload) h =
     at_handle_heard old slot handle (replies com_id status payload)

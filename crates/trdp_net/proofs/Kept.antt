@@ -11,6 +11,7 @@ use Rattle.trdp_head.specs.PdTelegrams.{PdTelegram}
 use Rattle.trdp_head.specs.MdTelegrams.{MdTelegram}
 use Rattle.trdp_pd.specs.declared.terms.ValueState.TheVariants.{Valid}
 use Rattle.trdp_md.specs.declared.answers.Answer.{Answer}
+use Rattle.trdp_md.specs.declared.terms.CallerTerms.{CallerTerms}
 use Rattle.trdp_md.specs.declared.caller.Caller.{Caller as AnyCaller}
 use Rattle.trdp_md.specs.declared.replier.Replier.{Replier as AnyReplier}
 use Rattle.trdp_md.specs.declared.replier.Stage.TheVariants.{AwaitConfirm}
@@ -21,15 +22,26 @@ use Rattle.trdp_table.specs.declared.any_object.AnyObject.TheVariants.{Caller, R
 use Rattle.trdp_engine.specs.declared.record.Protocol.{Protocol}
 use Rattle.trdp_engine.specs.declared.record.Protocol.TheVariants.{Pd, Md}
 use Rattle.trdp_engine.specs.Configs.{NodeSetup}
+use Rattle.trdp_engine.specs.Records.{MessageModel}
 use Rattle.trdp_engine.specs.Slots.{Entry}
 use Rattle.trdp_engine.specs.Acts.{Act}
 use Rattle.trdp_net.specs.Networks.{Move, place_of}
-use Rattle.trdp_net.specs.Provenance.{Ever, Spot, IsPut, IsRequestedAs, IsAsked, IsReplied}
+use Rattle.trdp_net.specs.Provenance.{Ever, Spot, IsPut, IsRequested, IsAsked, IsReplied}
 use Rattle.trdp_net.specs.Provenance.{IsConfirmedAs, IsQueried}
 use Rattle.trdp_net.proofs.Parts.{each_map}
 use Rattle.trdp_md.specs.Sessions.{AreApart}
 use Rattle.trdp_net.proofs.Explained.{spot, DataBy, MessageBy, SentBy, ToldBy}
 use Rattle.trdp_net.specs.Provenance.{Each}
+
+-- a request as it is told of, at the node of that place
+abbrev pub said_by : Place → CallerTerms → List ℕ → MessageModel
+said_by home terms payload = record {
+  src = home;
+  com_id = terms.com_id;
+  source_uri = terms.source_uri;
+  dest_uri = terms.dest_uri;
+  payload = payload;
+}
 
 -- a value was put, and is as long as process data carries at most
 pub record WasPut (past : List Move) (com_id : ℕ) (bytes : List ℕ) : Type 0 where
@@ -49,10 +61,13 @@ pub record AnswerKept (past : List Move) (at : Spot) (session : SessionId) (home
   pub confirmed : a.kind ≡ message.Query → a.confirm_owed ≡ false
       → Ever (IsConfirmedAs at session home a.place) past
 
--- a caller: it was requested, and each of its answers is known
+-- a caller: what it says was requested, and is no longer than message data carries at most; and
+-- each of its answers is known
 pub record CallerKept (past : List Move) (setup : NodeSetup) (at : Spot) (c : AnyCaller)
     : Type 0 where
-  pub requested : Ever (IsRequestedAs at c.terms.session) past
+  pub requested :
+      Ever (IsRequested at c.terms.session (said_by (place_of Md setup) c.terms c.payload)) past
+  pub limit : length c.payload ≤ 65388
   pub answers : Each (AnswerKept past at c.terms.session (place_of Md setup)) c.answers
   pub apart : AreApart c.answers
 
@@ -108,6 +123,7 @@ object_later past m setup at (Requester r) h = tt
 object_later past m setup at (Listener l) h = tt
 object_later past m setup at (Caller c) h = record {
   requested = inr h.requested;
+  limit = h.limit;
   answers = answers_later past m at c.terms.session (place_of Md setup) c.answers h.answers;
   apart = h.apart;
 }

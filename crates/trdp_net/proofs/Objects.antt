@@ -61,7 +61,7 @@ fires_kept past m at globals (Requester r) fits kept held =
 fires_kept past m at globals (Listener l) fits kept held =
     nothing_kept past m at (Listener l) kept
 fires_kept past m at globals (Caller c) fits kept held =
-    caller_fires past m at globals c kept held
+    caller_fires past m at globals c fits kept held
 fires_kept past m at globals (Replier r) fits kept held =
     replier_fires past m at globals r
 

@@ -4,8 +4,8 @@ use Rattle.std.proofs.Common.{Bool, true, false, ◌&&◌, refl, ap, sym, subst,
 use Rattle.std.proofs.Common.{slice_get, filter}
 use Rattle.std.specs.Prelude.{slice_set, ◌⊎◌, cond}
 use Rattle.std.specs.List.{flat_map}
-use Rattle.trdp_net.specs.Provenance.{In}
-use Rattle.trdp_net.specs.Provenance.{Each}
+use Rattle.trdp_net.specs.Networks.{Move}
+use Rattle.trdp_net.specs.Provenance.{Each, Ever, In}
 
 -- of two lists, one after the other
 pub each_append : {A : Type 0} (P : A → Type 0) (xs ys : List A)
@@ -114,3 +114,10 @@ set_get (z ∷ xs) zero y (suc j) x h = inr h
 set_get (z ∷ xs) (suc k) y zero x h = inr h
 set_get (z ∷ xs) (suc k) y (suc j) x h =
     elim (set_get xs k y j x h) [ inl e ↦ inl (ap suc e.0, e.1) | inr e ↦ inr e ]
+
+-- what held once, of what follows of it
+pub ever_map : (P Q : Move → List Move → Type 0)
+    → ((m : Move) (past : List Move) → P m past → Q m past) → (h : List Move) → Ever P h → Ever Q h
+ever_map P Q f [] e = absurd e
+ever_map P Q f (m ∷ past) (inl p) = inl (f m past p)
+ever_map P Q f (m ∷ past) (inr e) = inr (ever_map P Q f past e)

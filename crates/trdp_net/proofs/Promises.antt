@@ -32,7 +32,7 @@ use Rattle.trdp_net.specs.Provenance.{IsAnsweredTo, IsAnsweredBySome}
 use Rattle.trdp_net.specs.Promises.{history, AreSingle, Requests, IsFresh, ValuesArePut}
 use Rattle.trdp_net.specs.Promises.{RepliesAreMade, ConfirmsAreMade, DoneIsDue, NoticesAreMade}
 use Rattle.trdp_net.specs.Promises.{RequestsAreMade}
-use Rattle.trdp_net.proofs.Parts.{each_in}
+use Rattle.trdp_net.proofs.Parts.{each_in, ever_map}
 use Rattle.trdp_net.proofs.Kept.{ObjectKept, EntryKept}
 use Rattle.trdp_net.proofs.Runs.{NetworkKept, every_run}
 use Rattle.trdp_net.proofs.Explained.{ToldBy, IsExplained}
@@ -50,12 +50,6 @@ always_with : (P R Q : Move → List Move → Type 0)
     → Always P h → Always R h → Always Q h
 always_with P R Q f [] a r = tt
 always_with P R Q f (m ∷ past) a r = (f m past a.0 r.1, always_with P R Q f past a.1 r.1)
-
-ever_map : (P Q : Move → List Move → Type 0)
-    → ((m : Move) (past : List Move) → P m past → Q m past) → (h : List Move) → Ever P h → Ever Q h
-ever_map P Q f [] e = absurd e
-ever_map P Q f (m ∷ past) (inl p) = inl (f m past p)
-ever_map P Q f (m ∷ past) (inr e) = inr (ever_map P Q f past e)
 
 -- a record of a move that is explained
 told_by : (past : List Move) (m : Move) (k s : ℕ) (content : Content) → IsExplained m past
@@ -91,7 +85,7 @@ request_handle setup s r h slot globals terms payload is = either (r == s) is
         → h ≡ slot.next
     either true there =
         opened_handle (request_refusal slot globals terms payload) slot
-        (Caller (new_caller terms globals.now)) terms payload h there
+        (Caller (new_caller terms payload globals.now)) terms payload h there
     either false there = absurd there
 
 same_spot : (a b : Spot) → a.node ≡ b.node → a.slot ≡ b.slot → a.handle ≡ b.handle → a ≡ b

@@ -1,6 +1,6 @@
 -- An object that fits sends what fits, at a call that fits.
 use Rattle.std.proofs.Common.{◌≡◌, ℕ, ◌<◌, ◌≤◌, ◌^◌, ℤ, List, [], ◌∷◌, length}
-use Rattle.std.proofs.Common.{Option, Some, None, Bool, true, false, refl, sym, subst, arith}
+use Rattle.std.proofs.Common.{Option, Some, None, Bool, true, false, refl, arith}
 use Rattle.std.specs.Prelude.{if◌then◌else◌, FitsSigned}
 use Rattle.std.specs.Int.{w32}
 use Rattle.trdp_base.specs.declared.place.Place.{Place}
@@ -11,12 +11,11 @@ use Rattle.trdp_head.specs.MdBytes.{md_bytes}
 use Rattle.trdp_filter.specs.declared.globals.Globals.{Globals}
 use Rattle.trdp_filter.specs.Counts.{topo_valid}
 use Rattle.trdp_pd.specs.declared.object.Reason.{Reason}
-use Rattle.trdp_md.specs.declared.terms.CallerTerms.{CallerTerms}
 use Rattle.trdp_md.specs.declared.replier.Replier.{Replier as AnyReplier}
+use Rattle.trdp_md.specs.Answers.{awaits, confirmed}
 use Rattle.trdp_md.specs.Callers.{confirming}
 use Rattle.trdp_md.specs.Callers.{closed_of, confirm_of}
 use Rattle.trdp_md.specs.Repliers.{queried, answer_with}
-use Rattle.trdp_md.proofs.Confirming.{terms-confirming}
 use Rattle.trdp_table.specs.declared.kind.Kind.{Kind}
 use Rattle.trdp_table.specs.Kinds.{kind_of, is_same_kind}
 use Rattle.trdp_table.specs.declared.any_object.AnyObject.{AnyObject}
@@ -39,8 +38,7 @@ use Rattle.trdp_engine.specs.Replies.{answers_unless, confirms_unless, confirm_r
 use Rattle.trdp_engine.specs.Replies.{reply_refusal, query_refusal, error_refusal}
 use Rattle.trdp_net.proofs.Heads.{confirm_head, answer_head}
 use Rattle.trdp_net.proofs.Repliers.{reply_limit, query_limit}
-use Rattle.trdp_net.proofs.TypedMoves.{IsReplier, IsTypedObject}
-use Rattle.trdp_net.specs.Typed.{IsCallerTerms}
+use Rattle.trdp_net.proofs.TypedMoves.{IsCaller, IsReplier, IsTypedObject}
 use Rattle.trdp_net.proofs.TypedObjects.{IsSentTyped, md_typed, LeftTyped, ActTyped, answers_typed}
 use Rattle.trdp_net.proofs.TypedObjects.{next_fits}
 
@@ -164,15 +162,20 @@ errors_typed com_id status (Caller x) c s fits = answers_typed (Caller x) _ fits
 pub confirms_typed : (handle : ℕ) (place : Place) (status : ℤ) (x : AnyObject)
     → FitsSigned w32 status
     → IsTypedObject x → ActTyped (confirms handle place status x)
+unfolding confirming
 confirms_typed handle place status (Caller c) s fits = either (confirm_refusal c place status)
   where
     sent : IsSentTyped Md (md_bytes (confirm_of c.terms status) [])
-    sent = md_typed (confirm_of c.terms status) [] (confirm_head c.terms status fits s)
+    sent = md_typed (confirm_of c.terms status) [] (confirm_head c.terms status fits.terms s)
         (omega arith)
 
-    later : IsCallerTerms (confirming c place).terms
-    later =
-        subst (λ (t : CallerTerms). IsCallerTerms t) (sym (terms-confirming c place)) fits
+    later : IsCaller (confirming c place)
+    later = by (awaits c.answers place)
+      where
+        by : (b : Bool)
+            → IsCaller (if b then record c { answers = confirmed c.answers place } else c)
+        by true = record { terms = fits.terms; counter = fits.counter; payload = fits.payload }
+        by false = fits
 
     over : (reason : Option Reason) → ActTyped (concluded reason handle (confirming c place)
         (Answers DoneIs ∷ Sends Md place (md_bytes (confirm_of c.terms status) []) ∷ []))

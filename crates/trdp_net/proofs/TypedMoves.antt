@@ -1,9 +1,10 @@
 -- Objects, calls and moves that send what their fields hold.
-use Rattle.std.specs.Prelude.{◌≡◌, ℕ, ◌<◌, ◌^◌, List, Some, slice_get, FitsSigned}
+use Rattle.std.specs.Prelude.{◌≡◌, ℕ, ◌<◌, ◌≤◌, ◌^◌, List, length, Some, slice_get, FitsSigned}
 use Rattle.std.specs.Int.{w32}
 use Rattle.trdp_base.specs.Uris.{IsUri}
 use Rattle.trdp_pd.specs.Publishers.{PublisherState}
 use Rattle.trdp_pd.specs.Requesters.{RequesterState}
+use Rattle.trdp_md.specs.declared.caller.Caller.{Caller as AnyCaller}
 use Rattle.trdp_md.specs.declared.replier.Replier.{Replier as AnyReplier}
 use Rattle.trdp_table.specs.declared.any_object.AnyObject.{AnyObject}
 use Rattle.trdp_table.specs.declared.any_object.AnyObject.TheVariants.{Publisher, Requester}
@@ -30,6 +31,12 @@ pub record IsRequester (r : RequesterState) : Type 0 where
   pub reply_com_id : r.terms.reply_com_id < 2 ^ 32
   pub reply_ip : r.terms.reply_ip.0 < 2 ^ 32
 
+-- what a caller sends
+pub record IsCaller (c : AnyCaller) : Type 0 where
+  pub terms : IsCallerTerms c.terms
+  pub counter : c.counter < 2 ^ 32
+  pub payload : length c.payload ≤ 65388
+
 -- what a replier sends
 pub record IsReplier (r : AnyReplier) : Type 0 where
   pub topo : IsTopo r.topo
@@ -41,7 +48,7 @@ pub record IsReplier (r : AnyReplier) : Type 0 where
 abbrev pub IsTypedObject : AnyObject → Type 0
 IsTypedObject (Publisher p) = IsPublisher p
 IsTypedObject (Requester r) = IsRequester r
-IsTypedObject (Caller c) = IsCallerTerms c.terms
+IsTypedObject (Caller c) = IsCaller c
 IsTypedObject (Replier r) = IsReplier r
 IsTypedObject object = Unit {0}
 

@@ -14,6 +14,7 @@ use Rattle.trdp_head.specs.MdBytes.{md_bytes}
 use Rattle.trdp_head.proofs.MdBytesFacts.{IsMdTelegram-md_bytes}
 use Rattle.trdp_head.proofs.MdTelegramFacts.{md_telegram-is}
 use Rattle.trdp_filter.specs.declared.globals.Globals.{Globals}
+use Rattle.trdp_filter.specs.Counts.{topo_valid}
 use Rattle.trdp_filter.specs.Telegrams.{TelegramModel, PdIs, MdIs}
 use Rattle.trdp_pd.specs.declared.object.Taken.{Taken}
 use Rattle.trdp_pd.specs.declared.object.Taken.TheVariants as took
@@ -27,7 +28,8 @@ use Rattle.trdp_pd.specs.Subscriptions.{SubscriptionState, is_accepted as is_sto
 use Rattle.trdp_pd.specs.Subscriptions.{taken_in}
 use Rattle.trdp_md.specs.declared.caller.Caller.{Caller as AnyCaller}
 use Rattle.trdp_md.specs.declared.replier.Replier.{Replier as AnyReplier}
-use Rattle.trdp_md.specs.Callers.{is_accepted, answering, replied, is_complete}
+use Rattle.trdp_md.specs.Callers.{is_accepted, answering, replied, is_complete, request_of}
+use Rattle.trdp_md.specs.Callers.{is_repeating, waiting_again, repeating, reason_of}
 use Rattle.trdp_md.specs.Listeners.{listener_addressed}
 use Rattle.trdp_md.specs.Repliers.{is_for_replier, ended}
 use Rattle.trdp_table.specs.declared.any_object.AnyObject.{AnyObject}
@@ -47,6 +49,7 @@ use Rattle.trdp_engine.specs.Datagrams.{taking_act}
 use Rattle.trdp_engine.specs.Datagrams.{taken_records, left_taking}
 use Rattle.trdp_engine.specs.Datagrams.{fits_object}
 use Rattle.trdp_engine.specs.Pulls.{answer_place}
+use Rattle.trdp_net.proofs.Heads.{request_head}
 use Rattle.trdp_net.proofs.TypedMoves.{IsPublisher, IsTypedObject}
 use Rattle.trdp_net.specs.Provenance.{Each}
 
@@ -135,7 +138,42 @@ fires_typed handle globals (Publisher p) fits = either (may_send p globals)
 fires_typed handle globals (Subscription u) fits = record { left = tt; sends = (tt, tt) }
 fires_typed handle globals (Requester r) fits = record { left = fits; sends = tt }
 fires_typed handle globals (Listener l) fits = record { left = tt; sends = tt }
-fires_typed handle globals (Caller c) fits = record { left = tt; sends = (tt, tt) }
+fires_typed handle globals (Caller c) fits = either (is_repeating c)
+  where
+    act : Firing AnyCaller → Act
+    act f = record {
+      left = left_firing f.fired (Caller f.object);
+      records = firing_records handle (Caller c) f.fired;
+    }
+
+    repeats : (b : Bool) → ActTyped (act
+        (if b then record {
+          object = record (waiting_again c globals.now) { counter = next_counter c.counter };
+          fired = fires.Again (request_of c.terms c.counter);
+        }
+        else record { object = waiting_again c globals.now; fired = fires.Nothing }))
+    repeats true = record {
+      left = record {
+        terms = fits.terms;
+        counter = next_fits c.counter;
+        payload = fits.payload;
+      };
+      sends = (
+        md_typed (request_of c.terms c.counter) c.payload
+            (request_head c.terms c.counter fits.terms fits.counter) fits.payload,
+        tt,
+      );
+    }
+    repeats false = record {
+      left = record { terms = fits.terms; counter = fits.counter; payload = fits.payload };
+      sends = tt;
+    }
+
+    either : (b : Bool) → ActTyped (act
+        (if b then repeating c globals
+        else record { object = record c { deadline = None }; fired = fires.Closed (reason_of c) }))
+    either true = repeats (topo_valid c.terms.topo globals.topo)
+    either false = record { left = tt; sends = (tt, tt) }
 fires_typed handle globals (Replier r) fits = record { left = tt; sends = (tt, tt) }
 
 -- at a telegram
@@ -227,7 +265,10 @@ takes_typed handle setup (MdIs src dst t) globals (Caller c) fits =
     last : (b : Bool) → ActTyped
         (act (record { object = after; taken = if b then took.RepliedLast else took.Replied }))
     last true = record { left = tt; sends = (tt, (tt, tt)) }
-    last false = record { left = fits; sends = (tt, tt) }
+    last false = record {
+      left = record { terms = fits.terms; counter = fits.counter; payload = fits.payload };
+      sends = (tt, tt);
+    }
 
     either : (b : Bool) → ActTyped (act
         (if b then record { object = after; taken = replied after }

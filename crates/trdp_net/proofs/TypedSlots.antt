@@ -128,11 +128,12 @@ handed_typed slot setup globals telegram fits =
     (λ e e_fits. takes_typed e.handle setup telegram globals e.object e_fits)
 
 opened_typed : (slot : SlotState) (refusal : Option Refusal) (object : AnyObject)
-    (records : List Content) → Each IsTypedEntry slot.objects → IsTypedObject object
+    (records : List Content) → Each IsTypedEntry slot.objects
+    → (refusal ≡ None → IsTypedObject object)
     → (refusal ≡ None → AreTyped records) → OutcomeTyped (opened_with refusal slot object records)
 opened_typed slot (Some refusal) object records fits new sends = refused_typed slot refusal fits
 opened_typed slot None object records fits new sends = record {
-  objects = each_append IsTypedEntry slot.objects _ fits (new, tt);
+  objects = each_append IsTypedEntry slot.objects _ fits (new refl, tt);
   sends = (tt, sends refl);
 }
 
@@ -186,22 +187,23 @@ called_typed : (slot : SlotState) (setup : NodeSetup) (globals : Globals) (call 
     → OutcomeTyped (called setup slot globals call)
 called_typed slot setup globals (PublishCall terms) c fits =
     opened_typed slot (publish_refusal setup slot terms) (Publisher (published terms globals.now))
-    [] fits (record { counter = omega arith; com_id = c.com_id; topo = c.topo }) (λ none. tt)
+    [] fits (λ none. record { counter = omega arith; com_id = c.com_id; topo = c.topo })
+    (λ none. tt)
 called_typed slot setup globals (PutCall handle bytes) c fits =
     at_handle_typed slot handle (puts setup bytes) fits (puts_typed setup bytes)
 called_typed slot setup globals (UnpublishCall handle) c fits =
     at_handle_typed slot handle (ends kinds.Publisher) fits (ends_typed kinds.Publisher)
 called_typed slot setup globals (SubscribeCall terms) c fits =
     opened_typed slot (subscribe_refusal setup slot terms)
-    (Subscription (subscribed terms (zero_size_of setup terms.dataset) globals.now)) [] fits tt
-    (λ none. tt)
+    (Subscription (subscribed terms (zero_size_of setup terms.dataset) globals.now)) [] fits
+    (λ none. tt) (λ none. tt)
 called_typed slot setup globals (GetCall handle) c fits =
     at_handle_typed slot handle shows fits (λ x x_fits. answers_typed x _ x_fits)
 called_typed slot setup globals (UnsubscribeCall handle) c fits =
     at_handle_typed slot handle (ends kinds.Subscription) fits (ends_typed kinds.Subscription)
 called_typed slot setup globals (OpenPullCall terms) c fits =
     opened_typed slot (opening_refusal slot kinds.Requester) (Requester (opened terms)) [] fits
-    (record {
+    (λ none. record {
       counter = omega arith;
       com_id = c.com_id;
       topo = c.topo;
@@ -214,8 +216,8 @@ called_typed slot setup globals (PullCall handle) c fits =
 called_typed slot setup globals (ClosePullCall handle) c fits =
     at_handle_typed slot handle (ends kinds.Requester) fits (ends_typed kinds.Requester)
 called_typed slot setup globals (ListenCall filter) c fits =
-    opened_typed slot (listen_refusal slot filter) (Listener (listening filter)) [] fits tt
-    (λ none. tt)
+    opened_typed slot (listen_refusal slot filter) (Listener (listening filter)) [] fits
+    (λ none. tt) (λ none. tt)
 called_typed slot setup globals (UnlistenCall handle) c fits =
     at_handle_typed slot handle (ends kinds.Listener) fits (ends_typed kinds.Listener)
 called_typed slot setup globals (NotifyCall terms payload) c fits =
@@ -223,9 +225,14 @@ called_typed slot setup globals (NotifyCall terms payload) c fits =
     (notify_limit globals terms payload) c fits
 called_typed slot setup globals (RequestCall terms payload) c fits =
     opened_typed slot (request_refusal slot globals terms payload)
-    (Caller (new_caller terms globals.now)) (request_sent terms payload ∷ []) fits c
+    (Caller (new_caller terms payload globals.now)) (request_sent terms payload ∷ []) fits
+    (λ none. record {
+      terms = c;
+      counter = omega arith;
+      payload = request_limit slot globals terms payload none;
+    })
     (λ none. (
-      md_typed (request_of terms) payload (request_head terms c)
+      md_typed (request_of terms 0) payload (request_head terms 0 c (omega arith))
           (request_limit slot globals terms payload none),
       tt,
     ))

@@ -117,6 +117,7 @@ caller_terms = record {
   session = example_session;
   expected = 1;
   timeout = 2000000;
+  retries = 0;
   topo = any_topo;
   to = messages_1;
   source_uri = door;

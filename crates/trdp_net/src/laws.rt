@@ -71,7 +71,7 @@ pub fn no_early_done()
 
 /// A notification that a listener is told of was made by a granted Notify, and a request by a
 /// granted Request of its identifier, at the node of the place that it names, with this comId,
-/// these URIs and this payload.
+/// these URIs and this payload; it may have come as any of the request's repeats.
 ///
 /// Needs `AreSingle` and `AreTypedSteps`. Not promised: that it is told once. A notification is
 /// told as often as it arrives, and a request that comes again after its session has closed is

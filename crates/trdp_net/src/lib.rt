@@ -42,8 +42,8 @@
 //! # What is not promised
 //!
 //! - That anything arrives.
-//! - That a request is asked once: one that comes again after its session has closed is asked
-//!   again.
+//! - That a request is asked once: one that comes again after its session has closed, from the
+//!   network or since its caller sent it again, is asked again.
 //! - Anything of telegrams that no node of the network sent: a peer that does not follow the rules
 //!   can invent what it likes, since telegrams carry no proof of their origin.
 #![tactic(auto)]

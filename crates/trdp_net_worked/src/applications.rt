@@ -127,6 +127,7 @@ impl ByChance {
             session: SessionId(u128::from(self.sessions)),
             expected: self.chance.below(4) as u8,
             timeout: self.chance.span(),
+            retries: self.chance.below(3) as u8,
             topo: ANY_TRAIN,
             to: self.addressee(),
             source_uri: said.source_uri,

@@ -1,11 +1,11 @@
-//! A request and its answer, over a network that brings each of them twice.
+//! A request that is sent again, and its answer, over a network that brings each of them twice.
 
 use crate::bench::{Act, Step, play};
 use std::test::Fail;
 
 /// The reply comes twice, and is told once. The request comes twice while its replier is open, and
-/// is told once; then it comes again, and is asked again.
-static ANSWERED: [Step; 8] = [
+/// is told once, and so does its repeat; then it comes again, and is asked again.
+static ANSWERED: [Step; 10] = [
     Step {
         node: 1,
         act: Act::Take("call 0 listen 300 0.0.0.0 0.0.0.0 0.0.0.0 - 0 0"),
@@ -16,7 +16,7 @@ static ANSWERED: [Step; 8] = [
         act: Act::Take(
             "\
                 call 0 request 300 00000000-0000-0000-0000-000000000001 1 1000 - - 0 0 \
-                10.0.0.2:17225 0d",
+                10.0.0.2:17225 0d 2",
         ),
         tells: "\
             0 handle 1\n\
@@ -37,6 +37,20 @@ static ANSWERED: [Step; 8] = [
         tells: "",
     },
     Step {
+        node: 0,
+        act: Act::Take("moment 1000"),
+        tells: "\
+            0 send md 10.0.0.2:17225 \
+            0000000101004d720000012c00000000000000000000000100000000000000000000000000000000\
+            00000001000003e80000000000000000000000000000000000000000000000000000000000000000\
+            00000000000000000000000000000000000000000000000000000000000000009ca3225b0d000000\n",
+    },
+    Step {
+        node: 1,
+        act: Act::Deliver(1),
+        tells: "",
+    },
+    Step {
         node: 1,
         act: Act::Take("call 0 reply 2 301 0 0c"),
         tells: "\
@@ -48,12 +62,12 @@ static ANSWERED: [Step; 8] = [
     },
     Step {
         node: 0,
-        act: Act::Deliver(1),
+        act: Act::Deliver(2),
         tells: "0 replied 1 10.0.0.2:17225 Mp 0 301 0c\n0 closed 1 Done\n",
     },
     Step {
         node: 0,
-        act: Act::Deliver(1),
+        act: Act::Deliver(2),
         tells: "",
     },
     Step {

@@ -4,6 +4,7 @@ ghost use Rattle.std.specs.Prelude.{◌≤◌};
 ghost use Rattle.trdp_base.specs.Moments.{last_moment};
 
 use crate::same::same;
+use std::alloc::AllocError;
 use std::process::Abort;
 use std::test::Fail;
 use trdp_base::{Ip, Place, SessionId, Topo, Uri};
@@ -41,6 +42,8 @@ enum Does {
     RepliedLast,
     /// It takes a confirmation with this status.
     Confirmed(i32),
+    /// It sends its request again, with this sequence counter.
+    Again(u32),
     /// It closes for this reason.
     Closed(Reason),
     /// It does what neither a caller nor a replier does.
@@ -102,6 +105,22 @@ static TWO_OF_TWO: [Row; 3] = [
 static SILENCE: [Row; 2] = [
     (999, Happens::Moment, Does::Nothing),
     (1000, Happens::Moment, Does::Closed(Reason::NoReply)),
+];
+
+/// No answer comes, and the request is sent again once.
+static ONCE_AGAIN: [Row; 3] = [
+    (1000, Happens::Moment, Does::Again(1)),
+    (1999, Happens::Moment, Does::Nothing),
+    (2000, Happens::Moment, Does::Closed(Reason::NoReply)),
+];
+
+/// Or twice: once at a moment, however far that jumps.
+static TWICE_AGAIN: [Row; 5] = [
+    (1000, Happens::Moment, Does::Again(1)),
+    (5000, Happens::Moment, Does::Again(2)),
+    (5000, Happens::Moment, Does::Nothing),
+    (5999, Happens::Moment, Does::Nothing),
+    (6000, Happens::Moment, Does::Closed(Reason::NoReply)),
 ];
 
 /// A request isn't answered, with a replyTimeout of 0.
@@ -182,6 +201,7 @@ fn act<O: Object>(object: &mut O, globals: &Globals) -> Does
 {
     match object.due() {
         Some(due) if due <= globals.now => match object.fire(globals) {
+            Fired::Again(head) => Does::Again(head.counter),
             Fired::Closed(reason) => Does::Closed(reason),
             Fired::Nothing | Fired::Data(_) | Fired::Silent => Does::Wrong,
         },
@@ -207,13 +227,15 @@ fn live<O: Object>(rt: &(impl Abort + AllocGlobal), object: &mut O, rows: &[Row]
     }
 }
 
-/// What a caller asks for that expects so many answers within 1,000 microseconds.
-fn asks(expected: u8) -> CallerTerms {
+/// What a caller asks for that expects so many answers within 1,000 microseconds, and sends its
+/// request again so often at most.
+fn asks(expected: u8, retries: u8) -> CallerTerms {
     CallerTerms {
         com_id: 300,
         session: SessionId(9),
         expected,
         timeout: 1000,
+        retries,
         topo: ANY,
         to: HERE,
         source_uri: Uri::empty(),
@@ -222,24 +244,44 @@ fn asks(expected: u8) -> CallerTerms {
 }
 
 /// A caller that waits for 1,000 microseconds from 0 on goes through these rows.
-fn call(rt: &(impl Abort + AllocGlobal), expected: u8, rows: &[Row]) {
-    let mut caller = Caller::new(&asks(expected), 0);
+fn call(
+    rt: &(impl Abort + AllocGlobal),
+    terms: &CallerTerms,
+    rows: &[Row],
+) -> Result<(), AllocError> {
+    let mut caller = Caller::new(rt.alloc(), terms, b"\x0d", 0)?;
     live(rt, &mut caller, rows);
+    Ok(())
 }
 
 #[test]
-fn callers_close(rt: HostRuntime) {
-    call(&rt, 1, &QUERY);
-    call(&rt, 1, &QUERY_WITHOUT_TIME);
-    call(&rt, 0, &NINE_PLACES);
-    call(&rt, 2, &ONE_OF_TWO);
-    call(&rt, 2, &TWO_OF_TWO);
-    call(&rt, 0, &SILENCE);
+fn callers_close(rt: HostRuntime) -> Result<(), Fail> {
+    call(&rt, &asks(1, 2), &QUERY)?;
+    call(&rt, &asks(1, 0), &QUERY_WITHOUT_TIME)?;
+    call(&rt, &asks(0, 0), &NINE_PLACES)?;
+    call(&rt, &asks(2, 2), &ONE_OF_TWO)?;
+    call(&rt, &asks(2, 0), &TWO_OF_TWO)?;
+    call(&rt, &asks(0, 0), &SILENCE)?;
+    call(&rt, &asks(0, 1), &ONCE_AGAIN)?;
+    call(&rt, &asks(1, 2), &TWICE_AGAIN)?;
+    Ok(())
+}
+
+/// It passes whichever request for memory is refused.
+#[test]
+fn caller_keeps_its_payload(rt: HostRuntime) -> Result<(), Fail> {
+    let terms = asks(1, 2);
+    let caller = match Caller::new(rt.alloc(), &terms, b"\x0d\x0e", 0) {
+        Ok(caller) => caller,
+        Err(_) => Caller::new(rt.alloc(), &terms, b"\x0d\x0e", 0)?,
+    };
+    assert!(rt; caller.to() == HERE && caller.payload() == b"\x0d\x0e".as_slice());
+    Ok(())
 }
 
 #[test]
-fn confirmed_caller_is_done(rt: HostRuntime) {
-    let mut caller = Caller::new(&asks(1), 0);
+fn confirmed_caller_is_done(rt: HostRuntime) -> Result<(), Fail> {
+    let mut caller = Caller::new(rt.alloc(), &asks(1, 0), b"\x0d", 0)?;
     live(&rt, &mut caller, &QUERY[..3]);
     assert!(rt; caller.session() == SessionId(9) && caller.dataset().is_none());
     assert!(rt; caller.answers().len() == 1 && caller.closed().is_none());
@@ -247,6 +289,7 @@ fn confirmed_caller_is_done(rt: HostRuntime) {
     assert!(rt; caller.awaits(place(1)) && caller.confirm(place(1)));
     assert!(rt; !caller.confirm(place(1)));
     same(&rt, "confirmed", caller.closed(), Some(Reason::Done));
+    Ok(())
 }
 
 #[test]
@@ -277,12 +320,12 @@ fn between(kind: MdKind, status: i32, timeout: u32, source_uri: Uri, dest_uri: U
 fn headers_of_a_session(rt: HostRuntime) -> Result<(), Fail> {
     let a = Uri::new(b"car1").ok_or("no URI")?;
     let b = Uri::new(b"car2").ok_or("no URI")?;
-    let mut terms = asks(1);
+    let mut terms = asks(1, 0);
     terms.source_uri = a;
     terms.dest_uri = b;
-    let request = request_head(&terms);
+    let request = request_head(&terms, 0);
     same(&rt, "Mr", request, between(MdKind::Request, 0, 1000, a, b));
-    let confirm = Caller::new(&terms, 0).confirm_head(5);
+    let confirm = Caller::new(rt.alloc(), &terms, b"", 0)?.confirm_head(5);
     same(&rt, "Mc", confirm, between(MdKind::Confirm, 5, 0, a, b));
     let replier = Replier::new(HERE, &request, 0);
     let reply = replier.reply_head(300, 5);

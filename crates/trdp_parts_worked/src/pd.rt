@@ -177,7 +177,7 @@ fn act<O: Object>(object: &mut O, globals: &Globals) -> Does
             Fired::Nothing => Does::Quiet,
             Fired::Data(head) => sends(&head),
             Fired::Silent => Does::Silent,
-            Fired::Closed(_) => Does::Wrong,
+            Fired::Again(_) | Fired::Closed(_) => Does::Wrong,
         },
         _ => Does::Nothing,
     }

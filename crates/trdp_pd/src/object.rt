@@ -8,7 +8,7 @@ ghost use Rattle.trdp_pd.specs.Due.{IsDueBy, is_due_by};
 ghost use Rattle.trdp_pd.specs.Effects.{Taking, Firing};
 
 use trdp_filter::{Globals, Telegram};
-use trdp_head::PdHead;
+use trdp_head::{MdHead, PdHead};
 
 /// What an object did with a telegram.
 #[derive(Clone, Copy, Debug, PartialEq, Eq)]
@@ -55,6 +55,8 @@ pub enum Fired {
     Nothing,
     /// It sends its value under this header.
     Data(PdHead),
+    /// It sends its request again under this header.
+    Again(MdHead),
     /// Its supervision time ran out.
     Silent,
     /// Its deadline came, and it is over.

@@ -2,7 +2,7 @@
 use Rattle.std.proofs.Common.{inl, ◌≡◌, suc, ◌+◌, ◌<◌, ℕ, Bool, true, false, List, []}
 use Rattle.std.proofs.Common.{◌∷◌, ◌++◌, length, Some, None, Ok, Err, Option}
 use Rattle.std.proofs.Common.{Result, refl, sym, ◌∙◌, ap, arith, append-nil, subst}
-use Rattle.std.specs.Prelude.{nat_eq, nat_lt, if◌then◌else◌, IfErr, OnOk}
+use Rattle.std.specs.Prelude.{nat_lt, if◌then◌else◌, IfErr, OnOk}
 use Rattle.std.specs.Str.Lines.{lines, strip_carriage_return}
 use Rattle.trdp_engine.specs.Events.{EventModel}
 use Rattle.trdp_script.specs.declared.fault.LineFault.{LineFault}
@@ -16,7 +16,8 @@ use Rattle.trdp_script.specs.declared.script.ScriptFault.TheVariants.{OutOfMemor
 use Rattle.trdp_script.specs.Forms.{LineForm, forms, event_in}
 use Rattle.trdp_script.specs.Words.{words_of}
 use Rattle.trdp_script.specs.Lines.{Reads, event_or_fault, form_among}
-use Rattle.trdp_script.specs.Lines.{is_skipped, line_among, line_of, words_say}
+use Rattle.trdp_script.specs.Lines.{is_skipped, line_among, line_of, may_have}
+use Rattle.trdp_script.specs.Lines.{words_say}
 use Rattle.trdp_script.specs.Pieces.{IsBare}
 use Rattle.trdp_script.specs.ScriptText.{after_line, events_of, events_text}
 use Rattle.trdp_script.specs.ScriptText.{fault_from, fault_or, nodes_after}
@@ -200,7 +201,7 @@ never_said : (form : Option LineForm) (words : List (List ℕ)) → NeverMemory 
 unfolding words_say
 never_said None words is = absurd (cc)
 never_said (Some form) words is =
-    never_counted (nat_eq (length words) (length form.parts)) (event_in form words) is
+    never_counted (may_have form.parts (length words)) (event_in form words) is
   where
     never_counted : (b : Bool) (event : Option EventModel)
         → NeverMemory (if b then event_or_fault event else Err Count)

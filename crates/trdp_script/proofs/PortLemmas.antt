@@ -2,7 +2,7 @@
 use Rattle.std.proofs.Common.{◌≡◌, ℕ, ◌+◌, ◌^◌, ◌<◌, ◌≤◌, ◌==◌, nat_lt, Bool, true, false, List, []}
 use Rattle.std.proofs.Common.{◌∷◌, ◌++◌, length, Ok, Err, refl, sym, ap, ◌∙◌, inl, arith}
 use Rattle.std.proofs.Common.{length-append}
-use Rattle.std.proofs.Common.{Option, Some, None, Result, IfErr, if◌then◌else◌, nat_eq}
+use Rattle.std.proofs.Common.{Option, Some, None, Result, IfErr, if◌then◌else◌}
 use Rattle.std.specs.Option.{option_and_then}
 use Rattle.std.proofs.lemmas.Bool.Decides.{nat_tests}
 use Rattle.std.proofs.lemmas.List.Elements.{All-nil, All-cons}
@@ -14,7 +14,7 @@ use Rattle.trdp_script.specs.Forms.{call_word, event_in, event_of_words, forms, 
 use Rattle.trdp_script.specs.Forms.{role_form, topology_form}
 use Rattle.trdp_script.specs.Words.{words_of}
 use Rattle.trdp_script.specs.Lines.{Reads, event_or_fault, form_among, is_skipped, line_among}
-use Rattle.trdp_script.specs.Lines.{words_say}
+use Rattle.trdp_script.specs.Lines.{may_have, words_say}
 use Rattle.trdp_script.specs.PortLines.{call_line, control_line_of, operator_line_of, without_end}
 use Rattle.trdp_script.specs.declared.line.Line.{Line}
 use Rattle.trdp_script.specs.declared.fault.LineFault.{LineFault}
@@ -96,12 +96,13 @@ counted_said false event is = λ same. absurd (cc)
 
 topology_words : (words : List (List ℕ)) → IsOperators (words_say (Some topology_form) words)
 unfolding words_say event_of_words
-topology_words words = counted_said (nat_eq (length words) 3) (event_in topology_form words)
+topology_words words =
+    counted_said (may_have topology_form.parts (length words)) (event_in topology_form words)
     (topology_said _ _)
 
 role_words : (words : List (List ℕ)) → IsOperators (words_say (Some role_form) words)
 unfolding words_say event_of_words
-role_words words = counted_said (nat_eq (length words) 3) (event_in role_form words)
+role_words words = counted_said (may_have role_form.parts (length words)) (event_in role_form words)
     (role_said _ _)
 
 other_words_said : (words : List (List ℕ)) → IsOperators (words_say None words)

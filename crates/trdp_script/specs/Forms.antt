@@ -19,13 +19,15 @@ use Rattle.trdp_engine.specs.Events.{EventModel, MomentIs, TopologyIs, RoleIs, D
 use Rattle.trdp_engine.specs.declared.record.Protocol.{Protocol}
 use Rattle.trdp_engine.specs.declared.record.Protocol.TheVariants.{Pd, Md}
 use Rattle.trdp_script.specs.Words.{first_word, other_words, number_of_word, ip_of_word}
+use Rattle.trdp_script.specs.Words.{last_number}
 use Rattle.trdp_script.specs.Words.{place_of_word, bytes_of_word, choice_of_word}
 use Rattle.trdp_script.specs.Words.{any_or_number, uri_of_word, status_of_word, session_of_word}
 
--- what one word of a line is to be
+-- what one word of a line is to be; the last number of a line may be left out, and is 0 then
 pub data Part : Type 0 where
   Keyword : (word : List ℕ) → Part
   NumberField : (max : ℕ) → Part
+  LastNumberField : (max : ℕ) → Part
   AnyOrNumberField : (max : ℕ) → Part
   AddressField : Part
   PlaceField : Part
@@ -39,6 +41,7 @@ pub data Part : Type 0 where
 abbrev pub From : Part → Type 0 → Type 0
 From (Keyword word) Made = Made
 From (NumberField max) Made = ℕ → Made
+From (LastNumberField max) Made = ℕ → Made
 From (AnyOrNumberField max) Made = Option ℕ → Made
 From AddressField Made = Ip → Made
 From PlaceField Made = Place → Made
@@ -232,18 +235,19 @@ notify_form =
       dest_uri = dest_uri;
     } in CallIs slot (NotifyCall terms payload))
 
--- call SLOT request COMID SESSION EXPECTED TIME SOURCEURI DESTURI ETB OPTRN TO HEX
+-- call SLOT request COMID SESSION EXPECTED TIME SOURCEURI DESTURI ETB OPTRN TO HEX [RETRIES]
 abbrev pub request_form : LineForm
 request_form =
     call_form (codes "request")
     (number_32 ∷ SessionField ∷ number_8 ∷ number_32 ∷ UriField ∷ UriField ∷ number_32 ∷ number_32
-    ∷ PlaceField ∷ BytesField ∷ [])
-    (λ slot com_id session expected timeout source_uri dest_uri etb op_trn to payload.
+    ∷ PlaceField ∷ BytesField ∷ LastNumberField (2 ^ 8 - 1) ∷ [])
+    (λ slot com_id session expected timeout source_uri dest_uri etb op_trn to payload retries.
     let terms : CallerTerms = record {
       com_id = com_id;
       session = session;
       expected = expected;
       timeout = timeout;
+      retries = retries;
       topo = record { etb = etb; op_trn = op_trn };
       to = to;
       source_uri = source_uri;
@@ -303,6 +307,9 @@ event_of_words (Keyword word ∷ parts) event words =
 event_of_words (NumberField max ∷ parts) event words =
     option_and_then (λ number. event_of_words parts (event number) (other_words words))
     (number_of_word max (first_word words))
+event_of_words (LastNumberField max ∷ parts) event words =
+    option_and_then (λ number. event_of_words parts (event number) (other_words words))
+    (last_number max words)
 event_of_words (AnyOrNumberField max ∷ parts) event words =
     option_and_then (λ number. event_of_words parts (event number) (other_words words))
     (any_or_number max (first_word words))

@@ -1,9 +1,11 @@
 -- What a line of a script says.
-use Rattle.std.specs.Prelude.{◌≡◌, ℕ, ◌==◌, List, [], ◌∷◌, length, nat_lt, nat_eq, Bool, true}
+use Rattle.std.specs.Prelude.{◌≡◌, ℕ, suc, ◌==◌, ◌&&◌, List, [], ◌∷◌, length, nat_lt, nat_le, Bool}
+use Rattle.std.specs.Prelude.{true}
 use Rattle.std.specs.Prelude.{Option, Some, None, Result, Ok, Err, if◌then◌else◌, find}
 use Rattle.trdp_engine.specs.Events.{EventModel, MomentIs, TopologyIs, RoleIs, DatagramIs, CallIs}
 use Rattle.trdp_script.specs.EventBytes.{carries_bytes}
-use Rattle.trdp_script.specs.Forms.{LineForm, forms, has_keywords, event_in}
+use Rattle.trdp_script.specs.Forms.{Part, LastNumberField, LineForm, forms, has_keywords}
+use Rattle.trdp_script.specs.Forms.{event_in}
 use Rattle.trdp_script.specs.LineCalls.{plain_call_of, bytes_call_of}
 use Rattle.trdp_script.specs.Words.{words_of}
 use Rattle.trdp_script.specs.declared.fault.LineFault.{LineFault}
@@ -23,11 +25,21 @@ abbrev pub event_or_fault : Option EventModel → Result (Option EventModel) Lin
 event_or_fault (Some event) = Ok (Some event)
 event_or_fault None = Err BadWord
 
+-- how many words a line of these parts has at least: all but a last number
+unfoldable pub least_words : List Part → ℕ
+least_words [] = 0
+least_words (LastNumberField max ∷ parts) = least_words parts
+least_words (part ∷ parts) = suc (least_words parts)
+
+-- a line of these parts may have so many words
+abbrev pub may_have : List Part → ℕ → Bool
+may_have parts n = nat_le (least_words parts) n && nat_le n (length parts)
+
 -- what words say that have the keywords of that form; none: of no form
 unfoldable pub words_say : Option LineForm → List (List ℕ) → Result (Option EventModel) LineFault
 words_say None words = Err Unknown
 words_say (Some form) words =
-    if nat_eq (length words) (length form.parts)
+    if may_have form.parts (length words)
     then event_or_fault (event_in form words)
     else Err Count
 

@@ -28,6 +28,7 @@ use Rattle.trdp_engine.specs.declared.fault.Refusal.TheVariants.{NoHandle, Wrong
 use Rattle.trdp_engine.specs.declared.fault.Refusal.TheVariants.{Cycle, Timeout, Expected, Status}
 use Rattle.trdp_engine.specs.declared.fault.Refusal.TheVariants.{Range, NoDataset, TooLong, Shape}
 use Rattle.trdp_engine.specs.declared.fault.Refusal.TheVariants.{SessionOpen, Quota, Exhausted}
+use Rattle.trdp_engine.specs.declared.fault.Refusal.TheVariants.{Retries}
 use Rattle.trdp_script.specs.declared.fault.LineFault.{LineFault}
 use Rattle.trdp_script.specs.declared.fault.LineFault.TheVariants.{TooLong as LineTooLong, Unknown}
 use Rattle.trdp_script.specs.declared.fault.LineFault.TheVariants.{Count, BadWord}
@@ -59,6 +60,7 @@ name_of_refusal Shape = codes "Shape"
 name_of_refusal SessionOpen = codes "SessionOpen"
 name_of_refusal Quota = codes "Quota"
 name_of_refusal Exhausted = codes "Exhausted"
+name_of_refusal Retries = codes "Retries"
 
 -- the name of how good a subscription's value is
 abbrev pub name_of_state : ValueState → List ℕ

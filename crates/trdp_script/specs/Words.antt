@@ -44,6 +44,11 @@ number_of_word max word =
     let number = digits_value 10 word in
     if_written text_of_number word (nat_le number max) number
 
+-- the number of at most `max` whose written form the last word is; 0 where that is left out
+unfoldable pub last_number : ℕ → List (List ℕ) → Option ℕ
+last_number max [] = Some 0
+last_number max (word ∷ words) = number_of_word max word
+
 -- the number that digits show, below 0 behind `-`
 unfoldable pub status_shown : List ℕ → ℤ
 status_shown [] = pos 0

@@ -13,7 +13,7 @@ ghost use Rattle.trdp_base.specs.declared.place.Place.{Place};
 ghost use Rattle.trdp_script.specs.Words.{first_word, other_words, number_of_word, ip_of_word};
 ghost use Rattle.trdp_script.specs.Words.{place_of_word, bytes_of_word, choice_of_word};
 ghost use Rattle.trdp_script.specs.Words.{any_or_number, uri_of_word, IsBytesFault};
-ghost use Rattle.trdp_script.specs.Words.{status_of_word, session_of_word};
+ghost use Rattle.trdp_script.specs.Words.{status_of_word, session_of_word, last_number};
 ghost use Rattle.trdp_script.specs.WordsLeft.{words_left};
 
 use crate::fault::LineFault;
@@ -33,6 +33,18 @@ impl Words<'_> {
         ensures value { result ≡ number_of_word (2 ^ 8 - 1) (first_word (words_left self.old)) }
         ensures rest { words_left self.new ≡ other_words (words_left self.old) }
     {
+        let number = number_of(self.next_word(), u64::from(u8::MAX))?;
+        Some(number as u8)
+    }
+
+    /// The number of 8 bits that the last word is; 0 where no word is left.
+    #[tactic(auto, unfolding(crate::specs::Words::last_number))]
+    pub(crate) fn last_u8(mut self) -> Option<u8>
+        ensures { result ≡ last_number (2 ^ 8 - 1) (words_left self.entry) }
+    {
+        if self.are_over() {
+            return Some(0);
+        }
         let number = number_of(self.next_word(), u64::from(u8::MAX))?;
         Some(number as u8)
     }
@@ -240,7 +252,7 @@ fn choice_of(word: &[u8], first: &[u8], second: &[u8]) -> Option<bool>
 }
 
 /// The bytes that a word is.
-fn bytes_of(alloc: Global, word: &[u8]) -> Result<Vec<u8>, LineFault>
+pub(crate) fn bytes_of(alloc: Global, word: &[u8]) -> Result<Vec<u8>, LineFault>
     ensures value { IfOk result (λ bytes. bytes_of_word word.now ≡ Some bytes.items) }
     ensures written { IfOk result (λ bytes. word.now ≡ text_of_hex bytes.items) }
     ensures found { (bytes : List ℕ) → All (λ byte. byte < 256) bytes

@@ -1,12 +1,12 @@
 //! The forms that a line can have, by the words that tell them.
 
-ghost use Rattle.std.specs.Prelude.{◌≡◌, List, ℕ, true, false, length, map, option_map};
+ghost use Rattle.std.specs.Prelude.{◌≡◌, ◌<◌, ◌+◌, List, ℕ, true, false, length, map, option_map};
 ghost use Rattle.std.specs.Str.{bytes_eq};
 ghost use Rattle.trdp_script.specs.Words.{first_word, other_words};
 ghost use Rattle.trdp_script.specs.WordsLeft.{words_left};
 ghost use Rattle.trdp_script.specs.Forms.{has_keywords};
 ghost use Rattle.trdp_script.specs.FormNames.{line_form, is_told};
-ghost use Rattle.trdp_script.specs.Lines.{form_among};
+ghost use Rattle.trdp_script.specs.Lines.{form_among, least_words, may_have};
 
 use crate::words::{CALL, Words};
 
@@ -75,8 +75,10 @@ pub(crate) struct Row {
     is_call: bool,
     /// The form's own word.
     word: &'static [u8],
-    /// How many words a line of the form has.
-    count: usize,
+    /// How many words a line of the form has at least.
+    least: usize,
+    /// How many words a line of the form has at most.
+    most: usize,
 }
 
 impl Form {
@@ -97,17 +99,19 @@ impl Form {
         None
     }
 
-    /// How many words a line of this form has.
-    pub(crate) fn word_count(self) -> usize
-        ensures { result ≡ length (line_form self).parts }
+    /// Whether a line of this form may have so many words.
+    pub(crate) fn may_have(self, count: usize) -> bool
+        ensures { result ≡ may_have (line_form self).parts count }
     {
-        self.row().count
+        let row = self.row();
+        row.least <= count && count <= row.most
     }
 
     /// The form's row in the table of words.
-    #[tactic(auto, unfolding(crate::specs::Forms::has_keywords))]
+    #[tactic(auto, unfolding(crate::specs::Forms::has_keywords, crate::specs::Lines::least_words))]
     fn row(self) -> Row
-        ensures count { result.count ≡ length (line_form self).parts }
+        ensures least { result.least ≡ least_words (line_form self).parts }
+        ensures most { result.most ≡ length (line_form self).parts }
         ensures told { (words : List (List ℕ))
             → is_told result.is_call result.word.now words
             ≡ has_keywords (line_form self).parts words }
@@ -130,7 +134,7 @@ impl Form {
             Form::Listen => Row::call(b"listen", 10),
             Form::Unlisten => Row::call(b"unlisten", 4),
             Form::Notify => Row::call(b"notify", 10),
-            Form::Request => Row::call(b"request", 13),
+            Form::Request => Row::call_with_last(b"request", 13),
             Form::Reply => Row::call(b"reply", 7),
             Form::Query => Row::call(b"query", 8),
             Form::ReplyError => Row::call(b"replyerror", 6),
@@ -145,12 +149,14 @@ impl Row {
     fn line(word: &'static [u8], count: usize) -> Row
         ensures is_call { result.is_call ≡ false }
         ensures word { result.word.now ≡ word.now }
-        ensures count { result.count ≡ count }
+        ensures least { result.least ≡ count }
+        ensures most { result.most ≡ count }
     {
         Row {
             is_call: false,
             word,
-            count,
+            least: count,
+            most: count,
         }
     }
 
@@ -158,12 +164,30 @@ impl Row {
     fn call(word: &'static [u8], count: usize) -> Row
         ensures is_call { result.is_call ≡ true }
         ensures word { result.word.now ≡ word.now }
-        ensures count { result.count ≡ count }
+        ensures least { result.least ≡ count }
+        ensures most { result.most ≡ count }
     {
         Row {
             is_call: true,
             word,
-            count,
+            least: count,
+            most: count,
+        }
+    }
+
+    /// The same, where one more word may stand at the end.
+    fn call_with_last(word: &'static [u8], least: usize) -> Row
+        requires { least < 64 }
+        ensures is_call { result.is_call ≡ true }
+        ensures word { result.word.now ≡ word.now }
+        ensures least { result.least ≡ least }
+        ensures most { result.most ≡ least + 1 }
+    {
+        Row {
+            is_call: true,
+            word,
+            least,
+            most: least + 1,
         }
     }
 

@@ -132,7 +132,7 @@ pub(crate) fn read_words(alloc: Global, forms: &[Form], words: Words<'_>) -> Res
         (words_left words.entry)) result }
 {
     let form = Form::among(forms, words).ok_or(LineFault::Unknown)?;
-    if words.count() != form.word_count() {
+    if !form.may_have(words.count()) {
         return Err(LineFault::Count);
     }
     form.read(alloc, words)

@@ -44,6 +44,7 @@ pub(crate) fn refusal_name(refusal: Refusal) -> &'static [u8]
         Refusal::SessionOpen => b"SessionOpen",
         Refusal::Quota => b"Quota",
         Refusal::Exhausted => b"Exhausted",
+        Refusal::Retries => b"Retries",
     }
 }
 

@@ -8,6 +8,7 @@ ghost use Rattle.trdp_script.specs.WordsLeft.{words_left};
 
 use crate::calls::{BytesCall, PlainCall};
 use crate::fault::LineFault;
+use crate::field::bytes_of;
 use crate::line::Line;
 use crate::read::slot_and_handle;
 use crate::words::Words;
@@ -15,7 +16,8 @@ use std::alloc::Global;
 use trdp_base::Topo;
 use trdp_md::CallerTerms;
 
-/// `call SLOT request COMID SESSION EXPECTED TIME SOURCEURI DESTURI ETB OPTRN TO HEX`
+/// `call SLOT request COMID SESSION EXPECTED TIME SOURCEURI DESTURI ETB OPTRN TO HEX
+/// [RETRIES]`: the number at the end is read before memory is taken for the bytes.
 #[tactic(auto, unfolding(crate::specs::Forms::event_of_words))]
 pub(crate) fn read_request(alloc: Global, mut words: Words<'_>) -> Result<Line, LineFault>
     ensures { Reads (event_or_fault (event_in request_form (words_left words.entry))) result }
@@ -32,12 +34,15 @@ pub(crate) fn read_request(alloc: Global, mut words: Words<'_>) -> Result<Line, 
     let etb = words.next_u32().ok_or(LineFault::BadWord)?;
     let op_trn = words.next_u32().ok_or(LineFault::BadWord)?;
     let to = words.next_place().ok_or(LineFault::BadWord)?;
-    let payload = words.next_bytes(alloc)?;
+    let hex = words.next_word();
+    let retries = words.last_u8().ok_or(LineFault::BadWord)?;
+    let payload = bytes_of(alloc, hex)?;
     let terms = CallerTerms {
         com_id,
         session,
         expected,
         timeout,
+        retries,
         topo: Topo { etb, op_trn },
         to,
         source_uri,

@@ -1,6 +1,7 @@
 //! The words of a line, which stand apart by exactly one space.
 
-ghost use Rattle.std.specs.Prelude.{◌≡◌, ◌≢◌, ◌≤◌, ◌^◌, ◌∷◌, ◌++◌, length, IfSome, IfNone, All};
+ghost use Rattle.std.specs.Prelude.{◌≡◌, ◌≢◌, ◌≤◌, ◌^◌, ◌∷◌, ◌++◌, [], length, IfSome, IfNone, All};
+ghost use Rattle.std.specs.Prelude.{true, false};
 ghost use Rattle.trdp_script.specs.Words.{words_of, first_word, other_words};
 ghost use Rattle.trdp_script.specs.Forms.{call_word};
 ghost use Rattle.trdp_script.specs.WordsLeft.{words_left, words_before, words_in};
@@ -53,6 +54,20 @@ impl<'a> Words<'a> {
         match self.rest {
             None => self.before.count(),
             Some(rest) => self.before.count() + count_words(rest),
+        }
+    }
+
+    /// Whether no word is left.
+    #[tactic(auto, using(crate::proofs::WordLemmas::some_word), unfolding(crate::specs::Words::first_word, crate::specs::Words::other_words))]
+    pub(crate) fn are_over(&self) -> bool
+        ensures over { result ≡ true → words_left self.now ≡ [] }
+        ensures left { result ≡ false
+            → words_left self.now
+            ≡ first_word (words_left self.now) ∷ other_words (words_left self.now) }
+    {
+        match self.before {
+            Before::Nothing => self.rest.is_none(),
+            Before::One(_) | Before::Two(_, _) => false,
         }
     }
 

@@ -210,41 +210,43 @@ static FORMS: [Form; 17] = [
     },
 ];
 
-/// The forms of sessions.
-static SESSION_FORMS: [Form; 6] = [
-    Form {
-        head: 3,
-        good: &[
-            b"call",
-            b"0",
-            b"request",
-            b"300",
-            b"00000000-0000-0000-0000-000000000001",
-            b"255",
-            b"1000000",
-            b"-",
-            b"6a",
-            b"1",
-            b"2",
-            b"10.0.0.2:17225",
-            b"0d",
-        ],
-        bad: &[
-            b"c",
-            b"65536",
-            b"requests",
-            b"any",
-            b"00000000-0000-0000-0000-00000000000g",
-            b"256",
-            b"-1",
-            b"00",
-            b"6A",
-            b"any",
-            b"-",
-            b"10.0.0.2",
-            b"d",
-        ],
-    },
+/// The form of a request without its last word, which may be left out.
+static REQUEST_FORM: [Form; 1] = [Form {
+    head: 3,
+    good: &[
+        b"call",
+        b"0",
+        b"request",
+        b"300",
+        b"00000000-0000-0000-0000-000000000001",
+        b"255",
+        b"1000000",
+        b"-",
+        b"6a",
+        b"1",
+        b"2",
+        b"10.0.0.2:17225",
+        b"0d",
+    ],
+    bad: &[
+        b"c",
+        b"65536",
+        b"requests",
+        b"any",
+        b"00000000-0000-0000-0000-00000000000g",
+        b"256",
+        b"-1",
+        b"00",
+        b"6A",
+        b"any",
+        b"-",
+        b"10.0.0.2",
+        b"d",
+    ],
+}];
+
+/// The other forms of sessions.
+static SESSION_FORMS: [Form; 5] = [
     Form {
         head: 3,
         good: &[b"call", b"0", b"reply", b"1", b"301", b"2147483647", b"0c"],
@@ -349,8 +351,12 @@ fn unknown_or(other: LineFault, tells: bool) -> Option<LineFault> {
 }
 
 /// Asserts of each word how it is read as it is, left out, doubled, and exchanged for one that
-/// can't stand there.
-fn reads_each_word(rt: &(impl Abort + AllocGlobal), forms: &[Form]) -> Result<(), Fail> {
+/// can't stand there. A line with one word more has the fault `longer`.
+fn reads_each_word(
+    rt: &(impl Abort + AllocGlobal),
+    forms: &[Form],
+    longer: LineFault,
+) -> Result<(), Fail> {
     let alloc = rt.alloc();
     for form in forms {
         for (index, (good, bad)) in form.good.iter().zip(form.bad).enumerate() {
@@ -370,7 +376,7 @@ fn reads_each_word(rt: &(impl Abort + AllocGlobal), forms: &[Form]) -> Result<()
                 rt,
                 index,
                 doubled,
-                unknown_or(LineFault::Count, index + 1 < form.head),
+                unknown_or(longer, index + 1 < form.head),
             );
             same(
                 rt,
@@ -385,6 +391,7 @@ fn reads_each_word(rt: &(impl Abort + AllocGlobal), forms: &[Form]) -> Result<()
 
 #[test]
 fn reads_each_word_of_each_form(rt: HostRuntime) -> Result<(), Fail> {
-    reads_each_word(&rt, &FORMS)?;
-    reads_each_word(&rt, &SESSION_FORMS)
+    reads_each_word(&rt, &FORMS, LineFault::Count)?;
+    reads_each_word(&rt, &SESSION_FORMS, LineFault::Count)?;
+    reads_each_word(&rt, &REQUEST_FORM, LineFault::BadWord)
 }

@@ -11,7 +11,7 @@ struct Row {
     fault: Option<LineFault>,
 }
 
-static ROWS: [Row; 26] = [
+static ROWS: [Row; 32] = [
     Row {
         line: "",
         fault: None,
@@ -53,6 +53,30 @@ static ROWS: [Row; 26] = [
     Row {
         line: "call 0 request 1 {00000000-0000-0000-0000-00000000000a 9 0 - - 0 0 0.0.0.0:0 -",
         fault: Some(LineFault::BadWord),
+    },
+    Row {
+        line: "call 0 request 1 00000000-0000-0000-0000-00000000000a 9 0 - - 0 0 0.0.0.0:0 0d 255",
+        fault: None,
+    },
+    Row {
+        line: "call 0 request 1 00000000-0000-0000-0000-00000000000a 9 0 - - 0 0 0.0.0.0:0 0d 256",
+        fault: Some(LineFault::BadWord),
+    },
+    Row {
+        line: "call 0 request 1 00000000-0000-0000-0000-00000000000a 9 0 - - 0 0 0.0.0.0:0 0d 01",
+        fault: Some(LineFault::BadWord),
+    },
+    Row {
+        line: "call 0 request 1 00000000-0000-0000-0000-00000000000a 9 0 - - 0 0 0.0.0.0:0 0d ",
+        fault: Some(LineFault::BadWord),
+    },
+    Row {
+        line: "call 0 request 1 00000000-0000-0000-0000-00000000000a 9 0 - - 0 0 0.0.0.0:0 0D 2",
+        fault: Some(LineFault::BadWord),
+    },
+    Row {
+        line: "call 0 request 1 00000000-0000-0000-0000-00000000000a 9 0 - - 0 0 0.0.0.0:0 0d 2 2",
+        fault: Some(LineFault::Count),
     },
     Row {
         line: "call 0 replyerror 1 302 -0",

@@ -27,6 +27,7 @@ use Rattle.trdp_md.specs.ListenerLaws.{listener_taking-unaddressed, listener_due
 use Rattle.trdp_md.specs.ListenerLaws.{listener_due-taking}
 use Rattle.trdp_md.specs.CallerLaws.{caller_taking-unaddressed, caller_due-firing}
 use Rattle.trdp_md.specs.CallerLaws.{caller_due-taking}
+use Rattle.trdp_md.specs.CallerLaws.{caller_sound-taking, caller_sound-firing}
 use Rattle.trdp_md.specs.ReplierLaws.{replier_taking-unaddressed, replier_due-firing}
 use Rattle.trdp_md.specs.ReplierLaws.{replier_due-taking}
 
@@ -68,7 +69,7 @@ due-firing (Publisher p) globals sound = publisher_due-firing p globals
 due-firing (Subscription s) globals sound = subscription_due-firing s globals
 due-firing (Requester r) globals sound = requester_due-firing r globals
 due-firing (Listener l) globals sound = listener_due-firing l globals
-due-firing (Caller c) globals sound = caller_due-firing c globals
+due-firing (Caller c) globals sound = caller_due-firing c globals sound
 due-firing (Replier r) globals sound = replier_due-firing r globals
 
 -- a telegram makes no object due
@@ -97,7 +98,8 @@ is_sound-taking (Publisher p) telegram globals fits sound = refl
 is_sound-taking (Subscription s) telegram globals fits sound = refl
 is_sound-taking (Requester r) telegram globals fits sound = refl
 is_sound-taking (Listener l) telegram globals fits sound = refl
-is_sound-taking (Caller c) telegram globals fits sound = refl
+is_sound-taking (Caller c) telegram globals fits sound =
+    caller_sound-taking c telegram globals fits sound
 is_sound-taking (Replier r) telegram globals fits sound = refl
 
 pub is_sound-firing :
@@ -107,5 +109,5 @@ is_sound-firing (Publisher p) globals sound = refl
 is_sound-firing (Subscription s) globals sound = refl
 is_sound-firing (Requester r) globals sound = refl
 is_sound-firing (Listener l) globals sound = refl
-is_sound-firing (Caller c) globals sound = refl
+is_sound-firing (Caller c) globals sound = caller_sound-firing c globals sound
 is_sound-firing (Replier r) globals sound = refl

@@ -18,6 +18,7 @@ use Rattle.trdp_pd.specs.Requesters.{requester_firing}
 use Rattle.trdp_md.specs.Listeners.{listener_due, listener_addressed, listener_taking}
 use Rattle.trdp_md.specs.Listeners.{listener_firing}
 use Rattle.trdp_md.specs.Callers.{caller_due, caller_addressed, caller_taking, caller_firing}
+use Rattle.trdp_md.specs.Callers.{is_sound_caller}
 use Rattle.trdp_md.specs.Repliers.{replier_due, replier_addressed, replier_taking}
 use Rattle.trdp_md.specs.Repliers.{replier_firing}
 
@@ -39,13 +40,13 @@ dataset_of (Listener l) = None
 dataset_of (Caller c) = None
 dataset_of (Replier r) = None
 
--- what the laws of objects ask of one: of these kinds nothing
+-- what the laws of objects ask of one: of a caller that it waits for a time, of the others nothing
 abbrev pub is_sound : AnyObject → Bool
 is_sound (Publisher p) = true
 is_sound (Subscription s) = true
 is_sound (Requester r) = true
 is_sound (Listener l) = true
-is_sound (Caller c) = true
+is_sound (Caller c) = is_sound_caller c
 is_sound (Replier r) = true
 
 -- the telegram is for the object

@@ -46,6 +46,8 @@ mod refused;
 #[cfg(test)]
 mod repliers;
 #[cfg(test)]
+mod retries;
+#[cfg(test)]
 mod same;
 #[cfg(test)]
 mod slots;

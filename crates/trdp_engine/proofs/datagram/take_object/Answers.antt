@@ -40,21 +40,24 @@ pub push_replied-requires-clause-bytes : goal.push_replied-requires-clause-bytes
 push_replied-requires-clause-bytes c =
     let kind = kind_taken c.args.object.now (telegram_model c.args.telegram.now) c.args.globals.now
     c.fits_object-fits.result _ (sym c.in-Replied.is ∙ c.take.ensures.outcome) in
-    rw kind at c.requires.room.bytes
+    let bytes = rw kind at c.requires.room.bytes in
+    omega (arith, bytes)
 
 pub returns-in-Replied-clause-within : goal.returns-in-Replied-clause-within
 returns-in-Replied-clause-within c =
     let kind = kind_taken c.args.object.now (telegram_model c.args.telegram.now) c.args.globals.now
     c.fits_object-fits.result _ (sym c.in-Replied.is ∙ c.take.ensures.outcome) in
     let row = c.push_replied.ensures.row_room in
-    rw kind (record { rows = omega (arith, row); bytes = c.push_replied.ensures.byte_room })
+    let bytes = c.push_replied.ensures.byte_room in
+    rw kind (record { rows = omega (arith, row); bytes = omega (arith, bytes) })
 
 pub push_replied-requires-in-RepliedLast-clause-bytes :
     goal.push_replied-requires-in-RepliedLast-clause-bytes
 push_replied-requires-in-RepliedLast-clause-bytes c =
     let kind = kind_taken c.args.object.now (telegram_model c.args.telegram.now) c.args.globals.now
     c.fits_object-fits.result _ (sym c.in-RepliedLast.is ∙ c.take.ensures.outcome) in
-    rw kind at c.requires.room.bytes
+    let bytes = rw kind at c.requires.room.bytes in
+    omega (arith, bytes)
 
 pub push-requires-in-RepliedLast : goal.push-requires-in-RepliedLast
 push-requires-in-RepliedLast c =

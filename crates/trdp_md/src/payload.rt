@@ -1,0 +1,46 @@
+//! The payload of a request.
+
+ghost use Rattle.std.specs.Prelude.{◌≡◌, ◌≤◌, length, IfOk};
+
+use std::alloc::{AllocError, Global};
+use std::marker::Model;
+
+/// At most 65,388 bytes, in memory of their own.
+#[derive(Drop)]
+pub struct Payload {
+    /// The bytes, in as much memory as they need.
+    bytes: Vec<u8>,
+}
+
+impl Model for Payload {
+    ghost use Rattle.std.specs.Prelude.{◌≤◌, ℕ, List, length};
+
+    ghost Value = { List ℕ };
+
+    ghost view = { λ p. p.bytes.items };
+
+    ghost invariant = { λ p. length p.bytes.items ≤ 65388 };
+}
+
+impl Payload {
+    /// A copy of these bytes.
+    ///
+    /// # Errors
+    /// [`AllocError`] where there is no memory for it.
+    pub fn new(alloc: Global, bytes: &[u8]) -> Result<Payload, AllocError>
+        requires { length bytes.now ≤ 65388 }
+        ensures { IfOk result (λ payload. payload ≡ bytes.now) }
+    {
+        let mut copy = Vec::with_capacity(alloc, bytes.len())?;
+        copy.extend_from_slice(bytes).unwrap();
+        Ok(Payload { bytes: copy })
+    }
+
+    /// The bytes.
+    pub fn bytes(&self) -> &[u8]
+        ensures value { result.now ≡ self.now }
+        ensures within { length result.now ≤ 65388 }
+    {
+        &self.bytes
+    }
+}
