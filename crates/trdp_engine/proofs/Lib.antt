@@ -6,6 +6,7 @@ pub mod Indexed
 pub mod Delisted
 pub mod Stored
 pub mod RowCounts
+pub mod OrderCounts
 pub mod Apart
 pub mod Timed
 pub mod OfKind

@@ -42,39 +42,30 @@ schedule_new orders rows bytes room le count rows_are bytes_are = record {
   bytes_count = omega (arith, count, ap length bytes_are, length-replicate {A = ℕ} room 0);
   few_rows = rw rows_are (zeros_few room_rows_limit room);
   few_bytes = rw bytes_are (zeros_few room_bytes_limit room);
-  room = omega (arith, le, count);
+  rows_limit = omega (arith, le, ap length rows_are, length-replicate {A = ℕ} room 0);
+  bytes_limit = omega (arith, le, ap length bytes_are, length-replicate {A = ℕ} room 0);
 }
 
 pub schedule_admits : (orders : List (Option Order)) (rows bytes : List ℕ) (key r b : ℕ)
     → IsSchedule orders rows bytes → r ≤ room_rows_limit → b ≤ room_bytes_limit
     → IsSchedule orders (set rows key r) (set bytes key b)
 schedule_admits orders rows bytes key r b is few_r few_b = record {
-  rows_count = length-set rows key r ∙ is.rows_count;
-  bytes_count = length-set bytes key b ∙ is.bytes_count;
+  rows_count = omega (arith, is.rows_count, length-set rows key r);
+  bytes_count = omega (arith, is.bytes_count, length-set bytes key b);
   few_rows = set_few room_rows_limit rows key r is.few_rows few_r;
   few_bytes = set_few room_bytes_limit bytes key b is.few_bytes few_b;
-  room = is.room;
-}
-
-pub schedule_orders : (orders orders_then : List (Option Order)) (rows bytes : List ℕ)
-    → IsSchedule orders rows bytes → length orders_then ≡ length orders
-    → IsSchedule orders_then rows bytes
-schedule_orders orders orders_then rows bytes is count = record {
-  rows_count = is.rows_count ∙ sym count;
-  bytes_count = is.bytes_count ∙ sym count;
-  few_rows = is.few_rows;
-  few_bytes = is.few_bytes;
-  room = omega (arith, is.room, count);
+  rows_limit = omega (arith, is.rows_limit, length-set rows key r);
+  bytes_limit = omega (arith, is.bytes_limit, length-set bytes key b);
 }
 
 pub rows_fit : (orders : List (Option Order)) (rows bytes : List ℕ)
     → IsSchedule orders rows bytes → sum rows < 2 ^ 64
-rows_fit orders rows bytes is = omega (arith, few_rows rows is.few_rows, is.rows_count, is.room)
+rows_fit orders rows bytes is = omega (arith, few_rows rows is.few_rows, is.rows_limit)
 
 pub bytes_fit : (orders : List (Option Order)) (rows bytes : List ℕ)
     → IsSchedule orders rows bytes → sum bytes < 2 ^ 64
 bytes_fit orders rows bytes is =
-    omega (arith, few_bytes bytes is.few_bytes, is.bytes_count, is.room)
+    omega (arith, few_bytes bytes is.few_bytes, is.bytes_limit)
 
 -- the room of an object is within the limits of one object
 pub kind_rows : (kind : Kind) → (kind_room kind).rows ≤ room_rows_limit

@@ -38,11 +38,12 @@ AllAtMost most (n ∷ ns) = (n ≤ most) × AllAtMost most ns
 
 -- a schedule knows the room of each key, which is at most that of one object
 pub record IsSchedule (orders : List (Option Order)) (rows bytes : List ℕ) : Type 0 where
-  pub rows_count : length rows ≡ length orders
-  pub bytes_count : length bytes ≡ length orders
+  pub rows_count : length orders ≤ length rows
+  pub bytes_count : length orders ≤ length bytes
   pub few_rows : AllAtMost room_rows_limit rows
   pub few_bytes : AllAtMost room_bytes_limit bytes
-  pub room : length orders ≤ 16 * object_limit
+  pub rows_limit : length rows ≤ 16 * object_limit
+  pub bytes_limit : length bytes ≤ 16 * object_limit
 
 -- when an object of a slot acts that has this due moment, if it has one
 abbrev pub order_at : ℕ → ℕ → Option ℕ → Option Order
@@ -88,7 +89,7 @@ pub record IsScheduled (table : TableState) (schedule : ScheduleState) : Type 0 
       → by_handle handle (slot_in s table).objects ≡ Some keyed → IsTimed s schedule keyed
   pub owned : (key : ℕ) (order : Order)
       → slice_index_or schedule.orders key None ≡ Some order → IsOwned table key order
-  pub room : room_of table ≡ length schedule.orders
+  pub room : room_of table ≤ length schedule.orders
   pub rows_room : room_of table ≤ length schedule.rows
   pub bytes_room : room_of table ≤ length schedule.bytes
 

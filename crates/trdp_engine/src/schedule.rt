@@ -2,7 +2,7 @@
 
 ghost use Rattle.std.specs.Prelude.{◌≡◌, ◌<◌, ◌≤◌, ◌+◌, ◌*◌, ◌^◌, ℕ, length, None, IfOk, IfSome};
 ghost use Rattle.std.specs.Prelude.{MatchOption, slice_index_or, slice_set, sum, replicate};
-ghost use Rattle.std.specs.Prelude.{count_by};
+ghost use Rattle.std.specs.Prelude.{count_by, is_some};
 ghost use Rattle.trdp_table.specs.TableLaws.{object_limit};
 ghost use Rattle.trdp_timers.specs.Orders.{is_due_by};
 ghost use Rattle.trdp_timers.specs.Contents.{due_sizes};
@@ -104,7 +104,8 @@ impl Schedule {
             ≡ slice_set self.old.orders key (order_at slot handle due) }
         ensures rows { self.new.rows ≡ self.old.rows }
         ensures bytes { self.new.bytes ≡ self.old.bytes }
-        ensures cost { (b : ℕ) → length self.old.orders < 2 ^ b → result ≤ 2 * b + 2 }
+        ensures cost { (b : ℕ) → count_by is_some self.old.orders < 2 ^ b
+            → count_by is_some self.new.orders < 2 ^ b → result ≤ 2 * b + 2 }
     {
         match due {
             None => self.timers.clear(key),
@@ -130,7 +131,8 @@ impl Schedule {
             ≡ slice_set self.old.orders key (order_at slot handle due) }
         ensures rows { self.new.rows ≡ self.old.rows }
         ensures bytes { self.new.bytes ≡ self.old.bytes }
-        ensures cost { (b : ℕ) → length self.old.orders < 2 ^ b → result ≤ 2 * b + 2 }
+        ensures cost { (b : ℕ) → count_by is_some self.old.orders < 2 ^ b
+            → count_by is_some self.new.orders < 2 ^ b → result ≤ 2 * b + 2 }
         ensures still { due ≡ before → result ≡ 0 }
     {
         if is_same_due(before, due) {
@@ -145,7 +147,7 @@ impl Schedule {
         ensures orders { self.new.orders ≡ without_order self.old.orders key }
         ensures rows { self.new.rows ≡ self.old.rows }
         ensures bytes { self.new.bytes ≡ self.old.bytes }
-        ensures cost { (b : ℕ) → length self.old.orders < 2 ^ b → result ≤ 2 * b + 2 }
+        ensures cost { (b : ℕ) → count_by is_some self.old.orders < 2 ^ b → result ≤ 2 * b + 2 }
         ensures idle { IfSome key
             (λ key. slice_index_or self.old.orders key None ≡ None → result ≡ 0) }
     {

@@ -1,14 +1,18 @@
-use Rattle.std.proofs.Common.{◌∙◌, sym, ap, refl, arith}
+use Rattle.std.proofs.Common.{◌<◌, ◌^◌, ◌∙◌, sym, ap, refl, arith}
 use Rattle.std.specs.Prelude.{option_map}
 use Rattle.trdp_table.specs.Kinds.{kind_of}
+use Rattle.trdp_table.specs.Tables.{room_of}
+use Rattle.trdp_engine.specs.declared.counts.Counts.{Counts}
 use Rattle.trdp_engine.specs.Openings.{table_refusal}
 use Rattle.trdp_engine.proofs.Timed.{added_scheduled, added_within}
 use Rattle.trdp_engine.proofs.Sizes.{kind_rows, kind_bytes}
+use Rattle.trdp_engine.proofs.OrderCounts.{orders_counted, added_costs}
 use Rattle.trdp_engine.proofs.Stored.{has_spare, is_fresh, added_index, added_there}
 use Rattle.trdp_engine.proofs.InSession.{session_spare, added_session}
 use Rattle.trdp_engine.proofs.HasSession.{session_fresh}
 use Rattle.trdp_engine.proofs.OfKind.{added_kinds, refused_alike}
 use Rattle.trdp_engine.proofs.store.Store.add.Goals as goal
+use Rattle.trdp_engine.proofs.store.Store.add.Goals.{in-Some, in_default}
 
 pub enlist-requires-clause-spare : goal.enlist-requires-clause-spare
 enlist-requires-clause-spare c =
@@ -108,3 +112,23 @@ returns-after-find-clause-granted c =
     (sym (refused_alike c.self.inside.table c.args.slot
     (kind_of c.args.object) c.self.invariant.kinds)
     ∙ ap (option_map table_refusal) c.in-Ok.ensures.granted)
+
+pub returns-after-find-clause-comparisons : goal.returns-after-find-clause-comparisons
+returns-after-find-clause-comparisons c = λ b lt.
+    let within : room_of c.self.inside.table < 2 ^ b = rw (← c.self.view_is) at lt in
+    elim c.match-find.branch [
+      | in-Some w ↦
+          let few = orders_counted c.self.inside.table
+          c.self.inside.schedule c.self.invariant.by_moment c.sound.ensures.found in
+          let spare = c.sound.ensures.spare c.args.slot _
+          (rw (← c.self.view_is) at c.requires.slot) c.in-Ok.ensures.granted in
+          let set =
+          added_costs c.self.inside.table w.admit.new.self.orders
+          w.set.new.self.orders w.in-Some.key _ b w.set.result (rw w.admit.ensures.orders few)
+          spare w.set.ensures.orders within (w.set.ensures.cost b) in
+          let counted = ap (λ (k : Counts). k.comparisons) w.counts-is in
+          omega (arith, set, w.compared.ensures.comparisons, counted)
+      | in_default w ↦
+          let counted = ap (λ (k : Counts). k.comparisons) w.counts-is in
+          omega (arith, counted)
+    ]

@@ -14,6 +14,7 @@ use Rattle.trdp_engine.proofs.Stored.{indexed_reached}
 use Rattle.trdp_engine.proofs.OfKind.{reached_kinds}
 use Rattle.trdp_engine.proofs.InSession.{session_reached}
 use Rattle.trdp_engine.proofs.Retimed.{room_exchanged, reached_within, scheduled_reached}
+use Rattle.trdp_engine.proofs.OrderCounts.{reset_costs}
 use Rattle.trdp_engine.proofs.Asking.{stayed}
 use Rattle.trdp_engine.proofs.store.Store.fire.Goals as goal
 use Rattle.trdp_engine.proofs.store.Store.fire.Goals.{in-None, in-Some+in-None-get_mut}
@@ -109,7 +110,10 @@ returns-in-Ended c = elim c.match-find.branch [
         comparisons = λ b lt.
             let within : room_of c.self.inside.table < 2 ^ b = rw (← c.self.view_is) at lt in
             let set =
-            w.set.ensures.cost b (omega (arith, within, c.self.invariant.by_moment.room)) in
+            reset_costs c.self.inside.table c.self.inside.schedule w.set.new.self c.args.s
+            c.args.handle w.in-Some.key w.in-Some-get_mut.object.now
+            _ b w.set.result c.self.invariant.by_moment c.sound.ensures.found
+            c.sound.ensures.room r w.set.ensures.orders within (w.set.ensures.cost b) in
             let there :
             room_of (exchanged w.in-Some.key c.self.inside.table w.fire_object-left.new.object)
             < 2 ^ b =
@@ -181,7 +185,10 @@ returns-in_default c = elim c.match-find.branch [
         comparisons = λ b lt.
             let within : room_of c.self.inside.table < 2 ^ b = rw (← c.self.view_is) at lt in
             let set =
-            w.set.ensures.cost b (omega (arith, within, c.self.invariant.by_moment.room)) in
+            reset_costs c.self.inside.table c.self.inside.schedule w.set.new.self c.args.s
+            c.args.handle w.in-Some.key w.in-Some-get_mut.object.now
+            _ b w.set.result c.self.invariant.by_moment c.sound.ensures.found
+            c.sound.ensures.room r w.set.ensures.orders within (w.set.ensures.cost b) in
             let counted = ap (λ (k : Counts). k.comparisons) w.counts-is in
             omega (arith, set, w.compared.ensures.comparisons, counted);
         tests = ap (λ (k : Counts). k.tests) w.counts-is ∙ w.compared.ensures.tests;

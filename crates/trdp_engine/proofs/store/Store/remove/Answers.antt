@@ -1,10 +1,11 @@
-use Rattle.std.proofs.Common.{◌≡◌, ◌∙◌, ap, Some}
+use Rattle.std.proofs.Common.{◌≡◌, ◌<◌, ◌^◌, ◌∙◌, ap, Some, arith}
 use Rattle.std.specs.Prelude.{option_map}
-use Rattle.trdp_table.specs.Tables.{Keyed, slot_in, by_handle}
+use Rattle.trdp_table.specs.Tables.{Keyed, slot_in, by_handle, room_of}
 use Rattle.trdp_engine.specs.Timed.{order_at}
 use Rattle.trdp_engine.proofs.Stored.{is_there, indexed_removed}
 use Rattle.trdp_engine.proofs.InSession.{session_removed}
 use Rattle.trdp_engine.proofs.Untimed.{scheduled_without}
+use Rattle.trdp_engine.proofs.OrderCounts.{orders_counted}
 use Rattle.trdp_engine.proofs.HasSession.{session_there}
 use Rattle.trdp_engine.proofs.OfKind.{removed_kinds}
 use Rattle.trdp_engine.proofs.store.Store.remove.Goals as goal
@@ -46,6 +47,13 @@ invariant_of-self c =
       kinds = removed_kinds c.self.inside.table c.args.slot c.args.handle
           (rw (← c.self.view_is) at c.requires) c.self.invariant.kinds;
     })
+
+pub returns-clause-cost : goal.returns-clause-cost
+returns-clause-cost c = λ b lt.
+    let within : room_of c.self.inside.table < 2 ^ b = rw (← c.self.view_is) at lt in
+    let few = orders_counted c.self.inside.table
+    c.self.inside.schedule c.self.invariant.by_moment c.sound.ensures.found in
+    c.dismiss-comparisons.ensures.cost b (omega (arith, within, few, c.sound.ensures.room))
 
 pub returns-clause-idle : goal.returns-clause-idle
 returns-clause-idle c = λ keyed at none.

@@ -20,6 +20,7 @@ use Rattle.trdp_engine.proofs.InSession.{session_reached}
 use Rattle.trdp_engine.proofs.Retimed.{room_exchanged, reached_within}
 use Rattle.trdp_engine.proofs.Retimed.{scheduled_reached, reached_then, reached_order}
 use Rattle.trdp_engine.proofs.Sizes.{over_costs}
+use Rattle.trdp_engine.proofs.OrderCounts.{reset_costs}
 use Rattle.trdp_engine.proofs.Asking.{stayed}
 use Rattle.trdp_engine.proofs.store.Store.take.Goals as goal
 use Rattle.trdp_engine.proofs.store.Store.take.Goals.{in-None, in-Some+in-None-get_mut}
@@ -128,7 +129,10 @@ returns-in-Ended c = elim c.match-find.branch [
         comparisons = λ b lt.
             let within : room_of c.self.inside.table < 2 ^ b = rw (← c.self.view_is) at lt in
             let set =
-            w.change.ensures.cost b (omega (arith, within, c.self.invariant.by_moment.room)) in
+            reset_costs c.self.inside.table c.self.inside.schedule w.change.new.self c.args.s
+            c.args.handle w.in-Some.key w.in-Some-get_mut.object.now
+            _ b w.change.result c.self.invariant.by_moment c.sound.ensures.found
+            c.sound.ensures.room r w.change.ensures.orders within (w.change.ensures.cost b) in
             let there :
             room_of (exchanged w.in-Some.key c.self.inside.table w.take_object-left.new.object)
             < 2 ^ b =
@@ -210,7 +214,10 @@ returns-in_default c = elim c.match-find.branch [
         comparisons = λ b lt.
             let within : room_of c.self.inside.table < 2 ^ b = rw (← c.self.view_is) at lt in
             let set =
-            w.change.ensures.cost b (omega (arith, within, c.self.invariant.by_moment.room)) in
+            reset_costs c.self.inside.table c.self.inside.schedule w.change.new.self c.args.s
+            c.args.handle w.in-Some.key w.in-Some-get_mut.object.now
+            _ b w.change.result c.self.invariant.by_moment c.sound.ensures.found
+            c.sound.ensures.room r w.change.ensures.orders within (w.change.ensures.cost b) in
             let counted = ap (λ (k : Counts). k.comparisons) w.counts-is in
             omega (arith, set, w.compared.ensures.comparisons, counted);
         tests = ap (λ (k : Counts). k.tests) w.counts-is ∙ w.compared.ensures.tests;
