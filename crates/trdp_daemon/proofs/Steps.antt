@@ -11,6 +11,7 @@ use Rattle.trdp_engine.specs.Records.{RecordModel, labelled, records_of}
 use Rattle.trdp_engine.specs.Slots.{SlotState}
 use Rattle.trdp_engine.specs.Alone.{FaultIs, refused_as, records_after}
 use Rattle.trdp_engine.specs.NodeStates.{NodeState, StepsAsAlone, Appends, uncounted}
+use Rattle.trdp_engine.proofs.Steps.{open_outcome}
 use Rattle.trdp_script.specs.SlotOrder.{by_slot}
 use Rattle.trdp_script.proofs.Orders.{slots_own, by_slot_suc, by_slot_zero}
 use Rattle.trdp_script.proofs.Playing.{own_labelled, by_slot_past, no_fault}
@@ -41,8 +42,7 @@ slots_records_after setup g event records (slot ∷ slots) n m is each =
 pub records_played : (n : ℕ) (old new : NodeState) (records records_then : List RecordModel)
     (event : EventModel) → FaultIs (refused_as (length old.slots) old.globals event) (Ok tt)
     → length old.slots ≤ n → records ≡ []
-    → ((s : ℕ) (slot : SlotState) → slice_get old.slots s ≡ Some slot
-    → StepsAsAlone old new records records_then event s slot)
+    → ((s : ℕ) → StepsAsAlone old new records records_then event s)
     → Appends old.slots records records_then
     → by_slot n records_then ≡ event_records (uncounted old) event
 records_played n old new records records_then event taken fits empty steps appends =
@@ -52,7 +52,8 @@ records_played n old new records records_then event taken fits empty steps appen
     let each : (i s : ℕ) (slot : SlotState) → s ≡ 0 + i → slice_get old.slots i ≡ Some slot
     → records_of s records_then ≡ records_after (setup_of old.config) s slot old.globals event =
     λ i s slot is there. let same : s ≡ i = omega (arith, is) in
-    rw same ((steps i slot there).records_are ∙ ap (λ l.
+    rw same ((open_outcome old new records records_then event i slot there (steps i)).records_are
+    ∙ ap (λ l.
     records_of i l ++ records_after (setup_of old.config) i slot old.globals event) empty) in
     let whole : 0 + length old.slots ≡ length old.slots = omega arith in
     by_slot_past old.slots records_then none (n - length old.slots) n room

@@ -1,6 +1,7 @@
 -- Datagrams at which nothing happens: they concern no slot.
-use Rattle.std.proofs.Common.{◌≡◌, Bool, true, false, List, [], ◌∷◌, Some, None, refl, sym, ap, ◌∙◌}
-use Rattle.std.specs.Prelude.{ℕ, ◌&&◌, ◌||◌}
+use Rattle.std.proofs.Common.{◌≡◌, Bool, true, false, List, [], ◌∷◌, Option, Some, None}
+use Rattle.std.proofs.Common.{refl, sym, ap, ◌∙◌}
+use Rattle.std.specs.Prelude.{ℕ, ◌&&◌}
 use Rattle.std.specs.List.{list_any}
 use Rattle.std.proofs.lemmas.Bool.{true≢false}
 use Rattle.trdp_base.specs.declared.place.Place.{Place}
@@ -18,9 +19,11 @@ use Rattle.trdp_table.specs.declared.any_object.AnyObject.TheVariants.{Caller, R
 use Rattle.trdp_table.specs.Objects.{is_addressed}
 use Rattle.trdp_engine.specs.declared.record.Protocol.{Protocol}
 use Rattle.trdp_engine.specs.declared.record.Protocol.TheVariants.{Pd}
+use Rattle.trdp_engine.specs.Configs.{NodeSetup}
 use Rattle.trdp_engine.specs.Events.{DatagramIs}
 use Rattle.trdp_engine.specs.Slots.{SlotState}
 use Rattle.trdp_engine.specs.Datagrams.{telegram_of, concerns, is_for_entry, is_valid_at}
+use Rattle.trdp_engine.specs.Alone.{Standing, standing_after}
 use Rattle.trdp_engine.specs.Inert.{IsInert}
 
 -- what no element is, none of a list is
@@ -36,13 +39,19 @@ unconcerning : (protocol : Protocol) (src dst : Place) (bytes : List ℕ)
     → IsInert (DatagramIs protocol src dst bytes)
 unconcerning protocol src dst bytes none = record {
   admitted = λ slots globals. refl;
-  slot = λ setup s slot globals. rw (none globals slot) refl;
-  records = λ setup s slot globals. rw (none globals slot) refl;
+  slot = λ setup s slot globals. ap (λ (x : Standing). x.slot) (stays setup s slot globals);
+  records = λ setup s slot globals. ap (λ (x : Standing). x.records) (stays setup s slot globals);
   globals = λ globals. refl;
   memory = λ node may. true≢false
       (sym may ∙ none_of (concerns node.globals (telegram_of protocol src dst bytes))
       (none node.globals) node.slots);
 }
+  where
+    stays : (setup : NodeSetup) (s : ℕ) (slot : Option SlotState) (globals : Globals)
+        → standing_after setup s slot globals (DatagramIs protocol src dst bytes)
+        ≡ record { slot = slot; records = [] }
+    stays setup s None globals = refl
+    stays setup s (Some slot) globals = rw (none globals slot) refl
 
 -- bytes that are no telegram
 pub malformed : (protocol : Protocol) (src dst : Place) (bytes : List ℕ)

@@ -2,13 +2,11 @@
 use Rattle.std.proofs.Common.{◌≡◌, ℕ, List, [], ◌∷◌, ◌++◌, length, Bool, true, false}
 use Rattle.std.proofs.Common.{is_some, refl, sym, ◌∙◌, ap, subst, append_assoc}
 use Rattle.std.proofs.Common.{Option, Some, None, Result, Ok, Err, OnOk, OnErr}
-use Rattle.std.specs.Prelude.{slice_get}
 use Rattle.trdp_filter.specs.declared.globals.Globals.{Globals}
 use Rattle.trdp_engine.specs.declared.fault.NodeFault.{NodeFault}
 use Rattle.trdp_engine.specs.declared.fault.NodeFault.TheVariants.{OutOfMemory}
 use Rattle.trdp_engine.specs.Records.{RecordModel}
 use Rattle.trdp_engine.specs.Events.{EventModel}
-use Rattle.trdp_engine.specs.Slots.{SlotState}
 use Rattle.trdp_engine.specs.Alone.{FaultIs, refused_as, globals_after}
 use Rattle.trdp_engine.specs.NodeStates.{NodeState}
 use Rattle.trdp_engine.specs.NodeRuns.{HasCome, AreRefused, globals_through}
@@ -18,13 +16,11 @@ use Rattle.trdp_engine.proofs.Runs.{RunsAsAloneSoFar, so_far}
 
 -- the slots that the events led to
 pub has_come : (old now : NodeState) (records records_now : List RecordModel)
-    (events : List EventModel) → length now.slots ≡ length old.slots
-    → ((s : ℕ) (slot : SlotState) → slice_get old.slots s ≡ Some slot
-    → RunsAsAloneSoFar old now records records_now events s slot) → HasCome old events now.slots
-has_come old now records records_now events count runs = record {
-  count = count;
-  is_alone =
-      λ s slot at. (so_far old now records records_now events s slot (runs s slot at)).slot_is;
+    (events : List EventModel)
+    → ((s : ℕ) → RunsAsAloneSoFar old now records records_now events s)
+    → HasCome old events now.slots
+has_come old now records records_now events runs = record {
+  is_alone = λ s. (so_far old now records records_now events s (runs s)).slot_is;
 }
 
 refused_more : (n : ℕ) (globals : Globals) (events : List EventModel) (event : EventModel)
@@ -98,15 +94,16 @@ globals_next old now next events event (Err fault) count answer memory kept glob
 -- one more event, whatever the step answered but want of memory
 pub latest_next : (old now next : NodeState) (events : List EventModel)
     (event : EventModel) (result : Result (Unit {0}) NodeFault)
+    → length now.slots ≡ length old.slots
     → FaultIs (refused_as (length now.slots) now.globals event) result
     → (result ≡ Err OutOfMemory → ⊥) → HasCome old events now.slots
     → now.globals ≡ globals_through (length old.slots) old.globals events
     → OnErr result (next ≡ now) → OnOk result (IsBounded now.slots event next.counts)
     → CountsLatest old now events → CountsLatest old next (events ++ event ∷ [])
-latest_next old now next events event (Ok done) answer memory come led kept bounded latest =
+latest_next old now next events event (Ok done) count answer memory come led kept bounded latest =
     let none = none_there (refused_as (length now.slots) now.globals event) done answer in
-    Latest events event [] now.slots refl (rw (come.count, led) at none) tt come bounded
-latest_next old now next events event (Err fault) answer memory come led kept bounded latest =
+    Latest events event [] now.slots refl (rw (count, led) at none) tt come bounded
+latest_next old now next events event (Err fault) count answer memory come led kept bounded latest =
     subst (λ (n : NodeState). CountsLatest old n (events ++ event ∷ [])) (sym kept)
     (latest_kept old now events event (fault_there (refused_as (length now.slots) now.globals event)
     fault (Err fault) refl answer memory) latest)

@@ -1,50 +1,114 @@
 -- A step of a node: what each slot sees of it, and what it adds to the outbox.
-use Rattle.std.proofs.Common.{zero, suc, ◌≡◌, ℕ, ◌+◌, take, ◌≤◌, ◌<◌, List}
+use Rattle.std.proofs.Common.{zero, suc, ◌≡◌, ℕ, ◌+◌, take, List}
 use Rattle.std.proofs.Common.{[], ◌∷◌, ◌++◌, length, map, refl, ◌∙◌, ap, sym}
-use Rattle.std.proofs.Common.{arith, append_assoc, Some, None, Option, false}
-use Rattle.std.specs.Prelude.{slice_get, option_map, nat_le, nat_lt}
-use Rattle.std.proofs.lemmas.Bool.Decides.{nat_tests}
+use Rattle.std.proofs.Common.{arith, append_assoc, Some, None, Option, Result, Ok, Err, OnOk}
+use Rattle.std.specs.Prelude.{slice_get, option_map}
 use Rattle.std.proofs.lemmas.List.{append-nil}
-use Rattle.trdp_base.specs.Moments.{last_moment}
-use Rattle.trdp_filter.specs.declared.globals.Globals.{Globals}
+use Rattle.trdp_engine.specs.declared.fault.NodeFault.{NodeFault}
 use Rattle.trdp_dataset.specs.Configs.{SlotModel}
 use Rattle.trdp_engine.specs.Configs.{NodeSetup, setup_of}
 use Rattle.trdp_engine.specs.Records.{RecordModel, records_of}
-use Rattle.trdp_engine.specs.Events.{EventModel, MomentIs, CallIs, CallModel}
-use Rattle.trdp_engine.specs.Slots.{SlotState, Outcome, opened_slot}
+use Rattle.trdp_engine.specs.Events.{EventModel}
+use Rattle.trdp_engine.specs.Slots.{SlotState, Outcome, opened_slot, unchanged}
 use Rattle.trdp_engine.specs.Fitting.{AllFit, EachFits}
-use Rattle.trdp_engine.specs.Alone.{refused_as, plain_effect}
+use Rattle.trdp_engine.specs.Alone.{refused_as, FaultIs, plain_effect, slot_after, records_after}
+use Rattle.trdp_engine.specs.Alone.{Standing, standing_after}
 use Rattle.trdp_engine.specs.NodeStates.{NodeState, StepsAsAlone, HasOutcome, Appends}
-use Rattle.trdp_engine.proofs.Views.{view_is_plain}
+use Rattle.trdp_engine.proofs.Views.{view_is_plain, standing_open, standing_none}
 
--- an admitted event whose effect on a slot is the plain one is as the slot sees it
-pub plain_steps : (old new : NodeState) (records records_then : List RecordModel)
-    (event : EventModel) (s : ℕ) (slot : SlotState)
-    → refused_as (length old.slots) old.globals event ≡ None → HasOutcome new.slots
-    records records_then s (plain_effect (setup_of old.config) s slot old.globals event)
-    → StepsAsAlone old new records records_then event s slot
-plain_steps old new records records_then event s slot admitted has =
-    let is =
-    view_is_plain (setup_of old.config) s (length old.slots) slot old.globals event admitted in
-    record {
-      slot_is = has.slot_is ∙ ap (λ (o : Outcome). Some o.slot) is;
-      records_are = has.records_are ∙ ap (λ (o : Outcome). records_of s records ++ o.records) is;
+-- as many slots: the same numbers have none
+pub get_past : (slots others : List SlotState) (s : ℕ)
+    → length others ≡ length slots → slice_get slots s ≡ None → slice_get others s ≡ None
+get_past [] [] s same none = refl
+get_past [] (x ∷ others) s same none = absurd (omega (arith, same))
+get_past (x ∷ slots) [] s same none = refl
+get_past (x ∷ slots) (y ∷ others) zero same none = absurd (cc)
+get_past (x ∷ slots) (y ∷ others) (suc s) same none =
+    get_past slots others s (omega (arith, same)) none
+
+-- an admitted event whose effect on each open slot is the plain one, and which does nothing
+-- elsewhere, is as each number sees it
+pub steps_alone : (old new : NodeState) (records records_then : List RecordModel) (event : EventModel)
+    → refused_as (length old.slots) old.globals event ≡ None
+    → length new.slots ≡ length old.slots → Appends old.slots records records_then
+    → ((s : ℕ) (slot : SlotState) → slice_get old.slots s ≡ Some slot → HasOutcome new.slots
+    records records_then s (plain_effect (setup_of old.config) s slot old.globals event))
+    → (s : ℕ) → StepsAsAlone old new records records_then event s
+steps_alone old new records records_then event admitted same appends outcomes s =
+    from (slice_get old.slots s) refl
+  where
+    stands : Option SlotState → Standing
+    stands there = standing_after (setup_of old.config) s there old.globals event
+
+    by : (there : Option SlotState) → slice_get old.slots s ≡ there
+        → slice_get new.slots s ≡ (stands there).slot
+        → records_of s records_then ≡ records_of s records ++ (stands there).records
+        → StepsAsAlone old new records records_then event s
+    by there found slot records_own = record {
+      slot_is = rw found slot;
+      records_are = rw found records_own;
     }
 
-pub moment_admitted : (n : ℕ) (globals : Globals) (t : ℕ)
-    → globals.now ≤ t → t ≤ last_moment → refused_as n globals (MomentIs t) ≡ None
-moment_admitted n globals t le within =
-    let past : nat_lt t globals.now ≡ false = grind (arith, nat_tests) in
-    let late : nat_lt last_moment t ≡ false = not_after t last_moment within in
-    rw (past, late) refl
-  where
-    not_after : (t last : ℕ) → t ≤ last → nat_lt last t ≡ false
-    not_after t last within = grind (arith, nat_tests)
+    from : (there : Option SlotState) → slice_get old.slots s ≡ there
+        → StepsAsAlone old new records records_then event s
+    from None found =
+        let is = standing_none (setup_of old.config) s old.globals event in
+        let gone = get_past old.slots new.slots s same found in
+        by None found (rw is gone)
+        (rw (is, append-nil (records_of s records)) (appends.none_else s found))
+    from (Some slot) found =
+        let has = outcomes s slot found in
+        let is = standing_open (setup_of old.config) s slot old.globals event in
+        let plain = view_is_plain (setup_of old.config) s
+        (length old.slots) slot old.globals event admitted in
+        by (Some slot) found
+        (rw is (has.slot_is ∙ ap (λ (o : Outcome). Some o.slot) plain))
+        (rw is
+        (has.records_are ∙ ap (λ (o : Outcome). records_of s records ++ o.records) plain))
 
-pub call_admitted : (n : ℕ) (globals : Globals) (s : ℕ) (call : CallModel)
-    → s < n → refused_as n globals (CallIs s call) ≡ None
-call_admitted n globals s call lt = let there : nat_le n s ≡ false =
-    grind (arith, nat_tests) in rw there refl
+-- the same of a step, which did so where it took the event
+pub taken_alone : (old new : NodeState) (records records_then : List RecordModel)
+    (event : EventModel) (result : Result (Unit {0}) NodeFault)
+    → FaultIs (refused_as (length old.slots) old.globals event) result
+    → length new.slots ≡ length old.slots → Appends old.slots records records_then
+    → OnOk result ((s : ℕ) (slot : SlotState) → slice_get old.slots s ≡ Some slot → HasOutcome
+    new.slots records records_then s (plain_effect (setup_of old.config) s slot old.globals event))
+    → OnOk result ((s : ℕ) → StepsAsAlone old new records records_then event s)
+taken_alone old new records records_then event (Ok done) answer same appends outcomes =
+    steps_alone old new records records_then event
+    (admitted (refused_as (length old.slots) old.globals event) answer) same appends outcomes
+  where
+    admitted : (fault : Option NodeFault) → FaultIs fault (Ok done) → fault ≡ None
+    admitted None answer = refl
+    admitted (Some fault) answer = absurd answer
+taken_alone old new records records_then event (Err fault) answer same appends outcomes = tt
+
+-- what a step did to an open slot
+pub open_outcome : (old new : NodeState) (records records_then : List RecordModel)
+    (event : EventModel) (s : ℕ) (slot : SlotState) → slice_get old.slots s ≡ Some slot
+    → StepsAsAlone old new records records_then event s
+    → HasOutcome new.slots records records_then s (record {
+      slot = slot_after (setup_of old.config) s slot old.globals event;
+      records = records_after (setup_of old.config) s slot old.globals event;
+    })
+open_outcome old new records records_then event s slot found stepped =
+    let is = standing_open (setup_of old.config) s slot old.globals event in
+    record {
+      slot_is = rw (found, is) at stepped.slot_is;
+      records_are = rw (found, is) at stepped.records_are;
+    }
+
+-- what always holds holds where a step took its event
+pub always : (result : Result (Unit {0}) NodeFault) {P : Type 0} → P → OnOk result P
+always (Ok done) p = p
+always (Err fault) p = tt
+
+-- slots and records that stay are those of an event without effect
+pub unchanged_each : (slots : List SlotState) (records : List RecordModel) (s : ℕ)
+    (slot : SlotState) → slice_get slots s ≡ Some slot
+    → HasOutcome slots records records s (unchanged slot)
+unchanged_each slots records s slot found =
+    record { slot_is = found; records_are = sym (append-nil (records_of s records)) }
 
 -- the records of before may be said in another way
 pub has_outcome : (slots : List SlotState) (records same records_then : List RecordModel)
@@ -59,16 +123,6 @@ appends_none slots records records_then same = record {
   front = same ∙ sym (append-nil records);
   none_else = λ s none. rw same refl;
 }
-
--- as many slots: the same numbers have none
-pub get_past : (slots others : List SlotState) (s : ℕ)
-    → length others ≡ length slots → slice_get slots s ≡ None → slice_get others s ≡ None
-get_past [] [] s same none = refl
-get_past [] (x ∷ others) s same none = absurd (omega (arith, same))
-get_past (x ∷ slots) [] s same none = refl
-get_past (x ∷ slots) (y ∷ others) zero same none = absurd (cc)
-get_past (x ∷ slots) (y ∷ others) (suc s) same none =
-    get_past slots others s (omega (arith, same)) none
 
 pub appends_more : (slots others : List SlotState) (xs ys zs : List RecordModel) → length others
     ≡ length slots → Appends slots xs ys → Appends others ys zs → Appends slots xs zs

@@ -1,6 +1,6 @@
--- One event of the node, as a slot run by itself sees it.
+-- One event of the node, as it is seen at a slot's number.
 use Rattle.std.proofs.Common.{◌≡◌, ℕ, ◌<◌, List, ◌∷◌, ◌++◌, Some, None, Option, Bool}
-use Rattle.std.proofs.Common.{true, false, [], refl, ap, sym, arith, append_assoc}
+use Rattle.std.proofs.Common.{IfSome, true, false, [], refl, ap, sym, arith, append_assoc}
 use Rattle.std.specs.Prelude.{◌==◌, ◌&&◌, not, nat_le, if◌then◌else◌}
 use Rattle.std.proofs.lemmas.Bool.Decides.{nat_tests}
 use Rattle.trdp_engine.specs.Configs.{NodeSetup}
@@ -17,50 +17,62 @@ use Rattle.trdp_engine.specs.Datagrams.{telegram_of, received_if, concerns}
 use Rattle.trdp_engine.proofs.Receiving.{unconcerned}
 use Rattle.trdp_engine.specs.Alone.{refused_as, globals_after, is_in_view, plain_effect}
 use Rattle.trdp_engine.specs.Alone.{Run, prepend, alone_in_view, slot_after, records_after}
+use Rattle.trdp_engine.specs.Alone.{is_seen, standing_after, none_there}
 
--- an admitted event that a slot doesn't see leaves the globals
-globals_after-unseen : (s n : ℕ) (slot : SlotState) (globals : Globals) (event : EventModel)
-    → refused_as n globals event ≡ None → is_in_view s slot globals event ≡ false
+-- an admitted event that isn't seen at a number leaves the globals
+globals_after-unseen : (s n : ℕ) (slot : Option SlotState) (globals : Globals) (event : EventModel)
+    → refused_as n globals event ≡ None → is_seen s slot globals event ≡ false
     → globals_after globals event ≡ globals
-globals_after-unseen s n slot globals (MomentIs t) admitted unseen =
+globals_after-unseen s n (Some slot) globals (MomentIs t) admitted unseen =
     absurd (grind (arith, nat_tests))
-globals_after-unseen s n slot globals (TopologyIs topo) admitted unseen = absurd (cc)
-globals_after-unseen s n slot globals (RoleIs group leader) admitted unseen =
+globals_after-unseen s n None globals (MomentIs t) admitted unseen =
+    absurd (grind (arith, nat_tests))
+globals_after-unseen s n (Some slot) globals (TopologyIs topo) admitted unseen = absurd (cc)
+globals_after-unseen s n None globals (TopologyIs topo) admitted unseen = absurd (cc)
+globals_after-unseen s n (Some slot) globals (RoleIs group leader) admitted unseen =
+    absurd (grind (arith, nat_tests))
+globals_after-unseen s n None globals (RoleIs group leader) admitted unseen =
     absurd (grind (arith, nat_tests))
 globals_after-unseen s n slot globals (DatagramIs protocol src dst bytes) admitted unseen = refl
 globals_after-unseen s n slot globals (CallIs r call) admitted unseen = refl
 
--- no slot sees an event that isn't admitted
-refused_is_unseen :
-    (s n : ℕ) (slot : SlotState) (globals : Globals) (event : EventModel) (fault : NodeFault)
-    → s < n → refused_as n globals event ≡ Some fault → is_in_view s slot globals event ≡ false
-refused_is_unseen s n slot globals (MomentIs t) fault within bad = grind (arith, nat_tests)
+-- an event that isn't admitted is seen at no number
+refused_is_unseen : (s n : ℕ) (slot : Option SlotState) (globals : Globals) (event : EventModel)
+    (fault : NodeFault) → IfSome slot (λ x. s < n) → refused_as n globals event ≡ Some fault
+    → is_seen s slot globals event ≡ false
+refused_is_unseen s n (Some slot) globals (MomentIs t) fault within bad = grind (arith, nat_tests)
+refused_is_unseen s n None globals (MomentIs t) fault within bad = grind (arith, nat_tests)
 refused_is_unseen s n slot globals (TopologyIs topo) fault within bad = absurd (cc)
-refused_is_unseen s n slot globals (RoleIs group leader) fault within bad = grind (arith, nat_tests)
+refused_is_unseen s n (Some slot) globals (RoleIs group leader) fault within bad =
+    grind (arith, nat_tests)
+refused_is_unseen s n None globals (RoleIs group leader) fault within bad =
+    grind (arith, nat_tests)
 refused_is_unseen s n slot globals (DatagramIs protocol src dst bytes) fault within bad =
     absurd (cc)
-refused_is_unseen s n slot globals (CallIs r call) fault within bad = grind (arith, nat_tests)
+refused_is_unseen s n (Some slot) globals (CallIs r call) fault within bad =
+    grind (arith, nat_tests)
+refused_is_unseen s n None globals (CallIs r call) fault within bad = refl
 
 -- an admitted event comes first in the run
 pub admitted_first : (setup : NodeSetup) (s n : ℕ)
-    (slot : SlotState) (globals : Globals) (event : EventModel) (later : List EventModel)
+    (slot : Option SlotState) (globals : Globals) (event : EventModel) (later : List EventModel)
     → refused_as n globals event ≡ None → alone_in_view setup s slot globals (event ∷ later)
-    ≡ prepend (records_after setup s slot globals event) (alone_in_view setup
-    s (slot_after setup s slot globals event) (globals_after globals event) later)
+    ≡ prepend (standing_after setup s slot globals event).records (alone_in_view setup
+    s (standing_after setup s slot globals event).slot (globals_after globals event) later)
 admitted_first setup s n slot globals event later admitted =
-    seen_or_not (is_in_view s slot globals event) refl
+    seen_or_not (is_seen s slot globals event) refl
   where
-    seen_or_not : (seen : Bool) → is_in_view s slot globals event ≡ seen
+    seen_or_not : (seen : Bool) → is_seen s slot globals event ≡ seen
         → alone_in_view setup s slot globals (event ∷ later)
-        ≡ prepend (records_after setup s slot globals event) (alone_in_view setup
-        s (slot_after setup s slot globals event) (globals_after globals event) later)
+        ≡ prepend (standing_after setup s slot globals event).records (alone_in_view setup
+        s (standing_after setup s slot globals event).slot (globals_after globals event) later)
     seen_or_not true is = rw is refl
     seen_or_not false is = rw (is, globals_after-unseen s n slot globals event admitted is) refl
 
 -- an event that isn't admitted leaves the run
-pub refused_first : (setup : NodeSetup) (s n : ℕ) (slot : SlotState)
-    (globals : Globals) (event : EventModel) (later : List EventModel) (fault : NodeFault)
-    → s < n → refused_as n globals event ≡ Some fault
+pub refused_first : (setup : NodeSetup) (s n : ℕ) (slot : Option SlotState) (globals : Globals)
+    (event : EventModel) (later : List EventModel) (fault : NodeFault)
+    → IfSome slot (λ x. s < n) → refused_as n globals event ≡ Some fault
     → alone_in_view setup s slot globals (event ∷ later) ≡ alone_in_view setup s slot globals later
 refused_first setup s n slot globals event later fault within bad =
     rw (refused_is_unseen s n slot globals event fault within bad) refl
@@ -113,3 +125,29 @@ view_is_plain setup s n slot globals (CallIs r call) admitted =
         }
     either setup slot globals call true = refl
     either setup slot globals call false = refl
+
+-- what an event does to an open slot
+pub standing_open : (setup : NodeSetup) (s : ℕ) (slot : SlotState) (globals : Globals)
+    (event : EventModel) → standing_after setup s (Some slot) globals event ≡ record {
+      slot = Some (slot_after setup s slot globals event);
+      records = records_after setup s slot globals event;
+    }
+standing_open setup s slot globals event = seen_or_not (is_in_view s slot globals event) refl
+  where
+    seen_or_not : (seen : Bool) → is_in_view s slot globals event ≡ seen
+        → standing_after setup s (Some slot) globals event ≡ record {
+          slot = Some (slot_after setup s slot globals event);
+          records = records_after setup s slot globals event;
+        }
+    seen_or_not true is = rw is refl
+    seen_or_not false is = rw is refl
+
+-- and to a number where no slot is open
+pub standing_none : (setup : NodeSetup) (s : ℕ) (globals : Globals) (event : EventModel)
+    → standing_after setup s None globals event ≡ none_there
+standing_none setup s globals event = seen_or_not (is_seen s None globals event) refl
+  where
+    seen_or_not : (seen : Bool) → is_seen s None globals event ≡ seen
+        → standing_after setup s None globals event ≡ none_there
+    seen_or_not true is = rw is refl
+    seen_or_not false is = rw is refl

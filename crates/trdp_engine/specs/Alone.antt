@@ -1,6 +1,7 @@
--- A slot run by itself, and what a slot sees of a node's events.
+-- What stands at a slot's number, an open slot or none, run by itself, and what it sees of a node's
+-- events.
 use Rattle.std.specs.Prelude.{◌≡◌, ℕ, List, [], ◌∷◌, ◌++◌, Option, Some, None, Bool, true, not}
-use Rattle.std.specs.Prelude.{◌==◌, ◌&&◌, nat_le, nat_lt, if◌then◌else◌, Result, Ok, Err}
+use Rattle.std.specs.Prelude.{false, ◌==◌, ◌&&◌, nat_le, nat_lt, if◌then◌else◌, Result, Ok, Err}
 use Rattle.trdp_base.specs.Moments.{last_moment}
 use Rattle.trdp_filter.specs.declared.globals.Globals.{Globals}
 use Rattle.trdp_filter.specs.Globals.{with_role}
@@ -61,9 +62,37 @@ event_effect setup slot globals (DatagramIs protocol src dst bytes) =
     received_if setup slot globals (telegram_of protocol src dst bytes)
 event_effect setup slot globals (CallIs s call) = called setup slot globals call
 
--- a slot after a list of events, the globals then, and all its records in order
+-- what stands at a slot's number, an open slot or none, and the records that the number gets
+pub record Standing : Type 0 where
+  pub slot : Option SlotState
+  pub records : List Content
+
+-- no slot is open, and nothing is got
+abbrev pub none_there : Standing
+none_there = record { slot = None; records = [] }
+
+-- effect of an event that is seen at a number: on an open slot its own effect, and none where no
+-- slot is open
+abbrev pub number_effect : NodeSetup → Option SlotState → Globals → EventModel → Standing
+number_effect setup (Some slot) globals event = record {
+  slot = Some (event_effect setup slot globals event).slot;
+  records = (event_effect setup slot globals event).records;
+}
+number_effect setup None globals event = none_there
+
+-- an event that is seen at number s: by an open slot what is in its view; without one the events
+-- that every slot sees, since the globals are everyone's
+abbrev pub is_seen : ℕ → Option SlotState → Globals → EventModel → Bool
+is_seen s (Some slot) globals event = is_in_view s slot globals event
+is_seen s None globals (MomentIs t) = nat_le globals.now t && nat_le t last_moment
+is_seen s None globals (TopologyIs topo) = true
+is_seen s None globals (RoleIs group leader) = not (group == 0)
+is_seen s None globals (DatagramIs protocol src dst bytes) = false
+is_seen s None globals (CallIs r call) = false
+
+-- what stands at a number after a list of events, the globals then, and all its records in order
 pub record Run : Type 0 where
-  pub slot : SlotState
+  pub slot : Option SlotState
   pub globals : Globals
   pub records : List Content
 
@@ -71,36 +100,43 @@ pub record Run : Type 0 where
 abbrev pub prepend : List Content → Run → Run
 prepend records run = record run { records = records ++ run.records }
 
--- a slot run by itself over a list of events
-abbrev pub alone : NodeSetup → SlotState → Globals → List EventModel → Run
+-- what stands at a number, run by itself over a list of events
+abbrev pub alone : NodeSetup → Option SlotState → Globals → List EventModel → Run
 alone setup slot globals [] = record { slot = slot; globals = globals; records = [] }
 alone setup slot globals (event ∷ events) =
-    prepend (event_effect setup slot globals event).records
-    (alone setup (event_effect setup slot globals event).slot
+    prepend (number_effect setup slot globals event).records
+    (alone setup (number_effect setup slot globals event).slot
     (globals_after globals event) events)
 
--- the events that slot s sees
-abbrev pub view : NodeSetup → ℕ → SlotState → Globals → List EventModel → List EventModel
+-- the events that are seen at number s
+abbrev pub view : NodeSetup → ℕ → Option SlotState → Globals → List EventModel → List EventModel
 view setup s slot globals [] = []
 view setup s slot globals (event ∷ events) =
-    if is_in_view s slot globals event
-    then event ∷ view setup s (event_effect setup slot globals event).slot
+    if is_seen s slot globals event
+    then event ∷ view setup s (number_effect setup slot globals event).slot
     (globals_after globals event) events
     else view setup s slot globals events
 
--- slot s run by itself over the events that it sees
-abbrev pub alone_in_view : NodeSetup → ℕ → SlotState → Globals → List EventModel → Run
+-- what stands at number s, run by itself over the events that it sees
+abbrev pub alone_in_view : NodeSetup → ℕ → Option SlotState → Globals → List EventModel → Run
 alone_in_view setup s slot globals events =
     alone setup slot globals (view setup s slot globals events)
 
--- slot s after any one event of the node
+-- what stands at number s after any one event of the node, and the records that it gets
+abbrev pub standing_after : NodeSetup → ℕ → Option SlotState → Globals → EventModel → Standing
+standing_after setup s slot globals event =
+    if is_seen s slot globals event
+    then number_effect setup slot globals event
+    else record { slot = slot; records = [] }
+
+-- an open slot s after any one event of the node
 abbrev pub slot_after : NodeSetup → ℕ → SlotState → Globals → EventModel → SlotState
 slot_after setup s slot globals event =
     if is_in_view s slot globals event
     then (event_effect setup slot globals event).slot
     else slot
 
--- the records that slot s gets at any one event of the node
+-- the records that an open slot s gets at any one event of the node
 abbrev pub records_after : NodeSetup → ℕ → SlotState → Globals → EventModel → List Content
 records_after setup s slot globals event =
     if is_in_view s slot globals event

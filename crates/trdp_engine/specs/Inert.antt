@@ -1,19 +1,19 @@
 -- Events at which nothing happens.
-use Rattle.std.specs.Prelude.{◌≡◌, ℕ, [], None}
+use Rattle.std.specs.Prelude.{◌≡◌, ℕ, [], Option, None}
 use Rattle.trdp_filter.specs.declared.globals.Globals.{Globals}
 use Rattle.trdp_engine.specs.Configs.{NodeSetup}
 use Rattle.trdp_engine.specs.Events.{EventModel}
 use Rattle.trdp_engine.specs.Slots.{SlotState}
-use Rattle.trdp_engine.specs.Alone.{refused_as, globals_after, slot_after, records_after}
+use Rattle.trdp_engine.specs.Alone.{refused_as, globals_after, standing_after}
 use Rattle.trdp_engine.specs.NodeStates.{NodeState, MayTakeMemory}
 
--- whatever the node, it takes the event, no slot and no globals change, no slot gets a record, and
--- memory is never wanting
+-- whatever the node, it takes the event, what stands at each number and the globals stay, no number
+-- gets a record, and memory is never wanting
 pub record IsInert (event : EventModel) : Type 0 where
   pub admitted : (slots : ℕ) (globals : Globals) → refused_as slots globals event ≡ None
-  pub slot : (setup : NodeSetup) (s : ℕ) (slot : SlotState) (globals : Globals)
-      → slot_after setup s slot globals event ≡ slot
-  pub records : (setup : NodeSetup) (s : ℕ) (slot : SlotState) (globals : Globals)
-      → records_after setup s slot globals event ≡ []
+  pub slot : (setup : NodeSetup) (s : ℕ) (slot : Option SlotState) (globals : Globals)
+      → (standing_after setup s slot globals event).slot ≡ slot
+  pub records : (setup : NodeSetup) (s : ℕ) (slot : Option SlotState) (globals : Globals)
+      → (standing_after setup s slot globals event).records ≡ []
   pub globals : (globals : Globals) → globals_after globals event ≡ globals
   pub memory : (node : NodeState) → ¬ MayTakeMemory node event

@@ -1,5 +1,5 @@
 -- All that a run says of a node.
-use Rattle.std.specs.Prelude.{◌≡◌, ℕ, ◌≤◌, List, [], ◌∷◌, ◌++◌, length, slice_get, Some, map, take}
+use Rattle.std.specs.Prelude.{◌≡◌, ℕ, ◌≤◌, List, [], ◌∷◌, ◌++◌, length, slice_get, map, take}
 use Rattle.std.specs.Prelude.{None, IfSome, is_some, true, if◌then◌else◌}
 use Rattle.trdp_filter.specs.declared.globals.Globals.{Globals}
 use Rattle.trdp_engine.specs.declared.event.Event.{Event}
@@ -15,10 +15,8 @@ use Rattle.trdp_engine.specs.Costs.{IsBounded}
 -- these are a node's slots after the events
 pub record HasCome (old : NodeState) (events : List EventModel)
     (slots : List SlotState) : Type 0 where
-  pub count : length slots ≡ length old.slots
-  pub is_alone : (s : ℕ) (slot : SlotState) → slice_get old.slots s ≡ Some slot
-      → slice_get slots s
-      ≡ Some (alone_in_view (setup_of old.config) s slot old.globals events).slot
+  pub is_alone : (s : ℕ) → slice_get slots s
+      ≡ (alone_in_view (setup_of old.config) s (slice_get old.slots s) old.globals events).slot
 
 -- the globals to which these events lead a node of so many slots, which are left by those that it
 -- refuses
@@ -48,8 +46,8 @@ pub data CountsLatest (old new : NodeState) (events : List EventModel) : Type 0 
       → AreRefused (length new.slots) new.globals later → HasCome old earlier slots
       → IsBounded slots latest new.counts → CountsLatest old new events
 
--- so many of the events were taken, and before the next memory may be wanting; each slot ran as by
--- itself, and the records are added behind those of before
+-- so many of the events were taken, and before the next memory may be wanting; what stands at each
+-- number ran as by itself, and the records are added behind those of before
 pub record HasRun (old new : NodeState) (out out_then : OutboxState) (events : List Event)
     (taken : ℕ) : Type 0 where
   pub within : taken ≤ length events
@@ -58,8 +56,7 @@ pub record HasRun (old new : NodeState) (out out_then : OutboxState) (events : L
       (λ event. MayLackMemory new out_then (event_model event))
   pub config_is : new.config ≡ old.config
   pub count : length new.slots ≡ length old.slots
-  pub runs : (s : ℕ) (slot : SlotState) → slice_get old.slots s ≡ Some slot
-      → RunsAsAlone old new out.records out_then.records
-      (map event_model (take taken events)) s slot
+  pub runs : (s : ℕ) → RunsAsAlone old new out.records out_then.records
+      (map event_model (take taken events)) s
   pub appends : Appends old.slots out.records out_then.records
   pub counted : CountsLatest old new (map event_model (take taken events))

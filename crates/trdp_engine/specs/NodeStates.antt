@@ -13,7 +13,7 @@ use Rattle.trdp_engine.specs.Slots.{SlotState, Outcome, opened_slot}
 use Rattle.trdp_engine.specs.Configs.{setup_of}
 use Rattle.trdp_engine.specs.Datagrams.{telegram_of, concerns}
 use Rattle.trdp_engine.specs.Moments.{is_due}
-use Rattle.trdp_engine.specs.Alone.{slot_after, records_after, alone_in_view}
+use Rattle.trdp_engine.specs.Alone.{standing_after, alone_in_view}
 
 -- a node: its configuration, its globals, its slots, and what the latest event that it took cost
 pub record NodeState : Type 0 where
@@ -30,25 +30,26 @@ no_counts = record { comparisons = 0; tests = 0; look_ups = 0 }
 abbrev pub uncounted : NodeState → NodeState
 uncounted node = record node { counts = no_counts }
 
--- one event, as slot s sees it
+-- one event, as number s sees it, whether a slot is open there or not
 pub record StepsAsAlone (old new : NodeState) (records records_then : List RecordModel)
-    (event : EventModel) (s : ℕ) (slot : SlotState) : Type 0 where
+    (event : EventModel) (s : ℕ) : Type 0 where
   pub slot_is : slice_get new.slots s
-      ≡ Some (slot_after (setup_of old.config) s slot old.globals event)
-  pub records_are : records_of s records_then
-      ≡ records_of s records ++ records_after (setup_of old.config) s slot old.globals event
-
--- a list of events, as slot s sees it: the slot, the globals and the records are those of the
--- slot run by itself
-pub record RunsAsAlone (old new : NodeState) (records records_then : List RecordModel)
-    (events : List EventModel) (s : ℕ) (slot : SlotState) : Type 0 where
-  pub slot_is : slice_get new.slots s
-      ≡ Some (alone_in_view (setup_of old.config) s slot old.globals events).slot
-  pub globals_are : new.globals
-      ≡ (alone_in_view (setup_of old.config) s slot old.globals events).globals
+      ≡ (standing_after (setup_of old.config) s (slice_get old.slots s) old.globals event).slot
   pub records_are : records_of s records_then
       ≡ records_of s records
-      ++ (alone_in_view (setup_of old.config) s slot old.globals events).records
+      ++ (standing_after (setup_of old.config) s (slice_get old.slots s) old.globals event).records
+
+-- a list of events, as number s sees it: what stands there, the globals and the records are those
+-- of what stood there run by itself
+pub record RunsAsAlone (old new : NodeState) (records records_then : List RecordModel)
+    (events : List EventModel) (s : ℕ) : Type 0 where
+  pub slot_is : slice_get new.slots s
+      ≡ (alone_in_view (setup_of old.config) s (slice_get old.slots s) old.globals events).slot
+  pub globals_are : new.globals
+      ≡ (alone_in_view (setup_of old.config) s (slice_get old.slots s) old.globals events).globals
+  pub records_are : records_of s records_then
+      ≡ records_of s records
+      ++ (alone_in_view (setup_of old.config) s (slice_get old.slots s) old.globals events).records
 
 -- the records of before stand first, and none is added for a number that no slot has
 pub record Appends (slots : List SlotState)
@@ -82,7 +83,7 @@ opened_node config =
       counts = no_counts;
     }
 
--- slot s is the same in two nodes, and has got the same records since
+-- what stands at number s is the same in two nodes, and has got the same records since
 pub record GetsTheSame (first second : NodeState)
     (records records_then others others_then : List RecordModel) (s : ℕ) : Type 0 where
   pub slot_is : slice_get first.slots s ≡ slice_get second.slots s

@@ -1,6 +1,6 @@
 //! What a slot gets depends on what it sees alone, and what is no telegram does nothing.
 
-ghost use Rattle.std.specs.Prelude.{◌≡◌, ℕ, List, None, Some, true, slice_get, map, take};
+ghost use Rattle.std.specs.Prelude.{◌≡◌, ℕ, List, Option, None, Some, true, slice_get, map, take};
 ghost use Rattle.trdp_base.specs.declared.place.Place.{Place};
 ghost use Rattle.trdp_head.specs.declared.pd.PdKind.TheVariants.{Error};
 ghost use Rattle.trdp_head.specs.PdTelegrams.{PdTelegram, pd_telegram_of};
@@ -26,10 +26,10 @@ use crate::event::Event;
 use crate::node::Node;
 use crate::outbox::Outbox;
 
-/// The law of equal views: two lists of events of which a slot sees the same come to the same for
-/// that slot, whatever else they hold.
+/// The law of equal views: two lists of events of which the same is seen at a slot's number come to
+/// the same for that number, whether a slot is open there or not, and whatever else they hold.
 pub fn same_view()
-    ensures { (setup : NodeSetup) (s : ℕ) (slot : SlotState) (globals : Globals)
+    ensures { (setup : NodeSetup) (s : ℕ) (slot : Option SlotState) (globals : Globals)
         (events others : List EventModel)
         → view setup s slot globals events ≡ view setup s slot globals others
         → alone_in_view setup s slot globals events ≡ alone_in_view setup s slot globals others }
@@ -74,8 +74,9 @@ pub fn error_telegrams_are_inert()
 
 /// Runs two nodes over two lists of events, and answers how many each took. Of each node it says
 /// all that [`Node::run`] says. Where the nodes have equal datasets, address, ports and globals, a
-/// slot that is the same in both, and sees the same of the events that were taken, is the same
-/// afterwards and has got the same records. The nodes may differ in everything about the others.
+/// number at which the same stands in both (a slot, or none), and which sees the same of the events
+/// that were taken, has the same afterwards and has got the same records. The nodes may differ in
+/// everything about the others.
 pub fn run_both(
     first: &mut Node,
     second: &mut Node,
@@ -88,11 +89,10 @@ pub fn run_both(
     ensures second { HasRun second.old second.new other_out.old other_out.new others.now result.1 }
     ensures alike { setup_of first.old.config ≡ setup_of second.old.config
         → first.old.globals ≡ second.old.globals
-        → (s : ℕ) (slot : SlotState) → slice_get first.old.slots s ≡ Some slot
-        → slice_get second.old.slots s ≡ Some slot
-        → view (setup_of first.old.config) s slot first.old.globals
+        → (s : ℕ) → slice_get first.old.slots s ≡ slice_get second.old.slots s
+        → view (setup_of first.old.config) s (slice_get first.old.slots s) first.old.globals
         (map event_model (take result.0 events.now))
-        ≡ view (setup_of first.old.config) s slot first.old.globals
+        ≡ view (setup_of first.old.config) s (slice_get first.old.slots s) first.old.globals
         (map event_model (take result.1 others.now))
         → GetsTheSame first.new second.new out.old.records out.new.records other_out.old.records
         other_out.new.records s }

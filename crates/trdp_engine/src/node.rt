@@ -77,7 +77,7 @@ impl Node {
     ghost use Rattle.trdp_engine.specs.NodeStates.{Appends, MayTakeMemory, opened_node, no_counts};
     ghost use Rattle.trdp_engine.specs.Costs.{IsBounded};
     ghost use Rattle.trdp_engine.specs.Rooms.{MayLackMemory};
-    ghost use Rattle.trdp_engine.specs.Alone.{FaultIs, refused_as, globals_after};
+    ghost use Rattle.trdp_engine.specs.Alone.{FaultIs, refused_as, globals_after, plain_effect};
 
     /// A node at moment 0 that leads no group, with an empty slot for each of the configuration, 1
     /// to 16.
@@ -151,9 +151,10 @@ impl Node {
         ensures globals { OnOk result (self.new.globals
             ≡ globals_after self.old.globals (MomentIs t)) }
         ensures count { length self.new.slots ≡ length self.old.slots }
-        ensures steps { OnOk result ((s : ℕ) (slot : SlotState)
+        ensures outcomes { OnOk result ((s : ℕ) (slot : SlotState)
             → slice_get self.old.slots s ≡ Some slot
-            → StepsAsAlone self.old self.new out.old.records out.new.records (MomentIs t) s slot) }
+            → GetsOutcome self.new out.old.records out.new.records s
+            (plain_effect (setup_of self.old.config) s slot self.old.globals (MomentIs t))) }
         ensures appends { Appends self.old.slots out.old.records out.new.records }
         ensures cost { OnOk result (IsBounded self.old.slots (MomentIs t) self.new.counts) }
     {
@@ -235,10 +236,11 @@ impl Node {
         ensures globals { OnOk result (self.new.globals
             ≡ globals_after self.old.globals (DatagramIs protocol src dst bytes.now)) }
         ensures count { length self.new.slots ≡ length self.old.slots }
-        ensures steps { OnOk result ((s : ℕ) (slot : SlotState)
+        ensures outcomes { OnOk result ((s : ℕ) (slot : SlotState)
             → slice_get self.old.slots s ≡ Some slot
-            → StepsAsAlone self.old self.new out.old.records out.new.records
-            (DatagramIs protocol src dst bytes.now) s slot) }
+            → GetsOutcome self.new out.old.records out.new.records s
+            (plain_effect (setup_of self.old.config) s slot self.old.globals
+            (DatagramIs protocol src dst bytes.now))) }
         ensures appends { Appends self.old.slots out.old.records out.new.records }
         ensures cost { OnOk result (IsBounded self.old.slots
             (DatagramIs protocol src dst bytes.now) self.new.counts) }
@@ -278,10 +280,11 @@ impl Node {
         ensures globals { OnOk result (self.new.globals
             ≡ globals_after self.old.globals (CallIs s (call_model call.now))) }
         ensures count { length self.new.slots ≡ length self.old.slots }
-        ensures steps { OnOk result ((r : ℕ) (slot : SlotState)
+        ensures outcomes { OnOk result ((r : ℕ) (slot : SlotState)
             → slice_get self.old.slots r ≡ Some slot
-            → StepsAsAlone self.old self.new out.old.records out.new.records
-            (CallIs s (call_model call.now)) r slot) }
+            → GetsOutcome self.new out.old.records out.new.records r
+            (plain_effect (setup_of self.old.config) r slot self.old.globals
+            (CallIs s (call_model call.now)))) }
         ensures appends { Appends self.old.slots out.old.records out.new.records }
         ensures cost { OnOk result (IsBounded self.old.slots (CallIs s (call_model call.now))
             self.new.counts) }
@@ -324,10 +327,9 @@ impl Node {
         ensures globals { OnOk result (self.new.globals
             ≡ globals_after self.old.globals (event_model event.now)) }
         ensures count { length self.new.slots ≡ length self.old.slots }
-        ensures steps { OnOk result ((s : ℕ) (slot : SlotState)
-            → slice_get self.old.slots s ≡ Some slot
+        ensures steps { OnOk result ((s : ℕ)
             → StepsAsAlone self.old self.new out.old.records out.new.records
-            (event_model event.now) s slot) }
+            (event_model event.now) s) }
         ensures appends { Appends self.old.slots out.old.records out.new.records }
         ensures cost { OnOk result (IsBounded self.old.slots (event_model event.now)
             self.new.counts) }

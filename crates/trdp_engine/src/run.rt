@@ -1,8 +1,7 @@
 //! Many events of a node, one after another.
 
-ghost use Rattle.std.specs.Prelude.{◌≡◌, ℕ, ◌≤◌, length, IfSome, Some, slice_get, map, take};
+ghost use Rattle.std.specs.Prelude.{◌≡◌, ℕ, ◌≤◌, length, IfSome, slice_get, map, take};
 ghost use Rattle.trdp_engine.specs.Events.{event_model};
-ghost use Rattle.trdp_engine.specs.Slots.{SlotState};
 ghost use Rattle.trdp_engine.specs.NodeStates.{RunsAsAlone, Appends, MayTakeMemory};
 ghost use Rattle.trdp_engine.specs.Rooms.{MayLackMemory};
 ghost use Rattle.trdp_engine.specs.NodeRuns.{CountsLatest};
@@ -26,9 +25,8 @@ impl Node {
             (λ event. MayLackMemory self.new out.new (event_model event)) }
         ensures config { self.new.config ≡ self.old.config }
         ensures count { length self.new.slots ≡ length self.old.slots }
-        ensures alone { (s : ℕ) (slot : SlotState) → slice_get self.old.slots s ≡ Some slot
-            → RunsAsAlone self.old self.new out.old.records out.new.records
-            (map event_model (take result events.now)) s slot }
+        ensures alone { (s : ℕ) → RunsAsAlone self.old self.new out.old.records out.new.records
+            (map event_model (take result events.now)) s }
         ensures appends { Appends self.old.slots out.old.records out.new.records }
         ensures counted { CountsLatest self.old self.new
             (map event_model (take result events.now)) }

@@ -17,6 +17,7 @@ use Rattle.trdp_engine.specs.Slots.{SlotState}
 use Rattle.trdp_engine.specs.Alone.{FaultIs, refused_as, globals_after, slot_after, records_after}
 use Rattle.trdp_engine.specs.NodeStates.{NodeState, MayTakeMemory, StepsAsAlone, Appends}
 use Rattle.trdp_engine.specs.NodeStates.{no_counts, uncounted}
+use Rattle.trdp_engine.proofs.Steps.{open_outcome}
 use Rattle.trdp_script.specs.RecordText.{text_of_fault, text_of_record}
 use Rattle.trdp_script.specs.ScriptText.{slots_after, slots_text, node_after}
 use Rattle.trdp_script.specs.ScriptText.{event_text, node_unless, text_unless}
@@ -122,14 +123,13 @@ pub node_played : (old new : NodeState) (records records_then : List RecordModel
     (event : EventModel) → FaultIs (refused_as (length old.slots) old.globals event) (Ok tt)
     → new.config ≡ old.config → new.globals ≡ globals_after old.globals event
     → length new.slots ≡ length old.slots
-    → ((s : ℕ) (slot : SlotState) → slice_get old.slots s ≡ Some slot
-    → StepsAsAlone old new records records_then event s slot)
+    → ((s : ℕ) → StepsAsAlone old new records records_then event s)
     → uncounted new ≡ node_after (uncounted old) event
 node_played old new records records_then event taken config globals len steps =
     let slots : new.slots ≡ slots_after (setup_of old.config) old.globals event 0 old.slots =
     slots_same (setup_of old.config) old.globals event
     0 old.slots new.slots len (λ i s slot is there. let same : s ≡ i = omega (arith, is) in
-    rw same (steps i slot there).slot_is) in
+    rw same (open_outcome old new records records_then event i slot there (steps i)).slot_is) in
     ap (λ c. let n : NodeState = record {
       config = c;
       globals = new.globals;
@@ -156,8 +156,7 @@ pub text_played : (n : ℕ) (old new : NodeState) (records records_then : List R
     (event : EventModel) (text : List ℕ)
     → FaultIs (refused_as (length old.slots) old.globals event) (Ok tt)
     → length old.slots ≤ n → records ≡ []
-    → ((s : ℕ) (slot : SlotState) → slice_get old.slots s ≡ Some slot
-    → StepsAsAlone old new records records_then event s slot)
+    → ((s : ℕ) → StepsAsAlone old new records records_then event s)
     → Appends old.slots records records_then
     → text ≡ flat_map text_of_record (by_slot n records_then)
     → text ≡ event_text (uncounted old) event
@@ -168,7 +167,8 @@ text_played n old new records records_then event text taken fits empty steps app
     let each : (i s : ℕ) (slot : SlotState) → s ≡ 0 + i → slice_get old.slots i ≡ Some slot
     → records_of s records_then ≡ records_after (setup_of old.config) s slot old.globals event =
     λ i s slot is there. let same : s ≡ i = omega (arith, is) in
-    rw same ((steps i slot there).records_are ∙ ap (λ l.
+    rw same ((open_outcome old new records records_then event i slot there (steps i)).records_are
+    ∙ ap (λ l.
     records_of i l ++ records_after (setup_of old.config) i slot old.globals event) empty) in
     let whole : 0 + length old.slots ≡ length old.slots = omega arith in
     told

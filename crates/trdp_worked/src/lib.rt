@@ -59,4 +59,7 @@ mod telegrams;
 mod values;
 mod views;
 
-pub use views::{foreign_datagram_drops_out, refused_call_stays, stale_telegram_stays};
+pub use views::{
+    foreign_datagram_drops_out, number_without_slot_sees_what_all_see, refused_call_stays,
+    stale_telegram_stays,
+};

@@ -1,6 +1,5 @@
-use Rattle.std.proofs.Common.{◌≡◌, ℕ, length, Some, slice_get}
+use Rattle.std.proofs.Common.{◌≡◌, ℕ, length}
 use Rattle.trdp_engine.specs.Events.{event_model}
-use Rattle.trdp_engine.specs.Slots.{SlotState}
 use Rattle.trdp_engine.specs.Alone.{refused_as, globals_after}
 use Rattle.trdp_engine.specs.NodeStates.{StepsAsAlone}
 use Rattle.trdp_net.specs.Ties.{MovesSo}
@@ -14,9 +13,8 @@ returns-clause-moves c =
     (event_model c.args.event.now))
     (c.step.new.self.globals ≡ globals_after c.args.node.now.globals
     (event_model c.args.event.now))
-    ((s : ℕ) (slot : SlotState) → slice_get c.args.node.now.slots s ≡ Some slot
-    → StepsAsAlone c.args.node.now c.step.new.self c.args.out.now.records
-    c.step.new.out.records (event_model c.args.event.now) s slot)
+    ((s : ℕ) → StepsAsAlone c.args.node.now c.step.new.self c.args.out.now.records
+    c.step.new.out.records (event_model c.args.event.now) s)
     (MovesSo c.args.node.now c.step.new.self c.args.out.now.records c.step.new.out.records
     (event_model c.args.event.now))
     c.step.ensures.fault c.step.ensures.globals c.step.ensures.steps

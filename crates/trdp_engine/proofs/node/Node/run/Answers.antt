@@ -3,7 +3,7 @@ use Rattle.std.proofs.lemmas.Option.{slice_get-get_or, slice_get_past}
 use Rattle.trdp_engine.specs.Events.{event_model}
 use Rattle.trdp_engine.specs.NodeRuns.{NoneTaken}
 use Rattle.trdp_engine.proofs.Latest.{has_come, globals_next, latest_next}
-use Rattle.trdp_engine.proofs.Runs.{one_event, so_far, one_more, at_start}
+use Rattle.trdp_engine.proofs.Runs.{one_event, so_far, one_more}
 use Rattle.trdp_engine.proofs.Steps.{appends_none, appends_more}
 use Rattle.trdp_engine.proofs.node.Node.run.Goals as goal
 
@@ -12,7 +12,7 @@ loop-event-init c = record {
   taken = refl;
   config = refl;
   count = refl;
-  runs = λ s slot is. at_start c.args.self.now c.args.out.now.records s slot is;
+  runs = λ s later. refl;
   appends = appends_none c.args.self.now.slots c.args.out.now.records c.args.out.now.records refl;
   globals = refl;
   counted = NoneTaken tt refl;
@@ -23,7 +23,7 @@ loop-event-preserved c = record {
   taken = omega arith;
   config = c.step-result.ensures.config ∙ c.loop-event.invariant.config;
   count = c.step-result.ensures.count ∙ c.loop-event.invariant.count;
-  runs = λ s slot is.
+  runs = λ s.
       rw (
         one_more c.args.events.now c.loop-event.event-index
             c.event-item.result c.loop-event-test.true,
@@ -31,10 +31,10 @@ loop-event-preserved c = record {
       )
       (one_event c.args.self.now c.loop-event.self c.step-result.new.self
       c.args.out.now.records c.loop-event.out.records c.step-result.new.out.records
-      _ _ s slot _ c.step-result.result c.loop-event.invariant.config refl
+      _ _ s _ c.step-result.result c.loop-event.invariant.config refl
       c.step-result.ensures.fault (c.is_out_of_memory.ensures.no c.if-is_out_of_memory.false)
       c.step-result.ensures.kept c.step-result.ensures.unrecorded c.step-result.ensures.globals
-      c.step-result.ensures.steps (c.loop-event.invariant.runs s slot is));
+      c.step-result.ensures.steps (c.loop-event.invariant.runs s));
   appends = appends_more c.args.self.now.slots c.loop-event.self.slots _
       _ _ c.loop-event.invariant.count c.loop-event.invariant.appends c.step-result.ensures.appends;
   globals =
@@ -56,24 +56,25 @@ loop-event-preserved c = record {
         ← c.event-item.is,
       )
       (latest_next c.args.self.now c.loop-event.self c.step-result.new.self _ _ c.step-result.result
-      c.step-result.ensures.fault (c.is_out_of_memory.ensures.no c.if-is_out_of_memory.false)
+      c.loop-event.invariant.count c.step-result.ensures.fault
+      (c.is_out_of_memory.ensures.no c.if-is_out_of_memory.false)
       (has_come c.args.self.now c.loop-event.self c.args.out.now.records
-      c.loop-event.out.records _ c.loop-event.invariant.count c.loop-event.invariant.runs)
+      c.loop-event.out.records _ c.loop-event.invariant.runs)
       c.loop-event.invariant.globals c.step-result.ensures.kept
       c.step-result.ensures.cost c.loop-event.invariant.counted);
 }
 
 pub returns-then-is_out_of_memory-clause-alone : goal.returns-then-is_out_of_memory-clause-alone
-returns-then-is_out_of_memory-clause-alone c = λ s slot is.
+returns-then-is_out_of_memory-clause-alone c = λ s.
     let memory = c.is_out_of_memory.ensures.yes c.if-is_out_of_memory.true in
     let kept = rw memory at c.step-result.ensures.kept in
     let unrecorded = rw memory at c.step-result.ensures.unrecorded in
     rw (c.loop-event.invariant.taken, kept, unrecorded)
-    (so_far _ _ _ _ _ s slot (c.loop-event.invariant.runs s slot is))
+    (so_far _ _ _ _ _ s (c.loop-event.invariant.runs s))
 
 pub returns-clause-alone : goal.returns-clause-alone
-returns-clause-alone c = λ s slot is. rw c.loop-event.invariant.taken
-    (so_far _ _ _ _ _ s slot (c.loop-event.invariant.runs s slot is))
+returns-clause-alone c = λ s. rw c.loop-event.invariant.taken
+    (so_far _ _ _ _ _ s (c.loop-event.invariant.runs s))
 
 pub returns-then-is_out_of_memory-clause-stops : goal.returns-then-is_out_of_memory-clause-stops
 returns-then-is_out_of_memory-clause-stops c =

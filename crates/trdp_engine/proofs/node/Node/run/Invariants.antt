@@ -1,7 +1,5 @@
-use Rattle.std.proofs.Common.{◌≡◌, ℕ, length, map, take, Some}
-use Rattle.std.specs.Prelude.{slice_get}
+use Rattle.std.proofs.Common.{◌≡◌, ℕ, length, map, take}
 use Rattle.trdp_engine.specs.Events.{event_model}
-use Rattle.trdp_engine.specs.Slots.{SlotState}
 use Rattle.trdp_engine.specs.NodeStates.{Appends}
 use Rattle.trdp_engine.specs.NodeRuns.{CountsLatest, globals_through}
 use Rattle.trdp_engine.proofs.Runs.{RunsAsAloneSoFar}
@@ -13,9 +11,8 @@ invariant-loop-event l = record {
   taken : l.taken ≡ l.event-index;
   config : l.self.config ≡ l.fn.self.config;
   count : length l.self.slots ≡ length l.fn.self.slots;
-  runs : (s : ℕ) (slot : SlotState) → slice_get l.fn.self.slots s ≡ Some slot
-      → RunsAsAloneSoFar l.fn.self l.self l.fn.out.records
-      l.out.records (map event_model (take l.event-index l.events)) s slot;
+  runs : (s : ℕ) → RunsAsAloneSoFar l.fn.self l.self l.fn.out.records
+      l.out.records (map event_model (take l.event-index l.events)) s;
   appends : Appends l.fn.self.slots l.fn.out.records l.out.records;
   globals : l.self.globals ≡ globals_through (length l.fn.self.slots) l.fn.self.globals
       (map event_model (take l.event-index l.events));

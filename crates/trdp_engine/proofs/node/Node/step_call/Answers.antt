@@ -6,22 +6,17 @@ use Rattle.trdp_engine.specs.Calls.{called}
 use Rattle.trdp_engine.specs.Alone.{plain_effect}
 use Rattle.trdp_engine.proofs.FittingEvents.{plain_call_fits}
 use Rattle.trdp_engine.proofs.WithinCosts.{bounded_none}
-use Rattle.trdp_engine.proofs.Tables.{slots_length}
 use Rattle.trdp_engine.proofs.Parts.{became_parts, became_appends, became_count}
-use Rattle.trdp_engine.proofs.Steps.{plain_steps, call_admitted, outcomes_fit}
+use Rattle.trdp_engine.proofs.Steps.{outcomes_fit}
 use Rattle.trdp_engine.proofs.node.Node.step_call.Goals as goal
 
-pub returns-clause-steps : goal.returns-clause-steps
-returns-clause-steps c =
+pub returns-clause-outcomes : goal.returns-clause-outcomes
+returns-clause-outcomes c =
     let there : c.args.s < length c.self.inside.store = omega arith in
     rw (← c.self.view_is)
-    (λ s slot is.
-    plain_steps _ _ c.args.out.now.records c.serve.new.out.records (CallIs c.args.s
-    (call_model c.args.call.now)) s slot (call_admitted (length (slots_of c.self.inside.store))
-    c.self.inside.globals c.args.s (call_model c.args.call.now) (rw slots_length there))
     (became_parts (λ slot. called (setup_of c.self.inside.config) slot c.self.inside.globals
     (call_model c.args.call.now)) c.args.s c.self.inside.store c.serve.new.store
-    c.args.out.now c.serve.new.out there c.in_ok-serve.ensures.becomes s slot is))
+    c.args.out.now c.serve.new.out there c.in_ok-serve.ensures.becomes)
 
 pub returns-clause-appends : goal.returns-clause-appends
 returns-clause-appends c =

@@ -1,20 +1,14 @@
-use Rattle.std.proofs.Common.{refl}
 use Rattle.trdp_engine.specs.Configs.{setup_of}
-use Rattle.trdp_engine.specs.Events.{DatagramIs}
 use Rattle.trdp_engine.specs.Slots.{slots_of}
 use Rattle.trdp_engine.specs.Datagrams.{telegram_of, received_if}
 use Rattle.trdp_engine.proofs.WithinCosts.{within_costs}
 use Rattle.trdp_engine.proofs.FittingEvents.{received_fits}
 use Rattle.trdp_engine.proofs.Parts.{same_count}
-use Rattle.trdp_engine.proofs.Steps.{plain_steps, outcomes_fit}
+use Rattle.trdp_engine.proofs.Steps.{outcomes_fit}
 use Rattle.trdp_engine.proofs.node.Node.step_datagram.Goals as goal
 
-pub returns-clause-steps : goal.returns-clause-steps
-returns-clause-steps c =
-    rw (← c.self.view_is)
-    (λ s slot is.
-    plain_steps _ _ c.args.out.now.records c.hear.new.out.records (DatagramIs c.args.protocol
-    c.args.src c.args.dst c.args.bytes.now) s slot refl (c.in_ok-hear.ensures.parts s slot is))
+pub returns-clause-outcomes : goal.returns-clause-outcomes
+returns-clause-outcomes c = rw (← c.self.view_is) c.in_ok-hear.ensures.parts
 
 pub invariant_of-self-2 : goal.invariant_of-self-2
 invariant_of-self-2 c =

@@ -1,4 +1,4 @@
-use Rattle.std.proofs.Common.{ℕ, ◌<◌, ◌^◌, ◌∙◌, length, ap, subst, arith}
+use Rattle.std.proofs.Common.{ℕ, ◌<◌, ◌^◌, ◌∙◌, ap, subst, arith}
 use Rattle.trdp_table.specs.Tables.{room_of}
 use Rattle.trdp_engine.specs.declared.counts.Counts.{Counts}
 use Rattle.trdp_engine.specs.NodeStates.{due_in}
@@ -6,13 +6,12 @@ use Rattle.trdp_engine.proofs.Costs.{total_room}
 use Rattle.trdp_engine.proofs.Counting.{moment_within}
 use Rattle.trdp_filter.specs.declared.globals.Globals.{Globals}
 use Rattle.trdp_engine.specs.Configs.{setup_of}
-use Rattle.trdp_engine.specs.Events.{MomentIs}
 use Rattle.trdp_engine.specs.Slots.{slots_of}
 use Rattle.trdp_engine.specs.Moments.{moved_to}
 use Rattle.trdp_engine.proofs.Fitting.{each_sound}
 use Rattle.trdp_engine.proofs.FittingEvents.{moved_fits}
 use Rattle.trdp_engine.proofs.Parts.{same_count, lacks_due}
-use Rattle.trdp_engine.proofs.Steps.{plain_steps, moment_admitted, has_outcome, outcomes_fit}
+use Rattle.trdp_engine.proofs.Steps.{has_outcome, outcomes_fit}
 use Rattle.trdp_engine.proofs.node.Node.step_moment.Goals as goal
 
 pub returns-in_err-reserve-clause-memory : goal.returns-in_err-reserve-clause-memory
@@ -26,16 +25,13 @@ fire_all-requires-clause-sound c =
     rw c.due_room-comparisons.ensures.kept
     (each_sound (setup_of c.self.inside.config) (slots_of c.self.inside.store) c.self.invariant.2)
 
-pub returns-clause-steps : goal.returns-clause-steps
-returns-clause-steps c =
+pub returns-clause-outcomes : goal.returns-clause-outcomes
+returns-clause-outcomes c =
     let globals : Globals = record c.self.inside.globals { now = c.args.t } in
     let parts = rw c.due_room-comparisons.ensures.kept at c.fire_all.ensures.parts in
     rw (← c.self.view_is)
     (λ s slot is.
-    plain_steps _ _ c.args.out.now.records c.fire_all.new.out.records
-    (MomentIs c.args.t) s slot (moment_admitted (length (slots_of c.self.inside.store))
-    c.self.inside.globals c.args.t c.if-t-self.false c.if-t-gt-MOMENT_MAX.false) (has_outcome _
-    _ _ _ s (moved_to slot globals) c.in_ok-reserve.ensures.records (parts s slot is)))
+    has_outcome _ _ _ _ s (moved_to slot globals) c.in_ok-reserve.ensures.records (parts s slot is))
 
 pub returns-clause-appends : goal.returns-clause-appends
 returns-clause-appends c =
