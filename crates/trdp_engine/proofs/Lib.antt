@@ -7,6 +7,7 @@ pub mod Delisted
 pub mod Stored
 pub mod RowCounts
 pub mod OrderCounts
+pub mod Grown
 pub mod Apart
 pub mod Timed
 pub mod OfKind

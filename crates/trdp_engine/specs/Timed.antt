@@ -45,6 +45,16 @@ pub record IsSchedule (orders : List (Option Order)) (rows bytes : List ℕ) : T
   pub rows_limit : length rows ≤ 16 * object_limit
   pub bytes_limit : length bytes ≤ 16 * object_limit
 
+-- each key has the order and the room that it had, and there is room for as many keys at least
+pub record IsKeptSchedule (before after : ScheduleState) : Type 0 where
+  pub orders : (key : ℕ)
+      → slice_index_or after.orders key None ≡ slice_index_or before.orders key None
+  pub rows : (key : ℕ) → slice_index after.rows key ≡ slice_index before.rows key
+  pub bytes : (key : ℕ) → slice_index after.bytes key ≡ slice_index before.bytes key
+  pub room : length before.orders ≤ length after.orders
+  pub rows_room : length before.rows ≤ length after.rows
+  pub bytes_room : length before.bytes ≤ length after.bytes
+
 -- when an object of a slot acts that has this due moment, if it has one
 abbrev pub order_at : ℕ → ℕ → Option ℕ → Option Order
 order_at s handle None = None

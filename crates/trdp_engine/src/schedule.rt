@@ -1,13 +1,14 @@
 //! When the objects of all slots act, in one heap, and the room that each may need then.
 
-ghost use Rattle.std.specs.Prelude.{◌≡◌, ◌<◌, ◌≤◌, ◌+◌, ◌*◌, ◌^◌, ℕ, length, None, IfOk, IfSome};
+ghost use Rattle.std.specs.Prelude.{◌≡◌, ◌<◌, ◌≤◌, ◌+◌, ◌-◌, ◌*◌, ◌^◌, ◌++◌, ℕ, length, None};
+ghost use Rattle.std.specs.Prelude.{IfOk, OnOk, is_ok, IfSome, if◌then◌else◌};
 ghost use Rattle.std.specs.Prelude.{MatchOption, slice_index_or, slice_set, sum, replicate};
 ghost use Rattle.std.specs.Prelude.{count_by, is_some};
 ghost use Rattle.trdp_table.specs.TableLaws.{object_limit};
 ghost use Rattle.trdp_timers.specs.Orders.{is_due_by};
 ghost use Rattle.trdp_timers.specs.Contents.{due_sizes};
 ghost use Rattle.trdp_engine.specs.Timed.{empty_schedule, order_at, without_order, is_same_due};
-ghost use Rattle.trdp_engine.specs.Timed.{IsNoneDue, IsFirstDue};
+ghost use Rattle.trdp_engine.specs.Timed.{IsKeptSchedule, IsNoneDue, IsFirstDue};
 ghost use Rattle.trdp_engine.specs.Rooms.{room_rows_limit, room_bytes_limit};
 
 use crate::room::Room;
@@ -52,6 +53,22 @@ fn zeros(alloc: Global, count: usize) -> Result<Vec<usize>, AllocError>
     vec![in alloc; 0; count]
 }
 
+/// Puts zeros behind the sizes of the keys until each key below `room` has one.
+///
+/// # Errors
+/// Want of memory; the sizes have not changed.
+fn lengthen(sizes: &mut Vec<usize>, room: usize) -> Result<(), AllocError>
+    ensures { sizes.new.items
+        ≡ (if is_ok result
+        then sizes.old.items ++ replicate (room - length sizes.old.items) 0
+        else sizes.old.items) }
+{
+    if room <= sizes.len() {
+        return Ok(());
+    }
+    sizes.resize(room, 0)
+}
+
 /// Whether two due moments are the same, or both never.
 fn is_same_due(before: Option<u64>, due: Option<u64>) -> bool
     ensures { result ≡ is_same_due before due }
@@ -81,6 +98,23 @@ impl Schedule {
             rows,
             bytes,
         })
+    }
+
+    /// Makes room for the keys below `room`; it never falls. Each key keeps its order, and the room
+    /// that its object may need, whatever the answer.
+    ///
+    /// # Errors
+    /// [`AllocError`] where there is no memory for so many keys.
+    pub fn grow(&mut self, room: usize) -> Result<(), AllocError>
+        requires { room ≤ 16 * object_limit }
+        ensures room { OnOk result (room ≤ length self.new.orders) }
+        ensures rows { OnOk result (room ≤ length self.new.rows) }
+        ensures bytes { OnOk result (room ≤ length self.new.bytes) }
+        ensures kept { IsKeptSchedule self.old self.new }
+    {
+        lengthen(&mut self.rows, room)?;
+        lengthen(&mut self.bytes, room)?;
+        self.timers.grow(room)
     }
 
     /// Notes the room that the object of a key may need as it fires.
