@@ -3,6 +3,7 @@ pub mod Searching
 pub mod Slots
 pub mod Pools
 pub mod PoolChanges
+pub mod PoolGrowth
 pub mod Seen
 pub mod Keys
 pub mod Entries
@@ -10,3 +11,4 @@ pub mod Tables
 pub mod Changes
 pub mod SeenChanges
 pub mod Known
+pub mod Opening

@@ -1,15 +1,15 @@
 -- A pool's keys: each has a place of its own in the slab, or is free.
-use Rattle.std.proofs.Common.{◌≡◌, ◌≢◌, ◌≤◌, ◌<◌, ◌+◌, inl, inr, ℕ, zero, suc, List, [], ◌∷◌}
+use Rattle.std.proofs.Common.{◌≡◌, ◌≢◌, ◌<◌, ◌+◌, inl, inr, ℕ, zero, suc, List, [], ◌∷◌}
 use Rattle.std.proofs.Common.{◌++◌, length, map, get_or, set, Option, Some, None, Bool, true}
 use Rattle.std.proofs.Common.{cond, is_some, IsSome, count_by, refl, sym, ap, ◌∙◌, arith}
 use Rattle.std.specs.Prelude.{slice_get, replicate, ◌⊎◌}
 use Rattle.std.proofs.lemmas.List.Sums.{sum_by-cons}
-use Rattle.std.proofs.lemmas.Option.{same_Some, none-some, slice_get_within}
+use Rattle.std.proofs.lemmas.Option.{same_Some, none-some}
 use Rattle.std.proofs.Math.ListN.{get_or-map}
 use Rattle.slab.specs.Slab.{Slab, get, Updates}
 use Rattle.trdp_table.specs.declared.held.Held.{Held}
 use Rattle.trdp_table.specs.Pools.{PoolState, held_in}
-use Rattle.trdp_table.specs.Pools.{placed, IsKeptPool, AreAllKeys}
+use Rattle.trdp_table.specs.Pools.{placed, IsKeptPool}
 
 count_by-cons : {X : Type 0} (p : X → Bool) (x : X) (xs : List X)
     → count_by p (x ∷ xs) ≡ cond {A = ℕ} (p x) 1 0 + count_by p xs
@@ -105,17 +105,6 @@ pub length_push : (xs : List ℕ) (x : ℕ) → length (xs ++ x ∷ []) ≡ leng
 length_push [] x = refl
 length_push (z ∷ xs) x = let rest = length_push xs x in omega (arith, rest)
 
-pub keys_push : (n capacity : ℕ) (xs : List ℕ)
-    → AreAllKeys n xs capacity → n + 1 ≤ capacity → AreAllKeys (n + 1) (xs ++ n ∷ []) capacity
-keys_push n capacity xs are le = record {
-  count = omega (arith, length_push xs n, are.count);
-  each = λ i key at. elim (at_push xs n i key at) [
-    | inl there ↦ are.each i key there.1
-    | inr last ↦ omega (arith, last.0, last.1, are.count)
-  ];
-  reserved = le;
-}
-
 -- The number of keys that have a place.
 
 pub count_set : {X : Type 0} (ps : List (Option X)) (i : ℕ) (k : X) → i < length ps
@@ -165,54 +154,19 @@ place_within (z ∷ xs) (suc i) x at = omega (arith, place_within xs i x at)
 
 -- An empty pool.
 
-abbrev no_key : Option ℕ
-no_key = None
-
 pub no_held : (n i : ℕ) → held_in (replicate n None) i ≡ None
 no_held zero i = refl
 no_held (suc n) zero = refl
 no_held (suc n) (suc i) = no_held n i
 
-no_place : (n i k : ℕ) → get_or (replicate n None) i None ≢ Some k
-no_place zero i k at = none-some k at
-no_place (suc n) zero k at = none-some k at
-no_place (suc n) (suc i) k at = no_place n i k at
-
-free_at : (n i : ℕ) → get_or (replicate n no_key) i None ≡ no_key
-free_at zero i = refl
-free_at (suc n) zero = refl
-free_at (suc n) (suc i) = free_at n i
-
-none_placed : (n : ℕ) → count_by is_some (replicate n no_key) ≡ 0
-none_placed zero = refl
-none_placed (suc n) = omega (arith, count_by-cons is_some no_key (replicate n None), none_placed n)
-
-length_none : (n : ℕ) → length (replicate n no_key) ≡ n
-length_none zero = refl
-length_none (suc n) = omega (arith, length_none n)
-
-pub kept_new : (s : Slab Held) (n capacity : ℕ) (free : List ℕ) → s.slots ≡ []
-    → n ≤ s.capacity → AreAllKeys n free capacity → IsKeptPool s (replicate n None) free capacity
-kept_new s n capacity free empty room are = record {
-  filled = λ key place at. absurd (no_place n key place at);
-  apart = λ a b place at there. absurd (no_place n a place at);
-  vacant = λ i key at. (
-    omega (
-      arith,
-      are.each i key at,
-      slice_get_within free i key at,
-      are.count,
-      length_none n,
-    ),
-    free_at n key,
-  );
-  once = λ i j key at there. omega (arith, are.each i key at, are.each j key there);
-  count = ap (count_by is_some) empty ∙ sym (none_placed n);
-  all = omega (arith, none_placed n, length_none n, are.count);
-  room = omega (arith, length_none n, room);
-  reserved = omega (arith, length_none n, are.reserved);
+pub kept_empty : (s : Slab Held) (capacity : ℕ) → s.slots ≡ [] → IsKeptPool s [] [] capacity
+kept_empty s capacity empty = record {
+  filled = λ key place at. absurd (none-some place at);
+  apart = λ a b place at there. absurd (none-some place at);
+  vacant = λ i key at. absurd (none-some key at);
+  once = λ i j key at there. absurd (none-some key at);
+  count = ap (count_by is_some) empty;
+  all = refl;
+  room = omega arith;
+  reserved = omega arith;
 }
-
-pub seen_new : (s : Slab Held) (n : ℕ) → map (placed s) (replicate n None) ≡ replicate n None
-seen_new s zero = refl
-seen_new s (suc n) = ap (λ (r : PoolState). None ∷ r) (seen_new s n)

@@ -38,12 +38,6 @@ pool_with key pool object =
 abbrev pub held_count : PoolState → ℕ
 held_count pool = count_by is_some pool
 
--- the numbers from 0 on, so many
-pub record AreAllKeys (room : ℕ) (keys : List ℕ) (capacity : ℕ) : Type 0 where
-  pub count : length keys ≡ room
-  pub each : (i key : ℕ) → slice_get keys i ≡ Some key → key ≡ i
-  pub reserved : room ≤ capacity
-
 -- what the slab has at the place of a key
 abbrev pub placed : Slab Held → Option ℕ → Option Held
 placed slab None = None

@@ -3,7 +3,8 @@
 //!
 //! A caller finds an object by its slot and handle and gets a key, by which it reaches the object
 //! without a further search. An object keeps its key, shared with no other, until its removal.
-//! `Table::new` takes the memory for all that the quotas allow; nothing later takes any.
+//! `Table::new` takes the memory for all that the quotas of its slots allow, and `Table::add_slot`
+//! that for those of one more slot; nothing else takes any.
 #![tactic(auto)]
 
 mod any_object;
@@ -22,4 +23,5 @@ pub use any_object::AnyObject;
 pub use fault::TableFault;
 pub use kind::Kind;
 pub use laws::kind_stays;
+pub use slot::room_of;
 pub use table::Table;

@@ -1,10 +1,12 @@
 //! The objects of all slots, in one pool.
 
-ghost use Rattle.std.specs.Prelude.{◌≡◌, ◌<◌, length, Some, None, IfOk, IsSome, is_some};
-ghost use Rattle.std.specs.Prelude.{replicate, option_map, option_copied, slice_index_or};
-ghost use Rattle.std.specs.Prelude.{slice_set, vec_capacity};
+ghost use Rattle.std.specs.Prelude.{◌≡◌, ◌<◌, ◌≤◌, ◌+◌, [], ◌++◌, length, Some, None, IfOk};
+ghost use Rattle.std.specs.Prelude.{OnOk, OnErr, IsSome, is_some, replicate, option_map};
+ghost use Rattle.std.specs.Prelude.{option_copied, slice_index_or, slice_set};
+ghost use Rattle.std.specs.Prelude.{vec_len, vec_capacity};
+ghost use Rattle.std.specs.List.{range_with_len};
 ghost use Rattle.std.specs.Borrow.{sem};
-ghost use Rattle.trdp_table.specs.Pools.{held_in, owner_in, held_count, AreAllKeys};
+ghost use Rattle.trdp_table.specs.Pools.{held_in, owner_in, held_count};
 
 use crate::any_object::AnyObject;
 use crate::held::Held;
@@ -12,7 +14,7 @@ use slab::Slab;
 use std::alloc::{AllocError, Global};
 use std::marker::Model;
 
-/// Objects under keys below a fixed room: a key is that of one object until this is removed, and
+/// Objects under keys below the room: a key is that of one object until this is removed, and
 /// may then become that of another one.
 #[derive(Drop)]
 pub struct Pool {
@@ -20,7 +22,7 @@ pub struct Pool {
     slab: Slab<Held>,
     /// For each key the object's place in the slab; None where the key is free.
     places: Vec<Option<usize>>,
-    /// The free keys, of which the last is the next to be given; the list never grows.
+    /// The free keys, of which the last is the next to be given, in a list with room for all keys.
     free: Vec<usize>,
 }
 
@@ -35,22 +37,19 @@ impl Model for Pool {
     ghost invariant = { λ p. IsKeptPool p.slab p.places.items p.free.items (vec_capacity p.free) };
 }
 
-/// No place for any of the keys.
-fn no_places(alloc: Global, room: usize) -> Result<Vec<Option<usize>>, AllocError>
-    ensures { IfOk result (λ places. places.items ≡ replicate room None) }
+/// Adds so many keys, all of them free, for which both lists have room.
+fn add_keys(places: &mut Vec<Option<usize>>, free: &mut Vec<usize>, more: usize)
+    requires places { vec_len places.old + more ≤ vec_capacity places.old }
+    requires free { vec_len free.old + more ≤ vec_capacity free.old }
+    ensures places { places.new.items ≡ places.old.items ++ replicate more None }
+    ensures free { free.new.items
+        ≡ free.old.items ++ range_with_len (length places.old.items) more }
+    ensures capacity { vec_capacity free.new ≡ vec_capacity free.old }
 {
-    vec![in alloc; None; room]
-}
-
-/// All keys below the room.
-fn all_keys(alloc: Global, room: usize) -> Result<Vec<usize>, AllocError>
-    ensures { IfOk result (λ keys. AreAllKeys room keys.items (vec_capacity keys)) }
-{
-    let mut keys = Vec::with_capacity(alloc, room)?;
-    for key in 0..room {
-        keys.push_reserved(key);
+    for _ in 0..more {
+        free.push_reserved(places.len());
+        places.push_reserved(None);
     }
-    Ok(keys)
 }
 
 /// The place of a key that has one.
@@ -67,6 +66,16 @@ fn place_of(places: &[Option<usize>], key: usize) -> usize
 impl Pool {
     ghost use Rattle.trdp_table.specs.Lending.{LendsOfPool};
 
+    /// A pool without keys, which takes no memory.
+    fn empty(alloc: Global) -> Pool
+        ensures { result ≡ [] }
+    {
+        let places = Vec::new(alloc);
+        let free = Vec::new(alloc);
+        let slab = Slab::new(alloc);
+        Pool { slab, places, free }
+    }
+
     /// An empty pool, with the memory for as many objects as its room.
     ///
     /// # Errors
@@ -74,10 +83,26 @@ impl Pool {
     pub fn new(alloc: Global, room: usize) -> Result<Pool, AllocError>
         ensures { IfOk result (λ pool. pool ≡ replicate room None) }
     {
-        let places = no_places(alloc, room)?;
-        let free = all_keys(alloc, room)?;
-        let slab = Slab::with_capacity(alloc, room)?;
-        Ok(Pool { slab, places, free })
+        let mut pool = Pool::empty(alloc);
+        pool.grow(room)?;
+        Ok(pool)
+    }
+
+    /// Makes room for so many more objects: as many keys come, all of them free. It takes the
+    /// memory for these objects.
+    ///
+    /// # Errors
+    /// [`AllocError`] where there is no such memory; no key has come.
+    pub fn grow(&mut self, more: usize) -> Result<(), AllocError>
+        ensures ok { OnOk result (self.new ≡ self.old ++ replicate more None) }
+        ensures err { OnErr result (self.new ≡ self.old) }
+    {
+        let held = self.slab.len();
+        self.places.reserve_exact(more)?;
+        self.free.reserve_exact(held + more)?;
+        self.slab.reserve_exact(self.free.len() + more)?;
+        add_keys(&mut self.places, &mut self.free, more);
+        Ok(())
     }
 
     /// How many objects it can hold: each key is below this.

@@ -1,8 +1,8 @@
 //! The table of objects of all slots.
 
-ghost use Rattle.std.specs.Prelude.{◌≡◌, ℕ, ◌<◌, ◌≤◌, length, map, sum_by, All, Some, None};
-ghost use Rattle.std.specs.Prelude.{IfOk, IfErr, OnOk, OnErr, IfSome, IsSome, is_some, slice_get};
-ghost use Rattle.std.specs.Prelude.{option_map, option_copied};
+ghost use Rattle.std.specs.Prelude.{◌≡◌, ℕ, ◌+◌, ◌<◌, ◌≤◌, ◌↔◌, [], ◌∷◌, ◌++◌, length, map};
+ghost use Rattle.std.specs.Prelude.{sum_by, All, Some, None, Err, IfOk, IfErr, OnOk, OnErr};
+ghost use Rattle.std.specs.Prelude.{IfSome, IsSome, is_some, slice_get, option_map, option_copied};
 ghost use Rattle.std.specs.Option.{option_copied_mut};
 ghost use Rattle.std.specs.Borrow.{sem};
 ghost use Rattle.trdp_table.specs.declared.any_object.AnyObject.{AnyObject};
@@ -25,10 +25,15 @@ use std::alloc::{AllocError, Global};
 use std::marker::Model;
 use trdp_base::Quotas;
 
+/// The most slots of a table (profile).
+const SLOTS_MAX: usize = 16;
+
 /// The objects of all slots of a node, at most 16, each object under a handle of its slot and a key
 /// of the table.
 #[derive(Drop)]
 pub struct Table {
+    /// Where a further slot takes its memory from.
+    alloc: Global,
     /// The slots by their numbers, from 0.
     slots: Vec<Slot>,
     /// The objects of all slots, each under the key that its slot names.
@@ -82,7 +87,33 @@ impl Table {
     {
         let slots = opened(alloc, quotas)?;
         let pool = Pool::new(alloc, total_room(quotas))?;
-        Ok(Table { slots, pool })
+        Ok(Table { alloc, slots, pool })
+    }
+
+    /// Opens one more slot, empty, under the next number, which it answers. It takes the memory for
+    /// all objects that the quotas allow; objects that are there keep their handles and keys.
+    ///
+    /// # Errors
+    /// The first that applies of `SlotsFull`, where there are 16 slots, and `OutOfMemory`; nothing
+    /// has changed.
+    pub fn add_slot(&mut self, quotas: Quotas) -> Result<u16, TableFault>
+        ensures slot { IfOk result (λ slot. slot ≡ length self.old) }
+        ensures added { OnOk result (self.new ≡ self.old ++ opened_slot quotas ∷ []) }
+        ensures room { OnOk result (room_of self.new ≡ room_of self.old + all_quotas quotas) }
+        ensures full { (result ≡ Err TableFault.SlotsFull) ↔ (slot_limit ≤ length self.old) }
+        ensures memory { length self.old < slot_limit
+            → OnErr result (result ≡ Err TableFault.OutOfMemory) }
+        ensures kept { OnErr result (self.new ≡ self.old) }
+    {
+        let number = self.slots.len();
+        if number >= SLOTS_MAX {
+            return Err(TableFault::SlotsFull);
+        }
+        self.slots.reserve_exact(1)?;
+        let slot = Slot::new(self.alloc, quotas)?;
+        self.pool.grow(room_of(quotas))?;
+        self.slots.push_reserved(slot);
+        Ok(number as u16)
     }
 
     /// How many slots there are, at most 16.
@@ -94,7 +125,7 @@ impl Table {
     }
 
     /// How many objects all slots together can have, which is the total of their quotas: each key
-    /// is below this. It never changes.
+    /// is below this. It rises with each slot that is added, and changes by nothing else.
     pub fn room(&self) -> usize
         ensures { result ≡ room_of self.now }
     {
