@@ -5,7 +5,6 @@ use Rattle.trdp_table.specs.declared.any_object.AnyObject.{AnyObject}
 use Rattle.trdp_table.specs.declared.kind.Kind.{Kind}
 use Rattle.trdp_table.specs.declared.fault.TableFault.{TableFault}
 use Rattle.trdp_table.specs.declared.fault.TableFault.TheVariants.{Quota as UsedUp}
-use Rattle.trdp_table.specs.declared.fault.TableFault.TheVariants.{Exhausted as NoHandleLeft}
 use Rattle.trdp_table.specs.Kinds.{kind_index}
 use Rattle.trdp_engine.specs.declared.fault.Refusal.{Refusal}
 use Rattle.trdp_engine.specs.declared.fault.Refusal.TheVariants.{Quota, Exhausted}
@@ -28,10 +27,10 @@ opening_refusal slot kind =
     then Some Quota
     else if nat_lt 4294967295 slot.next then Some Exhausted else None
 
--- the refusal of a new object that the table refuses
+-- the refusal of a new object that the table refuses, by its quota and its handles alone
 abbrev pub table_refusal : TableFault → Refusal
 table_refusal UsedUp = Quota
-table_refusal NoHandleLeft = Exhausted
+table_refusal fault = Exhausted
 
 -- a new object is answered by its handle, and then gives these records
 abbrev pub opened_with : Option Refusal → SlotState → AnyObject → List Content → Outcome

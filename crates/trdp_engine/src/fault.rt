@@ -124,7 +124,9 @@ impl From<TableFault> for Refusal {
     fn from(fault: TableFault) -> Refusal {
         match fault {
             TableFault::Quota => Refusal::Quota,
-            TableFault::Exhausted => Refusal::Exhausted,
+            TableFault::Exhausted | TableFault::SlotsFull | TableFault::OutOfMemory => {
+                Refusal::Exhausted
+            }
         }
     }
 }

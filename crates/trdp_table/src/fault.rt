@@ -3,8 +3,8 @@
 use std::alloc::AllocError;
 use thiserror::Error;
 
-/// Why a slot takes no further object, the first that applies of `Quota` and `Exhausted`, or a table
-/// no further slot, of `SlotsFull` and `OutOfMemory` (profile).
+/// Why a slot takes no further object, the first that applies of `Quota` and `Exhausted`, or why a
+/// table takes no further slot, of `SlotsFull` and `OutOfMemory` (profile).
 #[derive(Clone, Copy, Debug, PartialEq, Eq, Error)]
 pub enum TableFault {
     /// The slot has as many objects of the kind as its quota allows.

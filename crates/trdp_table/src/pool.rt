@@ -14,8 +14,8 @@ use slab::Slab;
 use std::alloc::{AllocError, Global};
 use std::marker::Model;
 
-/// Objects under keys below the room: a key is that of one object until this is removed, and
-/// may then become that of another one.
+/// Objects under keys below the room: a key is that of one object until this is removed, and may
+/// then become that of another one.
 #[derive(Drop)]
 pub struct Pool {
     /// The objects, at places of the slab's own choice.
@@ -97,6 +97,8 @@ impl Pool {
         ensures ok { OnOk result (self.new ≡ self.old ++ replicate more None) }
         ensures err { OnErr result (self.new ≡ self.old) }
     {
+        // Each key is free or holds an object: the free list lacks those that hold one, and the
+        // slab those that are free.
         let held = self.slab.len();
         self.places.reserve_exact(more)?;
         self.free.reserve_exact(held + more)?;

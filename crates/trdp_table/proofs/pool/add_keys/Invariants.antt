@@ -1,4 +1,5 @@
-use Rattle.std.proofs.Common.{◌≡◌, ◌++◌, ◌+◌, ◌-◌, ◌≤◌, length, replicate, None, vec_len, vec_capacity}
+use Rattle.std.proofs.Common.{◌≡◌, ◌++◌, ◌+◌, ◌-◌, ◌≤◌, length, replicate, None}
+use Rattle.std.proofs.Common.{vec_len, vec_capacity}
 use Rattle.std.specs.List.{range_with_len}
 use Rattle.trdp_table.proofs.pool.add_keys.Given as goal
 

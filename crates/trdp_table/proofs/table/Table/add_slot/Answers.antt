@@ -1,4 +1,4 @@
-use Rattle.std.proofs.Common.{◌<◌, ◌∙◌, length, ap, arith}
+use Rattle.std.proofs.Common.{rules, ◌<◌, ◌∙◌, length, ap}
 use Rattle.trdp_table.specs.Tables.{slot_limit, room_of}
 use Rattle.trdp_table.specs.TableKept.{table_seen}
 use Rattle.trdp_table.proofs.Opening.{IsKeptTable-opened, slot_opened, room_opened}
@@ -8,8 +8,7 @@ pub invariant_of-self-2 : goal.invariant_of-self-2
 invariant_of-self-2 c =
     let slots = c.self.inside.slots.items in
     let pool = c.self.inside.pool in
-    let few : length slots < slot_limit =
-    omega (arith, c.if-number-ge-SLOTS_MAX.false, c.len-number.ensures) in
+    let few : length slots < slot_limit = search rules in
     rw (
       c.push_reserved.ensures.items,
       c.reserve_exact.ensures.items,
