@@ -1,4 +1,4 @@
-//! Worked examples: kinds, handles, quotas and the last handle.
+//! Worked examples: kinds, handles, quotas and the last handle, and slots that are added.
 
 use crate::same::same;
 use std::process::Abort;
@@ -7,7 +7,7 @@ use trdp_base::{Ip, Place, Quotas, Topo, Uri};
 use trdp_filter::MdFilter;
 use trdp_md::Listener;
 use trdp_pd::{Object, Publisher, PublisherTerms, Requester, RequesterTerms};
-use trdp_table::{AnyObject, Kind, Table, TableFault};
+use trdp_table::{AnyObject, Kind, Table, TableFault, room_of};
 
 /// What is done to a slot.
 #[derive(Clone, Copy)]
@@ -200,5 +200,58 @@ fn key_used_again(rt: HostRuntime) -> Result<(), Fail> {
         let object = AnyObject::Publisher(Publisher::new(rt.alloc(), &terms(100), 0)?);
         add_and_remove(&rt, &mut table, slot, object)?;
     }
+    Ok(())
+}
+
+/// A slot that is added has the next number and handles of its own; what is there stays.
+#[test]
+fn a_slot_is_added(rt: HostRuntime) -> Result<(), Fail> {
+    let one = Quotas::new([1, 0, 0, 0, 0, 0]).ok_or("no quotas")?;
+    let two = Quotas::new([2, 0, 0, 0, 0, 0]).ok_or("no quotas")?;
+    let mut table = Table::new(rt.alloc(), &[one, one])?;
+    let first = AnyObject::Publisher(Publisher::new(rt.alloc(), &terms(100), 0)?);
+    add(&rt, &mut table, 0, first, 100, Ok(1));
+    assert!(rt; table.slots() == 2);
+    let key = table.find(0, 1);
+    same(&rt, "the third slot", table.add_slot(two), Ok(2));
+    assert!(rt; table.slots() == 3 && room_of(two) == 2 && table.room() == 4);
+    for (com_id, wanted) in [(101, Ok(1)), (102, Ok(2)), (103, Err(TableFault::Quota))] {
+        let object = AnyObject::Publisher(Publisher::new(rt.alloc(), &terms(com_id), 0)?);
+        add(&rt, &mut table, 2, object, com_id, wanted);
+    }
+    stands_last(&rt, &mut table, 0, 1, 100);
+    assert!(rt; table.slots() == 3 && table.find(0, 1) == key);
+    Ok(())
+}
+
+#[test]
+fn the_seventeenth_slot(rt: HostRuntime) -> Result<(), Fail> {
+    let none = Quotas::new([0, 0, 0, 0, 0, 0]).ok_or("no quotas")?;
+    let mut table = Table::new(rt.alloc(), &[none])?;
+    for number in 1..16u16 {
+        same(&rt, number, table.add_slot(none), Ok(number));
+    }
+    for case in ["the seventeenth", "once more"] {
+        same(&rt, case, table.add_slot(none), Err(TableFault::SlotsFull));
+    }
+    assert!(rt; table.slots() == 16);
+    Ok(())
+}
+
+/// It passes whichever request for memory is refused.
+#[test]
+fn a_slot_is_added_again(rt: HostRuntime) -> Result<(), Fail> {
+    let two = Quotas::new([2, 0, 0, 0, 0, 0]).ok_or("no quotas")?;
+    let mut table = match Table::new(rt.alloc(), &[two, two]) {
+        Ok(table) => table,
+        Err(_) => Table::new(rt.alloc(), &[two, two])?,
+    };
+    let mut added = table.add_slot(two);
+    if added == Err(TableFault::OutOfMemory) {
+        assert!(rt; table.slots() == 2 && table.room() == 4);
+        added = table.add_slot(two);
+    }
+    same(&rt, "the third slot", added, Ok(2));
+    assert!(rt; table.slots() == 3 && table.room() == 6);
     Ok(())
 }
