@@ -1,5 +1,5 @@
 -- The members of arrays.
-use Rattle.std.proofs.Common.{◌≡◌, true, List, [], ◌∷◌, map, Option}
+use Rattle.std.proofs.Common.{◌≡◌, Bool, true, List, [], ◌∷◌, map, Option}
 use Rattle.std.proofs.Common.{Some, refl, sym, ap, ◌∙◌, is_some}
 use Rattle.std.specs.List.{list_all, filter_map, cons_option}
 use Rattle.std.proofs.lemmas.List.Folds.{list_all-map}
@@ -7,7 +7,7 @@ use Rattle.toml.specs.Data.{Data, string, integer, float, boolean}
 use Rattle.toml.specs.Data.{datetime, array, table, as_array, as_table}
 use Rattle.toml.specs.View.{view, items_view}
 use Rattle.toml.specs.declared.value.Value.{Value}
-use Rattle.trdp_dataset.specs.Values.{items_list, items_in, is_table, is_tables}
+use Rattle.trdp_dataset.specs.Values.{items_list, items_in, is_array_of}
 use Rattle.trdp_dataset.specs.Positions.{tables_in}
 use Rattle.trdp_dataset.specs.Seen.{tables_seen}
 
@@ -27,17 +27,17 @@ items_seen (boolean b) vs e = cc
 items_seen (datetime dt) vs e = cc
 items_seen (table ms) vs e = cc
 
--- a value is an array of tables where each of its members is one
-pub tables_tested : (d : Data) (vs : List Value) → true ≡ is_some (as_array d)
-    → map view vs ≡ items_in d → list_all (λ (v : Value). is_table (view v)) vs ≡ is_tables d
-tables_tested (array ds) vs there same = sym (list_all-map is_table view vs)
-    ∙ ap (λ (xs : List Data). list_all is_table xs) same
-tables_tested (string s) vs there same = cc
-tables_tested (integer z) vs there same = cc
-tables_tested (float x) vs there same = cc
-tables_tested (boolean b) vs there same = cc
-tables_tested (datetime dt) vs there same = cc
-tables_tested (table ms) vs there same = cc
+-- a value is an array whose members pass a test where each of its items does
+pub members_tested : (test : Data → Bool) (d : Data) (vs : List Value) → true ≡ is_some (as_array d)
+    → map view vs ≡ items_in d → list_all (λ (v : Value). test (view v)) vs ≡ is_array_of test d
+members_tested test (array ds) vs there same =
+    sym (list_all-map test view vs) ∙ ap (λ (xs : List Data). list_all test xs) same
+members_tested test (string s) vs there same = cc
+members_tested test (integer z) vs there same = cc
+members_tested test (float x) vs there same = cc
+members_tested test (boolean b) vs there same = cc
+members_tested test (datetime dt) vs there same = cc
+members_tested test (table ms) vs there same = cc
 
 -- what is made of each item of a list made of another
 pub filter_map-map : {A B C : Type 0} → (g : B → Option C) (f : A → B) (xs : List A)

@@ -15,19 +15,25 @@ use Rattle.trdp_dataset.specs.declared.fault.ConfigFault.{ConfigFault}
 use Rattle.trdp_dataset.specs.declared.fault.ConfigFault.TheVariants.{Missing, WrongType}
 use Rattle.trdp_dataset.specs.declared.fault.ConfigFault.TheVariants.{Real, TooMany}
 use Rattle.trdp_dataset.specs.declared.key.Key.{Key}
-use Rattle.trdp_dataset.specs.declared.key.Key.TheVariants.{Slot, Dataset, DatasetId, Elements}
+use Rattle.trdp_dataset.specs.declared.key.Key.TheVariants.{Node, Address, PdPort, MdPort}
+use Rattle.trdp_dataset.specs.declared.key.Key.TheVariants.{OperatorPort, SpareControlPorts, Slot}
+use Rattle.trdp_dataset.specs.declared.key.Key.TheVariants.{Dataset, DatasetId, Elements}
 use Rattle.trdp_dataset.specs.declared.key.Key.TheVariants.{ElementType, ElementSize}
-use Rattle.trdp_dataset.specs.Keys.{is_required, dataset_keys, element_keys}
+use Rattle.trdp_dataset.specs.Keys.{wanted_by, is_required, dataset_keys, element_keys}
 use Rattle.trdp_dataset.specs.Types.{identifier_of}
-use Rattle.trdp_dataset.specs.Values.{items_list, items_in, is_table, is_tables, is_type}
-use Rattle.trdp_dataset.specs.Values.{is_real, kind_in, identifier_in, natural_in}
+use Rattle.trdp_dataset.specs.Values.{items_list, items_in, is_table, is_tables, is_numbers}
+use Rattle.trdp_dataset.specs.Values.{is_type, is_real, kind_in, identifier_in, natural_in}
+use Rattle.trdp_dataset.specs.Values.{member_in}
 use Rattle.trdp_dataset.specs.Datasets.{DatasetModel}
 use Rattle.trdp_dataset.specs.Positions.{PositionModel, value_at, tables_in, tables_at}
 use Rattle.trdp_dataset.specs.Positions.{position_at, positions_at, positions_of_all}
+use Rattle.trdp_dataset.specs.Positions.{node_in, positions_of_node, node_positions}
 use Rattle.trdp_dataset.specs.Positions.{element_positions, dataset_positions, slot_positions}
-use Rattle.trdp_dataset.specs.Faults.{count_fault, tables_fault, bad_unless, fault_at}
+use Rattle.trdp_dataset.specs.Faults.{count_fault, tables_fault, numbers_fault, bad_unless}
+use Rattle.trdp_dataset.specs.Faults.{fault_at}
 use Rattle.trdp_dataset.specs.Configs.{element_of, element_in, elements_in}
-use Rattle.trdp_dataset.specs.Configs.{dataset_in, datasets_in, slots_in, slot_in}
+use Rattle.trdp_dataset.specs.Configs.{dataset_in, datasets_in, slots_in, slot_in, numbers_of}
+use Rattle.trdp_dataset.specs.Configs.{node_value, spare_control_ports_in}
 
 -- there is no fault at these positions
 abbrev pub AreGood : List PositionModel → Type 0
@@ -292,3 +298,39 @@ some_slots top g =
     let same = length-map (tables_in (value_at Slot top)) slot_in in
     let some : 1 ≤ length (tables_in (value_at Slot top)) = rw all.table.tables (omega arith) in
     (omega (arith, some, same), omega (arith, all.few, same))
+
+-- an array of numbers without a fault has no more of them than its key allows
+numbers_few : (key : Key) (most least greatest : ℕ) (d : Data)
+    → numbers_fault key most least greatest d ≡ None → length (items_in d) ≤ most
+numbers_few key most least greatest d e =
+    let parts = tables_by key (is_numbers least greatest d)
+    (count_fault key most (length (items_in d))) e in
+    let tests = uncounted key (is_required key && (length (items_in d) == 0))
+    (nat_lt most (length (items_in d))) parts.1 in
+    ltb-false most (length (items_in d)) tests.1
+
+spare_few : (found : Option Data)
+    → fault_at (record { key = SpareControlPorts; found = found }) ≡ None
+    → length (numbers_of SpareControlPorts found) ≤ 15
+unfolding numbers_of
+spare_few None e = omega arith
+spare_few (Some d) e =
+    let few = numbers_few SpareControlPorts 15 0 65535 d e in
+    let fewer = kept (member_in (wanted_by SpareControlPorts)) (items_in d) in
+    omega (arith, few, fewer)
+
+spare_by : (node : Option Members) → AreGood (positions_of_node node)
+    → length (numbers_of SpareControlPorts (option_and_then (value_at SpareControlPorts) node)) ≤ 15
+unfolding numbers_of positions_at
+spare_by None g = omega arith
+spare_by (Some node) g =
+    let front = positions_at (Address ∷ PdPort ∷ MdPort ∷ OperatorPort ∷ []) node in
+    let own = position_at node SpareControlPorts in
+    spare_few (value_at SpareControlPorts node) (good_first own [] (good_back front (own ∷ []) g))
+
+-- there are at most 15 spare control ports
+pub few_spare : (top : Members) → AreGood (node_positions top)
+    → length (spare_control_ports_in top) ≤ 15
+unfolding spare_control_ports_in node_value node_positions
+few_spare top g = spare_by (node_in top)
+    (good_back (positions_at (Node ∷ []) top) (positions_of_node (node_in top)) g)

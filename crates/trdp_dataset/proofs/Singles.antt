@@ -15,7 +15,7 @@ use Rattle.trdp_dataset.specs.declared.key.Wanted.TheVariants as wanted
 use Rattle.trdp_dataset.specs.Keys.{wanted_by, is_required}
 use Rattle.trdp_dataset.specs.Values.{items_in, natural_in, natural_within}
 use Rattle.trdp_dataset.specs.Values.{address_in, identifier_in, kind_in, is_real}
-use Rattle.trdp_dataset.specs.Values.{is_integer, is_table, is_tables, is_type}
+use Rattle.trdp_dataset.specs.Values.{is_integer, is_table, is_tables, is_numbers, is_type}
 use Rattle.trdp_dataset.specs.Datasets.{DatasetModel}
 use Rattle.trdp_dataset.specs.Positions.{PositionModel}
 use Rattle.trdp_dataset.specs.Faults.{wrong_unless, count_fault, quota_fault, bad_unless}
@@ -82,6 +82,10 @@ value_single : (key : Key) (w : Wanted) (d : Data) → IfSome (value_fault key w
 value_single key wanted.Table d = wrong_single key (is_table d)
 value_single key (wanted.Tables most) d =
     chosen_single (is_tables d) (count_fault key most (length (items_in d)))
+    (Some (WrongType key)) (count_single key
+    (is_required key && (length (items_in d) == 0)) (nat_lt most (length (items_in d)))) tt
+value_single key (wanted.Numbers most least greatest) d =
+    chosen_single (is_numbers least greatest d) (count_fault key most (length (items_in d)))
     (Some (WrongType key)) (count_single key
     (is_required key && (length (items_in d) == 0)) (nat_lt most (length (items_in d)))) tt
 value_single key wanted.Address d = wrong_single key (is_some (address_in d))

@@ -1,5 +1,5 @@
 -- What a configuration file means, as a function of the table that its text is.
-use Rattle.std.specs.Prelude.{◌≡◌, ℕ, List, Option, Some, None, Result, Ok}
+use Rattle.std.specs.Prelude.{◌≡◌, ℕ, List, [], Option, Some, None, Result, Ok}
 use Rattle.std.specs.Prelude.{Err, map, option_map, option_and_then, unwrap_or}
 use Rattle.std.specs.List.{filter_map}
 use Rattle.std.specs.Str.{IsUtf8}
@@ -14,12 +14,14 @@ use Rattle.trdp_dataset.specs.declared.element.Element.{Element}
 use Rattle.trdp_dataset.specs.declared.element.ElementKind.{ElementKind}
 use Rattle.trdp_dataset.specs.declared.key.Key.{Key}
 use Rattle.trdp_dataset.specs.declared.key.Key.TheVariants.{Address, PdPort, MdPort, OperatorPort}
-use Rattle.trdp_dataset.specs.declared.key.Key.TheVariants.{Slot, ControlPort, Dataset, DatasetId}
+use Rattle.trdp_dataset.specs.declared.key.Key.TheVariants.{SpareControlPorts, Slot, ControlPort}
+use Rattle.trdp_dataset.specs.declared.key.Key.TheVariants.{Dataset, DatasetId}
 use Rattle.trdp_dataset.specs.declared.key.Key.TheVariants.{Elements, ElementType, ElementSize}
 use Rattle.trdp_dataset.specs.declared.fault.ConfigFault.{ConfigFault}
 use Rattle.trdp_dataset.specs.declared.fault.ConfigFault.TheVariants.{Toml, OutOfMemory}
 use Rattle.trdp_dataset.specs.Keys.{wanted_by, default_of, quota_keys}
-use Rattle.trdp_dataset.specs.Values.{number_in, address_in, identifier_in, kind_in}
+use Rattle.trdp_dataset.specs.Values.{items_in, number_in, member_in, address_in}
+use Rattle.trdp_dataset.specs.Values.{identifier_in, kind_in}
 use Rattle.trdp_dataset.specs.Datasets.{DatasetModel}
 use Rattle.trdp_dataset.specs.Positions.{value_at, tables_at, node_in}
 use Rattle.trdp_dataset.specs.Positions.{dataset_positions, all_positions}
@@ -30,6 +32,12 @@ use Rattle.trdp_dataset.specs.Faults.{fault_in}
 unfoldable pub number_of : Key → Option Data → ℕ
 number_of key found =
     unwrap_or (option_and_then (number_in (wanted_by key)) found) (default_of key)
+
+-- the numbers of a key whose array was looked for: its members that are in the key's range; there
+-- are none where there is no array
+unfoldable pub numbers_of : Key → Option Data → List ℕ
+numbers_of key None = []
+numbers_of key (Some d) = filter_map (member_in (wanted_by key)) (items_in d)
 
 -- the number at a key of a table
 abbrev pub number_at : Key → Members → ℕ
@@ -74,18 +82,24 @@ slot_in members =
 unfoldable pub slots_in : Members → List SlotModel
 slots_in top = map slot_in (tables_at Slot top)
 
--- the configuration of a node
+-- the configuration of a node; the spare control ports are those of the slots that are added while
+-- the node runs, in their order
 pub record ConfigModel : Type 0 where
   pub registry : List DatasetModel
   pub address : ℕ
   pub pd_port : ℕ
   pub md_port : ℕ
   pub operator_port : ℕ
+  pub spare_control_ports : List ℕ
   pub slots : List SlotModel
 
 -- what the table of the node has at a key
 unfoldable pub node_value : Key → Members → Option Data
 node_value key top = option_and_then (value_at key) (node_in top)
+
+-- the spare control ports of a file
+unfoldable pub spare_control_ports_in : Members → List ℕ
+spare_control_ports_in top = numbers_of SpareControlPorts (node_value SpareControlPorts top)
 
 -- the configuration that a file without a fault means
 unfoldable pub config_in : Members → ConfigModel
@@ -95,6 +109,7 @@ config_in top = record {
   pd_port = number_of PdPort (node_value PdPort top);
   md_port = number_of MdPort (node_value MdPort top);
   operator_port = number_of OperatorPort (node_value OperatorPort top);
+  spare_control_ports = spare_control_ports_in top;
   slots = slots_in top;
 }
 

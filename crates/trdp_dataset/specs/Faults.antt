@@ -20,7 +20,7 @@ use Rattle.trdp_dataset.specs.ZeroSizes.{zero_size}
 use Rattle.trdp_dataset.specs.Keys.{wanted_by, is_required}
 use Rattle.trdp_dataset.specs.Values.{items_in, natural_in, natural_within}
 use Rattle.trdp_dataset.specs.Values.{address_in, identifier_in, kind_in, is_real}
-use Rattle.trdp_dataset.specs.Values.{is_integer, is_table, is_tables, is_type}
+use Rattle.trdp_dataset.specs.Values.{is_integer, is_table, is_tables, is_numbers, is_type}
 use Rattle.trdp_dataset.specs.Positions.{PositionModel}
 
 -- a value has to be of its key's kind
@@ -28,8 +28,8 @@ abbrev pub wrong_unless : Key → Bool → Option ConfigFault
 wrong_unless key true = None
 wrong_unless key false = Some (WrongType key)
 
--- an array of so many tables, of which the key allows at most so many; without any it is as good
--- as none
+-- an array of so many members, of which the key allows at most so many; without any it is as good
+-- as none where the key must be there
 abbrev pub count_fault : Key → ℕ → ℕ → Option ConfigFault
 count_fault key most count =
     if is_required key && (count == 0) then Some (Missing key)
@@ -39,6 +39,12 @@ count_fault key most count =
 abbrev pub tables_fault : Key → ℕ → Data → Option ConfigFault
 tables_fault key most d =
     if is_tables d then count_fault key most (length (items_in d)) else Some (WrongType key)
+
+-- an array of whole numbers in a range, of which the key allows at most so many
+abbrev pub numbers_fault : Key → ℕ → ℕ → ℕ → Data → Option ConfigFault
+numbers_fault key most least greatest d =
+    if is_numbers least greatest d then count_fault key most (length (items_in d))
+    else Some (WrongType key)
 
 -- a quota, of which the key allows at most so many
 abbrev pub quota_fault : Key → ℕ → Option ℕ → Option ConfigFault
@@ -67,6 +73,7 @@ value_fault key (wanted.Tables most) d = tables_fault key most d
 value_fault key wanted.Address d = wrong_unless key (is_some (address_in d))
 value_fault key (wanted.Number least most) d =
     wrong_unless key (is_some (natural_within least most d))
+value_fault key (wanted.Numbers most least greatest) d = numbers_fault key most least greatest d
 value_fault key (wanted.Quota most) d = quota_fault key most (natural_in d)
 value_fault key (wanted.Identifier least most) d = identifier_fault key d
 value_fault key wanted.Kind d = kind_fault key d

@@ -2,7 +2,8 @@
 use Rattle.std.specs.Prelude.{ℕ, Bool, true, false, List, [], ◌∷◌, codes}
 use Rattle.trdp_dataset.specs.declared.key.Key.{Key}
 use Rattle.trdp_dataset.specs.declared.key.Key.TheVariants.{Node, Address, PdPort, MdPort}
-use Rattle.trdp_dataset.specs.declared.key.Key.TheVariants.{OperatorPort, Slot, Publishers}
+use Rattle.trdp_dataset.specs.declared.key.Key.TheVariants.{OperatorPort, SpareControlPorts}
+use Rattle.trdp_dataset.specs.declared.key.Key.TheVariants.{Slot, Publishers}
 use Rattle.trdp_dataset.specs.declared.key.Key.TheVariants.{Subscriptions, Requesters}
 use Rattle.trdp_dataset.specs.declared.key.Key.TheVariants.{Listeners, Callers, Repliers}
 use Rattle.trdp_dataset.specs.declared.key.Key.TheVariants.{ControlPort, Dataset, DatasetId}
@@ -30,6 +31,8 @@ key_row Address = row (codes "address") wanted.Address absent.Missing
 key_row PdPort = row (codes "pd_port") (wanted.Number 1 65535) (absent.Default 17224)
 key_row MdPort = row (codes "md_port") (wanted.Number 1 65535) (absent.Default 17225)
 key_row OperatorPort = row (codes "operator_port") (wanted.Number 0 65535) (absent.Default 0)
+key_row SpareControlPorts =
+    row (codes "spare_control_ports") (wanted.Numbers 15 0 65535) absent.Empty
 key_row Slot = row (codes "slot") (wanted.Tables 16) absent.Missing
 key_row Publishers = row (codes "publishers") (wanted.Quota 256) (absent.Default 0)
 key_row Subscriptions = row (codes "subscriptions") (wanted.Quota 256) (absent.Default 0)
@@ -72,7 +75,7 @@ default_of key = default_number (key_row key).absent
 
 -- the keys of each table, in order
 abbrev pub node_keys : List Key
-node_keys = Address ∷ PdPort ∷ MdPort ∷ OperatorPort ∷ []
+node_keys = Address ∷ PdPort ∷ MdPort ∷ OperatorPort ∷ SpareControlPorts ∷ []
 
 abbrev pub quota_keys : List Key
 quota_keys = Publishers ∷ Subscriptions ∷ Requesters ∷ Listeners ∷ Callers ∷ Repliers ∷ []

@@ -54,6 +54,11 @@ number_in (wanted.Number least most) d = natural_within least most d
 number_in (wanted.Quota most) d = natural_within 0 most d
 number_in _ d = None
 
+-- the number that a member of an array is, if an array of numbers in this range is wanted
+abbrev pub member_in : Wanted → Data → Option ℕ
+member_in (wanted.Numbers most least greatest) d = natural_within least greatest d
+member_in _ d = None
+
 -- a number is in the range that is wanted
 abbrev pub IsAllowed : Wanted → ℕ → Type 0
 IsAllowed (wanted.Number least most) n = (least ≤ n) × (n ≤ most)
@@ -82,10 +87,22 @@ is_integer d = is_some (as_integer d)
 abbrev pub is_table : Data → Bool
 is_table d = is_some (as_table d)
 
+-- an array each of whose members passes a test
+abbrev pub is_array_of : (Data → Bool) → Data → Bool
+is_array_of test (array ds) = list_all test (items_list ds)
+is_array_of test _ = false
+
 -- an array each of whose members is a table
 abbrev pub is_tables : Data → Bool
-is_tables (array ds) = list_all is_table (items_list ds)
-is_tables _ = false
+is_tables d = is_array_of is_table d
+
+-- a whole number in the range
+abbrev pub is_number : ℕ → ℕ → Data → Bool
+is_number least greatest d = is_some (natural_within least greatest d)
+
+-- an array each of whose members is a whole number in the range
+abbrev pub is_numbers : ℕ → ℕ → Data → Bool
+is_numbers least greatest d = is_array_of (is_number least greatest) d
 
 -- a name or a whole number
 abbrev pub is_type : Data → Bool

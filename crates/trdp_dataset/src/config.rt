@@ -8,7 +8,8 @@ ghost use Rattle.trdp_dataset.specs.Values.{address_in, IsAllowed};
 ghost use Rattle.trdp_dataset.specs.Positions.{value_at};
 ghost use Rattle.trdp_dataset.specs.Seen.{tables_seen};
 ghost use Rattle.trdp_dataset.specs.Configs.{number_of, node_value, config_in};
-ghost use Rattle.trdp_dataset.specs.Configs.{datasets_in, quotas_in, slot_in, slots_in};
+ghost use Rattle.trdp_dataset.specs.Configs.{datasets_in, spare_control_ports_in};
+ghost use Rattle.trdp_dataset.specs.Configs.{quotas_in, slot_in, slots_in};
 ghost use Rattle.trdp_dataset.specs.StoredSlots.{slot_seen, slots_of};
 
 use crate::fault::ConfigFault;
@@ -16,7 +17,7 @@ use crate::key::Key;
 use crate::load::load;
 use crate::parse::parse;
 use crate::position::{all_positions, members_at, node_in, value_at};
-use crate::read::{number_at, number_of};
+use crate::read::{number_at, number_of, numbers_of};
 use crate::registry::Registry;
 use crate::value::address;
 use std::alloc::{AllocError, Global};
@@ -47,6 +48,9 @@ pub struct NodeConfig {
     md_port: u16,
     /// The UDP port of the operator, 1 to 65535; 0 for none.
     operator_port: u16,
+    /// The UDP ports for the calls of slots that are added while the node runs, in the order in
+    /// which they are added, at most 15, each in host order; 0 for none.
+    spare_control_ports: Vec<u16>,
     /// The application slots in the order of the file, 1 to 16.
     slots: Vec<Slot>,
 }
@@ -64,11 +68,12 @@ impl Model for NodeConfig {
       pd_port = c.pd_port;
       md_port = c.md_port;
       operator_port = c.operator_port;
+      spare_control_ports = c.spare_control_ports.items;
       slots = slots_of c.slots.items;
     } };
 
     ghost invariant = { λ c. (1 ≤ c.pd_port) × (1 ≤ c.md_port) × (1 ≤ length c.slots.items)
-        × (length c.slots.items ≤ 16) };
+        × (length c.slots.items ≤ 16) × (length c.spare_control_ports.items ≤ 15) };
 }
 
 /// The quotas of a slot.
@@ -131,6 +136,16 @@ fn node_number(top: &Table, key: Key) -> u16
     number_of(key, node_value(top, key))
 }
 
+/// The spare control ports of a file.
+#[tactic(auto, unfolding(crate::specs::Configs::spare_control_ports_in))]
+fn spare_control_ports_in(alloc: Global, top: &Table) -> Result<Vec<u16>, AllocError>
+    ensures value { IfOk result (λ ports.
+        ports.items ≡ spare_control_ports_in (table_view top.now)) }
+{
+    let found = node_value(top, Key::SpareControlPorts);
+    numbers_of(alloc, Key::SpareControlPorts, found)
+}
+
 /// The address of the node; 0.0.0.0 where there is none.
 fn address_in(top: &Table) -> Ip
     ensures value { result.0
@@ -147,8 +162,15 @@ fn address_in(top: &Table) -> Ip
 
 /// The configuration that a file without a fault means.
 #[tactic(auto, unfolding(crate::specs::Configs::config_in))]
-fn config_in(top: &Table, registry: Registry, slots: Vec<Slot>) -> NodeConfig
+fn config_in(
+    top: &Table,
+    registry: Registry,
+    spare_control_ports: Vec<u16>,
+    slots: Vec<Slot>,
+) -> NodeConfig
     requires registry { registry ≡ datasets_in (table_view top.now) }
+    requires spare { spare_control_ports.items ≡ spare_control_ports_in (table_view top.now) }
+    requires few_spare { length (spare_control_ports_in (table_view top.now)) ≤ 15 }
     requires slots { slots_of slots.items ≡ slots_in (table_view top.now) }
     requires some { 1 ≤ length (slots_in (table_view top.now)) }
     requires few { length (slots_in (table_view top.now)) ≤ 16 }
@@ -160,6 +182,7 @@ fn config_in(top: &Table, registry: Registry, slots: Vec<Slot>) -> NodeConfig
         pd_port: node_number(top, Key::PdPort),
         md_port: node_number(top, Key::MdPort),
         operator_port: node_number(top, Key::OperatorPort),
+        spare_control_ports,
         slots,
     }
 }
@@ -179,8 +202,9 @@ impl NodeConfig {
         let top = parse(alloc, bytes)?;
         let positions = all_positions(alloc, &top)?;
         let registry = load(alloc, &top, &positions)?;
+        let spare_control_ports = spare_control_ports_in(alloc, &top)?;
         let slots = slots_in(alloc, &top)?;
-        Ok(config_in(&top, registry, slots))
+        Ok(config_in(&top, registry, spare_control_ports, slots))
     }
 
     /// The datasets.
@@ -218,6 +242,22 @@ impl NodeConfig {
         ensures value { result ≡ self.now.operator_port }
     {
         self.operator_port
+    }
+
+    /// How many spare control ports there are, at most 15.
+    pub fn spare_control_ports(&self) -> usize
+        ensures value { result ≡ length self.now.spare_control_ports }
+        ensures most { result ≤ 15 }
+    {
+        self.spare_control_ports.len()
+    }
+
+    /// The UDP port for the calls of a slot that is added while the node runs, 0 for none, by its
+    /// place from 0 among the added ones; None where no spare control port is left for it.
+    pub fn spare_control_port(&self, added: usize) -> Option<u16>
+        ensures value { result ≡ slice_get self.now.spare_control_ports added }
+    {
+        self.spare_control_ports.get(added).copied()
     }
 
     /// How many application slots there are, 1 to 16.

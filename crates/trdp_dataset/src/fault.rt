@@ -42,9 +42,10 @@ pub enum ConfigFault {
     /// The zero value of a dataset is longer than 65,388 bytes.
     #[error("the zero value of a dataset is longer than 65388 bytes")]
     TooBig,
-    /// There are more than 16 slots, 256 datasets or 256 elements of a dataset, or a quota is
-    /// above 256.
-    #[error("there are more than 16 slots, 256 datasets or 256 elements, or a quota above 256")]
+    /// There are more than 16 slots, 15 spare control ports, 256 datasets or 256 elements of a
+    /// dataset, or a quota is above 256.
+    #[error("there are more than 16 slots, 15 spare control ports, 256 datasets or 256 elements, \
+         or a quota above 256")]
     TooMany,
     /// Memory ran out.
     #[error("memory ran out")]

@@ -19,6 +19,8 @@ pub enum Key {
     MdPort,
     /// `operator_port` of the node.
     OperatorPort,
+    /// `spare_control_ports` of the node, the control ports of slots that are added while it runs.
+    SpareControlPorts,
     /// `slot`, the tables of the application slots.
     Slot,
     /// `publishers` of a slot.
@@ -58,6 +60,9 @@ pub enum Wanted {
     Address,
     /// A whole number from the first to the second, ends included.
     Number(u16, u16),
+    /// An array of whole numbers from the second to the third, ends included; more of them than
+    /// the first are [`ConfigFault::TooMany`](crate::ConfigFault).
+    Numbers(u16, u16, u16),
     /// A whole number from 0 on; one above so many is
     /// [`ConfigFault::TooMany`](crate::ConfigFault).
     Quota(u16),
@@ -120,6 +125,11 @@ impl Key {
                 "operator_port",
                 Wanted::Number(0, 65535),
                 Absent::Default(0),
+            ),
+            Key::SpareControlPorts => row(
+                "spare_control_ports",
+                Wanted::Numbers(15, 0, 65535),
+                Absent::Empty,
             ),
             Key::Slot => row("slot", Wanted::Tables(16), Absent::Missing),
             Key::Publishers => row("publishers", Wanted::Quota(256), Absent::Default(0)),

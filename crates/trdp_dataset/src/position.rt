@@ -14,7 +14,13 @@ use crate::value::items;
 use std::alloc::{AllocError, Global};
 use toml::{Table, Value};
 
-const NODE_KEYS: [Key; 4] = [Key::Address, Key::PdPort, Key::MdPort, Key::OperatorPort];
+const NODE_KEYS: [Key; 5] = [
+    Key::Address,
+    Key::PdPort,
+    Key::MdPort,
+    Key::OperatorPort,
+    Key::SpareControlPorts,
+];
 
 const SLOT_KEYS: [Key; 7] = [
     Key::Publishers,

@@ -5,14 +5,14 @@ ghost use Rattle.toml.specs.View.{view};
 ghost use Rattle.trdp_dataset.specs.Keys.{wanted_by};
 ghost use Rattle.trdp_dataset.specs.Values.{natural_in};
 ghost use Rattle.trdp_dataset.specs.Seen.{position_seen, positions_seen};
-ghost use Rattle.trdp_dataset.specs.Faults.{wrong_unless, count_fault, tables_fault};
+ghost use Rattle.trdp_dataset.specs.Faults.{wrong_unless, count_fault, tables_fault, numbers_fault};
 ghost use Rattle.trdp_dataset.specs.Faults.{quota_fault, bad_unless, identifier_fault};
 ghost use Rattle.trdp_dataset.specs.Faults.{kind_fault, value_fault, fault_at, least_fault};
 
 use crate::fault::{ConfigFault, least_of_two};
 use crate::key::{Key, Wanted};
 use crate::position::Position;
-use crate::value::{address, identifier, is_real, is_tables, items, kind, natural};
+use crate::value::{address, identifier, is_numbers, is_real, is_tables, items, kind, natural};
 use toml::Value;
 
 /// The value of a key has to be of the key's kind.
@@ -26,7 +26,7 @@ fn wrong_unless(key: Key, is_right: bool) -> Option<ConfigFault>
     }
 }
 
-/// The fault of an array of so many tables, of which the key allows at most so many.
+/// The fault of an array of so many members, of which the key allows at most so many.
 fn count_fault(key: Key, most: u16, count: usize) -> Option<ConfigFault>
     ensures value { result ≡ count_fault key most count }
 {
@@ -44,6 +44,23 @@ fn tables_fault(key: Key, most: u16, value: &Value) -> Option<ConfigFault>
     ensures value { result ≡ tables_fault key most (view value.now) }
 {
     if is_tables(value) {
+        count_fault(key, most, items(value).len())
+    } else {
+        Some(ConfigFault::WrongType(key))
+    }
+}
+
+/// The fault of what stands where an array of at most so many numbers in a range is wanted.
+fn numbers_fault(
+    key: Key,
+    most: u16,
+    least: u16,
+    greatest: u16,
+    value: &Value,
+) -> Option<ConfigFault>
+    ensures value { result ≡ numbers_fault key most least greatest (view value.now) }
+{
+    if is_numbers(value, least, greatest) {
         count_fault(key, most, items(value).len())
     } else {
         Some(ConfigFault::WrongType(key))
@@ -106,6 +123,9 @@ fn value_fault(key: Key, value: &Value) -> Option<ConfigFault>
         Wanted::Tables(most) => tables_fault(key, most, value),
         Wanted::Address => wrong_unless(key, address(value).is_some()),
         Wanted::Number(..) => wrong_unless(key, wanted.number(value).is_some()),
+        Wanted::Numbers(most, least, greatest) => {
+            numbers_fault(key, most, least, greatest, value)
+        }
         Wanted::Quota(most) => quota_fault(key, most, value),
         Wanted::Identifier(..) => identifier_fault(key, value),
         Wanted::Kind => kind_fault(key, value),

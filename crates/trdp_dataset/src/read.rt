@@ -1,17 +1,17 @@
-//! Datasets as a file has them.
+//! Numbers and datasets as a file has them.
 
-ghost use Rattle.std.specs.Prelude.{◌≡◌, ◌≤◌, ◌++◌, false, option_map};
+ghost use Rattle.std.specs.Prelude.{◌≡◌, ◌≤◌, ◌++◌, false, map, option_map};
 ghost use Rattle.std.specs.Prelude.{option_and_then, None, IfOk, OnOk, IfErr};
 ghost use Rattle.std.specs.List.{filter_map};
 ghost use Rattle.toml.specs.Data.{as_table};
 ghost use Rattle.toml.specs.View.{view, table_view};
 ghost use Rattle.trdp_dataset.specs.Keys.{wanted_by, default_of};
-ghost use Rattle.trdp_dataset.specs.Values.{IsAllowed, identifier_in};
+ghost use Rattle.trdp_dataset.specs.Values.{IsAllowed, member_in, identifier_in};
 ghost use Rattle.trdp_dataset.specs.Positions.{value_at, tables_at};
 ghost use Rattle.trdp_dataset.specs.Seen.{tables_seen};
 ghost use Rattle.trdp_dataset.specs.Faults.{has_twice, IsFaultOf, twice_id_in};
 ghost use Rattle.trdp_dataset.specs.Adding.{Adds, twice_fault};
-ghost use Rattle.trdp_dataset.specs.Configs.{number_of, number_at, element_in};
+ghost use Rattle.trdp_dataset.specs.Configs.{number_of, numbers_of, number_at, element_in};
 ghost use Rattle.trdp_dataset.specs.Configs.{elements_in, dataset_in, datasets_in};
 
 use crate::datasets::Datasets;
@@ -19,7 +19,7 @@ use crate::element::Element;
 use crate::fault::ConfigFault;
 use crate::key::Key;
 use crate::position::{members_at, value_at};
-use crate::value::{identifier, kind};
+use crate::value::{identifier, items, kind};
 use std::alloc::{AllocError, Global};
 use toml::{Table, Value};
 
@@ -36,6 +36,37 @@ pub(crate) fn number_of(key: Key, found: Option<&Value>) -> u16
             None => key.default_number(),
         },
         None => key.default_number(),
+    }
+}
+
+/// The numbers of an array at a key: its members that are in the key's range.
+fn numbers_among(alloc: Global, key: Key, members: &[Value]) -> Result<Vec<u16>, AllocError>
+    ensures value { IfOk result (λ numbers.
+        numbers.items ≡ filter_map (member_in (wanted_by key)) (map view members.now)) }
+{
+    let mut numbers = Vec::new(alloc);
+    for member in members {
+        if let Some(number) = key.wanted().member(member) {
+            numbers.push(number)?;
+        }
+    }
+    Ok(numbers)
+}
+
+/// The numbers of a key whose array was looked for: its members that are in the key's range; there
+/// are none where there is no array.
+#[tactic(auto, unfolding(crate::specs::Configs::numbers_of))]
+pub(crate) fn numbers_of(
+    alloc: Global,
+    key: Key,
+    found: Option<&Value>,
+) -> Result<Vec<u16>, AllocError>
+    ensures value { IfOk result (λ numbers.
+        numbers.items ≡ numbers_of key (option_map (λ v. view v.now) found.entry)) }
+{
+    match found {
+        Some(value) => numbers_among(alloc, key, items(value)),
+        None => Ok(Vec::new(alloc)),
     }
 }
 

@@ -6,8 +6,9 @@ ghost use Rattle.toml.specs.View.{view};
 ghost use Rattle.trdp_dataset.specs.Types.{in_range, identifier_of, type_named};
 ghost use Rattle.trdp_dataset.specs.Types.{type_numbered, is_real_name, is_real_number};
 ghost use Rattle.trdp_dataset.specs.Values.{items_in, address_of, address_in, natural_in};
-ghost use Rattle.trdp_dataset.specs.Values.{natural_within, number_in, IsAllowed, identifier_in};
-ghost use Rattle.trdp_dataset.specs.Values.{kind_in, is_real, is_table, is_tables};
+ghost use Rattle.trdp_dataset.specs.Values.{natural_within, number_in, member_in, IsAllowed};
+ghost use Rattle.trdp_dataset.specs.Values.{identifier_in, kind_in, is_real, is_table, is_tables};
+ghost use Rattle.trdp_dataset.specs.Values.{is_number, is_numbers};
 
 use crate::element::ElementKind;
 use crate::key::{Key, Wanted};
@@ -69,6 +70,17 @@ impl Wanted {
         match self {
             Wanted::Number(least, most) => natural_within(value, least, most),
             Wanted::Quota(most) => natural_within(value, 0, most),
+            _ => None,
+        }
+    }
+
+    /// The number that a member of an array is, if an array of numbers is wanted and this one is
+    /// in range.
+    pub(crate) fn member(self, member: &Value) -> Option<u16>
+        ensures value { result ≡ member_in self (view member.now) }
+    {
+        match self {
+            Wanted::Numbers(_, least, greatest) => natural_within(member, least, greatest),
             _ => None,
         }
     }
@@ -203,4 +215,20 @@ pub(crate) fn is_tables(value: &Value) -> bool
     ensures value { result ≡ is_tables (view value.now) }
 {
     value.is_array() && all_tables(items(value))
+}
+
+/// Whether each value is a whole number in the range, ends included.
+fn all_numbers(items: &[Value], least: u16, greatest: u16) -> bool
+    ensures value { result ≡ list_all (λ item. is_number least greatest (view item)) items.now }
+{
+    items
+        .iter()
+        .all(|item| natural_within(item, least, greatest).is_some())
+}
+
+/// Whether a value is an array of whole numbers in the range, ends included.
+pub(crate) fn is_numbers(value: &Value, least: u16, greatest: u16) -> bool
+    ensures value { result ≡ is_numbers least greatest (view value.now) }
+{
+    value.is_array() && all_numbers(items(value), least, greatest)
 }

@@ -15,7 +15,7 @@ pub(crate) fn config_fault(alloc: Global, text: &str) -> Option<ConfigFault> {
 }
 
 /// Files, and the fault of each.
-static FILES: [(&str, ConfigFault); 36] = [
+static FILES: [(&str, ConfigFault); 44] = [
     ("", ConfigFault::Missing(Key::Node)),
     ("slot = [{}]", ConfigFault::Missing(Key::Node)),
     ("node = 5", ConfigFault::Missing(Key::Slot)),
@@ -46,6 +46,27 @@ static FILES: [(&str, ConfigFault); 36] = [
         ConfigFault::WrongType(Key::OperatorPort),
     ),
     (
+        "node = { address = '10.0.0.1', spare_control_ports = 18002 }\nslot = [{}]",
+        ConfigFault::WrongType(Key::SpareControlPorts),
+    ),
+    (
+        "node = { address = '10.0.0.1', spare_control_ports = [65536] }\nslot = [{}]",
+        ConfigFault::WrongType(Key::SpareControlPorts),
+    ),
+    (
+        "node = { address = '10.0.0.1', spare_control_ports = [18002, -1] }\nslot = [{}]",
+        ConfigFault::WrongType(Key::SpareControlPorts),
+    ),
+    (
+        "node = { address = '10.0.0.1', spare_control_ports = ['18002', 18003] }\nslot = [{}]",
+        ConfigFault::WrongType(Key::SpareControlPorts),
+    ),
+    (
+        "node = { address = '10.0.0.1', spare_control_ports = \
+         [0, 0, 0, 0, 0, 0, 0, 0, 0, 0, 0, 0, 0, 0, 0, 0] }\nslot = [{}]",
+        ConfigFault::TooMany,
+    ),
+    (
         "node = { address = 1979-05-27 }\nslot = [{}]",
         ConfigFault::WrongType(Key::Address),
     ),
@@ -54,6 +75,21 @@ static FILES: [(&str, ConfigFault); 36] = [
         ConfigFault::Missing(Key::Slot),
     ),
     // Two faults and more.
+    (
+        "node = { address = '10.0.0.1', spare_control_ports = \
+         [0, 0, 0, 0, 0, 0, 0, 0, 0, 0, 0, 0, 0, 0, 0, -1] }\nslot = [{}]",
+        ConfigFault::WrongType(Key::SpareControlPorts),
+    ),
+    (
+        "node = { address = '10.0.0.1', spare_control_ports = 5, operator_port = -1 }\n\
+         slot = [{ control_port = -1 }]",
+        ConfigFault::WrongType(Key::OperatorPort),
+    ),
+    (
+        "node = { address = '10.0.0.1', spare_control_ports = 5 }\n\
+         slot = [{ control_port = -1 }]",
+        ConfigFault::WrongType(Key::SpareControlPorts),
+    ),
     (
         "node = { address = '10.0.0.1', pd_port = 0, md_port = 0 }\nslot = []",
         ConfigFault::Missing(Key::Slot),

@@ -33,7 +33,8 @@ element = [{ type = \"INT16\" }, { type = 15 }, { type = 1001 }]
 
 /// A node with ports of its own, and two slots of which the second has quotas.
 const PORTS: &str = "slot = [{ control_port = 18000 }, { publishers = 256, repliers = 7 }]
-node = { operator_port = 65535, md_port = 2, pd_port = 1, address = '255.254.0.9' }
+node = { operator_port = 65535, md_port = 2, pd_port = 1, address = '255.254.0.9', \
+spare_control_ports = [0, 18002, 18002] }
 other = { key = 1 }
 ";
 
@@ -45,6 +46,7 @@ pub(crate) struct NodeNumbers {
     pub(crate) pd_port: u16,
     pub(crate) md_port: u16,
     pub(crate) operator_port: u16,
+    pub(crate) spare_control_ports: usize,
     pub(crate) slots: usize,
 }
 
@@ -57,6 +59,7 @@ pub(crate) fn node_numbers(alloc: Global, text: &str) -> Option<NodeNumbers> {
             pd_port: config.pd_port(),
             md_port: config.md_port(),
             operator_port: config.operator_port(),
+            spare_control_ports: config.spare_control_ports(),
             slots: config.slots(),
         }),
         Err(_) => None,
@@ -73,6 +76,7 @@ static NODES: [(&str, NodeNumbers); 2] = [
             pd_port: 17224,
             md_port: 17225,
             operator_port: 0,
+            spare_control_ports: 0,
             slots: 2,
         },
     ),
@@ -84,6 +88,7 @@ static NODES: [(&str, NodeNumbers); 2] = [
             pd_port: 1,
             md_port: 2,
             operator_port: 65535,
+            spare_control_ports: 3,
             slots: 2,
         },
     ),
@@ -93,6 +98,40 @@ static NODES: [(&str, NodeNumbers); 2] = [
 fn reads_nodes(rt: HostRuntime) {
     for (text, numbers) in &NODES {
         same(&rt, *text, node_numbers(rt.alloc(), text), Some(*numbers));
+    }
+}
+
+/// A node with as many spare control ports as there may be.
+const SPARE: &str = "slot = [{}]
+node = { address = '10.0.0.1', spare_control_ports = [18001, 18002, 18003, 18004, 18005, 18006, \
+18007, 18008, 18009, 18010, 18011, 18012, 18013, 18014, 65535] }
+";
+
+/// Files, the place of a spare control port from 0, and the port.
+static SPARE_PORTS: [(&str, usize, Option<u16>); 9] = [
+    (CONFIG, 0, None),
+    (PORTS, 0, Some(0)),
+    (PORTS, 1, Some(18002)),
+    (PORTS, 2, Some(18002)),
+    (PORTS, 3, None),
+    (SPARE, 0, Some(18001)),
+    (SPARE, 13, Some(18014)),
+    (SPARE, 14, Some(65535)),
+    (SPARE, 15, None),
+];
+
+/// A spare control port of a file.
+fn spare_port(alloc: Global, text: &str, place: usize) -> Option<u16> {
+    match NodeConfig::from_toml(alloc, text.as_bytes()) {
+        Ok(config) => config.spare_control_port(place),
+        Err(_) => None,
+    }
+}
+
+#[test]
+fn reads_spare_ports(rt: HostRuntime) {
+    for (index, (text, place, port)) in SPARE_PORTS.iter().enumerate() {
+        same(&rt, index, spare_port(rt.alloc(), text, *place), *port);
     }
 }
 
@@ -328,7 +367,7 @@ fn counts_items(rt: HostRuntime) {
 }
 
 /// Faults, and the sentence of each.
-static SENTENCES: [(ConfigFault, &str); 4] = [
+static SENTENCES: [(ConfigFault, &str); 5] = [
     (
         ConfigFault::Missing(Key::Elements),
         "the key element is missing, or its array is empty",
@@ -340,6 +379,11 @@ static SENTENCES: [(ConfigFault, &str); 4] = [
     (
         ConfigFault::NoDataset(1003),
         "an element is of the dataset 1003, which is not there",
+    ),
+    (
+        ConfigFault::TooMany,
+        "there are more than 16 slots, 15 spare control ports, 256 datasets or 256 elements, \
+         or a quota above 256",
     ),
     (ConfigFault::OutOfMemory, "memory ran out"),
 ];

@@ -14,6 +14,8 @@ address = '255.255.255.255'
 pd_port = 65535
 md_port = 65535
 operator_port = 65535
+spare_control_ports = [65535, 65535, 65535, 65535, 65535, 65535, 65535, 65535, 65535, 65535,
+65535, 65535, 65535, 65535, 65535]
 ";
 
 /// A slot with the largest numbers.
@@ -166,6 +168,7 @@ fn reads_the_largest(rt: HostRuntime) -> Result<(), Fail> {
         pd_port: 65535,
         md_port: 65535,
         operator_port: 65535,
+        spare_control_ports: 15,
         slots: 16,
     };
     let found = node_numbers(rt.alloc(), text.as_str());

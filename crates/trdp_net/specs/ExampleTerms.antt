@@ -24,6 +24,7 @@ node_at address = record {
   pd_port = 17224;
   md_port = 17225;
   operator_port = 0;
+  spare_control_ports = [];
   slots = record { quotas = replicate 6 1; control_port = 0 } ∷ [];
 }
 

@@ -8,7 +8,7 @@ use Rattle.trdp_dataset.specs.Faults.{IsFaultOf, Answers, fault_in}
 use Rattle.trdp_dataset.specs.Configs.{datasets_in, config_in, config_fault_of, config_of}
 use Rattle.trdp_dataset.proofs.Answering.{err_answers, err_alone}
 use Rattle.std.proofs.Common.{List, None}
-use Rattle.trdp_dataset.proofs.SlotNumbers.{slots_counted}
+use Rattle.trdp_dataset.proofs.SlotNumbers.{slots_counted, spare_counted}
 use Rattle.trdp_dataset.proofs.Meaning.{reads}
 use Rattle.trdp_dataset.proofs.config.NodeConfig.from_toml.Goals as goal
 
@@ -72,3 +72,12 @@ config_in-requires-clause-few c =
     let none = subst (λ (positions : List PositionModel).
     fault_in positions (datasets_in top) ≡ None) same c.in_ok-registry.ensures.answers in
     (slots_counted top (datasets_in top) none).1
+
+pub config_in-requires-clause-few_spare : goal.config_in-requires-clause-few_spare
+unfolding all_positions
+config_in-requires-clause-few_spare c =
+    let top = table_view c.in_ok-top.top in
+    let same = ap positions_seen c.deref.ensures.value ∙ c.in_ok-positions.ensures in
+    let none = subst (λ (positions : List PositionModel).
+    fault_in positions (datasets_in top) ≡ None) same c.in_ok-registry.ensures.answers in
+    spare_counted top (datasets_in top) none
