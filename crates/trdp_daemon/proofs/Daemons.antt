@@ -1,12 +1,10 @@
 -- A daemon's turns, one after another.
 use Rattle.std.proofs.Common.{◌≡◌, ◌+◌, ℕ, List, [], ◌∷◌, ◌++◌, Option, refl, sym, ◌∙◌}
-use Rattle.std.proofs.Common.{ap, subst, length, map, arith, append-nil, length-append}
-use Rattle.std.specs.Prelude.{All}
+use Rattle.std.proofs.Common.{ap, subst, length, map, append-nil, length-append}
 use Rattle.std.specs.List.{flat_map}
 use Rattle.std.proofs.lemmas.List.{map-append}
 use Rattle.std.proofs.lemmas.Grind.{flat_map-append}
 use Rattle.std.proofs.lemmas.List.Concat.{flat_map-cons}
-use Rattle.std.proofs.lemmas.List.Elements.{All-append, All-push}
 use Rattle.trdp_dataset.specs.Configs.{ConfigModel}
 use Rattle.trdp_daemon.specs.declared.link.Link.{Link}
 use Rattle.trdp_daemon.specs.declared.port.Port.{Port}
@@ -14,14 +12,15 @@ use Rattle.trdp_daemon.specs.declared.service.Service.{Service}
 use Rattle.trdp_daemon.specs.Told.{Adds, Taking, Give}
 use Rattle.trdp_daemon.specs.Counting.{no_totals, totals_after}
 use Rattle.trdp_daemon.specs.Daemons.{DaemonState, TakesTurns, HasServed, opened_daemon}
-use Rattle.trdp_daemon.specs.Effects.{Telling, then_effect}
+use Rattle.trdp_daemon.specs.Effects.{ServiceState, Telling, then_effect}
 use Rattle.trdp_daemon.specs.Links.{Carries}
 use Rattle.trdp_daemon.specs.Ports.{ports_of}
 use Rattle.trdp_daemon.specs.Services.{TakesTurn, service_state}
-use Rattle.trdp_daemon.specs.Turns.{TakesAt, takings_of, turn_effect, turns_effect, opened_service}
+use Rattle.trdp_daemon.specs.Turns.{AllTakeAt, TurnTakesAt, takings_of, turn_effect, turns_effect}
+use Rattle.trdp_daemon.specs.Turns.{opened_service}
 use Rattle.trdp_daemon.proofs.Links.{adds_none, adds_both, totals_both}
 use Rattle.trdp_daemon.proofs.Tellings.{both_silence}
-use Rattle.trdp_daemon.proofs.Turns.{turns_append}
+use Rattle.trdp_daemon.proofs.Turns.{turns_append, all_both}
 
 abbrev pub daemon_of : {W C : Type 0} → Service → Link W → C → DaemonState W C
 daemon_of service link clock = record {
@@ -52,8 +51,10 @@ one_turn {W} {C} {takings_in} {gives_in} {readings_in} s
       turns = p.turn ∷ [];
       gives = whole.gives;
       count = refl;
-      ports = All-push (TakesAt (ports_of s.node.config)) [] p.turn (λ k d below. absurd
-          (omega (arith, below))) (subst (λ (l : List Port). TakesAt l p.turn) named p.takes_at);
+      ports = (
+        subst (λ (l : List Port). TurnTakesAt l (service_state s) p.turn) named p.takes_at,
+        tt,
+      );
       read =
           subst (λ (r : ℕ). Adds (readings_in x) (readings_in y) (r ∷ [])) (sym p.reading_is) read;
       took = whole.takes;
@@ -72,7 +73,7 @@ no_turns takings_in gives_in readings_in d = record {
   turns = [];
   gives = [];
   count = refl;
-  ports = λ k d below. absurd (omega (arith, below));
+  ports = tt;
   read = adds_none (readings_in d.clock);
   took = adds_none (takings_in d.wire);
   gave = adds_none (gives_in d.wire);
@@ -103,8 +104,10 @@ turns_both {W} {C} {takings_in} {gives_in} {readings_in} {m} {n} {a} {b} {c} p q
       gives = p.gives ++ q.gives;
       count = length-append p.turns q.turns ∙ ap (λ k. k + length q.turns) p.count
           ∙ ap (λ k. m + k) q.count;
-      ports = All-append (TakesAt (ports_of a.service.node.config)) p.turns q.turns p.ports
-          (subst (λ (l : List Port). All (TakesAt l) q.turns) (ap ports_of p.config) q.ports);
+      ports = all_both (ports_of a.service.node.config) a.service p.turns q.turns p.ports
+          (subst (λ (s : ServiceState). AllTakeAt (ports_of a.service.node.config) s q.turns)
+          p.service (subst (λ (l : List Port). AllTakeAt l b.service q.turns)
+          (ap ports_of p.config) q.ports));
       read = subst (λ (l : List ℕ). Adds (readings_in a.clock) (readings_in c.clock) l)
           (sym (map-append (λ t. t.reading) p.turns q.turns))
           (adds_both (readings_in a.clock) (readings_in b.clock) (readings_in c.clock)

@@ -2,12 +2,13 @@ pub mod LineLosses
 pub mod Links
 pub mod Tellings
 pub mod Steps
+pub mod OpenSlots
 pub mod Services
 pub mod Visits
 pub mod Turns
+pub mod EachPort
 pub mod Daemons
 pub mod ControlPorts
-pub mod Places
 pub mod GiveRows
 pub mod Losses
 pub mod TakeRows

@@ -1,5 +1,5 @@
 -- A turn, and turns one after another.
-use Rattle.std.proofs.Common.{◌≡◌, ◌+◌, ℕ, List, [], ◌∷◌, ◌++◌, Option}
+use Rattle.std.proofs.Common.{◌≡◌, ◌+◌, ℕ, Bool, true, false, List, [], ◌∷◌, ◌++◌, Option}
 use Rattle.std.proofs.Common.{refl, sym, ◌∙◌, ap, subst, map, take}
 use Rattle.std.proofs.lemmas.List.{map-append}
 use Rattle.trdp_daemon.specs.declared.link.Link.{Link}
@@ -9,11 +9,12 @@ use Rattle.trdp_daemon.specs.Told.{Taking, Give}
 use Rattle.trdp_daemon.specs.Effects.{ServiceState, Effect, Telling, both}
 use Rattle.trdp_daemon.specs.Effects.{still, then_effect, event_effect}
 use Rattle.trdp_daemon.specs.Links.{Carries}
-use Rattle.trdp_daemon.specs.Services.{Comes, ComesWith, TakesAtPorts, TakesTurn, service_state}
-use Rattle.trdp_daemon.specs.Turns.{Visit, visit_effect, visits_effect, Turn}
-use Rattle.trdp_daemon.specs.Turns.{turn_effect, turns_effect, moment_of, port_and_room, with_room}
+use Rattle.trdp_daemon.specs.Services.{Comes, ComesWith, TakesOnce, TakesAtPorts, TakesTurn}
+use Rattle.trdp_daemon.specs.Services.{service_state}
+use Rattle.trdp_daemon.specs.Turns.{Visit, visit_effect, visits_effect, Turn, is_there, TakesFirst}
+use Rattle.trdp_daemon.specs.Turns.{turn_effect, turns_effect, moment_of, TakesAt, AllTakeAt}
 use Rattle.trdp_daemon.proofs.Links.{carries_none, carries_both}
-use Rattle.trdp_daemon.proofs.Tellings.{both_assoc, silence_both}
+use Rattle.trdp_daemon.proofs.Tellings.{both_assoc, both_silence, silence_both}
 
 abbrev pub effect_of : ServiceState → Telling → Effect
 effect_of service telling = record { service = service; telling = telling }
@@ -58,14 +59,61 @@ comes_both {W} {takings_in} {gives_in} {r} {s} {t} {a} {b} {c} {ts} {us} {e} f p
       Carries takings_in gives_in b c us (f x).telling) p.service_is q.carried);
 }
 
+-- takes at a port first, and then at others
+first_both : (there : Bool) (port : Port) (ps qs : List Port) (s : ServiceState)
+    (xs ys : List Visit) → ((t : ServiceState) (zs : List Visit) → TakesAt ps t zs
+    → TakesAt qs (visits_effect t zs).service ys → TakesAt (ps ++ qs) t (zs ++ ys))
+    → TakesFirst there port (TakesAt ps) s xs → TakesAt qs (visits_effect s xs).service ys
+    → TakesFirst there port (TakesAt (ps ++ qs)) s (xs ++ ys)
+first_both false port ps qs s xs ys later first others = later s xs first others
+first_both true port ps qs s [] ys later first others = absurd first
+first_both true port ps qs s (x ∷ xs) ys later (here, first) others =
+    (here, later (visit_effect s x).service xs first others)
+
+-- takes at some ports, and then at others
+takes_both : (ps qs : List Port) (s : ServiceState) (xs ys : List Visit) → TakesAt ps s xs
+    → TakesAt qs (visits_effect s xs).service ys → TakesAt (ps ++ qs) s (xs ++ ys)
+takes_both [] qs s xs ys none others = at_none xs none others
+  where
+    at_none : (xs : List Visit) → xs ≡ [] → TakesAt qs (visits_effect s xs).service ys
+        → TakesAt qs s (xs ++ ys)
+    at_none [] none others = others
+    at_none (x ∷ xs) none others = absurd (cc)
+takes_both (p ∷ ps) qs s xs ys first others = first_both (is_there s.node p) p ps qs s xs ys
+    (λ t zs early late. takes_both ps qs t zs ys early late) first others
+
+-- turns that take at some ports, and then others that do
+pub all_both : (ports : List Port) (s : ServiceState) (xs ys : List Turn) → AllTakeAt ports s xs
+    → AllTakeAt ports (turns_effect s xs).service ys → AllTakeAt ports s (xs ++ ys)
+all_both ports s [] ys first others = others
+all_both ports s (x ∷ xs) ys (here, first) others =
+    (here, all_both ports (turn_effect s x).service xs ys first others)
+
 pub visits_none : {W : Type 0} (takings_in : W → Option (List Taking))
     (gives_in : W → Option (List Give)) (s : Service) (a : Link W)
     → TakesAtPorts takings_in gives_in s s a a []
 visits_none takings_in gives_in s a = record {
   visits = [];
-  ports_are = refl;
+  takes_at = refl;
   comes = record { service_is = refl; carried = carries_none takings_in gives_in a };
 }
+
+-- a port that is there
+pub port_taken : {W : Type 0} {takings_in : W → Option (List Taking)}
+    {gives_in : W → Option (List Give)} {s t : Service} {a b : Link W} (port : Port)
+    → is_there (service_state s).node port ≡ true
+    → TakesOnce takings_in gives_in s t a b port
+    → TakesAtPorts takings_in gives_in s t a b (port ∷ [])
+port_taken {W} {takings_in} {gives_in} {s} {t} {a} {b} port there p =
+    let effect = visit_effect (service_state s) p.visit in
+    record {
+      visits = p.visit ∷ [];
+      takes_at = subst (λ (is : Bool).
+          TakesFirst is port (TakesAt []) (service_state s) (p.visit ∷ []))
+          (sym there) (p.port_is, refl);
+      comes = subst (λ (e : Effect). Comes takings_in gives_in s t a b (p.visit.taking ∷ []) e)
+          (ap (effect_of effect.service) (sym (both_silence effect.telling))) p.comes;
+    }
 
 pub visits_both : {W : Type 0} {takings_in : W → Option (List Taking)}
     {gives_in : W → Option (List Give)} {r s t : Service} {a b c : Link W} {ps qs : List Port}
@@ -79,9 +127,8 @@ visits_both {W} {takings_in} {gives_in} {r} {s} {t} {a} {b} {c} {ps} {qs} p q =
     (sym (map-append (λ v. v.taking) p.visits q.visits)) first in
     record {
       visits = p.visits ++ q.visits;
-      ports_are = map-append port_and_room p.visits q.visits
-          ∙ ap (λ l. l ++ map port_and_room q.visits) p.ports_are
-          ∙ ap (λ l. map with_room ps ++ l) q.ports_are ∙ sym (map-append with_room ps qs);
+      takes_at = takes_both ps qs (service_state r) p.visits q.visits p.takes_at
+          (subst (λ (x : ServiceState). TakesAt qs x q.visits) p.comes.service_is q.takes_at);
       comes = subst (λ (e : Effect).
           Comes takings_in gives_in r t a c (map (λ v. v.taking) (p.visits ++ q.visits)) e)
           (sym (visits_append (service_state r) p.visits q.visits)) taken;
@@ -111,7 +158,8 @@ turn_taken {W} {takings_in} {gives_in} {r} {s} {t} {a} {b} {c} ports reading p q
     record {
       turn = turn;
       reading_is = refl;
-      takes_at = q.ports_are;
+      takes_at =
+          subst (λ (x : ServiceState). TakesAt ports x q.visits) p.comes.service_is q.takes_at;
       comes = comes_both {e = event_effect (service_state r) (moment_of r.node reading) p.loss}
           (λ after. visits_effect after q.visits) p.comes q.comes;
     }

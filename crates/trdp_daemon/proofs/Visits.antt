@@ -20,13 +20,13 @@ use Rattle.trdp_daemon.specs.Told.{Arrived, Failed, Nothing, Came, Taking, Give}
 use Rattle.trdp_daemon.specs.Effects.{ServiceState, Loss, LineLost, EventLost, TextsLost}
 use Rattle.trdp_daemon.specs.Effects.{Effect, Telling, silence, missing, event_effect, still}
 use Rattle.trdp_daemon.specs.Links.{Carries, IsFound, Takes}
-use Rattle.trdp_daemon.specs.Services.{Comes, ComesWith, TakesAtPorts, service_state}
+use Rattle.trdp_daemon.specs.Services.{Comes, ComesWith, TakesOnce, service_state}
 use Rattle.trdp_daemon.specs.Turns.{Visit, datagram_room}
 use Rattle.trdp_daemon.specs.Visits.{fault_telling, operator_event, operator_effect}
 use Rattle.trdp_daemon.specs.Visits.{line_lost_or, control_effect, control_event}
 use Rattle.trdp_daemon.specs.Visits.{datagram_effect, taking_effect, with_place, own_place}
 use Rattle.trdp_daemon.proofs.Links.{carries_none, carries_both}
-use Rattle.trdp_daemon.proofs.Tellings.{both_silence, silence_both}
+use Rattle.trdp_daemon.proofs.Tellings.{silence_both}
 
 -- what a line that was read means
 pub reads_ok :
@@ -216,19 +216,18 @@ visited : {W : Type 0} {takings_in : W → Option (List Taking)} {gives_in : W �
     → room ≡ datagram_room → Carries takings_in gives_in a b (let taking : Taking =
     record { port = port; room = room; arrived = arrived } in taking ∷ []) silence
     → ComesWith takings_in gives_in old new b c (taking_effect (service_state old) port arrived)
-    → TakesAtPorts takings_in gives_in old new a c (port ∷ [])
+    → TakesOnce takings_in gives_in old new a c port
 visited {W} {takings_in} {gives_in} {a} {b} {c} old new port room arrived whole taken comes =
     let taking : Taking = record { port = port; room = room; arrived = arrived } in
     let visit : Visit = record { taking = taking; loss = comes.loss } in
     let telling = (taking_effect (service_state old) port arrived comes.loss).telling in
     record {
-      visits = visit ∷ [];
-      ports_are = ap (λ n. (port, n) ∷ []) whole;
+      visit = visit;
+      port_is = ap (λ n. (port, n)) whole;
       comes = record {
         service_is = comes.comes.service_is;
         carried = subst (λ (t : Telling). Carries takings_in gives_in a c (taking ∷ []) t)
-            (silence_both telling ∙ sym (both_silence telling))
-            (carries_both taken comes.comes.carried);
+            (silence_both telling) (carries_both taken comes.comes.carried);
       };
     }
 
@@ -236,7 +235,7 @@ pub visited_nothing :
     {W : Type 0} {takings_in : W → Option (List Taking)} {gives_in : W → Option (List Give)}
     {a b : Link W} (s : Service) (port : Port) (found : Option (Place × ℕ)) (room : List ℕ)
     → found ≡ None → length room ≡ datagram_room → Takes takings_in gives_in a b port found room
-    → TakesAtPorts takings_in gives_in s s a b (port ∷ [])
+    → TakesOnce takings_in gives_in s s a b port
 unfolding taking_effect
 visited_nothing {W} {takings_in} {gives_in} {a} {b} s port found room none roomy p =
     nothing p.arrived
@@ -245,7 +244,7 @@ visited_nothing {W} {takings_in} {gives_in} {a} {b} s port found room none roomy
     nothing : (arrived : Arrived) → IsFound arrived None room → Carries takings_in gives_in
         a b (let taking : Taking = record { port = port; room = length room; arrived = arrived } in
         taking ∷ []) silence
-        → TakesAtPorts takings_in gives_in s s a b (port ∷ [])
+        → TakesOnce takings_in gives_in s s a b port
     nothing Failed is carried = visited s s port (length room) Failed
         roomy carried
         (record { loss = TextsLost []; comes = nothing_comes takings_in gives_in s b })
@@ -261,7 +260,7 @@ pub visited_datagram : {W : Type 0} {takings_in : W → Option (List Taking)}
     → Takes takings_in gives_in a b port found room
     → ComesWith takings_in gives_in old new b
     c (datagram_effect (service_state old) port from bytes)
-    → TakesAtPorts takings_in gives_in old new a c (port ∷ [])
+    → TakesOnce takings_in gives_in old new a c port
 unfolding taking_effect
 visited_datagram {W} {takings_in} {gives_in} {a} {b} {c} old
     new port found from len room bytes some front roomy p comes = came p.arrived
@@ -271,7 +270,7 @@ visited_datagram {W} {takings_in} {gives_in} {a} {b} {c} old
         → IsFound arrived (Some (from, len)) room → Carries takings_in gives_in
         a b (let taking : Taking = record { port = port; room = length room; arrived = arrived } in
         taking ∷ []) silence
-        → TakesAtPorts takings_in gives_in old new a c (port ∷ [])
+        → TakesOnce takings_in gives_in old new a c port
     came Failed is carried = absurd (cc)
     came Nothing is carried = absurd (cc)
     came (Came place whole) (at, all) carried =

@@ -1,5 +1,5 @@
 -- A daemon, and what its turns make of it.
-use Rattle.std.specs.Prelude.{◌≡◌, ℕ, List, Option, All, length, map}
+use Rattle.std.specs.Prelude.{◌≡◌, ℕ, List, Option, length, map}
 use Rattle.std.specs.List.{flat_map}
 use Rattle.trdp_dataset.specs.Configs.{ConfigModel}
 use Rattle.trdp_daemon.specs.declared.totals.Totals.{Totals}
@@ -7,7 +7,7 @@ use Rattle.trdp_daemon.specs.Told.{Adds, Taking, Give}
 use Rattle.trdp_daemon.specs.Counting.{no_totals, totals_after}
 use Rattle.trdp_daemon.specs.Effects.{ServiceState}
 use Rattle.trdp_daemon.specs.Ports.{ports_of}
-use Rattle.trdp_daemon.specs.Turns.{Turn, TakesAt, takings_of, turns_effect, opened_service}
+use Rattle.trdp_daemon.specs.Turns.{Turn, AllTakeAt, takings_of, turns_effect, opened_service}
 use Rattle.trdp_daemon.specs.Turns.{offers_of, missed_of}
 
 -- a daemon: its node and the control places of the slots, its wire, its clock, and what it counted
@@ -26,16 +26,16 @@ opened_daemon config wire clock = record {
   totals = no_totals;
 }
 
--- n turns were taken, each with one reading of the clock and one take at each port in order: the
--- gives are exactly what the turns offer, whatever they answered; the wire tells its takes and
--- gives, and the clock its readings, by these functions
+-- n turns were taken, each with one reading of the clock and one take at each port that is there,
+-- in order: the gives are exactly what the turns offer, whatever they answered; the wire tells its
+-- takes and gives, and the clock its readings, by these functions
 pub record TakesTurns {W C : Type 0} (takings_in : W → Option (List Taking))
     (gives_in : W → Option (List Give)) (readings_in : C → Option (List ℕ)) (n : ℕ)
     (old new : DaemonState W C) : Type 0 where
   pub turns : List Turn
   pub gives : List Give
   pub count : length turns ≡ n
-  pub ports : All (TakesAt (ports_of old.service.node.config)) turns
+  pub ports : AllTakeAt (ports_of old.service.node.config) old.service turns
   pub read : Adds (readings_in old.clock) (readings_in new.clock)
       (map (λ turn. turn.reading) turns)
   pub took : Adds (takings_in old.wire) (takings_in new.wire) (flat_map takings_of turns)
@@ -47,10 +47,10 @@ pub record TakesTurns {W C : Type 0} (takings_in : W → Option (List Taking))
       (turns_effect old.service turns).telling.missed
 
 -- a daemon of this configuration has taken n turns since it was made with this wire and clock, each
--- with one reading of the clock and one take at each port in order: the list of its offers is that
--- of these turns, whatever the gives answered, and its totals count the datagrams that came, the
--- gives, those that failed, the takes that failed, and the entries that were lost for want of
--- memory
+-- with one reading of the clock and one take at each port that is there, in order: the list of its
+-- offers is that of these turns, whatever the gives answered, and its totals count the datagrams
+-- that came, the gives, those that failed, the takes that failed, and the entries that were lost
+-- for want of memory
 pub record HasServed {W C : Type 0} (takings_in : W → Option (List Taking))
     (gives_in : W → Option (List Give)) (readings_in : C → Option (List ℕ))
     (config : ConfigModel) (wire : W) (clock : C) (n : ℕ) (daemon : DaemonState W C)
@@ -58,7 +58,7 @@ pub record HasServed {W C : Type 0} (takings_in : W → Option (List Taking))
   pub turns : List Turn
   pub gives : List Give
   pub count : length turns ≡ n
-  pub ports : All (TakesAt (ports_of config)) turns
+  pub ports : AllTakeAt (ports_of config) (opened_service config) turns
   pub read : Adds (readings_in clock) (readings_in daemon.clock) (map (λ turn. turn.reading) turns)
   pub took : Adds (takings_in wire) (takings_in daemon.wire) (flat_map takings_of turns)
   pub gave : Adds (gives_in wire) (gives_in daemon.wire) gives

@@ -1,5 +1,5 @@
 -- A service on its way.
-use Rattle.std.specs.Prelude.{◌≡◌, ℕ, ◌≤◌, List, Option, [], length, map}
+use Rattle.std.specs.Prelude.{◌≡◌, ℕ, ◌≤◌, List, Option, [], ◌∷◌, length, map}
 use Rattle.trdp_dataset.specs.Configs.{ConfigModel}
 use Rattle.trdp_engine.specs.NodeStates.{uncounted}
 use Rattle.trdp_daemon.specs.declared.port.Port.{Port}
@@ -9,8 +9,8 @@ use Rattle.trdp_daemon.specs.declared.service.Service.{Service}
 use Rattle.trdp_daemon.specs.Told.{Taking, Give}
 use Rattle.trdp_daemon.specs.Effects.{ServiceState, Effect, Loss}
 use Rattle.trdp_daemon.specs.Links.{Carries}
-use Rattle.trdp_daemon.specs.Turns.{Visit, visits_effect, Turn, TakesAt, takings_of, turn_effect}
-use Rattle.trdp_daemon.specs.Turns.{port_and_room, with_room}
+use Rattle.trdp_daemon.specs.Turns.{Visit, visit_effect, visits_effect, Turn, takings_of}
+use Rattle.trdp_daemon.specs.Turns.{turn_effect, port_and_room, with_room, TakesAt, TurnTakesAt}
 use Rattle.trdp_daemon.specs.Visits.{own_place}
 
 -- the node, of which nothing tells what an event cost, and the control places
@@ -31,23 +31,33 @@ pub record ComesWith {W : Type 0} (takings_in : W → Option (List Taking))
   pub loss : Loss
   pub comes : Comes takings_in gives_in old new link link_then [] (effect loss)
 
--- takes were made at these ports, in their order, each with room for any datagram, and nothing
--- else
+-- one take was made at the port, with room for any datagram, and nothing else
+pub record TakesOnce {W : Type 0} (takings_in : W → Option (List Taking))
+    (gives_in : W → Option (List Give)) (old new : Service) (link link_then : Link W)
+    (port : Port) : Type 0 where
+  pub visit : Visit
+  pub port_is : port_and_room visit ≡ with_room port
+  pub comes : Comes takings_in gives_in old new link link_then (visit.taking ∷ [])
+      (visit_effect (service_state old) visit)
+
+-- takes were made at those of these ports that are there when their place in the order comes, and
+-- nothing else
 pub record TakesAtPorts {W : Type 0} (takings_in : W → Option (List Taking))
     (gives_in : W → Option (List Give)) (old new : Service) (link link_then : Link W)
     (ports : List Port) : Type 0 where
   pub visits : List Visit
-  pub ports_are : map port_and_room visits ≡ map with_room ports
+  pub takes_at : TakesAt ports (service_state old) visits
   pub comes : Comes takings_in gives_in old new link link_then
       (map (λ visit. visit.taking) visits) (visits_effect (service_state old) visits)
 
--- a turn was taken at this reading of the clock, with takes at these ports in their order
+-- a turn was taken at this reading of the clock, with takes at those of these ports that are there
+-- when their place in the order comes
 pub record TakesTurn {W : Type 0} (takings_in : W → Option (List Taking))
     (gives_in : W → Option (List Give)) (old new : Service) (link link_then : Link W)
     (ports : List Port) (reading : ℕ) : Type 0 where
   pub turn : Turn
   pub reading_is : turn.reading ≡ reading
-  pub takes_at : TakesAt ports turn
+  pub takes_at : TurnTakesAt ports (service_state old) turn
   pub comes : Comes takings_in gives_in old new link link_then (takings_of turn)
       (turn_effect (service_state old) turn)
 

@@ -1,10 +1,13 @@
 -- A daemon's turns.
-use Rattle.std.specs.Prelude.{◌≡◌, ℕ, List, [], ◌∷◌, map, min, max, None}
+use Rattle.std.specs.Prelude.{◌≡◌, ℕ, nat_lt, Bool, true, false, List, [], ◌∷◌, length, map}
+use Rattle.std.specs.Prelude.{Option, None, min, max, replicate}
+use Rattle.trdp_base.specs.declared.place.Place.{Place}
 use Rattle.trdp_base.specs.Moments.{last_moment}
 use Rattle.trdp_dataset.specs.Configs.{ConfigModel}
 use Rattle.trdp_engine.specs.Events.{EventModel, MomentIs}
 use Rattle.trdp_engine.specs.NodeStates.{NodeState, opened_node}
 use Rattle.trdp_daemon.specs.declared.port.Port.{Port}
+use Rattle.trdp_daemon.specs.declared.port.Port.TheVariants.{Pd, Md, Operator, Control}
 use Rattle.trdp_daemon.specs.Told.{Taking, Offer}
 use Rattle.trdp_daemon.specs.Effects.{ServiceState, Effect, Loss, TextsLost, still, then_effect}
 use Rattle.trdp_daemon.specs.Effects.{event_effect}
@@ -63,14 +66,51 @@ port_and_room visit = (visit.taking.port, visit.taking.room)
 abbrev pub with_room : Port → Port × ℕ
 with_room port = (port, datagram_room)
 
+-- whether a node has a port: a control port has to be that of an open slot
+abbrev pub is_there : NodeState → Port → Bool
+is_there node Pd = true
+is_there node Md = true
+is_there node Operator = true
+is_there node (Control slot) = nat_lt slot (length node.slots)
+
+-- where a port is there, the first of these takes is at it, with room for any datagram, and Later
+-- holds of those behind it and the service then; where it isn't, Later holds of all
+abbrev pub TakesFirst : Bool → Port → (ServiceState → List Visit → Type 0)
+    → ServiceState → List Visit → Type 0
+TakesFirst false port Later service visits = Later service visits
+TakesFirst true port Later service [] = ⊥
+TakesFirst true port Later service (visit ∷ visits) =
+    (port_and_room visit ≡ with_room port) × Later (visit_effect service visit).service visits
+
+-- from a service on, these are takes at each of the ports that is there when its place in the order
+-- comes, once and in their order, each with room for any datagram
+abbrev pub TakesAt : List Port → ServiceState → List Visit → Type 0
+TakesAt [] service visits = visits ≡ []
+TakesAt (port ∷ ports) service visits =
+    TakesFirst (is_there service.node port) port (TakesAt ports) service visits
+
+-- the same of a turn, behind its moment
+abbrev pub TurnTakesAt : List Port → ServiceState → Turn → Type 0
+TurnTakesAt ports service turn = TakesAt ports
+    (event_effect service (moment_of service.node turn.reading) turn.loss).service turn.visits
+
+-- the same of turns one after another
+abbrev pub AllTakeAt : List Port → ServiceState → List Turn → Type 0
+AllTakeAt ports service [] = Unit {0}
+AllTakeAt ports service (turn ∷ turns) =
+    TurnTakesAt ports service turn × AllTakeAt ports (turn_effect service turn).service turns
+
 -- a turn takes once at each of these ports, in their order, each time with room for any datagram
-abbrev pub TakesAt : List Port → Turn → Type 0
-TakesAt ports turn = map port_and_room turn.visits ≡ map with_room ports
+abbrev pub TakesAtEach : List Port → Turn → Type 0
+TakesAtEach ports turn = map port_and_room turn.visits ≡ map with_room ports
+
+-- none of the 16 slots that a node has at most has a control place
+abbrev pub no_places : List (Option Place)
+no_places = replicate 16 None
 
 -- a node that was just opened, no slot of which has a control place
 abbrev pub opened_service : ConfigModel → ServiceState
-opened_service config =
-    record { node = opened_node config; places = map (λ slot. None) config.slots }
+opened_service config = record { node = opened_node config; places = no_places }
 
 -- all that a daemon of a configuration offers in these turns, its first
 abbrev pub offers_of : ConfigModel → List Turn → List Offer

@@ -1,7 +1,9 @@
 //! What follows from the definitions.
 
-ghost use Rattle.std.specs.Prelude.{◌≡◌, ◌↔◌, ℕ, List, [], map, true, false, IfOk};
+ghost use Rattle.std.specs.Prelude.{◌≡◌, ◌≤◌, ◌↔◌, ℕ, List, [], length, map, All, true, false};
+ghost use Rattle.std.specs.Prelude.{IfOk};
 ghost use Rattle.trdp_base.specs.declared.place.Place.{Place};
+ghost use Rattle.trdp_dataset.specs.Configs.{ConfigModel};
 ghost use Rattle.trdp_engine.specs.Events.{EventModel};
 ghost use Rattle.trdp_engine.specs.NodeStates.{NodeState, MayTakeMemory};
 ghost use Rattle.trdp_script.specs.EventBytes.{carries_bytes};
@@ -10,7 +12,9 @@ ghost use Rattle.trdp_daemon.specs.declared.port.Port.TheVariants.{Control, Oper
 ghost use Rattle.trdp_daemon.specs.Effects.{EventLost, LineLost, Loss, ServiceState, TextsLost};
 ghost use Rattle.trdp_daemon.specs.Effects.{event_effect};
 ghost use Rattle.trdp_daemon.specs.Effects.{event_taken, may_take_memory, texts_lost};
-ghost use Rattle.trdp_daemon.specs.Turns.{Turn, turns_effect, unlost};
+ghost use Rattle.trdp_daemon.specs.Ports.{ports_of};
+ghost use Rattle.trdp_daemon.specs.Turns.{Turn, turns_effect, unlost, AllTakeAt, TakesAtEach};
+ghost use Rattle.trdp_daemon.specs.Turns.{opened_service};
 ghost use Rattle.trdp_daemon.specs.Visits.{datagram_effect, operator_event, operator_taken};
 
 /// Turns in which nothing was counted as lost for want of memory are turns in which nothing was
@@ -42,4 +46,17 @@ pub fn lost_only_where_memory_is_taken()
         → IfOk (control_line_of slot bytes) (λ event. carries_bytes event ≡ false)
         → datagram_effect service (Control slot) from bytes LineLost
         ≡ datagram_effect service (Control slot) from bytes (TextsLost []) }
+{}
+
+/// Where each slot of a configuration is open, each turn takes once at each port of the
+/// configuration, in their order, each time with room for any datagram: a slot that is open stays
+/// so. A node opens each slot of its configuration from the start.
+pub fn each_port_is_taken_from()
+    ensures served { (config : ConfigModel) (service : ServiceState) (turns : List Turn)
+        → length config.slots ≤ length service.node.slots
+        → AllTakeAt (ports_of config) service turns
+        → All (TakesAtEach (ports_of config)) turns }
+    ensures opened { (config : ConfigModel) (turns : List Turn)
+        → AllTakeAt (ports_of config) (opened_service config) turns
+        → All (TakesAtEach (ports_of config)) turns }
 {}

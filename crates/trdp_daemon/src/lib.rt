@@ -36,7 +36,7 @@ mod wire;
 pub use clock::Clock;
 pub use daemon::Daemon;
 pub use fault::WireFault;
-pub use laws::{lost_only_where_memory_is_taken, nothing_missed};
+pub use laws::{each_port_is_taken_from, lost_only_where_memory_is_taken, nothing_missed};
 pub use memory_clock::MemoryClock;
 pub use memory_wire::MemoryWire;
 pub use offers::Offers;

@@ -1,6 +1,6 @@
 //! A node, and where its slots' applications are.
 
-ghost use Rattle.std.specs.Prelude.{◌≡◌, ◌≢◌, ◌≤◌, length, slice_set, IfSome, IfNone, IfOk};
+ghost use Rattle.std.specs.Prelude.{◌≡◌, ◌≢◌, ◌≤◌, nat_lt, length, slice_set, IfSome, IfNone, IfOk};
 ghost use Rattle.std.specs.Prelude.{IfErr};
 ghost use Rattle.std.specs.Prelude.{OnOk, OnErr, Some};
 ghost use Rattle.trdp_engine.specs.Alone.{refused_as};
@@ -10,26 +10,26 @@ ghost use Rattle.trdp_script.specs.ScriptText.{node_after};
 ghost use Rattle.trdp_script.specs.SlotOrder.{by_slot};
 ghost use Rattle.trdp_daemon.specs.Effects.{event_records, event_effect};
 ghost use Rattle.trdp_daemon.specs.Services.{ComesWith, IsSound, service_state};
-ghost use Rattle.trdp_daemon.specs.Turns.{opened_service};
+ghost use Rattle.trdp_daemon.specs.Turns.{is_there, no_places, opened_service};
 ghost use Rattle.trdp_daemon.specs.Visits.{operator_event};
 
 use crate::answer::operator_text;
 use crate::link::Link;
 use crate::port::Port;
-use crate::telling::tell_records;
+use crate::telling::{SLOTS_MAX, tell_records};
 use crate::wire::Wire;
 use std::alloc::{AllocError, Global};
 use trdp_base::Place;
 use trdp_dataset::NodeConfig;
-use trdp_engine::{Event, Node, NodeFault, Outbox};
+use trdp_engine::{Event, Node, NodeFault, Outbox, PeekFault};
 
 /// A node, with the control places of its slots and the lists that are used again from event to
 /// event.
 #[derive(Drop)]
 pub(crate) struct Service {
     pub(crate) node: Node,
-    /// Where the latest datagram came from that read as a line of the slot, for each slot; None
-    /// before the first.
+    /// Where the latest datagram came from that read as a line of the slot, for each of the slots
+    /// that a node has at most; None before the first.
     pub(crate) places: Vec<Option<Place>>,
     /// The records of one event.
     records: Outbox,
@@ -50,7 +50,7 @@ impl Service {
         ensures sound { IfOk result (λ service. IsSound service) }
         ensures returned { IfErr result (λ back. back ≡ config) }
     {
-        match lists(alloc, &config) {
+        match lists(alloc) {
             Err(_) => Err(config),
             Ok((places, text)) => match Node::new(alloc, config) {
                 Err(config) => Err(config),
@@ -61,6 +61,16 @@ impl Service {
                     text,
                 }),
             },
+        }
+    }
+
+    /// Whether the node has a port: a control port has to be that of an open slot.
+    pub(crate) fn is_there(&self, port: Port) -> bool
+        ensures { result ≡ is_there (service_state self.now).node port }
+    {
+        match port {
+            Port::Pd | Port::Md | Port::Operator => true,
+            Port::Control(slot) => has_slot(&self.node, slot),
         }
     }
 
@@ -112,20 +122,26 @@ impl Service {
     }
 }
 
-/// No control place for each slot, and room for a line.
+/// No control place for any slot, and room for a line.
 ///
 /// # Errors
 /// Want of memory for these.
-fn lists(alloc: Global, config: &NodeConfig) -> Result<(Vec<Option<Place>>, Vec<u8>), AllocError>
-    ensures { IfOk result (λ made. made.0.items
-        ≡ (opened_service config.now).places) }
+fn lists(alloc: Global) -> Result<(Vec<Option<Place>>, Vec<u8>), AllocError>
+    ensures { IfOk result (λ made. made.0.items ≡ no_places) }
 {
-    let mut places = Vec::new(alloc);
-    for _slot in 0..config.slots() {
-        places.push(None)?;
-    }
+    let places = vec![in alloc; None; usize::from(SLOTS_MAX)]?;
     let text = Vec::with_capacity(alloc, TEXT_ROOM)?;
     Ok((places, text))
+}
+
+/// Whether a node has a slot of that number, which a look at any handle of the slot tells.
+fn has_slot(node: &Node, slot: u16) -> bool
+    ensures { result ≡ nat_lt slot (length node.now.slots) }
+{
+    match node.peek(slot, 0) {
+        Err(PeekFault::NoSlot) => false,
+        Ok(_) | Err(PeekFault::NoHandle | PeekFault::WrongKind) => true,
+    }
 }
 
 /// Sets the place of that index, if there is one.

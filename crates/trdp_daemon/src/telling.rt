@@ -15,7 +15,7 @@ use trdp_engine::{Outbox, Protocol, Record, What};
 use trdp_script::{is_rising, print_record};
 
 /// The number of slots that a node has at most (profile).
-const SLOTS_MAX: u16 = 16;
+pub(crate) const SLOTS_MAX: u16 = 16;
 
 /// Offers what the records send, slot by slot, slots rising, each slot's in their order.
 pub(crate) fn tell_records<W: Wire>(

@@ -1,6 +1,6 @@
 //! One turn: the moment, and then a take at each port.
 
-ghost use Rattle.std.specs.Prelude.{◌≡◌, length, max, min};
+ghost use Rattle.std.specs.Prelude.{◌≡◌, ◌∷◌, [], length, max, min};
 ghost use Rattle.trdp_base.specs.Moments.{last_moment};
 ghost use Rattle.trdp_daemon.specs.Services.{IsHome, IsSound, TakesAtPorts, TakesTurn};
 ghost use Rattle.trdp_daemon.specs.Turns.{datagram_room};
@@ -14,7 +14,7 @@ use std::alloc::Global;
 use trdp_base::MOMENT_MAX;
 use trdp_engine::{Event, Node};
 
-/// Takes the moment of a reading of the clock, and then at each port once.
+/// Takes the moment of a reading of the clock, and then at each port once that is there.
 pub(crate) fn take_turn<W: Wire>(
     alloc: Global,
     service: &mut Service,
@@ -37,7 +37,7 @@ pub(crate) fn take_turn<W: Wire>(
     visit_ports(alloc, service, home, ports, room, link);
 }
 
-/// Takes at each port once, in their order.
+/// Takes at each port once that is there when its place in the order comes.
 fn visit_ports<W: Wire>(
     alloc: Global,
     service: &mut Service,
@@ -55,7 +55,29 @@ fn visit_ports<W: Wire>(
         ports.now }
 {
     for i in 0..ports.len() {
-        service.visit(alloc, home, ports[i], room, link);
+        visit_port(alloc, service, home, ports[i], room, link);
+    }
+}
+
+/// Takes at a port once, if it is there.
+fn visit_port<W: Wire>(
+    alloc: Global,
+    service: &mut Service,
+    home: Home,
+    port: Port,
+    room: &mut [u8],
+    link: &mut Link<W>,
+)
+    requires sound { IsSound service.old }
+    requires home { IsHome service.old.node.config home }
+    requires room { length room.old ≡ datagram_room }
+    ensures sound { IsSound service.new }
+    ensures config { service.new.node.config ≡ service.old.node.config }
+    ensures takes { TakesAtPorts W.takings W.gives service.old service.new link.old link.new
+        (port ∷ []) }
+{
+    if service.is_there(port) {
+        service.visit(alloc, home, port, room, link);
     }
 }
 

@@ -1,9 +1,9 @@
 //! What a datagram at one of the ports comes to.
 
-ghost use Rattle.std.specs.Prelude.{◌≡◌, ◌∷◌, [], length};
+ghost use Rattle.std.specs.Prelude.{◌≡◌, length};
 ghost use Rattle.trdp_engine.specs.Events.{DatagramIs};
 ghost use Rattle.trdp_script.specs.PortLines.{control_line_of, operator_line_of};
-ghost use Rattle.trdp_daemon.specs.Services.{ComesWith, IsHome, IsSound, TakesAtPorts};
+ghost use Rattle.trdp_daemon.specs.Services.{ComesWith, IsHome, IsSound, TakesOnce};
 ghost use Rattle.trdp_daemon.specs.Services.{service_state};
 ghost use Rattle.trdp_daemon.specs.Effects.{event_effect};
 ghost use Rattle.trdp_daemon.specs.Turns.{datagram_room};
@@ -43,8 +43,7 @@ impl Service {
         requires room { length room.old ≡ datagram_room }
         ensures sound { IsSound self.new }
         ensures config { self.new.node.config ≡ self.old.node.config }
-        ensures takes { TakesAtPorts W.takings W.gives self.old self.new link.old link.new
-            (port ∷ []) }
+        ensures takes { TakesOnce W.takings W.gives self.old self.new link.old link.new port }
     {
         match link.take(port, room) {
             Some((from, len)) => {

@@ -1,5 +1,5 @@
 -- What it comes to when the program serves a node.
-use Rattle.std.specs.Prelude.{◌≡◌, ◌⊎◌, ℕ, List, ◌++◌, codes, length, map, All, Option, Ok}
+use Rattle.std.specs.Prelude.{◌≡◌, ◌⊎◌, ℕ, List, ◌++◌, codes, length, map, Option, Ok}
 use Rattle.std.specs.List.{flat_map}
 use Rattle.std.specs.Io.KnownBytes.{Appends, Keeps}
 use Rattle.trdp_base.specs.NumberText.{text_of_number}
@@ -9,7 +9,7 @@ use Rattle.trdp_daemon.specs.Told.{Taking, Give}
 use Rattle.trdp_daemon.specs.Counting.{no_totals, totals_after}
 use Rattle.trdp_daemon.specs.Daemons.{DaemonState, TakesTurns, opened_daemon}
 use Rattle.trdp_daemon.specs.Ports.{ports_of}
-use Rattle.trdp_daemon.specs.Turns.{Turn, TakesAt, takings_of, turns_effect, opened_service}
+use Rattle.trdp_daemon.specs.Turns.{Turn, AllTakeAt, takings_of, turns_effect, opened_service}
 use Rattle.trdp_script.specs.Writes.{PartlyWrites}
 use Rattle.trdp_program.specs.Faults.{TellsFault, text_of_serve_fault}
 use Rattle.trdp_program.specs.Programs.{TakesNoConfig}
@@ -26,13 +26,13 @@ text_of_totals totals =
     ++ codes " memory " ++ text_of_number totals.memory
 
 -- these are the totals of a node of that configuration after its first n turns: each turn took
--- once at each port in order, and the gives are exactly what the turns offer, whatever they
--- answered
+-- once at each port that is there, in order, and the gives are exactly what the turns offer,
+-- whatever they answered
 pub record CountsTurns (config : ConfigModel) (n : ℕ) (totals : Totals) : Type 0 where
   pub turns : List Turn
   pub gives : List Give
   pub count : length turns ≡ n
-  pub ports : All (TakesAt (ports_of config)) turns
+  pub ports : AllTakeAt (ports_of config) (opened_service config) turns
   pub offers : map (λ give. give.offer) gives
       ≡ (turns_effect (opened_service config) turns).telling.offers
   pub totals_are : totals ≡ totals_after no_totals (flat_map takings_of turns) gives
