@@ -14,6 +14,7 @@ from refused import BENCH, built
 
 TESTS = [
     ("trdp_parts_worked", "md_sessions::caller_keeps_its_payload"),
+    ("trdp_parts_worked", "table::a_slot_is_added_again"),
     ("trdp_worked", "refused::an_event_is_given_again"),
     ("trdp_worked", "refused::a_configuration_is_read_again"),
     ("trdp_worked", "refused::values_are_spelled_again"),
