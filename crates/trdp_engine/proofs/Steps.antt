@@ -28,7 +28,8 @@ get_past (x ∷ slots) (y ∷ others) (suc s) same none =
 
 -- an admitted event whose effect on each open slot is the plain one, and which does nothing
 -- elsewhere, is as each number sees it
-pub steps_alone : (old new : NodeState) (records records_then : List RecordModel) (event : EventModel)
+pub steps_alone :
+    (old new : NodeState) (records records_then : List RecordModel) (event : EventModel)
     → refused_as (length old.slots) old.globals event ≡ None
     → length new.slots ≡ length old.slots → Appends old.slots records records_then
     → ((s : ℕ) (slot : SlotState) → slice_get old.slots s ≡ Some slot → HasOutcome new.slots
