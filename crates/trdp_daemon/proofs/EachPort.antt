@@ -3,6 +3,7 @@ use Rattle.std.proofs.Common.{◌≡◌, suc, ◌+◌, ◌<◌, ◌≤◌, ℕ, 
 use Rattle.std.proofs.Common.{refl, ◌∙◌, ap, subst, arith, length, map, if◌then◌else◌}
 use Rattle.std.specs.Prelude.{nat_lt, ◌==◌, All}
 use Rattle.std.proofs.lemmas.Bool.{lt-ltb}
+use Rattle.std.proofs.lemmas.Bool.Decides.{nat_tests}
 use Rattle.std.proofs.lemmas.List.{length-map}
 use Rattle.std.proofs.lemmas.List.Elements.{All-cons, All-nil}
 use Rattle.trdp_dataset.specs.Configs.{ConfigModel, SlotModel}
@@ -11,10 +12,11 @@ use Rattle.trdp_engine.specs.Slots.{opened_slot}
 use Rattle.trdp_daemon.specs.declared.port.Port.{Port}
 use Rattle.trdp_daemon.specs.declared.port.Port.TheVariants.{Pd, Md, Operator, Control}
 use Rattle.trdp_daemon.specs.Effects.{ServiceState, event_effect}
-use Rattle.trdp_daemon.specs.Ports.{port_unless_0, control_ports, ports_of}
+use Rattle.trdp_daemon.specs.Ports.{port_unless_0, control_numbers, control_ports, ports_of}
 use Rattle.trdp_daemon.specs.Turns.{Visit, visit_effect, Turn, turn_effect, moment_of, is_there}
 use Rattle.trdp_daemon.specs.Turns.{port_and_room, with_room, TakesFirst, TakesAt, TakesAtEach}
 use Rattle.trdp_daemon.specs.Turns.{AllTakeAt, opened_service}
+use Rattle.trdp_daemon.proofs.ControlPorts.{numbers_count}
 use Rattle.trdp_daemon.proofs.OpenSlots.{visit_keeps, moment_keeps, turn_keeps}
 
 -- each of these ports is there
@@ -22,15 +24,15 @@ abbrev AllThere : NodeState → List Port → Type 0
 AllThere node [] = Unit {0}
 AllThere node (port ∷ ports) = (is_there node port ≡ true) × AllThere node ports
 
--- a node with as many slots has the same ports
-there_kept : (old new : NodeState) (port : Port) → length new.slots ≡ length old.slots
+-- a node with more slots has the same ports
+there_kept : (old new : NodeState) (port : Port) → length old.slots ≤ length new.slots
     → is_there old port ≡ true → is_there new port ≡ true
 there_kept old new Pd same there = refl
 there_kept old new Md same there = refl
 there_kept old new Operator same there = refl
-there_kept old new (Control slot) same there = ap (nat_lt slot) same ∙ there
+there_kept old new (Control slot) more there = grind (arith, nat_tests)
 
-all_kept : (old new : NodeState) (ports : List Port) → length new.slots ≡ length old.slots
+all_kept : (old new : NodeState) (ports : List Port) → length old.slots ≤ length new.slots
     → AllThere old ports → AllThere new ports
 all_kept old new [] same there = tt
 all_kept old new (port ∷ ports) same (here, there) =
@@ -43,7 +45,7 @@ both_there node (p ∷ ps) qs (here, first) others = (here, both_there node ps q
 
 -- one take at a port, and then these
 takes_next : (port : Port) (ports : List Port) (s : ServiceState) (visits : List Visit)
-    → ((t : ServiceState) (later : List Visit) → length t.node.slots ≡ length s.node.slots
+    → ((t : ServiceState) (later : List Visit) → length s.node.slots ≤ length t.node.slots
     → TakesAt ports t later → map port_and_room later ≡ map with_room ports)
     → TakesFirst true port (TakesAt ports) s visits
     → map port_and_room visits ≡ with_room port ∷ map with_room ports
@@ -70,48 +72,54 @@ unless_there node number port there = by_test (number == 0)
     by_test false = (there, tt)
 
 -- below the number of slots each control port is there
-controls_there : (node : NodeState) (s : ℕ) (slots : List SlotModel)
-    → s + length slots ≤ length node.slots → AllThere node (control_ports s slots)
+controls_there : (node : NodeState) (s : ℕ) (numbers : List ℕ)
+    → s + length numbers ≤ length node.slots → AllThere node (control_ports s numbers)
 unfolding control_ports
 controls_there node s [] within = tt
-controls_there node s (slot ∷ slots) within =
+controls_there node s (number ∷ numbers) within =
     let below : s < length node.slots = omega (arith, within) in
-    let fewer : suc s + length slots ≤ length node.slots = omega (arith, within) in
-    both_there node (port_unless_0 slot.control_port (Control s)) (control_ports (suc s) slots)
-    (unless_there node slot.control_port (Control s) (lt-ltb s (length node.slots) below))
-    (controls_there node (suc s) slots fewer)
+    let fewer : suc s + length numbers ≤ length node.slots = omega (arith, within) in
+    both_there node (port_unless_0 number (Control s)) (control_ports (suc s) numbers)
+    (unless_there node number (Control s) (lt-ltb s (length node.slots) below))
+    (controls_there node (suc s) numbers fewer)
 
 ports_there : (config : ConfigModel) (node : NodeState)
-    → length config.slots ≤ length node.slots → AllThere node (ports_of config)
+    → length (control_numbers config) ≤ length node.slots → AllThere node (ports_of config)
 unfolding ports_of
 ports_there config node enough =
-    let within : 0 + length config.slots ≤ length node.slots = omega (arith, enough) in (
+    let within : 0 + length (control_numbers config) ≤ length node.slots =
+    omega (arith, enough) in (
       refl,
       (
         refl,
         both_there node (port_unless_0 config.operator_port Operator)
-            (control_ports 0 config.slots) (unless_there node config.operator_port Operator refl)
-            (controls_there node 0 config.slots within),
+            (control_ports 0 (control_numbers config))
+            (unless_there node config.operator_port Operator refl)
+            (controls_there node 0 (control_numbers config) within),
       ),
     )
 
 pub turns_take_each : (config : ConfigModel) (s : ServiceState) (turns : List Turn)
-    → length config.slots ≤ length s.node.slots → AllTakeAt (ports_of config) s turns
+    → length (control_numbers config) ≤ length s.node.slots → AllTakeAt (ports_of config) s turns
     → All (TakesAtEach (ports_of config)) turns
 turns_take_each config s [] enough takes = All-nil (TakesAtEach (ports_of config))
 turns_take_each config s (turn ∷ turns) enough (here, takes) =
     let behind = (event_effect s (moment_of s.node turn.reading) turn.loss).service in
-    let same : length behind.node.slots ≡ length s.node.slots = moment_keeps s turn in
+    let same : length s.node.slots ≤ length behind.node.slots = moment_keeps s turn in
     let later = (turn_effect s turn).service in
-    let as_many : length later.node.slots ≡ length s.node.slots = turn_keeps s turn in
+    let as_many : length s.node.slots ≤ length later.node.slots = turn_keeps s turn in
     All-cons (TakesAtEach (ports_of config)) turn turns
     (takes_each (ports_of config) behind turn.visits
     (ports_there config behind.node (omega (arith, enough, same))) here)
     (turns_take_each config later turns (omega (arith, enough, as_many)) takes)
 
 -- a node that was just opened has each slot of its configuration
-pub all_open : (config : ConfigModel)
-    → length config.slots ≤ length (opened_service config).node.slots
-all_open config =
-    let same = length-map config.slots (λ slot. opened_slot slot.quotas) in
-    omega (arith, same)
+pub all_open : (config : ConfigModel) → config.spare_control_ports ≡ []
+    → length (control_numbers config) ≤ length (opened_service config).node.slots
+all_open config none =
+    omega (
+      arith,
+      length-map config.slots (λ slot. opened_slot slot.quotas),
+      numbers_count config.slots config.spare_control_ports,
+      ap (λ (l : List ℕ). length l) none,
+    )

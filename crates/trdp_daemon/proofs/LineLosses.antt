@@ -1,7 +1,8 @@
 -- Lines that can't be lost.
 use Rattle.std.proofs.Common.{◌≡◌, ℕ, suc, Bool, true, false, List, [], ◌∷◌, ◌++◌, Option, Some}
 use Rattle.std.proofs.Common.{None}
-use Rattle.std.proofs.Common.{Result, Ok, Err, IfOk, refl, sym, ◌∙◌, ap, not, if◌then◌else◌}
+use Rattle.std.proofs.Common.{Result, Ok, Err, IfOk, IfSome, refl, sym, ◌∙◌, ap, not, if◌then◌else◌}
+use Rattle.std.proofs.Common.{append-nil}
 use Rattle.std.specs.Prelude.{◌==◌}
 use Rattle.trdp_base.specs.declared.place.Place.{Place}
 use Rattle.trdp_base.specs.declared.topo.Topo.{Topo}
@@ -9,6 +10,8 @@ use Rattle.trdp_filter.specs.declared.globals.Globals.{Globals}
 use Rattle.trdp_engine.specs.declared.fault.NodeFault.TheVariants.{NoGroup}
 use Rattle.trdp_engine.specs.Configs.{NodeSetup, setup_of}
 use Rattle.trdp_engine.specs.Events.{EventModel, MomentIs, TopologyIs, RoleIs, DatagramIs, CallIs}
+use Rattle.trdp_engine.specs.Events.{AddSlotIs}
+use Rattle.trdp_engine.specs.Alone.{opened_by}
 use Rattle.trdp_engine.specs.NodeStates.{NodeState, MayTakeMemory}
 use Rattle.trdp_engine.specs.Records.{Content, labelled}
 use Rattle.trdp_engine.specs.Slots.{SlotState}
@@ -46,28 +49,33 @@ role_untold setup g group leader s (slot ∷ slots) =
     either false = refl
 
 -- what the operator says gives no record
-operators_untold : (node : NodeState) (event : EventModel)
-    → IsOperators (Ok (Some event)) → event_records node event ≡ []
-operators_untold node (MomentIs t) of = absurd of
-operators_untold node (TopologyIs topo) of =
-    topology_untold (setup_of node.config) node.globals topo 0 node.slots
-operators_untold node (RoleIs group leader) of = by_group (group == 0)
+operators_untold : (node : NodeState) (event : EventModel) → IsOperators (Ok (Some event))
+    → opened_by event ≡ [] → event_records node event ≡ []
+operators_untold node (MomentIs t) of none = absurd of
+operators_untold node (TopologyIs topo) of none =
+    append-nil (slots_records (setup_of node.config) node.globals (TopologyIs topo) 0 node.slots)
+    ∙ topology_untold (setup_of node.config) node.globals topo 0 node.slots
+operators_untold node (RoleIs group leader) of none = by_group (group == 0)
   where
     by_group : (b : Bool)
         → records_unless (if b then Some NoGroup else None) node (RoleIs group leader) ≡ []
     by_group true = refl
-    by_group false = role_untold (setup_of node.config) node.globals group leader 0 node.slots
-operators_untold node (DatagramIs protocol src dst bytes) of = absurd of
-operators_untold node (CallIs s call) of = absurd of
+    by_group false =
+        append-nil (slots_records (setup_of node.config) node.globals (RoleIs group leader) 0
+        node.slots) ∙ role_untold (setup_of node.config) node.globals group leader 0 node.slots
+operators_untold node (DatagramIs protocol src dst bytes) of none = absurd of
+operators_untold node (CallIs s call) of none = absurd of
+operators_untold node (AddSlotIs quotas) of none = absurd (cc)
 
 -- and wants no memory
 operators_take_none : (node : NodeState) (event : EventModel)
-    → IsOperators (Ok (Some event)) → MayTakeMemory node event → ⊥
-operators_take_none node (MomentIs t) of may = absurd of
-operators_take_none node (TopologyIs topo) of may = absurd may
-operators_take_none node (RoleIs group leader) of may = absurd may
-operators_take_none node (DatagramIs protocol src dst bytes) of may = absurd of
-operators_take_none node (CallIs s call) of may = absurd of
+    → IsOperators (Ok (Some event)) → opened_by event ≡ [] → MayTakeMemory node event → ⊥
+operators_take_none node (MomentIs t) of none may = absurd of
+operators_take_none node (TopologyIs topo) of none may = absurd may
+operators_take_none node (RoleIs group leader) of none may = absurd may
+operators_take_none node (DatagramIs protocol src dst bytes) of none may = absurd of
+operators_take_none node (CallIs s call) of none may = absurd of
+operators_take_none node (AddSlotIs quotas) of none may = absurd (cc)
 
 -- so no text of it can be lost
 untold_taken : (s : ServiceState) (event : EventModel) (marks : List Bool)
@@ -78,31 +86,48 @@ untold_taken s event marks none =
     ∙ ap (λ l. effect_of after (records_telling s.places [] l)) (sym none)
 
 operator_event_sure : (s : ServiceState) (from : Place) (event : EventModel) (loss : Loss)
-    → IsOperators (Ok (Some event))
+    → IsOperators (Ok (Some event)) → opened_by event ≡ []
     → operator_event s from event loss ≡ operator_event s from event (TextsLost [])
 unfolding operator_event event_effect
-operator_event_sure s from event LineLost of = refl
-operator_event_sure s from event EventLost of =
-    operator_not_lost s from event (operators_take_none s.node event of)
-operator_event_sure s from event (TextsLost marks) of =
+operator_event_sure s from event LineLost of none = refl
+operator_event_sure s from event EventLost of none =
+    operator_not_lost s from event (operators_take_none s.node event of none)
+operator_event_sure s from event (TextsLost marks) of none =
     ap (λ e. then_effect e (λ after. telling_only after (operator_answer s from event)))
-    (untold_taken s event marks (operators_untold s.node event of))
+    (untold_taken s event marks (operators_untold s.node event of none))
 
 operator_sure : (s : ServiceState) (from : Place) (line : Result (Option EventModel) LineFault)
     (loss : Loss) → IsOperators line
+    → IfOk line (λ event. IfSome event (λ event. opened_by event ≡ []))
     → operator_effect s from line loss ≡ operator_effect s from line (TextsLost [])
 unfolding operator_effect
-operator_sure s from (Err fault) loss of = refl
-operator_sure s from (Ok None) loss of = refl
-operator_sure s from (Ok (Some event)) loss of = operator_event_sure s from event loss of
+operator_sure s from (Err fault) loss of none = refl
+operator_sure s from (Ok None) loss of none = refl
+operator_sure s from (Ok (Some event)) loss of none =
+    operator_event_sure s from event loss of none
 
--- nothing is lost of what comes to the operator's port
+-- nothing is lost of what comes to the operator's port, but the opening of a slot
 pub operator_line_sure : (s : ServiceState) (from : Place) (bytes : List ℕ) (loss : Loss)
+    → IfOk (operator_line_of bytes) (λ event. IfSome event (λ event. opened_by event ≡ []))
     → datagram_effect s Operator from bytes loss
     ≡ datagram_effect s Operator from bytes (TextsLost [])
 unfolding datagram_effect
-operator_line_sure s from bytes loss =
-    operator_sure s from (operator_line_of bytes) loss (operators_line bytes)
+operator_line_sure s from bytes loss none =
+    operator_sure s from (operator_line_of bytes) loss (operators_line bytes) none
+
+operator_read : (s : ServiceState) (from : Place) (line : Result (Option EventModel) LineFault)
+    → operator_effect s from line LineLost ≡ operator_effect s from line (TextsLost [])
+unfolding operator_effect operator_event
+operator_read s from (Err fault) = refl
+operator_read s from (Ok None) = refl
+operator_read s from (Ok (Some event)) = refl
+
+-- and its line is always read
+pub operator_line_read : (s : ServiceState) (from : Place) (bytes : List ℕ)
+    → datagram_effect s Operator from bytes LineLost
+    ≡ datagram_effect s Operator from bytes (TextsLost [])
+unfolding datagram_effect
+operator_line_read s from bytes = operator_read s from (operator_line_of bytes)
 
 control_sure : (s : ServiceState) (slot : ℕ) (from : Place)
     (line : Result (Option EventModel) LineFault)

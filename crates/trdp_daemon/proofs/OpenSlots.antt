@@ -1,10 +1,11 @@
 -- A slot that is open stays so.
 use Rattle.std.proofs.Common.{◌≡◌, suc, ℕ, Bool, true, false, if◌then◌else◌, List, [], ◌∷◌}
-use Rattle.std.proofs.Common.{Option, Some, None, Result, Ok, Err, refl, ◌∙◌, ap, length}
+use Rattle.std.proofs.Common.{Option, Some, None, Result, Ok, Err, refl, ap, length, length-append}
+use Rattle.std.proofs.Common.{◌≤◌, arith}
 use Rattle.trdp_base.specs.declared.place.Place.{Place}
 use Rattle.trdp_filter.specs.declared.globals.Globals.{Globals}
 use Rattle.trdp_engine.specs.declared.fault.NodeFault.{NodeFault}
-use Rattle.trdp_engine.specs.Alone.{refused_as}
+use Rattle.trdp_engine.specs.Alone.{refused_as, opened_by}
 use Rattle.trdp_engine.specs.Configs.{NodeSetup, setup_of}
 use Rattle.trdp_engine.specs.Events.{EventModel}
 use Rattle.trdp_engine.specs.NodeStates.{NodeState}
@@ -24,7 +25,7 @@ use Rattle.trdp_daemon.specs.Turns.{moment_of}
 use Rattle.trdp_daemon.specs.Visits.{operator_event, operator_effect, operator_taken, with_place}
 use Rattle.trdp_daemon.specs.Visits.{control_event, control_effect, datagram_effect, taking_effect}
 
--- an event leaves as many slots as before
+-- the slots that are there stay
 slots_kept : (setup : NodeSetup) (g : Globals) (event : EventModel) (s : ℕ)
     (slots : List SlotState) → length (slots_after setup g event s slots) ≡ length slots
 slots_kept setup g event s [] = refl
@@ -32,18 +33,23 @@ slots_kept setup g event s (slot ∷ slots) =
     let rest = slots_kept setup g event (suc s) slots in ap suc rest
 
 node_kept : (fault : Option NodeFault) (node : NodeState) (event : EventModel)
-    → length (node_unless fault node event).slots ≡ length node.slots
-node_kept (Some fault) node event = refl
+    → length node.slots ≤ length (node_unless fault node event).slots
+node_kept (Some fault) node event = omega arith
 node_kept None node event =
-    slots_kept (setup_of node.config) node.globals event 0 node.slots
+    omega (
+      arith,
+      slots_kept (setup_of node.config) node.globals event 0 node.slots,
+      length-append (slots_after (setup_of node.config) node.globals event 0 node.slots)
+          (opened_by event),
+    )
 
--- an effect leaves as many slots as before
+-- an effect leaves the slots that were open before
 abbrev pub KeepsSlots : ServiceState → Effect → Type 0
-KeepsSlots s effect = length effect.service.node.slots ≡ length s.node.slots
+KeepsSlots s effect = length s.node.slots ≤ length effect.service.node.slots
 
 lost_keeps : (lost : Bool) (s : ServiceState) (effect : Effect) → KeepsSlots s effect
     → KeepsSlots s (if lost then telling_only s missing else effect)
-lost_keeps true s effect kept = refl
+lost_keeps true s effect kept = omega arith
 lost_keeps false s effect kept = kept
 
 taken_keeps : (s : ServiceState) (event : EventModel) (marks : List Bool)
@@ -71,8 +77,8 @@ operator_event_keeps s from event (TextsLost marks) = event_keeps s event (Texts
 operator_keeps : (s : ServiceState) (from : Place) (line : Result (Option EventModel) LineFault)
     (loss : Loss) → KeepsSlots s (operator_effect s from line loss)
 unfolding operator_effect
-operator_keeps s from (Err fault) loss = refl
-operator_keeps s from (Ok None) loss = refl
+operator_keeps s from (Err fault) loss = omega arith
+operator_keeps s from (Ok None) loss = omega arith
 operator_keeps s from (Ok (Some event)) loss = operator_event_keeps s from event loss
 
 control_event_keeps : (s : ServiceState) (slot : ℕ) (from : Place) (event : EventModel)
@@ -90,8 +96,8 @@ control_keeps : (s : ServiceState) (slot : ℕ) (from : Place)
     (line : Result (Option EventModel) LineFault) (loss : Loss)
     → KeepsSlots s (control_effect s slot from line loss)
 unfolding control_effect
-control_keeps s slot from (Err fault) loss = refl
-control_keeps s slot from (Ok None) loss = refl
+control_keeps s slot from (Err fault) loss = omega arith
+control_keeps s slot from (Ok None) loss = omega arith
 control_keeps s slot from (Ok (Some event)) loss = control_event_keeps s slot from event loss
 
 datagram_keeps : (s : ServiceState) (port : Port) (from : Place) (bytes : List ℕ) (loss : Loss)
@@ -107,17 +113,17 @@ datagram_keeps s (Control slot) from bytes loss =
 taking_keeps : (s : ServiceState) (port : Port) (arrived : Arrived) (loss : Loss)
     → KeepsSlots s (taking_effect s port arrived loss)
 unfolding taking_effect
-taking_keeps s port Failed loss = refl
-taking_keeps s port Nothing loss = refl
+taking_keeps s port Failed loss = omega arith
+taking_keeps s port Nothing loss = omega arith
 taking_keeps s port (Came from bytes) loss = datagram_keeps s port from bytes loss
 
 pub visit_keeps : (s : ServiceState) (visit : Visit) → KeepsSlots s (visit_effect s visit)
 visit_keeps s visit = taking_keeps s visit.taking.port visit.taking.arrived visit.loss
 
 visits_keep : (s : ServiceState) (visits : List Visit) → KeepsSlots s (visits_effect s visits)
-visits_keep s [] = refl
+visits_keep s [] = omega arith
 visits_keep s (visit ∷ visits) =
-    visits_keep (visit_effect s visit).service visits ∙ visit_keeps s visit
+    omega (arith, visits_keep (visit_effect s visit).service visits, visit_keeps s visit)
 
 pub moment_keeps : (s : ServiceState) (turn : Turn)
     → KeepsSlots s (event_effect s (moment_of s.node turn.reading) turn.loss)
@@ -125,5 +131,8 @@ moment_keeps s turn = event_keeps s (moment_of s.node turn.reading) turn.loss
 
 pub turn_keeps : (s : ServiceState) (turn : Turn) → KeepsSlots s (turn_effect s turn)
 turn_keeps s turn =
-    visits_keep (event_effect s (moment_of s.node turn.reading) turn.loss).service turn.visits
-    ∙ moment_keeps s turn
+    omega (
+      arith,
+      visits_keep (event_effect s (moment_of s.node turn.reading) turn.loss).service turn.visits,
+      moment_keeps s turn,
+    )

@@ -3,6 +3,7 @@ use Rattle.std.proofs.Common.{◌≡◌, ℕ, List, [], Option, refl, sym, ◌�
 use Rattle.std.proofs.Common.{Bool, true, false, if◌then◌else◌, length, suc, zero, append-nil}
 use Rattle.trdp_base.specs.declared.place.Place.{Place}
 use Rattle.trdp_engine.specs.Events.{EventModel, MomentIs, TopologyIs, RoleIs, DatagramIs, CallIs}
+use Rattle.trdp_engine.specs.Events.{AddSlotIs}
 use Rattle.trdp_engine.specs.NodeStates.{NodeState, MayTakeMemory, due_in, uncounted}
 use Rattle.std.proofs.lemmas.Bool.{lt-ltb, ltb-true}
 use Rattle.trdp_engine.specs.Records.{RecordModel}
@@ -76,6 +77,7 @@ wanting node (TopologyIs topo) may = absurd may
 wanting node (RoleIs group leader) may = absurd may
 wanting node (DatagramIs protocol src dst bytes) may = may
 wanting node (CallIs s call) may = refl
+wanting node (AddSlotIs quotas) may = refl
 
 pub is_wanting : (node : NodeState) (event : EventModel)
     → may_take_memory node event ≡ true → MayTakeMemory node event
@@ -85,6 +87,7 @@ is_wanting node (TopologyIs topo) may = absurd (cc)
 is_wanting node (RoleIs group leader) may = absurd (cc)
 is_wanting node (DatagramIs protocol src dst bytes) may = may
 is_wanting node (CallIs s call) may = tt
+is_wanting node (AddSlotIs quotas) may = tt
 
 -- an event is lost there
 lost_there : (s : ServiceState) (event : EventModel) (effect : Effect)

@@ -10,11 +10,13 @@ use Rattle.trdp_engine.specs.Events.{EventModel}
 use Rattle.trdp_engine.specs.Records.{RecordModel, labelled, records_of}
 use Rattle.trdp_engine.specs.Slots.{SlotState}
 use Rattle.trdp_engine.specs.Alone.{FaultIs, refused_as, records_after}
+use Rattle.trdp_engine.specs.Alone.{slots_then, told_opening}
 use Rattle.trdp_engine.specs.NodeStates.{NodeState, StepsAsAlone, Appends, uncounted}
 use Rattle.trdp_engine.proofs.Steps.{open_outcome}
 use Rattle.trdp_script.specs.SlotOrder.{by_slot}
 use Rattle.trdp_script.proofs.Orders.{slots_own, by_slot_suc, by_slot_zero}
 use Rattle.trdp_script.proofs.Playing.{own_labelled, by_slot_past, no_fault}
+use Rattle.trdp_script.proofs.Playing.{opened_own, own_told}
 use Rattle.trdp_daemon.specs.Effects.{slots_records, records_unless, event_records}
 
 -- the records of the slots from n on come behind those of the slots before
@@ -41,13 +43,14 @@ slots_records_after setup g event records (slot ∷ slots) n m is each =
 -- the records of an event that the node took
 pub records_played : (n : ℕ) (old new : NodeState) (records records_then : List RecordModel)
     (event : EventModel) → FaultIs (refused_as (length old.slots) old.globals event) (Ok tt)
-    → length old.slots ≤ n → records ≡ []
-    → ((s : ℕ) → StepsAsAlone old new records records_then event s)
-    → Appends old.slots records records_then
+    → length new.slots ≤ n → length new.slots ≡ slots_then (length old.slots) event
+    → records ≡ [] → ((s : ℕ) → StepsAsAlone old new records records_then event s)
+    → Appends new.slots records records_then
     → by_slot n records_then ≡ event_records (uncounted old) event
-records_played n old new records records_then event taken fits empty steps appends =
-    let room : n ≡ length old.slots + (n - length old.slots) = omega (arith, fits) in
-    let none : (s : ℕ) → slice_get old.slots s ≡ None → records_of s records_then ≡ [] =
+records_played n old new records records_then event taken fits count empty steps appends =
+    let admitted = no_fault (refused_as (length old.slots) old.globals event) taken in
+    let room : n ≡ length new.slots + (n - length new.slots) = omega (arith, fits) in
+    let none : (s : ℕ) → slice_get new.slots s ≡ None → records_of s records_then ≡ [] =
     λ s past. appends.none_else s past ∙ ap (records_of s) empty in
     let each : (i s : ℕ) (slot : SlotState) → s ≡ 0 + i → slice_get old.slots i ≡ Some slot
     → records_of s records_then ≡ records_after (setup_of old.config) s slot old.globals event =
@@ -56,13 +59,15 @@ records_played n old new records records_then event taken fits empty steps appen
     ∙ ap (λ l.
     records_of i l ++ records_after (setup_of old.config) i slot old.globals event) empty) in
     let whole : 0 + length old.slots ≡ length old.slots = omega arith in
-    by_slot_past old.slots records_then none (n - length old.slots) n room
-    ∙ sym (ap (λ l. l ++ slots_records (setup_of old.config) old.globals event 0 old.slots)
+    by_slot_past new.slots records_then none (n - length new.slots) n room
+    ∙ opened_own (length old.slots) (length new.slots) old.globals event records_then admitted
+    count (own_told old new records records_then event admitted empty steps)
+    ∙ ap (λ l. l ++ labelled (length old.slots) (told_opening event))
+    (sym (ap (λ l. l ++ slots_records (setup_of old.config) old.globals event 0 old.slots)
     (sym (by_slot_zero records_then))
     ∙ slots_records_after (setup_of old.config)
-    old.globals event records_then old.slots 0 (length old.slots) (sym whole) each)
-    ∙ ap (λ fault. records_unless fault (uncounted old) event)
-    (sym (no_fault (refused_as (length old.slots) old.globals event) taken))
+    old.globals event records_then old.slots 0 (length old.slots) (sym whole) each))
+    ∙ ap (λ fault. records_unless fault (uncounted old) event) (sym admitted)
 
 -- an event that the node takes no notice of has no records
 unless_refused :

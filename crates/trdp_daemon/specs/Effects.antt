@@ -8,10 +8,11 @@ use Rattle.trdp_filter.specs.declared.globals.Globals.{Globals}
 use Rattle.trdp_engine.specs.declared.fault.NodeFault.{NodeFault}
 use Rattle.trdp_engine.specs.declared.record.Protocol.{Protocol}
 use Rattle.trdp_engine.specs.declared.record.Protocol.TheVariants.{Pd as PdData, Md as MdData}
-use Rattle.trdp_engine.specs.Alone.{refused_as, records_after}
+use Rattle.trdp_engine.specs.Alone.{refused_as, records_after, told_opening}
 use Rattle.trdp_engine.specs.Configs.{NodeSetup, setup_of}
 use Rattle.trdp_engine.specs.Datagrams.{concerns, telegram_of}
 use Rattle.trdp_engine.specs.Events.{EventModel, MomentIs, TopologyIs, RoleIs, DatagramIs, CallIs}
+use Rattle.trdp_engine.specs.Events.{AddSlotIs}
 use Rattle.trdp_engine.specs.NodeStates.{NodeState, due_in}
 use Rattle.trdp_engine.specs.Records.{Content, Answers, Indicates, Sends, RecordModel, labelled}
 use Rattle.trdp_engine.specs.Slots.{SlotState}
@@ -101,6 +102,7 @@ abbrev pub records_unless : Option NodeFault → NodeState → EventModel → Li
 records_unless (Some fault) node event = []
 records_unless None node event =
     slots_records (setup_of node.config) node.globals event 0 node.slots
+    ++ labelled (length node.slots) (told_opening event)
 
 -- the records of an event
 abbrev pub event_records : NodeState → EventModel → List RecordModel
@@ -146,7 +148,7 @@ then_effect first next = record {
 }
 
 -- whether memory may be wanting for an event: a call, a moment by which something is due, a
--- datagram that concerns a slot
+-- datagram that concerns a slot, the opening of a slot
 unfoldable pub may_take_memory : NodeState → EventModel → Bool
 may_take_memory node (MomentIs t) = nat_lt 0 (due_in t node.slots)
 may_take_memory node (TopologyIs topo) = false
@@ -154,6 +156,7 @@ may_take_memory node (RoleIs group leader) = false
 may_take_memory node (DatagramIs protocol src dst bytes) =
     list_any (concerns node.globals (telegram_of protocol src dst bytes)) node.slots
 may_take_memory node (CallIs s call) = true
+may_take_memory node (AddSlotIs quotas) = true
 
 -- an event is lost where memory may be wanting for it; elsewhere it comes to this effect
 abbrev pub lost_or : ServiceState → EventModel → Effect → Effect

@@ -38,5 +38,6 @@ pub(crate) fn operator_text(fault: Option<NodeFault>) -> &'static [u8]
         Some(NodeFault::TooLate) => b"fault TooLate\n",
         Some(NodeFault::NoGroup) => b"fault NoGroup\n",
         Some(NodeFault::OutOfMemory) => b"fault OutOfMemory\n",
+        Some(NodeFault::SlotsFull) => b"fault SlotsFull\n",
     }
 }

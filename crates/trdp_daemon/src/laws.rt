@@ -1,18 +1,19 @@
 //! What follows from the definitions.
 
 ghost use Rattle.std.specs.Prelude.{◌≡◌, ◌≤◌, ◌↔◌, ℕ, List, [], length, map, All, true, false};
-ghost use Rattle.std.specs.Prelude.{IfOk};
+ghost use Rattle.std.specs.Prelude.{IfOk, IfSome};
 ghost use Rattle.trdp_base.specs.declared.place.Place.{Place};
 ghost use Rattle.trdp_dataset.specs.Configs.{ConfigModel};
 ghost use Rattle.trdp_engine.specs.Events.{EventModel};
 ghost use Rattle.trdp_engine.specs.NodeStates.{NodeState, MayTakeMemory};
 ghost use Rattle.trdp_script.specs.EventBytes.{carries_bytes};
-ghost use Rattle.trdp_script.specs.PortLines.{control_line_of};
+ghost use Rattle.trdp_script.specs.PortLines.{control_line_of, operator_line_of};
+ghost use Rattle.trdp_engine.specs.Alone.{opened_by};
 ghost use Rattle.trdp_daemon.specs.declared.port.Port.TheVariants.{Control, Operator};
 ghost use Rattle.trdp_daemon.specs.Effects.{EventLost, LineLost, Loss, ServiceState, TextsLost};
 ghost use Rattle.trdp_daemon.specs.Effects.{event_effect};
 ghost use Rattle.trdp_daemon.specs.Effects.{event_taken, may_take_memory, texts_lost};
-ghost use Rattle.trdp_daemon.specs.Ports.{ports_of};
+ghost use Rattle.trdp_daemon.specs.Ports.{control_numbers, ports_of};
 ghost use Rattle.trdp_daemon.specs.Turns.{Turn, turns_effect, unlost, AllTakeAt, TakesAtEach};
 ghost use Rattle.trdp_daemon.specs.Turns.{opened_service};
 ghost use Rattle.trdp_daemon.specs.Visits.{datagram_effect, operator_event, operator_taken};
@@ -29,7 +30,8 @@ pub fn nothing_missed()
 /// that is marked as lost, or its line, comes to what it comes to where it is taken, and so does
 /// its turn. An event of the operator is then taken, and answered. A line may be lost only where it
 /// carries bytes: elsewhere one that is marked as lost comes to what it comes to where it is read.
-/// So no skipped line is lost, and nothing of what comes to the operator's port.
+/// So no skipped line is lost, and of what comes to the operator's port nothing but the opening of
+/// a slot, which takes memory.
 pub fn lost_only_where_memory_is_taken()
     ensures tested { (node : NodeState) (event : EventModel)
         → (may_take_memory node event ≡ true) ↔ MayTakeMemory node event }
@@ -39,7 +41,11 @@ pub fn lost_only_where_memory_is_taken()
     ensures operator { (service : ServiceState) (from : Place) (event : EventModel)
         → ¬ MayTakeMemory service.node event
         → operator_event service from event EventLost ≡ operator_taken service from event [] }
+    ensures operator_read { (service : ServiceState) (from : Place) (bytes : List ℕ)
+        → datagram_effect service Operator from bytes LineLost
+        ≡ datagram_effect service Operator from bytes (TextsLost []) }
     ensures operator_line { (service : ServiceState) (from : Place) (bytes : List ℕ) (loss : Loss)
+        → IfOk (operator_line_of bytes) (λ event. IfSome event (λ event. opened_by event ≡ []))
         → datagram_effect service Operator from bytes loss
         ≡ datagram_effect service Operator from bytes (TextsLost []) }
     ensures control_line { (service : ServiceState) (slot : ℕ) (from : Place) (bytes : List ℕ)
@@ -48,15 +54,17 @@ pub fn lost_only_where_memory_is_taken()
         ≡ datagram_effect service (Control slot) from bytes (TextsLost []) }
 {}
 
-/// Where each slot of a configuration is open, each turn takes once at each port of the
-/// configuration, in their order, each time with room for any datagram: a slot that is open stays
-/// so. A node opens each slot of its configuration from the start.
+/// Where the slots of all control ports of a configuration are open, each turn takes once at each
+/// port of the configuration, in their order, each time with room for any datagram: a slot that is
+/// open stays so. A node opens each slot of its configuration from the start, so that where no
+/// spare port is named it does so from the first turn on.
 pub fn each_port_is_taken_from()
     ensures served { (config : ConfigModel) (service : ServiceState) (turns : List Turn)
-        → length config.slots ≤ length service.node.slots
+        → length (control_numbers config) ≤ length service.node.slots
         → AllTakeAt (ports_of config) service turns
         → All (TakesAtEach (ports_of config)) turns }
     ensures opened { (config : ConfigModel) (turns : List Turn)
+        → config.spare_control_ports ≡ []
         → AllTakeAt (ports_of config) (opened_service config) turns
         → All (TakesAtEach (ports_of config)) turns }
 {}

@@ -1,7 +1,8 @@
 //! The ports that a configuration names.
 
 ghost use Rattle.std.specs.Prelude.{◌≡◌, ◌<◌, ◌≤◌, ◌+◌, ◌++◌, drop, length, IfOk, OnOk};
-ghost use Rattle.trdp_daemon.specs.Ports.{control_ports, port_unless_0, ports_of};
+ghost use Rattle.std.specs.Prelude.{slice_get};
+ghost use Rattle.trdp_daemon.specs.Ports.{control_numbers, control_ports, port_unless_0, ports_of};
 
 use crate::port::Port;
 use std::alloc::{AllocError, Global};
@@ -16,21 +17,34 @@ pub(crate) fn ports_of(alloc: Global, config: &NodeConfig) -> Result<Vec<Port>, 
 {
     let mut ports = vec![in alloc; Port::Pd, Port::Md]?;
     push_unless_0(&mut ports, config.operator_port(), Port::Operator)?;
-    for slot in 0..config.slots() {
+    for slot in 0..config.slots() + config.spare_control_ports() {
         push_control(&mut ports, config, slot)?;
     }
     Ok(ports)
 }
 
+/// The number of the control port of a slot: of one that the configuration has, or of one that is
+/// added behind these; None where none is named for it.
+pub(crate) fn control_number(config: &NodeConfig, slot: usize) -> Option<u16>
+    ensures { result ≡ slice_get (control_numbers config.now) slot }
+{
+    let slots = config.slots();
+    if slot < slots {
+        config.control_port(slot)
+    } else {
+        config.spare_control_port(slot - slots)
+    }
+}
+
 /// Adds the control port of a slot, unless its number is 0.
 fn push_control(ports: &mut Vec<Port>, config: &NodeConfig, slot: usize) -> Result<(), AllocError>
-    requires slot { slot < length config.now.slots }
-    requires few { length config.now.slots ≤ 16 }
+    requires slot { slot < length (control_numbers config.now) }
+    requires few { length (control_numbers config.now) ≤ 31 }
     ensures { OnOk result
-        (ports.new.items ++ control_ports (slot + 1) (drop (slot + 1) config.now.slots)
-        ≡ ports.old.items ++ control_ports slot (drop slot config.now.slots)) }
+        (ports.new.items ++ control_ports (slot + 1) (drop (slot + 1) (control_numbers config.now))
+        ≡ ports.old.items ++ control_ports slot (drop slot (control_numbers config.now))) }
 {
-    match config.control_port(slot) {
+    match control_number(config, slot) {
         Some(number) => {
             let slot = slot_number(slot);
             push_unless_0(ports, number, Port::Control(slot))
@@ -41,7 +55,7 @@ fn push_control(ports: &mut Vec<Port>, config: &NodeConfig, slot: usize) -> Resu
 
 /// The index of a slot as its number.
 fn slot_number(slot: usize) -> u16
-    requires { slot < 16 }
+    requires { slot < 31 }
     ensures { result ≡ slot }
 {
     slot as u16

@@ -1,6 +1,6 @@
 //! A node, and where its slots' applications are.
 
-ghost use Rattle.std.specs.Prelude.{◌≡◌, ◌≢◌, ◌≤◌, nat_lt, length, slice_set, IfSome, IfNone, IfOk};
+ghost use Rattle.std.specs.Prelude.{◌≡◌, ◌≢◌, ◌≤◌, length, slice_set, IfSome, IfNone, IfOk};
 ghost use Rattle.std.specs.Prelude.{IfErr};
 ghost use Rattle.std.specs.Prelude.{OnOk, OnErr, Some};
 ghost use Rattle.trdp_engine.specs.Alone.{refused_as};
@@ -21,7 +21,7 @@ use crate::wire::Wire;
 use std::alloc::{AllocError, Global};
 use trdp_base::Place;
 use trdp_dataset::NodeConfig;
-use trdp_engine::{Event, Node, NodeFault, Outbox, PeekFault};
+use trdp_engine::{Event, Node, NodeFault, Outbox};
 
 /// A node, with the control places of its slots and the lists that are used again from event to
 /// event.
@@ -70,7 +70,7 @@ impl Service {
     {
         match port {
             Port::Pd | Port::Md | Port::Operator => true,
-            Port::Control(slot) => has_slot(&self.node, slot),
+            Port::Control(slot) => usize::from(slot) < self.node.slots(),
         }
     }
 
@@ -134,16 +134,6 @@ fn lists(alloc: Global) -> Result<(Vec<Option<Place>>, Vec<u8>), AllocError>
     Ok((places, text))
 }
 
-/// Whether a node has a slot of that number, which a look at any handle of the slot tells.
-fn has_slot(node: &Node, slot: u16) -> bool
-    ensures { result ≡ nat_lt slot (length node.now.slots) }
-{
-    match node.peek(slot, 0) {
-        Err(PeekFault::NoSlot) => false,
-        Ok(_) | Err(PeekFault::NoHandle | PeekFault::WrongKind) => true,
-    }
-}
-
 /// Sets the place of that index, if there is one.
 fn put_place(places: &mut Vec<Option<Place>>, index: usize, from: Place)
     ensures { places.new.items ≡ slice_set places.old.items index (Some from) }
@@ -172,7 +162,7 @@ fn step(
         ≡ event_records (uncounted node.old) (event_model event.now)) }
     ensures kept { OnErr result (node.new ≡ node.old) }
     ensures memory { OnErr result (MayTakeMemory node.old (event_model event.now)) }
-    ensures count { length node.new.slots ≡ length node.old.slots }
+    ensures few { length node.new.slots ≤ 16 }
     ensures config { node.new.config ≡ node.old.config }
 {
     records.clear();
@@ -196,5 +186,6 @@ fn own_fault(fault: NodeFault) -> Option<NodeFault>
         NodeFault::Past => Some(fault),
         NodeFault::TooLate => Some(fault),
         NodeFault::NoGroup => Some(fault),
+        NodeFault::SlotsFull => Some(fault),
     }
 }

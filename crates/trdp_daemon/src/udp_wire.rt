@@ -4,6 +4,7 @@ ghost use Rattle.std.specs.Prelude.{◌≡◌, ◌<◌, ◌≤◌, length, None,
 
 use crate::fault::{WireFault, fail};
 use crate::port::Port;
+use crate::ports::control_number;
 use crate::wire::Wire;
 use std::net::{Ipv4Addr, Net, SocketAddr, SocketAddrV4, UdpSocket};
 use std::{array, io};
@@ -11,8 +12,8 @@ use thiserror::Error;
 use trdp_base::{Ip, Place};
 use trdp_dataset::NodeConfig;
 
-/// The most control ports that a node can have: one for each slot.
-const CONTROL_PORTS_MAX: usize = 16;
+/// The most control ports of a configuration: of 16 slots, and 15 spare ones.
+const CONTROL_PORTS_MAX: usize = 31;
 
 /// Why the ports of a node aren't bound.
 #[derive(Clone, Copy, Debug, PartialEq, Eq, Error)]
@@ -34,7 +35,7 @@ pub struct UdpWire {
     md: UdpSocket,
     /// The operator's port; None where the node has none.
     operator: Option<UdpSocket>,
-    /// The control port of each slot; None where the slot has none.
+    /// The control port of each slot, also of those that may be added; None where there is none.
     controls: [Option<UdpSocket>; CONTROL_PORTS_MAX],
     /// How often the system refused a take or a give, at most 2^64 - 1.
     failures: u64,
@@ -174,7 +175,7 @@ fn open_unless_0<R: Net>(rt: &R, ip: Ip, port: u16) -> Result<Option<UdpSocket>,
     Ok(Some(open(rt, ip, port)?))
 }
 
-/// The control ports of the slots.
+/// The control ports of the slots, and the spare ones behind them.
 ///
 /// # Errors
 /// `Bind` and `OutOfMemory`.
@@ -183,8 +184,8 @@ fn open_controls<R: Net>(
     config: &NodeConfig,
 ) -> Result<[Option<UdpSocket>; CONTROL_PORTS_MAX], BindFault> {
     let mut controls = array::from_fn(|_| None);
-    for slot in 0..config.slots() {
-        if let Some(port) = config.control_port(slot) {
+    for slot in 0..config.slots() + config.spare_control_ports() {
+        if let Some(port) = control_number(config, slot) {
             controls[slot] = open_unless_0(rt, config.address(), port)?;
         }
     }

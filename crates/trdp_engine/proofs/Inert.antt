@@ -39,19 +39,20 @@ unconcerning : (protocol : Protocol) (src dst : Place) (bytes : List ℕ)
     → IsInert (DatagramIs protocol src dst bytes)
 unconcerning protocol src dst bytes none = record {
   admitted = λ slots globals. refl;
-  slot = λ setup s slot globals. ap (λ (x : Standing). x.slot) (stays setup s slot globals);
-  records = λ setup s slot globals. ap (λ (x : Standing). x.records) (stays setup s slot globals);
+  slot = λ setup s n slot globals. ap (λ (x : Standing). x.slot) (stays setup s n slot globals);
+  records = λ setup s n slot globals.
+      ap (λ (x : Standing). x.records) (stays setup s n slot globals);
   globals = λ globals. refl;
   memory = λ node may. true≢false
       (sym may ∙ none_of (concerns node.globals (telegram_of protocol src dst bytes))
       (none node.globals) node.slots);
 }
   where
-    stays : (setup : NodeSetup) (s : ℕ) (slot : Option SlotState) (globals : Globals)
-        → standing_after setup s slot globals (DatagramIs protocol src dst bytes)
+    stays : (setup : NodeSetup) (s n : ℕ) (slot : Option SlotState) (globals : Globals)
+        → standing_after setup s n slot globals (DatagramIs protocol src dst bytes)
         ≡ record { slot = slot; records = [] }
-    stays setup s None globals = refl
-    stays setup s (Some slot) globals = rw (none globals slot) refl
+    stays setup s n None globals = refl
+    stays setup s n (Some slot) globals = rw (none globals slot) refl
 
 -- bytes that are no telegram
 pub malformed : (protocol : Protocol) (src dst : Place) (bytes : List ℕ)

@@ -58,3 +58,5 @@ pub mod FittingEvents
 pub mod FittingActs
 pub mod Showing
 pub mod Inert
+pub mod AddedSlots
+pub mod AddedStores

@@ -13,7 +13,7 @@ use Rattle.trdp_engine.specs.Records.{RecordModel, records_of}
 use Rattle.trdp_engine.specs.Events.{EventModel, event_model}
 use Rattle.trdp_engine.specs.Slots.{SlotState}
 use Rattle.trdp_engine.specs.Alone.{refused_as, FaultIs, globals_after, Run, prepend}
-use Rattle.trdp_engine.specs.Alone.{alone_in_view, standing_after}
+use Rattle.trdp_engine.specs.Alone.{alone_in_view, standing_after, slots_then}
 use Rattle.trdp_engine.specs.NodeStates.{NodeState, StepsAsAlone, RunsAsAlone}
 use Rattle.trdp_engine.proofs.Views.{admitted_first, refused_first, prepend-prepend}
 
@@ -22,9 +22,11 @@ abbrev pub RunsAsAloneSoFar : NodeState → NodeState → List RecordModel → L
     → List EventModel → ℕ → Type 0
 RunsAsAloneSoFar old now records records_then events s =
     (later : List EventModel) → prepend (records_of s records) (alone_in_view
-    (setup_of old.config) s (slice_get old.slots s) old.globals (events ++ later)) ≡ prepend
+    (setup_of old.config) s (length old.slots) (slice_get old.slots s) old.globals
+    (events ++ later)) ≡ prepend
     (records_of s records_then)
-    (alone_in_view (setup_of old.config) s (slice_get now.slots s) now.globals later)
+    (alone_in_view (setup_of old.config) s (length now.slots) (slice_get now.slots s) now.globals
+    later)
 
 -- one more event that is admitted
 one_admitted : (old now next : NodeState) (records records_now records_next : List RecordModel)
@@ -32,17 +34,19 @@ one_admitted : (old now next : NodeState) (records records_now records_next : Li
     → now.config ≡ old.config → RunsAsAloneSoFar old now records records_now events s
     → refused_as (length now.slots) now.globals event ≡ None
     → next.globals ≡ globals_after now.globals event
+    → length next.slots ≡ slots_then (length now.slots) event
     → StepsAsAlone now next records_now records_next event s
     → RunsAsAloneSoFar old next records records_next (events ++ event ∷ []) s
 one_admitted old now next records records_now
-    records_next events event s same r admitted globals stepped = λ later.
+    records_next events event s same r admitted globals count stepped = λ later.
     rw (append_assoc events (event ∷ []) later)
     (r (event ∷ later)
     ∙ (ap (prepend (records_of s records_now)) (admitted_first (setup_of old.config)
     s (length now.slots) (slice_get now.slots s) now.globals event later admitted)
     ∙ (prepend-prepend (records_of s records_now)
-    (standing_after (setup_of old.config) s (slice_get now.slots s) now.globals event).records _
-    ∙ rw (globals, stepped.records_are, stepped.slot_is, same) refl)))
+    (standing_after (setup_of old.config) s (length now.slots) (slice_get now.slots s) now.globals
+    event).records _
+    ∙ rw (globals, stepped.records_are, stepped.slot_is, count, same) refl)))
 
 -- a number under which a slot is open is below how many there are
 within : (slots : List SlotState) (s : ℕ) → IfSome (slice_get slots s) (λ x. s < length slots)
@@ -74,18 +78,20 @@ pub one_event : (old now next : NodeState) (records records_now records_next : L
     → FaultIs fault result → (result ≡ Err OutOfMemory → ⊥)
     → OnErr result (next ≡ now) → OnErr result (records_next ≡ records_now)
     → OnOk result (next.globals ≡ globals_after now.globals event)
+    → OnOk result (length next.slots ≡ slots_then (length now.slots) event)
     → OnOk result ((s : ℕ) → StepsAsAlone now next records_now records_next event s)
     → RunsAsAloneSoFar old now records records_now events s
     → RunsAsAloneSoFar old next records records_next (events ++ event ∷ []) s
 one_event old now next records records_now records_next events event
-    s None (Ok done) same is answer memory kept unrecorded globals steps r = one_admitted old
-    now next records records_now records_next events event s same r is globals (steps s)
+    s None (Ok done) same is answer memory kept unrecorded globals count steps r = one_admitted old
+    now next records records_now records_next events event s same r is globals count (steps s)
 one_event old now next records records_now records_next events event s None (Err other)
-    same is answer memory kept unrecorded globals steps r = absurd (memory (ap Err answer))
+    same is answer memory kept unrecorded globals count steps r = absurd (memory (ap Err answer))
 one_event old now next records records_now records_next events event s
-    (Some fault) (Ok done) same is answer memory kept unrecorded globals steps r = absurd answer
+    (Some fault) (Ok done) same is answer memory kept unrecorded globals count steps r =
+    absurd answer
 one_event old now next records records_now records_next events
-    event s (Some fault) (Err other) same is answer memory kept unrecorded globals steps r =
+    event s (Some fault) (Err other) same is answer memory kept unrecorded globals count steps r =
     rw (kept, unrecorded) (one_refused old now records records_now events event fault s r is)
 
 pub so_far : (old now : NodeState) (records records_now : List RecordModel)

@@ -97,7 +97,7 @@ slot_room quotas limited =
       limited Replier,
     )
 
-slots_room : (table : TableState) → ((s : ℕ) → IsSlotTable (slot_in s table))
+pub slots_room : (table : TableState) → ((s : ℕ) → IsSlotTable (slot_in s table))
     → room_of table ≤ length table * 1536
 slots_room [] slots = omega arith
 slots_room (x ∷ xs) slots =

@@ -1,18 +1,21 @@
 -- A step of a node: what each slot sees of it, and what it adds to the outbox.
-use Rattle.std.proofs.Common.{zero, suc, ◌≡◌, ℕ, ◌+◌, take, List}
+use Rattle.std.proofs.Common.{zero, suc, ◌≡◌, ℕ, ◌+◌, take, ◌≤◌, ◌<◌, List}
 use Rattle.std.proofs.Common.{[], ◌∷◌, ◌++◌, length, map, refl, ◌∙◌, ap, sym}
-use Rattle.std.proofs.Common.{arith, append_assoc, Some, None, Option, Result, Ok, Err, OnOk}
-use Rattle.std.specs.Prelude.{slice_get, option_map}
+use Rattle.std.proofs.Common.{arith, append_assoc, Some, None, Option, Result, Ok, Err, OnOk, false}
+use Rattle.std.specs.Prelude.{slice_get, option_map, nat_le, nat_lt}
+use Rattle.std.proofs.lemmas.Bool.Decides.{nat_tests}
 use Rattle.std.proofs.lemmas.List.{append-nil}
+use Rattle.trdp_base.specs.Moments.{last_moment}
+use Rattle.trdp_filter.specs.declared.globals.Globals.{Globals}
 use Rattle.trdp_engine.specs.declared.fault.NodeFault.{NodeFault}
 use Rattle.trdp_dataset.specs.Configs.{SlotModel}
 use Rattle.trdp_engine.specs.Configs.{NodeSetup, setup_of}
 use Rattle.trdp_engine.specs.Records.{RecordModel, records_of}
-use Rattle.trdp_engine.specs.Events.{EventModel}
+use Rattle.trdp_engine.specs.Events.{EventModel, MomentIs, CallIs, CallModel}
 use Rattle.trdp_engine.specs.Slots.{SlotState, Outcome, opened_slot, unchanged}
 use Rattle.trdp_engine.specs.Fitting.{AllFit, EachFits}
 use Rattle.trdp_engine.specs.Alone.{refused_as, FaultIs, plain_effect, slot_after, records_after}
-use Rattle.trdp_engine.specs.Alone.{Standing, standing_after}
+use Rattle.trdp_engine.specs.Alone.{Standing, standing_after, opened_by}
 use Rattle.trdp_engine.specs.NodeStates.{NodeState, StepsAsAlone, HasOutcome, Appends}
 use Rattle.trdp_engine.proofs.Views.{view_is_plain, standing_open, standing_none}
 
@@ -28,18 +31,18 @@ get_past (x ∷ slots) (y ∷ others) (suc s) same none =
 
 -- an admitted event whose effect on each open slot is the plain one, and which does nothing
 -- elsewhere, is as each number sees it
-pub steps_alone :
-    (old new : NodeState) (records records_then : List RecordModel) (event : EventModel)
-    → refused_as (length old.slots) old.globals event ≡ None
+pub steps_alone : (old new : NodeState) (records records_then : List RecordModel)
+    (event : EventModel)
+    → refused_as (length old.slots) old.globals event ≡ None → opened_by event ≡ []
     → length new.slots ≡ length old.slots → Appends old.slots records records_then
     → ((s : ℕ) (slot : SlotState) → slice_get old.slots s ≡ Some slot → HasOutcome new.slots
     records records_then s (plain_effect (setup_of old.config) s slot old.globals event))
     → (s : ℕ) → StepsAsAlone old new records records_then event s
-steps_alone old new records records_then event admitted same appends outcomes s =
+steps_alone old new records records_then event admitted opens same appends outcomes s =
     from (slice_get old.slots s) refl
   where
     stands : Option SlotState → Standing
-    stands there = standing_after (setup_of old.config) s there old.globals event
+    stands there = standing_after (setup_of old.config) s (length old.slots) there old.globals event
 
     by : (there : Option SlotState) → slice_get old.slots s ≡ there
         → slice_get new.slots s ≡ (stands there).slot
@@ -53,13 +56,14 @@ steps_alone old new records records_then event admitted same appends outcomes s 
     from : (there : Option SlotState) → slice_get old.slots s ≡ there
         → StepsAsAlone old new records records_then event s
     from None found =
-        let is = standing_none (setup_of old.config) s old.globals event in
+        let is = standing_none (setup_of old.config) s (length old.slots) old.globals event
+        opens in
         let gone = get_past old.slots new.slots s same found in
         by None found (rw is gone)
         (rw (is, append-nil (records_of s records)) (appends.none_else s found))
     from (Some slot) found =
         let has = outcomes s slot found in
-        let is = standing_open (setup_of old.config) s slot old.globals event in
+        let is = standing_open (setup_of old.config) s (length old.slots) slot old.globals event in
         let plain = view_is_plain (setup_of old.config) s
         (length old.slots) slot old.globals event admitted in
         by (Some slot) found
@@ -70,19 +74,19 @@ steps_alone old new records records_then event admitted same appends outcomes s 
 -- the same of a step, which did so where it took the event
 pub taken_alone : (old new : NodeState) (records records_then : List RecordModel)
     (event : EventModel) (result : Result (Unit {0}) NodeFault)
-    → FaultIs (refused_as (length old.slots) old.globals event) result
+    → FaultIs (refused_as (length old.slots) old.globals event) result → opened_by event ≡ []
     → length new.slots ≡ length old.slots → Appends old.slots records records_then
     → OnOk result ((s : ℕ) (slot : SlotState) → slice_get old.slots s ≡ Some slot → HasOutcome
     new.slots records records_then s (plain_effect (setup_of old.config) s slot old.globals event))
     → OnOk result ((s : ℕ) → StepsAsAlone old new records records_then event s)
-taken_alone old new records records_then event (Ok done) answer same appends outcomes =
+taken_alone old new records records_then event (Ok done) answer opens same appends outcomes =
     steps_alone old new records records_then event
-    (admitted (refused_as (length old.slots) old.globals event) answer) same appends outcomes
+    (admitted (refused_as (length old.slots) old.globals event) answer) opens same appends outcomes
   where
     admitted : (fault : Option NodeFault) → FaultIs fault (Ok done) → fault ≡ None
     admitted None answer = refl
     admitted (Some fault) answer = absurd answer
-taken_alone old new records records_then event (Err fault) answer same appends outcomes = tt
+taken_alone old new records records_then event (Err fault) answer opens same appends outcomes = tt
 
 -- what a step did to an open slot
 pub open_outcome : (old new : NodeState) (records records_then : List RecordModel)
@@ -93,7 +97,7 @@ pub open_outcome : (old new : NodeState) (records records_then : List RecordMode
       records = records_after (setup_of old.config) s slot old.globals event;
     })
 open_outcome old new records records_then event s slot found stepped =
-    let is = standing_open (setup_of old.config) s slot old.globals event in
+    let is = standing_open (setup_of old.config) s (length old.slots) slot old.globals event in
     record {
       slot_is = rw (found, is) at stepped.slot_is;
       records_are = rw (found, is) at stepped.records_are;
@@ -125,13 +129,32 @@ appends_none slots records records_then same = record {
   none_else = λ s none. rw same refl;
 }
 
-pub appends_more : (slots others : List SlotState) (xs ys zs : List RecordModel) → length others
-    ≡ length slots → Appends slots xs ys → Appends others ys zs → Appends slots xs zs
-appends_more slots others xs ys zs same a b = record {
+-- a number that has no slot had none when there were fewer
+get_before : (slots others : List SlotState) (s : ℕ)
+    → length slots ≤ length others → slice_get others s ≡ None → slice_get slots s ≡ None
+get_before [] others s le none = refl
+get_before (x ∷ slots) [] s le none = absurd (omega (arith, le))
+get_before (x ∷ slots) (y ∷ others) zero le none = absurd (cc)
+get_before (x ∷ slots) (y ∷ others) (suc s) le none =
+    get_before slots others s (omega (arith, le)) none
+
+-- what is added is added with more slots, too
+pub appends_at : (slots others : List SlotState) (xs ys : List RecordModel)
+    → length slots ≤ length others → Appends slots xs ys → Appends others xs ys
+appends_at slots others xs ys le a = record {
+  more = a.more;
+  front = a.front;
+  none_else = λ s none. a.none_else s (get_before slots others s le none);
+}
+
+pub appends_more : (slots others : List SlotState) (xs ys zs : List RecordModel) → length slots
+    ≤ length others → Appends slots xs ys → Appends others ys zs → Appends others xs zs
+appends_more slots others xs ys zs le a b = record {
   more = a.more ++ b.more;
   front = b.front
       ∙ (ap (λ (rs : List RecordModel). rs ++ b.more) a.front ∙ append_assoc xs a.more b.more);
-  none_else = λ s none. b.none_else s (get_past slots others s same none) ∙ a.none_else s none;
+  none_else = λ s none.
+      b.none_else s none ∙ a.none_else s (get_before slots others s le none);
 }
 
 -- each slot's values still fit, where its outcome's do

@@ -7,6 +7,7 @@ use Rattle.trdp_engine.specs.declared.counts.Counts.{Counts}
 use Rattle.trdp_engine.specs.declared.fault.NodeFault.{NodeFault}
 use Rattle.trdp_engine.specs.Slots.{SlotState}
 use Rattle.trdp_engine.specs.Events.{EventModel, MomentIs, TopologyIs, RoleIs, DatagramIs, CallIs}
+use Rattle.trdp_engine.specs.Events.{AddSlotIs}
 use Rattle.trdp_engine.specs.NodeStates.{no_counts}
 use Rattle.trdp_engine.specs.Costs.{meant_of, datagram_bounds, IsWithin, IsBounded, CostsAtMost}
 
@@ -71,6 +72,7 @@ bounded_none slots (TopologyIs topo) counts is = λ b lt. within_none counts _ i
 bounded_none slots (RoleIs group leader) counts is = λ b lt. within_none counts _ is
 bounded_none slots (DatagramIs protocol src dst bytes) counts is = λ b lt. within_none counts _ is
 bounded_none slots (CallIs s call) counts is = λ b lt. within_none counts _ is
+bounded_none slots (AddSlotIs quotas) counts is = λ b lt. within_none counts _ is
 
 -- the same of an event that was taken
 pub bounded_if : (result : Result (Unit {0}) NodeFault)

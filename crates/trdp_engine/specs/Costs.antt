@@ -13,6 +13,7 @@ use Rattle.trdp_engine.specs.declared.counts.Counts.{Counts}
 use Rattle.trdp_engine.specs.Slots.{Entry, SlotState}
 use Rattle.trdp_engine.specs.Requests.{is_of_session}
 use Rattle.trdp_engine.specs.Events.{EventModel, MomentIs, TopologyIs, RoleIs, DatagramIs, CallIs}
+use Rattle.trdp_engine.specs.Events.{AddSlotIs}
 use Rattle.trdp_engine.specs.Datagrams.{telegram_of}
 use Rattle.trdp_engine.specs.Sought.{sought_by}
 use Rattle.trdp_engine.specs.NodeStates.{due_in, no_counts}
@@ -93,7 +94,7 @@ pub record IsWithin (counts bounds : Counts) : Type 0 where
   pub look_ups : counts.look_ups ≤ bounds.look_ups
 
 -- an event cost these slots, whose quotas allow less than 2^b objects, no more than its bounds;
--- at a call nothing is counted
+-- at a call and at the opening of a slot nothing is counted
 abbrev pub IsBoundedBy : ℕ → List SlotState → EventModel → Counts → Type 0
 IsBoundedBy b slots (MomentIs t) counts = IsWithin counts (moment_bounds b (due_in t slots))
 IsBoundedBy b slots (TopologyIs topo) counts = IsWithin counts no_counts
@@ -101,6 +102,7 @@ IsBoundedBy b slots (RoleIs group leader) counts = IsWithin counts no_counts
 IsBoundedBy b slots (DatagramIs protocol src dst bytes) counts =
     IsWithin counts (datagram_bounds b slots (telegram_of protocol src dst bytes))
 IsBoundedBy b slots (CallIs s call) counts = IsWithin counts no_counts
+IsBoundedBy b slots (AddSlotIs quotas) counts = IsWithin counts no_counts
 
 -- the same of every such b
 abbrev pub IsBounded : List SlotState → EventModel → Counts → Type 0

@@ -17,7 +17,7 @@ use Rattle.trdp_engine.specs.declared.event.Call.TheVariants.{Notify, Request, R
 use Rattle.trdp_engine.specs.declared.event.Call.TheVariants.{ReplyError, Confirm, Abort}
 use Rattle.trdp_engine.specs.declared.event.Event.{Event}
 use Rattle.trdp_engine.specs.declared.event.Event.TheVariants.{Moment, Topology, Role, Datagram}
-use Rattle.trdp_engine.specs.declared.event.Event.TheVariants.{Call}
+use Rattle.trdp_engine.specs.declared.event.Event.TheVariants.{Call, AddSlot}
 
 -- a call of the application in a slot
 pub data CallModel : Type 0 where
@@ -47,6 +47,7 @@ pub data EventModel : Type 0 where
   RoleIs : (group : ℕ) (leader : Bool) → EventModel
   DatagramIs : (protocol : Protocol) (src dst : Place) (bytes : List ℕ) → EventModel
   CallIs : (slot : ℕ) (call : CallModel) → EventModel
+  AddSlotIs : (quotas : List ℕ) → EventModel
 
 -- a call, apart from where its bytes lie
 abbrev pub call_model : AnyCall → CallModel
@@ -77,3 +78,4 @@ event_model (Topology topo) = TopologyIs topo
 event_model (Role group leader) = RoleIs group leader
 event_model (Datagram protocol src dst bytes) = DatagramIs protocol src dst bytes.now
 event_model (Call slot call) = CallIs slot (call_model call)
+event_model (AddSlot quotas) = AddSlotIs quotas

@@ -11,9 +11,9 @@ use Rattle.trdp_engine.specs.NodeStates.{NodeState, MayTakeMemory}
 -- gets a record, and memory is never wanting
 pub record IsInert (event : EventModel) : Type 0 where
   pub admitted : (slots : ℕ) (globals : Globals) → refused_as slots globals event ≡ None
-  pub slot : (setup : NodeSetup) (s : ℕ) (slot : Option SlotState) (globals : Globals)
-      → (standing_after setup s slot globals event).slot ≡ slot
-  pub records : (setup : NodeSetup) (s : ℕ) (slot : Option SlotState) (globals : Globals)
-      → (standing_after setup s slot globals event).records ≡ []
+  pub slot : (setup : NodeSetup) (s n : ℕ) (slot : Option SlotState) (globals : Globals)
+      → (standing_after setup s n slot globals event).slot ≡ slot
+  pub records : (setup : NodeSetup) (s n : ℕ) (slot : Option SlotState) (globals : Globals)
+      → (standing_after setup s n slot globals event).records ≡ []
   pub globals : (globals : Globals) → globals_after globals event ≡ globals
   pub memory : (node : NodeState) → ¬ MayTakeMemory node event

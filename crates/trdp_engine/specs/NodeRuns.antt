@@ -7,7 +7,8 @@ use Rattle.trdp_engine.specs.Configs.{setup_of}
 use Rattle.trdp_engine.specs.Events.{EventModel, event_model}
 use Rattle.trdp_engine.specs.Slots.{SlotState}
 use Rattle.trdp_engine.specs.Outboxes.{OutboxState}
-use Rattle.trdp_engine.specs.Alone.{refused_as, globals_after, alone_in_view}
+use Rattle.trdp_engine.specs.Alone.{refused_as, globals_after, slots_then}
+use Rattle.trdp_engine.specs.Alone.{alone_in_view}
 use Rattle.trdp_engine.specs.NodeStates.{NodeState, RunsAsAlone, Appends, MayTakeMemory}
 use Rattle.trdp_engine.specs.Rooms.{MayLackMemory}
 use Rattle.trdp_engine.specs.Costs.{IsBounded}
@@ -16,16 +17,21 @@ use Rattle.trdp_engine.specs.Costs.{IsBounded}
 pub record HasCome (old : NodeState) (events : List EventModel)
     (slots : List SlotState) : Type 0 where
   pub is_alone : (s : ℕ) → slice_get slots s
-      ≡ (alone_in_view (setup_of old.config) s (slice_get old.slots s) old.globals events).slot
+      ≡ (alone_in_view (setup_of old.config) s (length old.slots) (slice_get old.slots s)
+      old.globals events).slot
 
--- the globals to which these events lead a node of so many slots, which are left by those that it
--- refuses
+-- how many slots a node of so many has after these events
+abbrev pub slots_through : ℕ → List EventModel → ℕ
+slots_through n [] = n
+slots_through n (event ∷ events) = slots_through (slots_then n event) events
+
+-- the globals to which these events lead a node of so many slots; those that it refuses leave them
 abbrev pub globals_through : ℕ → Globals → List EventModel → Globals
 globals_through n globals [] = globals
 globals_through n globals (event ∷ events) =
     if is_some (refused_as n globals event)
-    then globals_through n globals events
-    else globals_through n (globals_after globals event) events
+    then globals_through (slots_then n event) globals events
+    else globals_through (slots_then n event) (globals_after globals event) events
 
 -- a node of so many slots refuses each of these events
 abbrev pub AreRefused : ℕ → Globals → List EventModel → Type 0
@@ -41,7 +47,7 @@ pub data CountsLatest (old new : NodeState) (events : List EventModel) : Type 0 
       → CountsLatest old new events
   Latest : (earlier : List EventModel) (latest : EventModel) (later : List EventModel)
       (slots : List SlotState) → events ≡ earlier ++ latest ∷ later
-      → refused_as (length old.slots)
+      → refused_as (length slots)
       (globals_through (length old.slots) old.globals earlier) latest ≡ None
       → AreRefused (length new.slots) new.globals later → HasCome old earlier slots
       → IsBounded slots latest new.counts → CountsLatest old new events
@@ -55,8 +61,9 @@ pub record HasRun (old new : NodeState) (out out_then : OutboxState) (events : L
   pub lacks : IfSome (slice_get events taken)
       (λ event. MayLackMemory new out_then (event_model event))
   pub config_is : new.config ≡ old.config
-  pub count : length new.slots ≡ length old.slots
+  pub count : length new.slots
+      ≡ slots_through (length old.slots) (map event_model (take taken events))
   pub runs : (s : ℕ) → RunsAsAlone old new out.records out_then.records
       (map event_model (take taken events)) s
-  pub appends : Appends old.slots out.records out_then.records
+  pub appends : Appends new.slots out.records out_then.records
   pub counted : CountsLatest old new (map event_model (take taken events))

@@ -8,7 +8,7 @@ use Rattle.trdp_filter.specs.Globals.{first_globals}
 use Rattle.trdp_engine.specs.declared.counts.Counts.{Counts}
 use Rattle.trdp_engine.specs.Records.{Content, RecordModel, records_of}
 use Rattle.trdp_engine.specs.Events.{EventModel, MomentIs, TopologyIs, RoleIs}
-use Rattle.trdp_engine.specs.Events.{DatagramIs, CallIs}
+use Rattle.trdp_engine.specs.Events.{DatagramIs, CallIs, AddSlotIs}
 use Rattle.trdp_engine.specs.Slots.{SlotState, Outcome, opened_slot}
 use Rattle.trdp_engine.specs.Configs.{setup_of}
 use Rattle.trdp_engine.specs.Datagrams.{telegram_of, concerns}
@@ -34,22 +34,27 @@ uncounted node = record node { counts = no_counts }
 pub record StepsAsAlone (old new : NodeState) (records records_then : List RecordModel)
     (event : EventModel) (s : ℕ) : Type 0 where
   pub slot_is : slice_get new.slots s
-      ≡ (standing_after (setup_of old.config) s (slice_get old.slots s) old.globals event).slot
+      ≡ (standing_after (setup_of old.config) s (length old.slots) (slice_get old.slots s)
+      old.globals event).slot
   pub records_are : records_of s records_then
       ≡ records_of s records
-      ++ (standing_after (setup_of old.config) s (slice_get old.slots s) old.globals event).records
+      ++ (standing_after (setup_of old.config) s (length old.slots) (slice_get old.slots s)
+      old.globals event).records
 
 -- a list of events, as number s sees it: what stands there, the globals and the records are those
 -- of what stood there run by itself
 pub record RunsAsAlone (old new : NodeState) (records records_then : List RecordModel)
     (events : List EventModel) (s : ℕ) : Type 0 where
   pub slot_is : slice_get new.slots s
-      ≡ (alone_in_view (setup_of old.config) s (slice_get old.slots s) old.globals events).slot
+      ≡ (alone_in_view (setup_of old.config) s (length old.slots) (slice_get old.slots s)
+      old.globals events).slot
   pub globals_are : new.globals
-      ≡ (alone_in_view (setup_of old.config) s (slice_get old.slots s) old.globals events).globals
+      ≡ (alone_in_view (setup_of old.config) s (length old.slots) (slice_get old.slots s)
+      old.globals events).globals
   pub records_are : records_of s records_then
       ≡ records_of s records
-      ++ (alone_in_view (setup_of old.config) s (slice_get old.slots s) old.globals events).records
+      ++ (alone_in_view (setup_of old.config) s (length old.slots) (slice_get old.slots s)
+      old.globals events).records
 
 -- the records of before stand first, and none is added for a number that no slot has
 pub record Appends (slots : List SlotState)
@@ -64,7 +69,7 @@ abbrev pub due_in : ℕ → List SlotState → ℕ
 due_in t slots = sum_by (λ slot. length (filter (is_due t) slot.objects)) slots
 
 -- the events at which memory may be wanting: a call, a moment by which something is due, a
--- datagram that concerns a slot
+-- datagram that concerns a slot, the opening of a slot
 abbrev pub MayTakeMemory : NodeState → EventModel → Type 0
 MayTakeMemory node (MomentIs t) = 0 < due_in t node.slots
 MayTakeMemory node (TopologyIs topo) = ⊥
@@ -72,6 +77,7 @@ MayTakeMemory node (RoleIs group leader) = ⊥
 MayTakeMemory node (DatagramIs protocol src dst bytes) =
     list_any (concerns node.globals (telegram_of protocol src dst bytes)) node.slots ≡ true
 MayTakeMemory node (CallIs s call) = Unit {0}
+MayTakeMemory node (AddSlotIs quotas) = Unit {0}
 
 -- a node that was just made serves each slot of its configuration, and all are empty
 abbrev pub opened_node : ConfigModel → NodeState

@@ -3,6 +3,7 @@ use Rattle.std.specs.Prelude.{ℕ, ◌+◌, ◌≤◌, List, [], ◌∷◌, take
 use Rattle.trdp_engine.specs.declared.row.Row.{Row}
 use Rattle.trdp_engine.specs.declared.row.PlainAnswer.{PlainAnswer as AnyPlainAnswer}
 use Rattle.trdp_engine.specs.declared.row.PlainAnswer.TheVariants.{Handle, Done, Refused}
+use Rattle.trdp_engine.specs.declared.row.PlainAnswer.TheVariants.{Opened}
 use Rattle.trdp_engine.specs.declared.row.Heading.{Heading}
 use Rattle.trdp_engine.specs.declared.row.ReplyHeading.{ReplyHeading}
 use Rattle.trdp_engine.specs.declared.row.Form.{Form}
@@ -10,6 +11,7 @@ use Rattle.trdp_engine.specs.declared.row.Form.TheVariants.{PlainAnswer, Value, 
 use Rattle.trdp_engine.specs.declared.row.Form.TheVariants.{Notified, Asked, Overrun, Replied}
 use Rattle.trdp_engine.specs.declared.row.Form.TheVariants.{Confirmed, Closed, Send}
 use Rattle.trdp_engine.specs.Records.{AnswerModel, HandleIs, DoneIs, ValueIs, RefusedIs, Content}
+use Rattle.trdp_engine.specs.Records.{OpenedIs}
 use Rattle.trdp_engine.specs.Records.{Answers, Indicates, Sends, RecordModel, MessageModel}
 use Rattle.trdp_engine.specs.Records.{ReplyModel, SilentIs, AliveIs, NotifiedIs, AskedIs}
 use Rattle.trdp_engine.specs.Records.{OverrunIs, RepliedIs, ConfirmedIs, ClosedIs}
@@ -26,6 +28,7 @@ abbrev pub plain_answer_model : AnyPlainAnswer → AnswerModel
 plain_answer_model (Handle handle) = HandleIs handle
 plain_answer_model Done = DoneIs
 plain_answer_model (Refused refusal) = RefusedIs refusal
+plain_answer_model Opened = OpenedIs
 
 -- a message of that heading with these bytes as payload
 abbrev pub headed : Heading → List ℕ → MessageModel

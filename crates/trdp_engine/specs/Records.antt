@@ -10,6 +10,7 @@ use Rattle.trdp_pd.specs.Peeks.{PeekModel, peek_model}
 use Rattle.trdp_engine.specs.declared.fault.Refusal.{Refusal}
 use Rattle.trdp_engine.specs.declared.record.Answer.{Answer as AnyAnswer}
 use Rattle.trdp_engine.specs.declared.record.Answer.TheVariants.{Handle, Done, Value, Refused}
+use Rattle.trdp_engine.specs.declared.record.Answer.TheVariants.{Opened}
 use Rattle.trdp_engine.specs.declared.record.Indication.{Indication as AnyIndication}
 use Rattle.trdp_engine.specs.declared.record.Indication.TheVariants.{Silent, Alive, Notified}
 use Rattle.trdp_engine.specs.declared.record.Indication.TheVariants.{Asked, Overrun, Replied}
@@ -22,12 +23,13 @@ use Rattle.trdp_engine.specs.declared.record.What.{What}
 use Rattle.trdp_engine.specs.declared.record.What.TheVariants.{Answer, Indication, Send}
 use Rattle.trdp_engine.specs.declared.record.Record.{Record}
 
--- what a call comes to
+-- what a call comes to, or the opening of a slot
 pub data AnswerModel : Type 0 where
   HandleIs : (handle : ℕ) → AnswerModel
   DoneIs : AnswerModel
   ValueIs : (peek : PeekModel) → AnswerModel
   RefusedIs : (refusal : Refusal) → AnswerModel
+  OpenedIs : AnswerModel
 
 -- what a listener's slot is told of a message: where it came from, its comId, its URIs and its
 -- payload
@@ -81,6 +83,7 @@ answer_model (Handle handle) = HandleIs handle
 answer_model Done = DoneIs
 answer_model (Value peek) = ValueIs (peek_model peek)
 answer_model (Refused refusal) = RefusedIs refusal
+answer_model Opened = OpenedIs
 
 -- a message, apart from where its bytes lie
 abbrev pub message_model : Message → MessageModel

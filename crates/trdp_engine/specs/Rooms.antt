@@ -16,6 +16,7 @@ use Rattle.trdp_engine.specs.Events.{CallModel, PublishCall, SubscribeCall, Noti
 use Rattle.trdp_engine.specs.Events.{RequestCall, ReplyCall, QueryCall, ReplyErrorCall}
 use Rattle.trdp_engine.specs.Events.{ConfirmCall}
 use Rattle.trdp_engine.specs.Events.{EventModel, MomentIs, TopologyIs, RoleIs, DatagramIs, CallIs}
+use Rattle.trdp_engine.specs.Events.{AddSlotIs}
 use Rattle.trdp_engine.specs.Slots.{Entry, SlotState}
 use Rattle.trdp_engine.specs.Datagrams.{telegram_of, is_valid_at, acting}
 use Rattle.trdp_engine.specs.Moments.{is_due}
@@ -118,8 +119,8 @@ makes_buffer _ = false
 abbrev pub CallMayLack : OutboxState → CallModel → Type 0
 CallMayLack out call = (makes_buffer call ≡ true) ⊎ LacksRoom out (call_room call)
 
--- where memory may be wanting for an event: at such a call, and else where the outbox lacks room
--- for the event's records
+-- where memory may be wanting for an event: at such a call, where a slot is opened, and else where
+-- the outbox lacks room for the event's records
 abbrev pub MayLackMemory : NodeState → OutboxState → EventModel → Type 0
 MayLackMemory node out (MomentIs t) = LacksRoom out (moment_room t node.slots)
 MayLackMemory node out (TopologyIs topo) = ⊥
@@ -127,3 +128,4 @@ MayLackMemory node out (RoleIs group leader) = ⊥
 MayLackMemory node out (DatagramIs protocol src dst bytes) =
     LacksRoom out (datagram_room node.globals node.slots (telegram_of protocol src dst bytes))
 MayLackMemory node out (CallIs s call) = CallMayLack out call
+MayLackMemory node out (AddSlotIs quotas) = Unit {0}

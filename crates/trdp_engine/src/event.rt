@@ -1,7 +1,7 @@
 //! What happens to a node, one event at a time.
 
 use crate::record::Protocol;
-use trdp_base::{Place, Topo};
+use trdp_base::{Place, Quotas, Topo};
 use trdp_filter::MdFilter;
 use trdp_md::{CallerTerms, NotifyTerms};
 use trdp_pd::{PublisherTerms, RequesterTerms, SubscriptionTerms};
@@ -218,4 +218,10 @@ pub enum Event<'a> {
         /// The call.
         call: Call<'a>,
     },
+    /// An application starts that had no slot: the next slot is opened for it, empty, with these
+    /// quotas, and is told so. No other slot is told anything.
+    ///
+    /// # Errors
+    /// `SlotsFull` where there are 16 slots.
+    AddSlot(Quotas),
 }

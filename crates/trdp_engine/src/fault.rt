@@ -26,6 +26,9 @@ pub enum NodeFault {
     /// There is no memory for what the event needs.
     #[error("there is no memory for what the event needs")]
     OutOfMemory = 5,
+    /// The node has 16 slots, and opens no more; looked for before `OutOfMemory`.
+    #[error("the node has 16 slots, and opens no more")]
+    SlotsFull = 6,
 }
 
 impl From<AllocError> for NodeFault {

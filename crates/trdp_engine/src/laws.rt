@@ -1,6 +1,7 @@
 //! What a slot gets depends on what it sees alone, and what is no telegram does nothing.
 
 ghost use Rattle.std.specs.Prelude.{◌≡◌, ℕ, List, Option, None, Some, true, slice_get, map, take};
+ghost use Rattle.std.specs.Prelude.{length};
 ghost use Rattle.trdp_base.specs.declared.place.Place.{Place};
 ghost use Rattle.trdp_head.specs.declared.pd.PdKind.TheVariants.{Error};
 ghost use Rattle.trdp_head.specs.PdTelegrams.{PdTelegram, pd_telegram_of};
@@ -27,12 +28,14 @@ use crate::node::Node;
 use crate::outbox::Outbox;
 
 /// The law of equal views: two lists of events of which the same is seen at a slot's number come to
-/// the same for that number, whether a slot is open there or not, and whatever else they hold.
+/// the same for that number, whether a slot is open there or not, whatever else they hold, and
+/// however many slots the two nodes have.
 pub fn same_view()
-    ensures { (setup : NodeSetup) (s : ℕ) (slot : Option SlotState) (globals : Globals)
+    ensures { (setup : NodeSetup) (s n m : ℕ) (slot : Option SlotState) (globals : Globals)
         (events others : List EventModel)
-        → view setup s slot globals events ≡ view setup s slot globals others
-        → alone_in_view setup s slot globals events ≡ alone_in_view setup s slot globals others }
+        → view setup s n slot globals events ≡ view setup s m slot globals others
+        → alone_in_view setup s n slot globals events
+        ≡ alone_in_view setup s m slot globals others }
 {}
 
 /// The law of the view: an admitted event that a slot doesn't see does nothing in that slot's own
@@ -90,9 +93,11 @@ pub fn run_both(
     ensures alike { setup_of first.old.config ≡ setup_of second.old.config
         → first.old.globals ≡ second.old.globals
         → (s : ℕ) → slice_get first.old.slots s ≡ slice_get second.old.slots s
-        → view (setup_of first.old.config) s (slice_get first.old.slots s) first.old.globals
+        → view (setup_of first.old.config) s (length first.old.slots)
+        (slice_get first.old.slots s) first.old.globals
         (map event_model (take result.0 events.now))
-        ≡ view (setup_of first.old.config) s (slice_get first.old.slots s) first.old.globals
+        ≡ view (setup_of first.old.config) s (length second.old.slots)
+        (slice_get first.old.slots s) first.old.globals
         (map event_model (take result.1 others.now))
         → GetsTheSame first.new second.new out.old.records out.new.records other_out.old.records
         other_out.new.records s }

@@ -2,7 +2,6 @@
 
 ghost use Rattle.std.specs.Prelude.{nat_le, if◌then◌else◌, None, ◌≡◌, ◌≢◌, ℕ, ◌<◌, ◌≤◌};
 ghost use Rattle.std.specs.Prelude.{length, OnOk, OnErr, IfOk, IfErr, Err, Some, slice_get};
-ghost use Rattle.std.specs.Prelude.{[], ◌∷◌};
 ghost use Rattle.trdp_engine.specs.Events.{MomentIs, TopologyIs, RoleIs, DatagramIs, CallIs};
 ghost use Rattle.trdp_engine.specs.Events.{call_model, event_model};
 ghost use Rattle.trdp_engine.specs.Slots.{SlotState};
@@ -28,18 +27,21 @@ use trdp_dataset::NodeConfig;
 use trdp_filter::{Globals, Groups};
 use trdp_marshal::Item;
 
+mod adding;
 mod looks;
 
-/// The communication node of one end device. It serves each slot of its configuration.
+/// The communication node of one end device. It serves each slot of its configuration, and those
+/// that are added.
 #[derive(Drop)]
 pub struct Node {
     /// Where new objects take their memory from.
     alloc: Global,
-    /// The node's address and ports, its datasets, and the quotas of its slots.
+    /// The node's address and ports, its datasets, and the quotas of the slots that it begins with.
     config: NodeConfig,
     /// Its latest moment in microseconds, its topology counts, and the groups that it leads.
     globals: Globals,
-    /// The objects of its slots, 1 to 16, in the order of the configuration.
+    /// The objects of its slots, 1 to 16, in the order of the configuration, those that were added
+    /// behind these.
     store: Store,
     /// The objects that act at the telegram that is being handled; between events it says nothing.
     /// It has room for all objects, so that a telegram takes no memory for it.
@@ -78,6 +80,7 @@ impl Node {
     ghost use Rattle.trdp_engine.specs.Costs.{IsBounded};
     ghost use Rattle.trdp_engine.specs.Rooms.{MayLackMemory};
     ghost use Rattle.trdp_engine.specs.Alone.{FaultIs, refused_as, globals_after, plain_effect};
+    ghost use Rattle.trdp_engine.specs.Alone.{slots_then};
 
     /// A node at moment 0 that leads no group, with an empty slot for each of the configuration, 1
     /// to 16.
@@ -115,21 +118,6 @@ impl Node {
         ensures { result ≡ self.now.globals.now }
     {
         self.globals.now
-    }
-
-    /// What the latest event cost that the node took: how often two rows or two orders were
-    /// compared, or an order with the moment; filter tests; and look-ups of sessions, in this
-    /// order. Each number stays at 2^64 - 1 where it is that or more. All are 0 for a new node and
-    /// after a call. An event that is refused leaves them.
-    pub fn counts(&self) -> [u64; 3]
-        ensures { result ≡ self.now.counts.comparisons ∷ self.now.counts.tests
-            ∷ self.now.counts.look_ups ∷ [] }
-    {
-        [
-            self.counts.comparisons,
-            self.counts.tests,
-            self.counts.look_ups,
-        ]
     }
 
     /// Takes the moment `t`, in microseconds: room for all records first, then each due object
@@ -309,9 +297,10 @@ impl Node {
     ///
     /// # Errors
     /// The event's own fault, as [`Event`] lists it. `OutOfMemory` comes last, and only at a
-    /// call, at a moment by which something is due, or at a datagram that concerns a slot; where
-    /// the outbox has room for the most that such a call, or objects of the kinds that act, may
-    /// give, only at Publish, Subscribe and Request. Node and outbox are as before.
+    /// call, at a moment by which something is due, at a datagram that concerns a slot, or where a
+    /// slot is opened; where the outbox has room for the most that such a call, or objects of the
+    /// kinds that act, may give, only at Publish, Subscribe, Request and AddSlot. Node and outbox
+    /// are as before.
     pub fn step(&mut self, event: &Event<'_>, out: &mut Outbox) -> Result<(), NodeFault>
         ensures fault { FaultIs
             (refused_as (length self.old.slots) self.old.globals (event_model event.now)) result }
@@ -326,11 +315,12 @@ impl Node {
         ensures config { self.new.config ≡ self.old.config }
         ensures globals { OnOk result (self.new.globals
             ≡ globals_after self.old.globals (event_model event.now)) }
-        ensures count { length self.new.slots ≡ length self.old.slots }
+        ensures count { OnOk result (length self.new.slots
+            ≡ slots_then (length self.old.slots) (event_model event.now)) }
         ensures steps { OnOk result ((s : ℕ)
             → StepsAsAlone self.old self.new out.old.records out.new.records
             (event_model event.now) s) }
-        ensures appends { Appends self.old.slots out.old.records out.new.records }
+        ensures appends { Appends self.new.slots out.old.records out.new.records }
         ensures cost { OnOk result (IsBounded self.old.slots (event_model event.now)
             self.new.counts) }
     {
@@ -348,6 +338,7 @@ impl Node {
                 bytes,
             } => self.step_datagram(*protocol, *src, *dst, bytes, out),
             Event::Call { slot, call } => self.step_call(*slot, call, out),
+            Event::AddSlot(quotas) => self.step_add_slot(*quotas, out),
         }
     }
 

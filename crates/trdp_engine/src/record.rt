@@ -14,7 +14,7 @@ pub enum Protocol {
     Md,
 }
 
-/// What a call comes to.
+/// What a call comes to, or the opening of a slot.
 #[derive(Clone, Copy, Debug)]
 pub enum Answer<'a> {
     /// A new object has this handle.
@@ -25,6 +25,8 @@ pub enum Answer<'a> {
     Value(Peek<'a>),
     /// The call was refused, and changed nothing.
     Refused(Refusal),
+    /// The slot was opened, empty.
+    Opened,
 }
 
 /// A message that came in, as a listener's slot is told of it.

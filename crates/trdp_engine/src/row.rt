@@ -21,6 +21,8 @@ pub enum PlainAnswer {
     Done,
     /// The call was refused so.
     Refused(Refusal),
+    /// The slot was opened.
+    Opened,
 }
 
 /// What a slot is told of a message, but for its payload.
@@ -98,6 +100,7 @@ fn answer<'a>(plain: PlainAnswer) -> Answer<'a>
         PlainAnswer::Handle(handle) => Answer::Handle(handle),
         PlainAnswer::Done => Answer::Done,
         PlainAnswer::Refused(refusal) => Answer::Refused(refusal),
+        PlainAnswer::Opened => Answer::Opened,
     }
 }
 

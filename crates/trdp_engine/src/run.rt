@@ -4,7 +4,7 @@ ghost use Rattle.std.specs.Prelude.{◌≡◌, ℕ, ◌≤◌, length, IfSome, s
 ghost use Rattle.trdp_engine.specs.Events.{event_model};
 ghost use Rattle.trdp_engine.specs.NodeStates.{RunsAsAlone, Appends, MayTakeMemory};
 ghost use Rattle.trdp_engine.specs.Rooms.{MayLackMemory};
-ghost use Rattle.trdp_engine.specs.NodeRuns.{CountsLatest};
+ghost use Rattle.trdp_engine.specs.NodeRuns.{CountsLatest, slots_through};
 
 use crate::event::Event;
 use crate::fault::is_out_of_memory;
@@ -14,9 +14,9 @@ use crate::outbox::Outbox;
 impl Node {
     /// Takes events in turn, and answers how many were taken. It goes on after an event that is
     /// refused for a cause of its own, and stops before the first that lacks memory: only before a
-    /// call, a moment by which something is due, or a datagram that concerns a slot, and, where
-    /// the outbox has room for the most that such a call, or objects of the kinds that act, may
-    /// give, only before Publish, Subscribe and Request.
+    /// call, a moment by which something is due, a datagram that concerns a slot, or the opening of
+    /// a slot, and, where the outbox has room for the most that such a call, or objects of the
+    /// kinds that act, may give, only before Publish, Subscribe, Request and AddSlot.
     pub fn run(&mut self, events: &[Event<'_>], out: &mut Outbox) -> usize
         ensures within { result ≤ length events.now }
         ensures stops { IfSome (slice_get events.now result)
@@ -24,10 +24,11 @@ impl Node {
         ensures lacks { IfSome (slice_get events.now result)
             (λ event. MayLackMemory self.new out.new (event_model event)) }
         ensures config { self.new.config ≡ self.old.config }
-        ensures count { length self.new.slots ≡ length self.old.slots }
+        ensures count { length self.new.slots
+            ≡ slots_through (length self.old.slots) (map event_model (take result events.now)) }
         ensures alone { (s : ℕ) → RunsAsAlone self.old self.new out.old.records out.new.records
             (map event_model (take result events.now)) s }
-        ensures appends { Appends self.old.slots out.old.records out.new.records }
+        ensures appends { Appends self.new.slots out.old.records out.new.records }
         ensures counted { CountsLatest self.old self.new
             (map event_model (take result events.now)) }
     {

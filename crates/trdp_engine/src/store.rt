@@ -53,7 +53,10 @@ use trdp_pd::Object;
 use trdp_table::{AnyObject, Table, TableFault};
 use trdp_timers::Order;
 
+mod added;
 mod reads;
+
+pub use added::SLOTS_MAX;
 
 /// The objects of all slots of a node, as its table has them, an index of those that telegrams of
 /// a comId may be for, one of those that are in a session, and when each is due.

@@ -34,6 +34,7 @@ use Rattle.trdp_engine.specs.Datagrams.{is_valid_at, received_if}
 use Rattle.trdp_engine.specs.Calls.{called}
 use Rattle.trdp_engine.specs.Events.{EventModel, MomentIs, TopologyIs}
 use Rattle.trdp_engine.specs.Events.{RoleIs, DatagramIs, CallIs}
+use Rattle.trdp_engine.specs.Events.{AddSlotIs}
 use Rattle.trdp_engine.specs.Alone.{plain_effect}
 use Rattle.trdp_net.specs.Networks.{Move, effect_in, place_of}
 use Rattle.trdp_net.specs.Provenance.{Ever, Spot, IsRequested}
@@ -223,6 +224,8 @@ effect_kept past m s slot (DatagramIs protocol src dst bytes) event fits sent sl
     received_if_kept past m s slot m.before.setup m.before.globals
     (telegram_of protocol src dst bytes)
     (telegram_origin past m.before.setup protocol src dst bytes sent) slot_is typed kept given
+effect_kept past m s slot (AddSlotIs quotas) event fits sent slot_is typed kept given =
+    unchanged_kept past m s slot kept
 effect_kept past m s slot (CallIs r call) event fits sent slot_is typed kept given =
     either (r == s) refl given
   where

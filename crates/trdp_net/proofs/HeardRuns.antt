@@ -10,12 +10,14 @@ use Rattle.trdp_filter.specs.declared.globals.Globals.{Globals}
 use Rattle.trdp_engine.specs.declared.fault.NodeFault.{NodeFault}
 use Rattle.trdp_engine.specs.Configs.{NodeSetup}
 use Rattle.trdp_engine.specs.Events.{EventModel, MomentIs, TopologyIs, RoleIs, DatagramIs, CallIs}
+use Rattle.trdp_engine.specs.Events.{AddSlotIs}
+use Rattle.trdp_engine.specs.Alone.{opened_by}
 use Rattle.trdp_engine.specs.Slots.{SlotState, opened_slot}
 use Rattle.trdp_engine.specs.Alone.{refused_as, plain_effect}
 use Rattle.trdp_net.specs.Networks.{NetNode, place_of, Sent, Move, Network, Step, CallAt}
-use Rattle.trdp_net.specs.Networks.{MomentAt, TopologyAt, RoleAt, DeliveryAt, slots_after}
+use Rattle.trdp_net.specs.Networks.{MomentAt, TopologyAt, RoleAt, DeliveryAt, AddSlotAt}
 use Rattle.trdp_net.specs.Networks.{node_after, moves, moves_unless, moves_at, reaches, delivered}
-use Rattle.trdp_net.specs.Networks.{network_step, network_run, opened_network}
+use Rattle.trdp_net.specs.Networks.{network_step, network_run, opened_network, slots_after}
 use Rattle.trdp_net.specs.Provenance.{Spot}
 use Rattle.trdp_net.specs.Promises.{history, replied_in, told_in, all_replied}
 use Rattle.trdp_net.specs.Promises.{AreDistinct}
@@ -44,14 +46,32 @@ heard_at_same : (old new : ℕ → List Place) (slot : Option SlotState)
 heard_at_same old new None same is = λ h. sym (same h) ∙ is h
 heard_at_same old new (Some slot) same is = heard_same old new slot same is
 
+-- a slot that is opened, of which nothing was told
+opened_heard_by : (event : EventModel) (j : ℕ) (old : ℕ → List Place)
+    → ((h : ℕ) → old h ≡ []) → HeardAt old (slice_get (opened_by event) j)
+opened_heard_by (AddSlotIs quotas) zero old none = record {
+  only = tt;
+  below = tt;
+  fresh = λ h above. none h;
+  covers = tt;
+  distinct = λ h. subst (λ (ps : List Place). AreDistinct ps) (sym (none h)) tt;
+}
+opened_heard_by (AddSlotIs quotas) (suc j) old none = none
+opened_heard_by (MomentIs t) j old none = none
+opened_heard_by (TopologyIs topo) j old none = none
+opened_heard_by (RoleIs group leader) j old none = none
+opened_heard_by (DatagramIs protocol src dst bytes) j old none = none
+opened_heard_by (CallIs r call) j old none = none
+
 -- a slot of the node that moves
 moved_slot : (setup : NodeSetup) (globals : Globals) (event : EventModel) (from : ℕ)
     (slots : List SlotState) (j : ℕ) (old : ℕ → List Place) (m : Move)
     → m.before.setup ≡ setup → m.before.globals ≡ globals → m.event ≡ event
     → HeardAt old (slice_get slots j)
     → HeardAt (λ h. replied_in h (told_in (from + j) m (slice_get slots j)) ++ old h)
-    (slice_get (slots_after setup globals event from slots) j)
-moved_slot setup globals event from [] j old m is_setup is_globals is_event heard = heard
+    (slice_get (slots_after setup globals event from slots ++ opened_by event) j)
+moved_slot setup globals event from [] j old m is_setup is_globals is_event heard =
+    opened_heard_by event j old heard
 moved_slot setup globals event from (slot ∷ slots) zero old m is_setup is_globals is_event heard =
     let e : from + zero ≡ from = omega arith in
     subst
@@ -80,7 +100,7 @@ moved_slot setup globals event from (slot ∷ slots) (suc j) old m is_setup is_g
     let e : from + suc j ≡ suc from + j = omega arith in
     subst
     (λ (n : ℕ). HeardAt (λ h. replied_in h (told_in n m (slice_get slots j)) ++ old h)
-    (slice_get (slots_after setup globals event (suc from) slots) j))
+    (slice_get (slots_after setup globals event (suc from) slots ++ opened_by event) j))
     (sym e)
     (moved_slot setup globals event (suc from) slots j old m is_setup is_globals is_event heard)
 
@@ -188,6 +208,8 @@ step_heard w (TopologyAt k topo) heard =
     moves_heard w k (slice_get w.nodes k) (TopologyIs topo) refl heard
 step_heard w (RoleAt k group leader) heard =
     moves_heard w k (slice_get w.nodes k) (RoleIs group leader) refl heard
+step_heard w (AddSlotAt k quotas) heard =
+    moves_heard w k (slice_get w.nodes k) (AddSlotIs quotas) refl heard
 step_heard w (DeliveryAt k which) heard =
     delivered_heard w k (slice_get w.nodes k) (slice_get w.sent which) refl heard
 

@@ -43,6 +43,7 @@ use Rattle.trdp_engine.specs.Events.{ClosePullCall, ListenCall, UnlistenCall, No
 use Rattle.trdp_engine.specs.Events.{RequestCall, ReplyCall, QueryCall, ReplyErrorCall}
 use Rattle.trdp_engine.specs.Events.{ConfirmCall, AbortCall, EventModel, MomentIs, TopologyIs}
 use Rattle.trdp_engine.specs.Events.{RoleIs, DatagramIs, CallIs}
+use Rattle.trdp_engine.specs.Events.{AddSlotIs}
 use Rattle.trdp_engine.specs.Alone.{plain_effect}
 use Rattle.trdp_net.specs.Provenance.{In}
 use Rattle.trdp_net.specs.Promises.{replied_in, IsNew, AreDistinct}
@@ -363,6 +364,7 @@ effect_heard old setup s slot globals (MomentIs t) h =
     moved_heard old slot (record globals { now = t }) h
 effect_heard old setup s slot globals (TopologyIs topo) h = h
 effect_heard old setup s slot globals (RoleIs group leader) h = h
+effect_heard old setup s slot globals (AddSlotIs quotas) h = h
 effect_heard old setup s slot globals (DatagramIs protocol src dst bytes) h =
     received_if_heard old slot setup globals (telegram_of protocol src dst bytes) h
 effect_heard old setup s slot globals (CallIs r call) h = either (r == s)

@@ -12,6 +12,7 @@ pub mod Objects
 pub mod Slots
 pub mod CallEffects
 pub mod Effects
+pub mod OpenedSlots
 pub mod Runs
 pub mod Promises
 pub mod Heard

@@ -121,3 +121,15 @@ pub ever_map : (P Q : Move → List Move → Type 0)
 ever_map P Q f [] e = absurd e
 ever_map P Q f (m ∷ past) (inl p) = inl (f m past p)
 ever_map P Q f (m ∷ past) (inr e) = inr (ever_map P Q f past e)
+
+-- an item of two lists is one of the first or of the second
+pub get_append : {A : Type 0} (xs ys : List A) (j : ℕ) (x : A)
+    → slice_get (xs ++ ys) j ≡ Some x → (slice_get xs j ≡ Some x) ⊎ In x ys
+get_append [] ys j x h = inr (get_in ys j x h)
+  where
+    get_in : {A : Type 0} (ys : List A) (j : ℕ) (x : A) → slice_get ys j ≡ Some x → In x ys
+    get_in [] j x h = absurd (cc)
+    get_in (y ∷ ys) zero x h = inl (cc h)
+    get_in (y ∷ ys) (suc j) x h = inr (get_in ys j x h)
+get_append (z ∷ xs) ys zero x h = inl h
+get_append (z ∷ xs) ys (suc j) x h = get_append xs ys j x h

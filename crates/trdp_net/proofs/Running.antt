@@ -1,21 +1,22 @@
 -- A running network takes the steps of the network that it shows.
 use Rattle.std.proofs.Common.{◌≡◌, ℕ, zero, List, [], ◌∷◌, ◌++◌, length, Option, Some, None}
 use Rattle.std.proofs.Common.{Bool, true, false, refl, ap, sym, ◌∙◌, subst, slice_get, ◌+◌, arith}
-use Rattle.std.specs.Prelude.{if◌then◌else◌, slice_set, Result, Ok, Err, IfOk}
+use Rattle.std.specs.Prelude.{◌==◌, if◌then◌else◌, slice_set, Result, Ok, Err, IfOk}
 use Rattle.trdp_net.specs.declared.fault.NetworkFault.{NetworkFault}
 use Rattle.trdp_engine.specs.declared.fault.NodeFault.{NodeFault}
 use Rattle.trdp_engine.specs.Configs.{setup_of}
 use Rattle.trdp_engine.specs.Records.{RecordModel, records_of}
 use Rattle.trdp_engine.specs.Slots.{SlotState}
-use Rattle.trdp_engine.specs.Alone.{refused_as, plain_effect, FaultIs}
-use Rattle.trdp_engine.specs.NodeStates.{NodeState, Appends}
+use Rattle.trdp_engine.specs.Alone.{refused_as, plain_effect, told_opening, FaultIs}
+use Rattle.trdp_engine.specs.NodeStates.{NodeState}
 use Rattle.trdp_engine.specs.Events.{EventModel, MomentIs, TopologyIs, RoleIs, DatagramIs, CallIs}
+use Rattle.trdp_engine.specs.Events.{AddSlotIs}
 use Rattle.trdp_net.specs.Networks.{NetNode, net_node, Sent, Network, Step, CallAt, MomentAt}
-use Rattle.trdp_net.specs.Networks.{TopologyAt, RoleAt, DeliveryAt, place_of, moves_unless}
-use Rattle.trdp_net.specs.Networks.{moves_at, reaches, delivered, network_step}
+use Rattle.trdp_net.specs.Networks.{TopologyAt, RoleAt, DeliveryAt, AddSlotAt, place_of}
+use Rattle.trdp_net.specs.Networks.{moves_unless, moves_at, reaches, delivered, network_step}
 use Rattle.trdp_net.specs.Running.{NetworkState, Shows, Takes, TakesAt, DeliversAt, TellsLatest}
 use Rattle.trdp_net.specs.Running.{event_fault, node_fault, delivery_fault, step_fault}
-use Rattle.trdp_net.specs.Promises.{told_in}
+use Rattle.trdp_net.specs.Running.{told_at}
 use Rattle.trdp_net.specs.Ties.{StepsSo, MovesSo}
 use Rattle.trdp_net.specs.Tellings.{IsHome, sent_in, sent_in_slots, all_sent, latest}
 use Rattle.trdp_net.specs.declared.fault.NetworkFault.TheVariants.{Elsewhere}
@@ -32,10 +33,10 @@ admitted_by (Some fault) done is = absurd is
 -- a node that steps takes the event as one of the network, and tells what it told
 pub takes : (old new : NodeState) (before : List RecordModel) (event : EventModel) (told : Told)
     → StepsSo old new before told.out.records event
-    → Appends old.slots before told.out.records → before ≡ []
+    → before ≡ []
     → IsHome told.home (setup_of old.config) → told.slots ≡ length old.slots
     → Takes (net_node old) (net_node new) event told
-takes old new before event told steps appends none home slots = record {
+takes old new before event told steps none home slots = record {
   admitted = steps.admitted;
   node = moved.node;
   sent = ap (sent_in_slots told.home told.out.records zero) slots
@@ -67,8 +68,11 @@ takes old new before event told steps appends none home slots = record {
 
     telling : (k s : ℕ) (found : Option SlotState) → slice_get old.slots s ≡ found
         → records_of s told.out.records
-        ≡ told_in s (record { node = k; before = net_node old; event = event }) found
-    telling k s None at = appends.none_else s at ∙ ap (records_of s) none
+        ≡ told_at s (record { node = k; before = net_node old; event = event }) found
+    telling k s None at =
+        moved.opened s at
+        ∙ ap (λ (xs : List RecordModel). records_of s xs
+        ++ (if s == length old.slots then told_opening event else [])) none
     telling k s (Some slot) at = each s slot at
 
 -- what a running network shows once a node has taken an event
@@ -220,6 +224,8 @@ step_kept old w (TopologyAt k topo) fault shows is =
     own_kept old w k (TopologyIs topo) fault shows is
 step_kept old w (RoleAt k group leader) fault shows is =
     own_kept old w k (RoleIs group leader) fault shows is
+step_kept old w (AddSlotAt k quotas) fault shows is =
+    own_kept old w k (AddSlotIs quotas) fault shows is
 step_kept old w (DeliveryAt k which) fault shows is =
     delivery_kept w k (slice_get w.nodes k) (slice_get w.sent which) fault
     (ap (λ (nodes : List NetNode). delivery_fault (slice_get nodes k) (slice_get w.sent which))

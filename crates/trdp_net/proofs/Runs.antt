@@ -1,35 +1,36 @@
 -- The whole network, step by step.
-use Rattle.std.proofs.Common.{◌≡◌, ℕ, zero, suc, ◌+◌, List, [], ◌∷◌, map, Option, Some, None}
-use Rattle.std.proofs.Common.{Bool, true, false, refl, ap, sym, ◌∙◌, subst, arith, inl, inr}
+use Rattle.std.proofs.Common.{◌≡◌, ℕ, zero, suc, ◌+◌, List, [], ◌∷◌, Option, Some, None}
+use Rattle.std.proofs.Common.{Bool, true, false, refl, sym, ◌∙◌, subst, arith, inl, inr}
 use Rattle.std.proofs.Common.{slice_get, length, ℤ}
 use Rattle.std.specs.Prelude.{◌&&◌, ◌||◌, ◌==◌, ◌⊎◌, if◌then◌else◌}
 use Rattle.trdp_base.specs.declared.place.Place.{Place}
 use Rattle.trdp_base.specs.declared.session.SessionId.{SessionId}
-use Rattle.trdp_dataset.specs.Configs.{ConfigModel, SlotModel}
+use Rattle.trdp_dataset.specs.Configs.{ConfigModel}
 use Rattle.trdp_head.specs.declared.md.MdKind.{MdKind}
 use Rattle.trdp_head.specs.declared.md.MdKind.TheVariants as message
 use Rattle.trdp_head.specs.MdTelegrams.{MdTelegram}
-use Rattle.trdp_filter.specs.declared.globals.Globals.{Globals}
 use Rattle.trdp_md.specs.Answers.{is_place}
 use Rattle.trdp_engine.specs.declared.fault.NodeFault.{NodeFault}
 use Rattle.trdp_engine.specs.declared.record.Protocol.{Protocol}
 use Rattle.trdp_engine.specs.declared.record.Protocol.TheVariants.{Pd, Md}
-use Rattle.trdp_engine.specs.Configs.{NodeSetup}
 use Rattle.trdp_engine.specs.Records.{Content, Answers, Indicates, Sends}
 use Rattle.trdp_engine.specs.Events.{EventModel, MomentIs, TopologyIs, RoleIs, DatagramIs, CallIs}
-use Rattle.trdp_engine.specs.Slots.{Entry, SlotState, opened_slot}
+use Rattle.trdp_engine.specs.Events.{AddSlotIs}
+use Rattle.trdp_engine.specs.Alone.{opened_by}
+use Rattle.trdp_engine.specs.Slots.{Entry, SlotState}
 use Rattle.trdp_engine.specs.Alone.{refused_as, plain_effect}
 use Rattle.trdp_engine.specs.NodeStates.{opened_node}
 use Rattle.trdp_net.specs.Networks.{NetNode, net_node, place_of, Sent, Move, Network, Step, CallAt}
-use Rattle.trdp_net.specs.Networks.{MomentAt, TopologyAt, RoleAt, DeliveryAt, effect_in}
+use Rattle.trdp_net.specs.Networks.{MomentAt, TopologyAt, RoleAt, DeliveryAt, AddSlotAt, effect_in}
 use Rattle.trdp_net.specs.Networks.{slots_after}
 use Rattle.trdp_net.specs.Networks.{node_after, sends_of, sent_by, moves, moves_unless, moves_at}
 use Rattle.trdp_net.specs.Networks.{is_group, reaches, delivered, network_step, network_run}
 use Rattle.trdp_net.specs.Networks.{opened_network}
-use Rattle.trdp_net.specs.Provenance.{Ever, Always, IsReplied, IsAnsweredBySome}
+use Rattle.trdp_net.specs.Provenance.{Ever, Always, In, IsReplied, IsAnsweredBySome}
 use Rattle.trdp_net.specs.Provenance.{IsConfirmedBySome}
 use Rattle.trdp_net.specs.Promises.{AreSingle}
-use Rattle.trdp_net.proofs.Parts.{each_append, each_map, each_get, set_get}
+use Rattle.trdp_net.proofs.Parts.{each_append, each_map, each_get, set_get, get_append}
+use Rattle.trdp_net.proofs.OpenedSlots.{slot_before, none_opened, opened_empty}
 use Rattle.trdp_net.proofs.Kept.{EntryKept, sent_later}
 use Rattle.trdp_net.proofs.Slots.{OutcomeKept, entries_later}
 use Rattle.trdp_net.proofs.Effects.{IsSent, slot_kept}
@@ -61,28 +62,6 @@ pub record NetworkKept (w : Network) : Type 0 where
   pub single : (k : ℕ) (node : NetNode) → slice_get w.nodes k ≡ Some node
       → is_group node.setup.address ≡ false
   pub were_single : Always IsSingle w.history
-
--- a slot after the event is the slot before it, moved
-pub slot_before : (setup : NodeSetup) (globals : Globals) (event : EventModel) (s : ℕ)
-    (slots : List SlotState) (j : ℕ) (after : SlotState)
-    → slice_get (slots_after setup globals event s slots) j ≡ Some after
-    → (slot : SlotState) × (slice_get slots j ≡ Some slot)
-    × ((plain_effect setup (s + j) slot globals event).slot ≡ after)
-slot_before setup globals event s [] j after is = absurd (cc)
-slot_before setup globals event s (x ∷ xs) zero after is =
-    let e : s + zero ≡ s = omega arith in
-    let i : (plain_effect setup s x globals event).slot ≡ after = cc is in (
-      x,
-      refl,
-      subst (λ (n : ℕ). (plain_effect setup n x globals event).slot ≡ after) (sym e) i,
-    )
-slot_before setup globals event s (x ∷ xs) (suc j) after is =
-    let rest = slot_before setup globals event (suc s) xs j after is in
-    let e : s + suc j ≡ suc s + j = omega arith in (
-      rest.0,
-      rest.1,
-      subst (λ (n : ℕ). (plain_effect setup n rest.0 globals event).slot ≡ after) (sym e) rest.2,
-    )
 
 sends_kept : (past : List Move) (m : Move) (k s : ℕ) (records : List Content)
     → Each (ToldBy past m k s) records
@@ -170,13 +149,25 @@ move_kept w k node event is sent typed h = record {
 
     moved : NodeKept (m ∷ w.history) k (node_after node event)
     moved s after at =
-        let was = slot_before node.setup node.globals event zero node.slots s after at in
-        let e : zero + s ≡ s = omega arith in
-        let is_after : (plain_effect node.setup s was.0 node.globals event).slot ≡ after =
-        subst (λ (n : ℕ). (plain_effect node.setup n was.0 node.globals event).slot ≡ after) e
-        was.2 in
-        subst (λ (x : SlotState). Each (EntryKept (m ∷ w.history) node.setup k s) x.objects)
-        is_after (one s was.0 was.1).objects
+        either s after
+        (get_append (slots_after node.setup node.globals event zero node.slots) (opened_by event) s
+        after at)
+      where
+        either : (s : ℕ) (after : SlotState)
+            → (slice_get (slots_after node.setup node.globals event zero node.slots) s ≡ Some after)
+            ⊎ In after (opened_by event)
+            → Each (EntryKept (m ∷ w.history) node.setup k s) after.objects
+        either s after (inr new) =
+            subst (λ (es : List Entry). Each (EntryKept (m ∷ w.history) node.setup k s) es)
+            (sym (opened_empty event after new)) tt
+        either s after (inl found) =
+            let was = slot_before node.setup node.globals event zero node.slots s after found in
+            let e : zero + s ≡ s = omega arith in
+            let is_after : (plain_effect node.setup s was.0 node.globals event).slot ≡ after =
+            subst (λ (n : ℕ). (plain_effect node.setup n was.0 node.globals event).slot ≡ after) e
+            was.2 in
+            subst (λ (x : SlotState). Each (EntryKept (m ∷ w.history) node.setup k s) x.objects)
+            is_after (one s was.0 was.1).objects
 
     node_at : (j : ℕ) (after : NetNode)
         → ((j ≡ k) × (node_after node event ≡ after)) ⊎ (slice_get w.nodes j ≡ Some after)
@@ -290,6 +281,8 @@ step_kept w (TopologyAt k topo) typed h =
     moves_kept w k (TopologyIs topo) (slice_get w.nodes k) refl (λ node. tt) typed h
 step_kept w (RoleAt k group leader) typed h =
     moves_kept w k (RoleIs group leader) (slice_get w.nodes k) refl (λ node. tt) typed h
+step_kept w (AddSlotAt k quotas) typed h =
+    moves_kept w k (AddSlotIs quotas) (slice_get w.nodes k) refl (λ node. tt) typed h
 step_kept w (DeliveryAt k which) typed h =
     delivered_kept w k (slice_get w.nodes k) (slice_get w.sent which) refl
     (λ x at. each_get (SentKept w.history) w.sent which x h.sent at) typed h
@@ -331,6 +324,8 @@ step_before P w (MomentAt k t) h = at_before P w k (slice_get w.nodes k) (Moment
 step_before P w (TopologyAt k topo) h = at_before P w k (slice_get w.nodes k) (TopologyIs topo) h
 step_before P w (RoleAt k group leader) h =
     at_before P w k (slice_get w.nodes k) (RoleIs group leader) h
+step_before P w (AddSlotAt k quotas) h =
+    at_before P w k (slice_get w.nodes k) (AddSlotIs quotas) h
 step_before P w (DeliveryAt k which) h =
     delivered_before P w k (slice_get w.nodes k) (slice_get w.sent which) h
 
@@ -346,25 +341,6 @@ run_kept w [] typed h = h
 run_kept w (step ∷ steps) typed h =
     run_kept (network_step w step) steps typed
     (step_kept w step (run_before IsTypedMove (network_step w step) steps typed) h)
-
--- nodes that were just opened
-slots_empty : (quotas : List SlotModel) (s : ℕ) (slot : SlotState)
-    → slice_get (map (λ q. opened_slot q.quotas) quotas) s ≡ Some slot → slot.objects ≡ []
-slots_empty [] s slot is = absurd (cc)
-slots_empty (q ∷ quotas) zero slot is =
-    let e : opened_slot q.quotas ≡ slot = cc is in ap (λ (x : SlotState). x.objects) (sym e)
-slots_empty (q ∷ quotas) (suc s) slot is = slots_empty quotas s slot is
-
--- a node that was just opened has no objects
-pub none_opened : (configs : List ConfigModel) (k : ℕ) (node : NetNode)
-    → slice_get (opened_network configs).nodes k ≡ Some node
-    → (s : ℕ) (slot : SlotState) → slice_get node.slots s ≡ Some slot → slot.objects ≡ []
-none_opened [] k node is s slot at = absurd (cc)
-none_opened (config ∷ configs) zero node is s slot at =
-    let e : net_node (opened_node config) ≡ node = cc is in
-    slots_empty config.slots s slot
-    (subst (λ (x : NetNode). slice_get x.slots s ≡ Some slot) (sym e) at)
-none_opened (config ∷ configs) (suc k) node is s slot at = none_opened configs k node is s slot at
 
 opened_node_kept : (configs : List ConfigModel) (k : ℕ) (node : NetNode)
     → slice_get (opened_network configs).nodes k ≡ Some node → NodeKept [] k node

@@ -15,17 +15,20 @@ use Rattle.trdp_engine.specs.Events.{PullCall, ClosePullCall, ListenCall, Unlist
 use Rattle.trdp_engine.specs.Events.{RequestCall, ReplyCall, QueryCall, ReplyErrorCall}
 use Rattle.trdp_engine.specs.Events.{ConfirmCall}
 use Rattle.trdp_engine.specs.Events.{AbortCall}
+use Rattle.trdp_engine.specs.Events.{AddSlotIs}
+use Rattle.trdp_engine.specs.Alone.{opened_by}
 use Rattle.trdp_engine.specs.Slots.{Entry, SlotState}
 use Rattle.trdp_engine.specs.Alone.{refused_as, plain_effect}
 use Rattle.trdp_net.specs.Networks.{NetNode, place_of, Sent, Network, Step, CallAt, MomentAt}
-use Rattle.trdp_net.specs.Networks.{TopologyAt, RoleAt, DeliveryAt, node_after, sends_of}
+use Rattle.trdp_net.specs.Networks.{TopologyAt, RoleAt, DeliveryAt, AddSlotAt, node_after}
+use Rattle.trdp_net.specs.Networks.{sends_of, slots_after}
 use Rattle.trdp_net.specs.Networks.{sent_by, moves, moves_unless, moves_at, reaches, delivered}
 use Rattle.trdp_net.specs.Networks.{network_step, network_run, opened_network}
-use Rattle.trdp_net.specs.Provenance.{Always}
+use Rattle.trdp_net.specs.Provenance.{Always, In}
 use Rattle.trdp_net.specs.Promises.{history}
 use Rattle.trdp_net.specs.Typed.{IsTypedCall, IsTypedStep, AreTypedSteps}
-use Rattle.trdp_net.proofs.Parts.{each_append, each_get, set_get}
-use Rattle.trdp_net.proofs.Runs.{slot_before, none_opened}
+use Rattle.trdp_net.proofs.Parts.{each_append, each_get, set_get, get_append}
+use Rattle.trdp_net.proofs.OpenedSlots.{slot_before, none_opened, opened_empty}
 use Rattle.trdp_net.proofs.TypedObjects.{IsSentTyped, AreTyped}
 use Rattle.trdp_net.proofs.TypedSlots.{IsTypedEvent, effect_typed}
 use Rattle.trdp_net.proofs.TypedMoves.{IsTypedSending, SendsTyped, IsTypedEntry, IsTypedMove}
@@ -73,6 +76,7 @@ event_typed (TopologyIs topo) fits = tt
 event_typed (RoleIs group leader) fits = tt
 event_typed (DatagramIs protocol src dst bytes) fits = tt
 event_typed (CallIs s call) fits = call_typed call fits
+event_typed (AddSlotIs quotas) fits = tt
 
 sends_typed : (setup : NodeSetup) (records : List Content) → AreTyped records
     → Each SentTyped (sends_of setup records)
@@ -107,10 +111,21 @@ move_typed w k node event is e h = record {
   where
     moved : NodeTyped (node_after node event)
     moved s after at =
-        let was = slot_before node.setup node.globals event zero node.slots s after at in
-        subst (λ (x : SlotState). Each IsTypedEntry x.objects) was.2
-        (effect_typed node.setup (zero + s) was.0 node.globals event e
-        (h.nodes k node is s was.0 was.1)).objects
+        either s after
+        (get_append (slots_after node.setup node.globals event zero node.slots) (opened_by event) s
+        after at)
+      where
+        either : (s : ℕ) (after : SlotState)
+            → (slice_get (slots_after node.setup node.globals event zero node.slots) s ≡ Some after)
+            ⊎ In after (opened_by event) → Each IsTypedEntry after.objects
+        either s after (inr new) =
+            subst (λ (es : List Entry). Each IsTypedEntry es)
+            (sym (opened_empty event after new)) tt
+        either s after (inl found) =
+            let was = slot_before node.setup node.globals event zero node.slots s after found in
+            subst (λ (x : SlotState). Each IsTypedEntry x.objects) was.2
+            (effect_typed node.setup (zero + s) was.0 node.globals event e
+            (h.nodes k node is s was.0 was.1)).objects
 
     node_at : (j : ℕ) (after : NetNode)
         → ((j ≡ k) × (node_after node event ≡ after)) ⊎ (slice_get w.nodes j ≡ Some after)
@@ -153,6 +168,8 @@ step_typed w (TopologyAt k topo) e h =
     moves_typed w k (slice_get w.nodes k) (TopologyIs topo) refl tt h
 step_typed w (RoleAt k group leader) e h =
     moves_typed w k (slice_get w.nodes k) (RoleIs group leader) refl tt h
+step_typed w (AddSlotAt k quotas) e h =
+    moves_typed w k (slice_get w.nodes k) (AddSlotIs quotas) refl tt h
 step_typed w (DeliveryAt k which) e h =
     delivered_typed w k (slice_get w.nodes k) (slice_get w.sent which) refl
     (λ x at. each_get SentTyped w.sent which x h.sent at) h

@@ -50,6 +50,7 @@ use Rattle.trdp_engine.specs.Events.{ClosePullCall, ListenCall, UnlistenCall, No
 use Rattle.trdp_engine.specs.Events.{RequestCall, ReplyCall, QueryCall, ReplyErrorCall}
 use Rattle.trdp_engine.specs.Events.{ConfirmCall, AbortCall, EventModel, MomentIs, TopologyIs}
 use Rattle.trdp_engine.specs.Events.{RoleIs, DatagramIs, CallIs}
+use Rattle.trdp_engine.specs.Events.{AddSlotIs}
 use Rattle.trdp_engine.specs.Alone.{plain_effect}
 use Rattle.trdp_net.specs.Provenance.{In}
 use Rattle.trdp_net.specs.Typed.{IsTypedCall}
@@ -346,6 +347,7 @@ effect_typed setup s slot globals (MomentIs t) e fits =
     moved_typed slot (record globals { now = t }) fits
 effect_typed setup s slot globals (TopologyIs topo) e fits = unchanged_typed slot fits
 effect_typed setup s slot globals (RoleIs group leader) e fits = unchanged_typed slot fits
+effect_typed setup s slot globals (AddSlotIs quotas) e fits = unchanged_typed slot fits
 effect_typed setup s slot globals (DatagramIs protocol src dst bytes) e fits =
     received_if_typed slot setup globals (telegram_of protocol src dst bytes)
     (telegram_typed protocol src dst bytes e) fits

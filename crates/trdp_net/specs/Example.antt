@@ -13,7 +13,8 @@ use Rattle.trdp_engine.specs.Events.{PublishCall, PutCall, SubscribeCall, GetCal
 use Rattle.trdp_engine.specs.Events.{NotifyCall, RequestCall, QueryCall, ConfirmCall}
 use Rattle.trdp_engine.specs.Slots.{Entry, SlotState}
 use Rattle.trdp_net.specs.Networks.{NetNode, Sent, Move, Network, Step, CallAt, MomentAt}
-use Rattle.trdp_net.specs.Networks.{TopologyAt, RoleAt, DeliveryAt, network_run, opened_network}
+use Rattle.trdp_net.specs.Networks.{TopologyAt, RoleAt, DeliveryAt, AddSlotAt, network_run}
+use Rattle.trdp_net.specs.Networks.{opened_network}
 use Rattle.trdp_net.specs.Provenance.{Ever, In, Gives}
 use Rattle.trdp_net.specs.Promises.{history, told_in}
 use Rattle.trdp_net.specs.ExampleTerms.{example_configs, data_1, messages_0, messages_1}
@@ -103,6 +104,7 @@ node_of (MomentAt node t) = node
 node_of (TopologyAt node topo) = node
 node_of (RoleAt node group leader) = node
 node_of (DeliveryAt node which) = node
+node_of (AddSlotAt node quotas) = node
 
 -- what slot 0 of a node was told at a move of it
 pub record Turn : Type 0 where

@@ -1,14 +1,17 @@
 -- Running nodes, and the network of the promises that they show.
 use Rattle.std.specs.Prelude.{◌≡◌, ◌⊎◌, ℕ, zero, List, [], ◌∷◌, length, Option, Some, None}
-use Rattle.std.specs.Prelude.{slice_get, slice_set, if◌then◌else◌, Bool, true, false, Result, Ok, Err}
+use Rattle.std.specs.Prelude.{slice_get, slice_set, ◌==◌, if◌then◌else◌, Bool, true, false}
+use Rattle.std.specs.Prelude.{Result, Ok, Err}
 use Rattle.trdp_engine.specs.declared.fault.NodeFault.{NodeFault}
 use Rattle.trdp_engine.specs.declared.fault.NodeFault.TheVariants.{OutOfMemory}
-use Rattle.trdp_engine.specs.Records.{RecordModel, records_of}
+use Rattle.trdp_engine.specs.Records.{Content, RecordModel, records_of}
+use Rattle.trdp_engine.specs.Slots.{SlotState}
 use Rattle.trdp_engine.specs.Events.{EventModel, MomentIs, TopologyIs, RoleIs, DatagramIs, CallIs}
-use Rattle.trdp_engine.specs.Alone.{refused_as}
+use Rattle.trdp_engine.specs.Events.{AddSlotIs}
+use Rattle.trdp_engine.specs.Alone.{refused_as, told_opening}
 use Rattle.trdp_net.specs.Networks.{NetNode, Sent, Move, Network, Step, CallAt, MomentAt}
-use Rattle.trdp_net.specs.Networks.{TopologyAt, RoleAt, DeliveryAt, place_of, node_after, sent_by}
-use Rattle.trdp_net.specs.Networks.{reaches, network_step}
+use Rattle.trdp_net.specs.Networks.{TopologyAt, RoleAt, DeliveryAt, AddSlotAt, place_of}
+use Rattle.trdp_net.specs.Networks.{node_after, sent_by, reaches, network_step}
 use Rattle.trdp_net.specs.Promises.{told_in}
 use Rattle.trdp_net.specs.Tellings.{sent_in}
 use Rattle.trdp_net.specs.declared.told.Told.{Told}
@@ -22,11 +25,17 @@ pub record NetworkState : Type 0 where
   pub sent : List Sent
   pub told : List RecordModel
 
--- slot by slot the records are those of the latest move
+-- what number s is told at a move: an open slot its records; the number of a slot that is opened
+-- there, that it is
+abbrev pub told_at : ℕ → Move → Option SlotState → List Content
+told_at s m None = if s == length m.before.slots then told_opening m.event else []
+told_at s m (Some slot) = told_in s m (Some slot)
+
+-- number by number the records are those of the latest move
 abbrev pub TellsLatest : List Move → List RecordModel → Type 0
 TellsLatest [] told = told ≡ []
 TellsLatest (m ∷ past) told =
-    (s : ℕ) → records_of s told ≡ told_in s m (slice_get m.before.slots s)
+    (s : ℕ) → records_of s told ≡ told_at s m (slice_get m.before.slots s)
 
 -- it shows this network: its nodes, what was sent, and what the latest move told
 pub record Shows (state : NetworkState) (w : Network) : Type 0 where
@@ -64,6 +73,7 @@ step_fault w (CallAt k s call) = event_fault (slice_get w.nodes k) (CallIs s cal
 step_fault w (MomentAt k t) = event_fault (slice_get w.nodes k) (MomentIs t)
 step_fault w (TopologyAt k topo) = event_fault (slice_get w.nodes k) (TopologyIs topo)
 step_fault w (RoleAt k group leader) = event_fault (slice_get w.nodes k) (RoleIs group leader)
+step_fault w (AddSlotAt k quotas) = event_fault (slice_get w.nodes k) (AddSlotIs quotas)
 step_fault w (DeliveryAt k which) =
     delivery_fault (slice_get w.nodes k) (slice_get w.sent which)
 
@@ -108,6 +118,7 @@ is_arrival (TopologyIs topo) = false
 is_arrival (RoleIs group leader) = false
 is_arrival (DatagramIs protocol src dst bytes) = true
 is_arrival (CallIs slot call) = false
+is_arrival (AddSlotIs quotas) = false
 
 -- the step that an event at the node of that number is; a datagram is none, since only what was
 -- sent is delivered
@@ -117,6 +128,7 @@ own_step_of k (TopologyIs topo) = Some (TopologyAt k topo)
 own_step_of k (RoleIs group leader) = Some (RoleAt k group leader)
 own_step_of k (DatagramIs protocol src dst bytes) = None
 own_step_of k (CallIs slot call) = Some (CallAt k slot call)
+own_step_of k (AddSlotIs quotas) = Some (AddSlotAt k quotas)
 
 -- the same as `Follows`, where there is such a step
 abbrev pub FollowsIf : NetworkState → Option Step → NetworkState → Type 0

@@ -100,7 +100,8 @@ pub fn history_is_the_run()
 {}
 
 /// A node that takes an event, as `trdp_engine::Node::step` says, does what a node of the network
-/// does: the same globals, the same slots, the same records for each slot.
+/// does: the same globals, the same slots, the same records for each slot, and for one that is
+/// opened.
 pub fn nodes_move_so()
     ensures { (old new : NodeState) (records records_then : List RecordModel) (event : EventModel)
         → StepsSo old new records records_then event

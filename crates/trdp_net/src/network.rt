@@ -74,6 +74,7 @@ fn is_arrival(event: &Event<'_>) -> bool
         Event::Topology(_) => false,
         Event::Role { .. } => false,
         Event::Call { .. } => false,
+        Event::AddSlot(_) => false,
     }
 }
 
@@ -189,8 +190,8 @@ impl Network {
         Ok(())
     }
 
-    /// Lets the node of that number take an event of its own: a call, a moment, topology counts or
-    /// a role.
+    /// Lets the node of that number take an event of its own: a call, a moment, topology counts, a
+    /// role or a slot that is opened.
     ///
     /// # Errors
     /// The first that applies of `Unsent` (the event is a datagram), `NoNode` and the node's own;

@@ -20,12 +20,9 @@ pub(crate) struct Station {
     node: Node,
     /// Where it is.
     home: Home,
-    /// How many slots it has.
-    slots: usize,
 }
 
 impl Model for Station {
-    ghost use Rattle.std.specs.Prelude.{◌≡◌, length};
     ghost use Rattle.trdp_engine.specs.Configs.{setup_of};
     ghost use Rattle.trdp_net.specs.Networks.{NetNode, net_node};
     ghost use Rattle.trdp_net.specs.Tellings.{IsHome};
@@ -34,8 +31,7 @@ impl Model for Station {
 
     ghost view = { λ s. net_node s.node };
 
-    ghost invariant = { λ s. IsHome s.home (setup_of s.node.config)
-        × (s.slots ≡ length s.node.slots) };
+    ghost invariant = { λ s. IsHome s.home (setup_of s.node.config) };
 }
 
 /// A group address: 224.0.0.0 to 239.255.255.255.
@@ -61,10 +57,9 @@ impl Station {
         ensures { IfOk result (λ station. station ≡ net_node (opened_node config)) }
     {
         let home = Home::of(&config);
-        let slots = config.slots();
         match Node::new(alloc, config) {
             Err(_) => Err(AllocError),
-            Ok(node) => Ok(Station { node, home, slots }),
+            Ok(node) => Ok(Station { node, home }),
         }
     }
 
@@ -87,11 +82,12 @@ impl Station {
             (refused_as (length self.old.slots) self.old.globals (event_model event.now)))
             fault) }
     {
+        let slots = self.node.slots();
         let mut out = Outbox::new(alloc);
         self.node.step(event, &mut out)?;
         Ok(Told {
             home: self.home,
-            slots: self.slots,
+            slots,
             out,
         })
     }

@@ -74,7 +74,7 @@ pub(crate) enum Sought<'a> {
 pub(crate) struct Told {
     /// Where the node is.
     pub(crate) home: Home,
-    /// How many slots it has.
+    /// How many slots it had before the event.
     pub(crate) slots: usize,
     /// Its records.
     pub(crate) out: Outbox,

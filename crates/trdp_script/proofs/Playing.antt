@@ -2,9 +2,9 @@
 use Rattle.std.proofs.Common.{inl, inr, ◌≡◌, zero, suc, ◌+◌, ◌-◌, ◌≤◌, ℕ, true, false}
 use Rattle.std.proofs.Common.{List, [], ◌∷◌, ◌++◌, length, Some, None, Ok, Err, Option}
 use Rattle.std.proofs.Common.{refl, sym, ◌∙◌, ap, arith, append_assoc, append-nil}
-use Rattle.std.specs.Prelude.{◌==◌, slice_get}
+use Rattle.std.specs.Prelude.{◌==◌, slice_get, nat_lt, Bool, if◌then◌else◌}
 use Rattle.std.specs.List.{flat_map}
-use Rattle.std.proofs.lemmas.Bool.Decides.{eqb_tells}
+use Rattle.std.proofs.lemmas.Bool.Decides.{eqb_tells, nat_tests}
 use Rattle.std.proofs.lemmas.Grind.{flat_map-append}
 use Rattle.std.proofs.lemmas.Option.{slice_get_past}
 use Rattle.trdp_engine.specs.Configs.{NodeSetup, setup_of}
@@ -12,38 +12,48 @@ use Rattle.trdp_filter.specs.declared.globals.Globals.{Globals}
 use Rattle.trdp_engine.specs.declared.fault.NodeFault.{NodeFault}
 use Rattle.trdp_engine.specs.declared.fault.NodeFault.TheVariants.{OutOfMemory}
 use Rattle.trdp_engine.specs.Events.{EventModel, MomentIs, TopologyIs, RoleIs, DatagramIs, CallIs}
+use Rattle.trdp_engine.specs.Events.{AddSlotIs}
 use Rattle.trdp_engine.specs.Records.{RecordModel, labelled, records_of}
 use Rattle.trdp_engine.specs.Slots.{SlotState}
-use Rattle.trdp_engine.specs.Alone.{FaultIs, refused_as, globals_after, slot_after, records_after}
+use Rattle.trdp_engine.specs.Alone.{FaultIs, refused_as, globals_after, records_after}
+use Rattle.trdp_engine.specs.Alone.{Standing, opened_by, slots_then, standing_after, told_opening}
 use Rattle.trdp_engine.specs.NodeStates.{NodeState, MayTakeMemory, StepsAsAlone, Appends}
 use Rattle.trdp_engine.specs.NodeStates.{no_counts, uncounted}
+use Rattle.trdp_engine.proofs.AddedSlots.{lists_same, opened_at, told_opened}
 use Rattle.trdp_engine.proofs.Steps.{open_outcome}
+use Rattle.trdp_engine.proofs.Views.{standing_open}
 use Rattle.trdp_script.specs.RecordText.{text_of_fault, text_of_record}
 use Rattle.trdp_script.specs.ScriptText.{slots_after, slots_text, node_after}
 use Rattle.trdp_script.specs.ScriptText.{event_text, node_unless, text_unless}
 use Rattle.trdp_script.specs.SlotOrder.{by_slot}
 use Rattle.trdp_script.proofs.Orders.{slots_own, by_slot_suc, by_slot_zero}
 
--- slots that are each as after an event
-slots_same :
-    (setup : NodeSetup) (g : Globals) (event : EventModel) (n : ℕ) (olds news : List SlotState)
-    → length news ≡ length olds
-    → ((i s : ℕ) (slot : SlotState) → s ≡ n + i
-    → slice_get olds i ≡ Some slot → slice_get news i ≡ Some (slot_after setup s slot g event))
-    → news ≡ slots_after setup g event n olds
-slots_same setup g event n [] [] len each = refl
-slots_same setup g event n [] (x ∷ xs) len each = absurd (omega (arith, len))
-slots_same setup g event n (x ∷ xs) [] len each = absurd (omega (arith, len))
-slots_same setup g event n (x ∷ xs) (y ∷ ys) len each =
-    let at : n ≡ n + 0 = omega arith in
-    let here : ◌≡◌ {A = Option SlotState} (Some y) (Some (slot_after setup n x g event)) =
-    each 0 n x at refl in
-    let first : y ≡ slot_after setup n x g event = cc in
-    let same_length : length ys ≡ length xs = omega (arith, len) in
-    let rest : ys ≡ slots_after setup g event (suc n) xs =
-    slots_same setup g event (suc n) xs ys same_length (λ i s slot is there.
-    let next : s ≡ n + suc i = omega (arith, is) in each (suc i) s slot next there) in
-    ap (λ z. z ∷ ys) first ∙ ap (λ zs. slot_after setup n x g event ∷ zs) rest
+-- what stands at each number after an event that the node takes
+after_at : (setup : NodeSetup) (g : Globals) (event : EventModel) (n k : ℕ) (olds : List SlotState)
+    → n ≡ k + length olds → refused_as n g event ≡ None → (i s : ℕ) → s ≡ k + i
+    → slice_get (slots_after setup g event k olds ++ opened_by event) i
+    ≡ (standing_after setup s n (slice_get olds i) g event).slot
+after_at setup g event n k [] count admitted i s is =
+    let same : s ≡ n + i = omega (arith, count, is) in
+    opened_at setup n g event admitted i
+    ∙ ap (λ t. (standing_after setup t n None g event).slot) (sym same)
+after_at setup g event n k (x ∷ xs) count admitted zero s is =
+    let same : s ≡ k = omega (arith, is) in
+    sym (ap (λ (there : Standing). there.slot) (standing_open setup k n x g event))
+    ∙ ap (λ t. (standing_after setup t n (Some x) g event).slot) (sym same)
+after_at setup g event n k (x ∷ xs) count admitted (suc i) s is =
+    after_at setup g event n (suc k) xs (omega (arith, count)) admitted i s (omega (arith, is))
+
+-- the slots after an event, of which each number says what stands there
+slots_same : (old new : NodeState) (records records_then : List RecordModel) (event : EventModel)
+    → refused_as (length old.slots) old.globals event ≡ None
+    → ((s : ℕ) → StepsAsAlone old new records records_then event s)
+    → new.slots
+    ≡ slots_after (setup_of old.config) old.globals event 0 old.slots ++ opened_by event
+slots_same old new records records_then event admitted steps =
+    lists_same new.slots _ (λ i. (steps i).slot_is
+    ∙ sym (after_at (setup_of old.config) old.globals event (length old.slots) 0 old.slots
+    (omega arith) admitted i i (omega arith)))
 
 -- a record of the slot, as a record of that slot
 labelled_here : (n : ℕ) (r : RecordModel) (records : List RecordModel) (same : (r.slot == n) ≡ true)
@@ -122,14 +132,11 @@ no_fault (Some fault) is = absurd is
 pub node_played : (old new : NodeState) (records records_then : List RecordModel)
     (event : EventModel) → FaultIs (refused_as (length old.slots) old.globals event) (Ok tt)
     → new.config ≡ old.config → new.globals ≡ globals_after old.globals event
-    → length new.slots ≡ length old.slots
     → ((s : ℕ) → StepsAsAlone old new records records_then event s)
     → uncounted new ≡ node_after (uncounted old) event
-node_played old new records records_then event taken config globals len steps =
-    let slots : new.slots ≡ slots_after (setup_of old.config) old.globals event 0 old.slots =
-    slots_same (setup_of old.config) old.globals event
-    0 old.slots new.slots len (λ i s slot is there. let same : s ≡ i = omega (arith, is) in
-    rw same (open_outcome old new records records_then event i slot there (steps i)).slot_is) in
+node_played old new records records_then event taken config globals steps =
+    let slots = slots_same old new records records_then event
+    (no_fault (refused_as (length old.slots) old.globals event) taken) steps in
     ap (λ c. let n : NodeState = record {
       config = c;
       globals = new.globals;
@@ -151,18 +158,69 @@ node_played old new records records_then event taken config globals len steps =
     ∙ ap (λ fault. node_unless fault (uncounted old) event)
     (sym (no_fault (refused_as (length old.slots) old.globals event) taken))
 
+-- there are no more slots than there may be
+pub still_few : (n : ℕ) (event : EventModel) → n ≤ 16 → slots_then n event ≤ 16
+still_few n (MomentIs t) few = few
+still_few n (TopologyIs topo) few = few
+still_few n (RoleIs group leader) few = few
+still_few n (DatagramIs protocol src dst bytes) few = few
+still_few n (CallIs s call) few = few
+still_few n (AddSlotIs quotas) few = by (nat_lt n 16) refl
+  where
+    by : (room : Bool) → nat_lt n 16 ≡ room → (if room then n + 1 else n) ≤ 16
+    by true is = grind (arith, nat_tests)
+    by false is = few
+
+-- what the number past the last slot is told: that a slot is opened there
+pub own_told : (old new : NodeState) (records records_then : List RecordModel) (event : EventModel)
+    → refused_as (length old.slots) old.globals event ≡ None → records ≡ []
+    → ((s : ℕ) → StepsAsAlone old new records records_then event s)
+    → records_of (length old.slots) records_then ≡ told_opening event
+own_told old new records records_then event admitted empty steps =
+    let past : slice_get old.slots (length old.slots) ≡ None =
+    slice_get_past old.slots (length old.slots) (omega arith) in
+    let here : (length old.slots == length old.slots) ≡ true = grind (arith, nat_tests) in
+    (steps (length old.slots)).records_are
+    ∙ rw (empty, past) (told_opened (setup_of old.config) (length old.slots) (length old.slots)
+    old.globals event admitted ∙ rw here refl)
+
+none_opened : (m n : ℕ) (records : List RecordModel) → n ≡ m
+    → by_slot n records ≡ by_slot m records ++ []
+none_opened m n records is =
+    ap (λ k. by_slot k records) is ∙ sym (append-nil (by_slot m records))
+
+-- the records of the slot that an event opens come last
+pub opened_own : (m n : ℕ) (g : Globals) (event : EventModel) (records : List RecordModel)
+    → refused_as m g event ≡ None → n ≡ slots_then m event
+    → records_of m records ≡ told_opening event
+    → by_slot n records ≡ by_slot m records ++ labelled m (told_opening event)
+opened_own m n g (MomentIs t) records admitted count own = none_opened m n records count
+opened_own m n g (TopologyIs topo) records admitted count own = none_opened m n records count
+opened_own m n g (RoleIs group leader) records admitted count own =
+    none_opened m n records count
+opened_own m n g (DatagramIs protocol src dst bytes) records admitted count own =
+    none_opened m n records count
+opened_own m n g (CallIs s call) records admitted count own = none_opened m n records count
+opened_own m n g (AddSlotIs quotas) records admitted count own =
+    let room : nat_lt m 16 ≡ true = grind (arith, nat_tests) in
+    let more : n ≡ m + 1 = rw room at count in
+    let next : n ≡ suc m = omega (arith, more) in
+    ap (λ k. by_slot k records) next ∙ by_slot_suc m records
+    ∙ ap (λ l. by_slot m records ++ l) (sym (own_labelled m records) ∙ ap (labelled m) own)
+
 -- what is told of an event that the node took
 pub text_played : (n : ℕ) (old new : NodeState) (records records_then : List RecordModel)
     (event : EventModel) (text : List ℕ)
     → FaultIs (refused_as (length old.slots) old.globals event) (Ok tt)
-    → length old.slots ≤ n → records ≡ []
-    → ((s : ℕ) → StepsAsAlone old new records records_then event s)
-    → Appends old.slots records records_then
+    → length new.slots ≤ n → length new.slots ≡ slots_then (length old.slots) event
+    → records ≡ [] → ((s : ℕ) → StepsAsAlone old new records records_then event s)
+    → Appends new.slots records records_then
     → text ≡ flat_map text_of_record (by_slot n records_then)
     → text ≡ event_text (uncounted old) event
-text_played n old new records records_then event text taken fits empty steps appends told =
-    let room : n ≡ length old.slots + (n - length old.slots) = omega (arith, fits) in
-    let none : (s : ℕ) → slice_get old.slots s ≡ None → records_of s records_then ≡ [] =
+text_played n old new records records_then event text taken fits count empty steps appends told =
+    let admitted = no_fault (refused_as (length old.slots) old.globals event) taken in
+    let room : n ≡ length new.slots + (n - length new.slots) = omega (arith, fits) in
+    let none : (s : ℕ) → slice_get new.slots s ≡ None → records_of s records_then ≡ [] =
     λ s past. appends.none_else s past ∙ ap (records_of s) empty in
     let each : (i s : ℕ) (slot : SlotState) → s ≡ 0 + i → slice_get old.slots i ≡ Some slot
     → records_of s records_then ≡ records_after (setup_of old.config) s slot old.globals event =
@@ -171,15 +229,19 @@ text_played n old new records records_then event text taken fits empty steps app
     ∙ ap (λ l.
     records_of i l ++ records_after (setup_of old.config) i slot old.globals event) empty) in
     let whole : 0 + length old.slots ≡ length old.slots = omega arith in
+    let opening = labelled (length old.slots) (told_opening event) in
     told
     ∙ ap (flat_map text_of_record)
-    (by_slot_past old.slots records_then none (n - length old.slots) n room)
-    ∙ sym (ap (λ l. flat_map text_of_record l ++ slots_text (setup_of old.config)
+    (by_slot_past new.slots records_then none (n - length new.slots) n room
+    ∙ opened_own (length old.slots) (length new.slots) old.globals event records_then admitted
+    count (own_told old new records records_then event admitted empty steps))
+    ∙ flat_map-append text_of_record (by_slot (length old.slots) records_then) opening
+    ∙ ap (λ l. l ++ flat_map text_of_record opening)
+    (sym (ap (λ l. flat_map text_of_record l ++ slots_text (setup_of old.config)
     old.globals event 0 old.slots) (sym (by_slot_zero records_then))
     ∙ slots_text_after (setup_of old.config) old.globals
-    event records_then old.slots 0 (length old.slots) (sym whole) each)
-    ∙ ap (λ fault. text_unless fault (uncounted old) event)
-    (sym (no_fault (refused_as (length old.slots) old.globals event) taken))
+    event records_then old.slots 0 (length old.slots) (sym whole) each))
+    ∙ ap (λ fault. text_unless fault (uncounted old) event) (sym admitted)
 
 -- what the latest event cost decides nothing of the next
 pub may_uncounted : (node : NodeState) (event : EventModel)
@@ -189,6 +251,7 @@ may_uncounted node (TopologyIs topo) may = may
 may_uncounted node (RoleIs group leader) may = may
 may_uncounted node (DatagramIs protocol src dst bytes) may = may
 may_uncounted node (CallIs s call) may = may
+may_uncounted node (AddSlotIs quotas) may = may
 
 -- what is told of an event that the node took no notice of
 pub text_refused : (node : NodeState) (event : EventModel) (refused : Option NodeFault)

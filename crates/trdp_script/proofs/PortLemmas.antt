@@ -8,11 +8,12 @@ use Rattle.std.proofs.lemmas.Bool.Decides.{nat_tests}
 use Rattle.std.proofs.lemmas.List.Elements.{All-nil, All-cons}
 use Rattle.std.proofs.lemmas.List.Splits.{slice_split_at}
 use Rattle.trdp_base.specs.NumberText.{text_of_number}
+use Rattle.trdp_base.specs.QuotaLimits.{quota_limit}
 use Rattle.trdp_engine.specs.Events.{EventModel, MomentIs, TopologyIs, RoleIs, DatagramIs}
-use Rattle.trdp_engine.specs.Events.{CallIs}
+use Rattle.trdp_engine.specs.Events.{CallIs, AddSlotIs}
 use Rattle.trdp_script.specs.Forms.{call_word, event_in, event_of_words, forms, has_keywords}
-use Rattle.trdp_script.specs.Forms.{role_form, topology_form}
-use Rattle.trdp_script.specs.Words.{words_of}
+use Rattle.trdp_script.specs.Forms.{role_form, topology_form, add_slot_form}
+use Rattle.trdp_script.specs.Words.{words_of, first_word, other_words, number_of_word}
 use Rattle.trdp_script.specs.Lines.{Reads, event_or_fault, form_among, is_skipped, line_among}
 use Rattle.trdp_script.specs.Lines.{may_have, words_say}
 use Rattle.trdp_script.specs.PortLines.{call_line, control_line_of, operator_line_of, without_end}
@@ -66,7 +67,8 @@ control_says slot digits text bytes shown small is some short =
     grind (arith, nat_tests, call_length slot text, ap length shown, short) in
     rw (sym is, some, tells, call_begins slot text, call_words slot text small, shown) refl
 
--- what a line can mean at the operator's port: topology counts, a role, nothing, or a fault
+-- what a line can mean at the operator's port: topology counts, a role, a slot that is opened,
+-- nothing, or a fault
 abbrev pub IsOperators : Result (Option EventModel) LineFault → Type 0
 IsOperators (Err fault) = fault ≡ OutOfMemory → ⊥
 IsOperators (Ok None) = Unit {0}
@@ -75,6 +77,7 @@ IsOperators (Ok (Some (TopologyIs topo))) = Unit {0}
 IsOperators (Ok (Some (RoleIs group leader))) = Unit {0}
 IsOperators (Ok (Some (DatagramIs protocol src dst bytes))) = ⊥
 IsOperators (Ok (Some (CallIs slot call))) = ⊥
+IsOperators (Ok (Some (AddSlotIs quotas))) = Unit {0}
 
 topology_said : (etb op_trn : Option ℕ) → IsOperators (event_or_fault (option_and_then (λ e.
     option_and_then (λ o. Some (TopologyIs (record { etb = e; op_trn = o }))) op_trn) etb))
@@ -87,6 +90,19 @@ role_said : (group : Option ℕ) (leader : Option Bool) → IsOperators (event_o
 role_said None leader = λ is. absurd (cc)
 role_said (Some g) None = λ is. absurd (cc)
 role_said (Some g) (Some l) = tt
+
+add_slot_said : (p s r l c e : Option ℕ) → IsOperators (event_or_fault
+    (option_and_then (λ publishers. option_and_then (λ subscriptions. option_and_then (λ requesters.
+    option_and_then (λ listeners. option_and_then (λ callers. option_and_then (λ repliers.
+    Some (AddSlotIs (publishers ∷ subscriptions ∷ requesters ∷ listeners ∷ callers ∷ repliers
+    ∷ []))) e) c) l) r) s) p))
+add_slot_said None s r l c e = λ is. absurd (cc)
+add_slot_said (Some p) None r l c e = λ is. absurd (cc)
+add_slot_said (Some p) (Some s) None l c e = λ is. absurd (cc)
+add_slot_said (Some p) (Some s) (Some r) None c e = λ is. absurd (cc)
+add_slot_said (Some p) (Some s) (Some r) (Some l) None e = λ is. absurd (cc)
+add_slot_said (Some p) (Some s) (Some r) (Some l) (Some c) None = λ is. absurd (cc)
+add_slot_said (Some p) (Some s) (Some r) (Some l) (Some c) (Some e) = tt
 
 -- of the right number of words or not
 counted_said : (right : Bool) (event : Option EventModel) → IsOperators (event_or_fault event)
@@ -105,21 +121,41 @@ unfolding words_say event_of_words
 role_words words = counted_said (may_have role_form.parts (length words)) (event_in role_form words)
     (role_said _ _)
 
+-- the quota that the second of these words is
+abbrev quota_next : List (List ℕ) → Option ℕ
+quota_next words = number_of_word quota_limit (first_word (other_words words))
+
+abbrev past_two : List (List ℕ) → List (List ℕ)
+past_two words = other_words (other_words words)
+
+add_slot_words : (words : List (List ℕ)) → IsOperators (words_say (Some add_slot_form) words)
+unfolding words_say event_of_words
+add_slot_words words =
+    counted_said (may_have add_slot_form.parts (length words)) (event_in add_slot_form words)
+    (add_slot_said (quota_next words) (quota_next (other_words words))
+    (quota_next (past_two words)) (quota_next (other_words (past_two words)))
+    (quota_next (past_two (past_two words)))
+    (quota_next (other_words (past_two (past_two words)))))
+
 other_words_said : (words : List (List ℕ)) → IsOperators (words_say None words)
 unfolding words_say
 other_words_said words = λ is. absurd (cc)
 
 operators_words : (words : List (List ℕ))
-    → IsOperators (words_say (form_among (topology_form ∷ role_form ∷ []) words) words)
+    → IsOperators (words_say (form_among (topology_form ∷ role_form ∷ add_slot_form ∷ []) words)
+    words)
 unfolding form_among
 operators_words words = by_form (has_keywords topology_form.parts words)
-    (has_keywords role_form.parts words)
+    (has_keywords role_form.parts words) (has_keywords add_slot_form.parts words)
   where
-    by_form : (topology role : Bool) → IsOperators (words_say (if topology then Some topology_form
-        else (if role then Some role_form else None)) words)
-    by_form true role = topology_words words
-    by_form false true = role_words words
-    by_form false false = other_words_said words
+    by_form : (topology role add_slot : Bool)
+        → IsOperators (words_say (if topology then Some topology_form
+        else (if role then Some role_form
+        else (if add_slot then Some add_slot_form else None))) words)
+    by_form true role add_slot = topology_words words
+    by_form false true add_slot = role_words words
+    by_form false false true = add_slot_words words
+    by_form false false false = other_words_said words
 
 -- what a line means at the operator's port
 pub operators_line : (bytes : List ℕ) → IsOperators (operator_line_of bytes)
@@ -129,8 +165,8 @@ operators_line bytes = by_text (nat_lt 140000 (length (without_end bytes)))
   where
     by_text : (long skipped : Bool) → IsOperators (if long then Err TooLong
         else (if skipped then Ok None
-        else words_say (form_among (topology_form ∷ role_form ∷ []) (words_of (without_end bytes)))
-        (words_of (without_end bytes))))
+        else words_say (form_among (topology_form ∷ role_form ∷ add_slot_form ∷ [])
+        (words_of (without_end bytes))) (words_of (without_end bytes))))
     by_text true skipped = λ is. absurd (cc)
     by_text false true = tt
     by_text false false = operators_words (words_of (without_end bytes))
@@ -147,6 +183,8 @@ operators_never_want (Ok (Some (RoleIs group leader))) fault of reads is =
     let none = reads.1 in absurd (cc)
 operators_never_want (Ok (Some (DatagramIs protocol src dst bytes))) fault of reads is = absurd of
 operators_never_want (Ok (Some (CallIs slot call))) fault of reads is = absurd of
+operators_never_want (Ok (Some (AddSlotIs quotas))) fault of reads is =
+    let none = reads.1 in absurd (cc)
 
 pub operators_sure : (meaning : Result (Option EventModel) LineFault) (r : Result Line LineFault)
     → IsOperators meaning → Reads meaning r → IfErr r (λ fault. fault ≡ OutOfMemory → ⊥)

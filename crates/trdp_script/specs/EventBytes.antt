@@ -2,7 +2,7 @@
 use Rattle.std.specs.Prelude.{Bool, true, false, Option, Some, None}
 use Rattle.trdp_engine.specs.Events.{CallModel, PutCall, NotifyCall, RequestCall, ReplyCall}
 use Rattle.trdp_engine.specs.Events.{QueryCall, EventModel, MomentIs, TopologyIs, RoleIs}
-use Rattle.trdp_engine.specs.Events.{DatagramIs, CallIs}
+use Rattle.trdp_engine.specs.Events.{DatagramIs, CallIs, AddSlotIs}
 
 -- a call carries bytes that gives a value or sends a payload
 abbrev pub does_call_carry_bytes : CallModel → Bool
@@ -21,3 +21,4 @@ carries_bytes (Some (TopologyIs topo)) = false
 carries_bytes (Some (RoleIs group leader)) = false
 carries_bytes (Some (DatagramIs protocol src dst bytes)) = true
 carries_bytes (Some (CallIs slot call)) = does_call_carry_bytes call
+carries_bytes (Some (AddSlotIs quotas)) = false

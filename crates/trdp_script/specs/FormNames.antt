@@ -6,7 +6,8 @@ use Rattle.trdp_script.specs.Forms.{md_form, publish_form, put_form, unpublish_f
 use Rattle.trdp_script.specs.Forms.{subscribe_form, get_form, unsubscribe_form, open_pull_form}
 use Rattle.trdp_script.specs.Forms.{pull_form, close_pull_form, listen_form, unlisten_form}
 use Rattle.trdp_script.specs.Forms.{notify_form, request_form, reply_form, query_form}
-use Rattle.trdp_script.specs.Forms.{reply_error_form, confirm_form, abort_form, call_word}
+use Rattle.trdp_script.specs.Forms.{reply_error_form, confirm_form, abort_form, add_slot_form}
+use Rattle.trdp_script.specs.Forms.{call_word}
 use Rattle.trdp_script.specs.Words.{first_word, other_words}
 use Rattle.trdp_script.specs.declared.form.Form.{Form}
 use Rattle.trdp_script.specs.declared.form.Form.TheVariants.{Moment, Topology, Role, Pd, Md}
@@ -14,7 +15,7 @@ use Rattle.trdp_script.specs.declared.form.Form.TheVariants.{Publish, Put, Unpub
 use Rattle.trdp_script.specs.declared.form.Form.TheVariants.{Get, Unsubscribe, OpenPull, Pull}
 use Rattle.trdp_script.specs.declared.form.Form.TheVariants.{ClosePull, Listen, Unlisten}
 use Rattle.trdp_script.specs.declared.form.Form.TheVariants.{Notify, Request, Reply, Query}
-use Rattle.trdp_script.specs.declared.form.Form.TheVariants.{ReplyError, Confirm, Abort}
+use Rattle.trdp_script.specs.declared.form.Form.TheVariants.{ReplyError, Confirm, Abort, AddSlot}
 
 -- the form with that name
 abbrev pub line_form : Form → LineForm
@@ -41,6 +42,7 @@ line_form Query = query_form
 line_form ReplyError = reply_error_form
 line_form Confirm = confirm_form
 line_form Abort = abort_form
+line_form AddSlot = add_slot_form
 
 -- whether the words begin with `call`, a slot and that word, or else with the word itself
 abbrev pub is_told : Bool → List ℕ → List (List ℕ) → Bool

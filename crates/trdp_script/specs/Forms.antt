@@ -6,6 +6,7 @@ use Rattle.std.specs.Str.{bytes_eq}
 use Rattle.trdp_base.specs.declared.place.Ip.{Ip}
 use Rattle.trdp_base.specs.declared.place.Place.{Place}
 use Rattle.trdp_base.specs.declared.session.SessionId.{SessionId}
+use Rattle.trdp_base.specs.QuotaLimits.{quota_limit}
 use Rattle.trdp_pd.specs.declared.terms.Behaviour.{Behaviour}
 use Rattle.trdp_pd.specs.declared.terms.Behaviour.TheVariants.{Zero, Keep}
 use Rattle.trdp_md.specs.declared.terms.NotifyTerms.{NotifyTerms}
@@ -16,6 +17,7 @@ use Rattle.trdp_engine.specs.Events.{ClosePullCall, ListenCall, UnlistenCall, No
 use Rattle.trdp_engine.specs.Events.{RequestCall, ReplyCall, QueryCall, ReplyErrorCall}
 use Rattle.trdp_engine.specs.Events.{ConfirmCall, AbortCall}
 use Rattle.trdp_engine.specs.Events.{EventModel, MomentIs, TopologyIs, RoleIs, DatagramIs, CallIs}
+use Rattle.trdp_engine.specs.Events.{AddSlotIs}
 use Rattle.trdp_engine.specs.declared.record.Protocol.{Protocol}
 use Rattle.trdp_engine.specs.declared.record.Protocol.TheVariants.{Pd, Md}
 use Rattle.trdp_script.specs.Words.{first_word, other_words, number_of_word, ip_of_word}
@@ -73,6 +75,10 @@ number_32 = NumberField (2 ^ 32 - 1)
 
 abbrev pub number_64 : Part
 number_64 = NumberField (2 ^ 64 - 1)
+
+-- how many objects of a kind a slot may hold
+abbrev pub quota : Part
+quota = NumberField quota_limit
 
 -- `any`, or a number of 32 bits
 abbrev pub any_or_32 : Part
@@ -283,13 +289,21 @@ confirm_form =
 abbrev pub abort_form : LineForm
 abort_form = handle_form (codes "abort") (λ handle. AbortCall handle)
 
+-- addslot PUBLISHERS SUBSCRIPTIONS REQUESTERS LISTENERS CALLERS REPLIERS
+abbrev pub add_slot_form : LineForm
+add_slot_form = record {
+  parts = Keyword (codes "addslot") ∷ quota ∷ quota ∷ quota ∷ quota ∷ quota ∷ quota ∷ [];
+  event = λ publishers subscriptions requesters listeners callers repliers. AddSlotIs
+      (publishers ∷ subscriptions ∷ requesters ∷ listeners ∷ callers ∷ repliers ∷ []);
+}
+
 -- all forms
 unfoldable pub forms : List LineForm
 forms =
     moment_form ∷ topology_form ∷ role_form ∷ pd_form ∷ md_form ∷ publish_form ∷ put_form
     ∷ unpublish_form ∷ subscribe_form ∷ get_form ∷ unsubscribe_form ∷ open_pull_form ∷ pull_form
     ∷ close_pull_form ∷ listen_form ∷ unlisten_form ∷ notify_form ∷ request_form ∷ reply_form
-    ∷ query_form ∷ reply_error_form ∷ confirm_form ∷ abort_form ∷ []
+    ∷ query_form ∷ reply_error_form ∷ confirm_form ∷ abort_form ∷ add_slot_form ∷ []
 
 -- whether the keywords stand among the words where they are to stand
 unfoldable pub has_keywords : List Part → List (List ℕ) → Bool

@@ -3,6 +3,7 @@ use Rattle.std.specs.Prelude.{◌≡◌, ℕ, suc, ◌==◌, ◌&&◌, List, [],
 use Rattle.std.specs.Prelude.{true}
 use Rattle.std.specs.Prelude.{Option, Some, None, Result, Ok, Err, if◌then◌else◌, find}
 use Rattle.trdp_engine.specs.Events.{EventModel, MomentIs, TopologyIs, RoleIs, DatagramIs, CallIs}
+use Rattle.trdp_engine.specs.Events.{AddSlotIs}
 use Rattle.trdp_script.specs.EventBytes.{carries_bytes}
 use Rattle.trdp_script.specs.Forms.{Part, LastNumberField, LineForm, forms, has_keywords}
 use Rattle.trdp_script.specs.Forms.{event_in}
@@ -13,7 +14,7 @@ use Rattle.trdp_script.specs.declared.fault.LineFault.TheVariants.{TooLong, Unkn
 use Rattle.trdp_script.specs.declared.fault.LineFault.TheVariants.{BadWord, OutOfMemory}
 use Rattle.trdp_script.specs.declared.line.Line.{Line}
 use Rattle.trdp_script.specs.declared.line.Line.TheVariants.{Skipped, Moment, Topology, Role}
-use Rattle.trdp_script.specs.declared.line.Line.TheVariants.{Datagram, Call, BytesCall}
+use Rattle.trdp_script.specs.declared.line.Line.TheVariants.{Datagram, Call, BytesCall, AddSlot}
 
 -- the line is empty or begins with `#`
 abbrev pub is_skipped : List ℕ → Bool
@@ -68,6 +69,7 @@ event_of (Role group leader) = Some (RoleIs group leader)
 event_of (Datagram protocol src dst bytes) = Some (DatagramIs protocol src dst bytes.items)
 event_of (Call slot call) = Some (CallIs slot (plain_call_of call))
 event_of (BytesCall slot call) = Some (CallIs slot (bytes_call_of call))
+event_of (AddSlot quotas) = Some (AddSlotIs quotas)
 
 -- what was read is what the line says, or memory ran out for the bytes of a line that carries some,
 -- where nothing else is wrong

@@ -16,13 +16,14 @@ use Rattle.trdp_pd.specs.Peeks.{PeekModel}
 use Rattle.trdp_pd.specs.declared.terms.ValueState.{ValueState}
 use Rattle.trdp_pd.specs.declared.terms.ValueState.TheVariants.{Never, Valid, Silent}
 use Rattle.trdp_engine.specs.Records.{AnswerModel, HandleIs, DoneIs, ValueIs, RefusedIs}
+use Rattle.trdp_engine.specs.Records.{OpenedIs}
 use Rattle.trdp_engine.specs.Records.{MessageModel, ReplyModel, IndicationModel, SilentIs, AliveIs}
 use Rattle.trdp_engine.specs.Records.{NotifiedIs, AskedIs, OverrunIs, RepliedIs, ConfirmedIs}
 use Rattle.trdp_engine.specs.Records.{ClosedIs}
 use Rattle.trdp_engine.specs.Records.{Content, Answers, Indicates, Sends, RecordModel}
 use Rattle.trdp_engine.specs.declared.fault.NodeFault.{NodeFault}
 use Rattle.trdp_engine.specs.declared.fault.NodeFault.TheVariants.{NoSlot, Past, TooLate}
-use Rattle.trdp_engine.specs.declared.fault.NodeFault.TheVariants.{NoGroup, OutOfMemory}
+use Rattle.trdp_engine.specs.declared.fault.NodeFault.TheVariants.{NoGroup, OutOfMemory, SlotsFull}
 use Rattle.trdp_engine.specs.declared.fault.Refusal.{Refusal}
 use Rattle.trdp_engine.specs.declared.fault.Refusal.TheVariants.{NoHandle, WrongKind, State}
 use Rattle.trdp_engine.specs.declared.fault.Refusal.TheVariants.{Cycle, Timeout, Expected, Status}
@@ -43,6 +44,7 @@ name_of_fault Past = codes "Past"
 name_of_fault TooLate = codes "TooLate"
 name_of_fault NoGroup = codes "NoGroup"
 name_of_fault OutOfMemory = codes "OutOfMemory"
+name_of_fault SlotsFull = codes "SlotsFull"
 
 -- the name of a refusal
 abbrev pub name_of_refusal : Refusal → List ℕ
@@ -105,6 +107,7 @@ text_of_answer (HandleIs handle) = codes " handle " ++ text_of_number handle
 text_of_answer DoneIs = codes " done"
 text_of_answer (ValueIs peek) = text_of_peek peek
 text_of_answer (RefusedIs refusal) = codes " refused " ++ name_of_refusal refusal
+text_of_answer OpenedIs = codes " opened"
 
 -- the words of a message: where it came from, its comId, its URIs and its payload, with a space
 -- before each
@@ -168,6 +171,7 @@ answer_bytes (HandleIs handle) = []
 answer_bytes DoneIs = []
 answer_bytes (ValueIs peek) = peek.bytes
 answer_bytes (RefusedIs refusal) = []
+answer_bytes OpenedIs = []
 
 -- the bytes that an indication shows
 abbrev pub indication_bytes : IndicationModel → List ℕ

@@ -12,12 +12,13 @@ use Rattle.trdp_engine.specs.Events.{EventModel}
 use Rattle.trdp_engine.specs.Records.{labelled}
 use Rattle.trdp_engine.specs.Slots.{SlotState}
 use Rattle.trdp_engine.specs.Alone.{refused_as, globals_after, slot_after, records_after}
+use Rattle.trdp_engine.specs.Alone.{opened_by, told_opening}
 use Rattle.trdp_engine.specs.NodeStates.{NodeState, opened_node}
 use Rattle.trdp_script.specs.declared.fault.LineFault.{LineFault}
 use Rattle.trdp_script.specs.Lines.{line_of}
 use Rattle.trdp_script.specs.RecordText.{text_of_record, text_of_fault}
 
--- the slots, of which the first has the number s, after an event that the node takes
+-- the slots that are there, of which the first has the number s, after an event that the node takes
 abbrev pub slots_after : NodeSetup → Globals → EventModel → ℕ → List SlotState → List SlotState
 slots_after setup g event s [] = []
 slots_after setup g event s (slot ∷ slots) =
@@ -36,7 +37,7 @@ abbrev pub node_unless : Option NodeFault → NodeState → EventModel → NodeS
 node_unless (Some fault) node event = node
 node_unless None node event = record node {
   globals = globals_after node.globals event;
-  slots = slots_after (setup_of node.config) node.globals event 0 node.slots;
+  slots = slots_after (setup_of node.config) node.globals event 0 node.slots ++ opened_by event;
 }
 
 -- the node after an event
@@ -53,6 +54,7 @@ abbrev pub text_unless : Option NodeFault → NodeState → EventModel → List 
 text_unless (Some fault) node event = text_of_fault fault
 text_unless None node event =
     slots_text (setup_of node.config) node.globals event 0 node.slots
+    ++ flat_map text_of_record (labelled (length node.slots) (told_opening event))
 
 -- what is told of an event
 abbrev pub event_text : NodeState → EventModel → List ℕ

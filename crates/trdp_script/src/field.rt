@@ -7,6 +7,7 @@ ghost use Rattle.trdp_base.specs.AddressText.{text_of_ip, text_of_place};
 ghost use Rattle.trdp_base.specs.HexText.{text_of_hex};
 ghost use Rattle.trdp_base.specs.NumberText.{text_of_number};
 ghost use Rattle.trdp_base.specs.StatusText.{text_of_status};
+ghost use Rattle.trdp_base.specs.QuotaLimits.{quota_limit};
 ghost use Rattle.trdp_base.specs.Uris.{IsUri};
 ghost use Rattle.trdp_base.specs.declared.place.Ip.{Ip};
 ghost use Rattle.trdp_base.specs.declared.place.Place.{Place};
@@ -20,8 +21,8 @@ use crate::fault::LineFault;
 use crate::words::Words;
 use std::alloc::Global;
 use trdp_base::{
-    Ip, Place, SessionId, TextFault, Uri, read_hex, read_ip, read_number, read_place, read_session,
-    read_status, read_uri,
+    Ip, Place, QUOTA_LIMIT, SessionId, TextFault, Uri, read_hex, read_ip, read_number, read_place,
+    read_session, read_status, read_uri,
 };
 
 /// The word for a number of any value.
@@ -47,6 +48,16 @@ impl Words<'_> {
         }
         let number = number_of(self.next_word(), u64::from(u8::MAX))?;
         Some(number as u8)
+    }
+
+    /// The quota that the next word is, at most [`QUOTA_LIMIT`].
+    pub(crate) fn next_quota(&mut self) -> Option<u16>
+        ensures value { result ≡ number_of_word quota_limit (first_word (words_left self.old)) }
+        ensures within { IfSome result (λ quota. quota ≤ quota_limit) }
+        ensures rest { words_left self.new ≡ other_words (words_left self.old) }
+    {
+        let number = number_of(self.next_word(), u64::from(QUOTA_LIMIT))?;
+        Some(number as u16)
     }
 
     /// The number of 16 bits that the next word is.

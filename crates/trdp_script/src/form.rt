@@ -36,10 +36,11 @@ pub(crate) enum Form {
     ReplyError,
     Confirm,
     Abort,
+    AddSlot,
 }
 
 /// All forms, in the order of their definition.
-pub(crate) static FORMS: [Form; 23] = [
+pub(crate) static FORMS: [Form; 24] = [
     Form::Moment,
     Form::Topology,
     Form::Role,
@@ -63,10 +64,11 @@ pub(crate) static FORMS: [Form; 23] = [
     Form::ReplyError,
     Form::Confirm,
     Form::Abort,
+    Form::AddSlot,
 ];
 
 /// The forms of the operator's lines, in the order of their definition.
-pub(crate) static OPERATOR_FORMS: [Form; 2] = [Form::Topology, Form::Role];
+pub(crate) static OPERATOR_FORMS: [Form; 3] = [Form::Topology, Form::Role, Form::AddSlot];
 
 /// The words that tell a form, and how many there are in all.
 #[derive(Clone, Copy)]
@@ -140,6 +142,7 @@ impl Form {
             Form::ReplyError => Row::call(b"replyerror", 6),
             Form::Confirm => Row::call(b"confirm", 6),
             Form::Abort => Row::call(b"abort", 4),
+            Form::AddSlot => Row::line(b"addslot", 7),
         }
     }
 }

@@ -13,7 +13,7 @@ use crate::fault::LineFault;
 use crate::form::{FORMS, Form};
 use crate::words::Words;
 use std::alloc::Global;
-use trdp_base::{Place, Topo};
+use trdp_base::{Place, Quotas, Topo};
 use trdp_engine::{Event, Protocol};
 
 /// The longest line, in bytes without its end (profile).
@@ -50,6 +50,8 @@ pub enum Line {
         slot: u16,
         call: BytesCall,
     },
+    /// The next slot is opened, with these quotas.
+    AddSlot(Quotas),
 }
 
 impl Line {
@@ -84,6 +86,7 @@ impl Line {
                 slot: *slot,
                 call: call.call(),
             }),
+            Line::AddSlot(quotas) => Some(Event::AddSlot(*quotas)),
         }
     }
 }

@@ -21,6 +21,7 @@ pub(crate) fn fault_name(fault: NodeFault) -> &'static [u8]
         NodeFault::TooLate => b"TooLate",
         NodeFault::NoGroup => b"NoGroup",
         NodeFault::OutOfMemory => b"OutOfMemory",
+        NodeFault::SlotsFull => b"SlotsFull",
     }
 }
 

@@ -35,7 +35,7 @@ pub fn play(
         (text.new.items ≡ event_text (uncounted node.old) (event_model event.now)) }
     ensures wanting { OnErr result
         (EventMayWant (uncounted node.old) (event_model event.now)) }
-    ensures count { length node.new.slots ≡ length node.old.slots }
+    ensures few { length node.new.slots ≤ 16 }
 {
     records.clear();
     text.clear();

@@ -40,8 +40,8 @@ pub fn read_control(alloc: Global, slot: u16, bytes: &[u8]) -> Result<Line, Line
     read_words(alloc, &FORMS, Words::of_call(slot, text))
 }
 
-/// Reads a datagram that came to the operator's port: a line that begins with `topology` or `role`
-/// (profile).
+/// Reads a datagram that came to the operator's port: a line that begins with `topology`, `role` or
+/// `addslot` (profile).
 ///
 /// An end of line is dropped: a newline, and one carriage return before it. A line that is
 /// empty or begins with `#` is skipped, unless it is too long.

@@ -128,6 +128,7 @@ fn put_answer(text: &mut Vec<u8>, answer: Answer<'_>)
             put_word(text, b" refused ");
             put_word(text, refusal_name(refusal));
         }
+        Answer::Opened => put_word(text, b" opened"),
     }
 }
 

@@ -6,7 +6,7 @@ ghost use Rattle.trdp_script.specs.Forms.{event_in, handle_form, datagram_form, 
 ghost use Rattle.trdp_script.specs.Forms.{topology_form, role_form, put_form, publish_form};
 ghost use Rattle.trdp_script.specs.Forms.{subscribe_form, open_pull_form, unpublish_form};
 ghost use Rattle.trdp_script.specs.Forms.{get_form, unsubscribe_form, pull_form, close_pull_form};
-ghost use Rattle.trdp_script.specs.Forms.{behaviour_of};
+ghost use Rattle.trdp_script.specs.Forms.{behaviour_of, add_slot_form};
 ghost use Rattle.trdp_script.specs.FormNames.{line_form};
 ghost use Rattle.trdp_script.specs.Lines.{event_of, event_or_fault, Reads};
 ghost use Rattle.trdp_script.specs.WordsLeft.{words_left};
@@ -21,7 +21,7 @@ use crate::read_session::{
 };
 use crate::words::Words;
 use std::alloc::Global;
-use trdp_base::Topo;
+use trdp_base::{Quotas, Topo};
 use trdp_engine::Protocol;
 use trdp_filter::PdFilter;
 use trdp_pd::{Behaviour, PublisherTerms, RequesterTerms, SubscriptionTerms};
@@ -60,6 +60,7 @@ impl Form {
             Form::ReplyError => plain(read_reply_error(words)),
             Form::Confirm => plain(read_confirm(words)),
             Form::Abort => plain(read_abort(words)),
+            Form::AddSlot => plain(read_add_slot(words)),
         }
     }
 }
@@ -107,6 +108,30 @@ fn read_role(mut words: Words<'_>) -> Option<Line>
     let group = words.next_u8()?;
     let leader = words.next_choice(b"leader", b"follower")?;
     Some(Line::Role { group, leader })
+}
+
+/// `addslot PUBLISHERS SUBSCRIPTIONS REQUESTERS LISTENERS CALLERS REPLIERS`
+#[tactic(auto, unfolding(crate::specs::Forms::event_of_words))]
+fn read_add_slot(mut words: Words<'_>) -> Option<Line>
+    ensures { option_map event_of result
+        ≡ option_map Some (event_in add_slot_form (words_left words.entry)) }
+{
+    words.next_word();
+    let publishers = words.next_quota()?;
+    let subscriptions = words.next_quota()?;
+    let requesters = words.next_quota()?;
+    let listeners = words.next_quota()?;
+    let callers = words.next_quota()?;
+    let repliers = words.next_quota()?;
+    let quotas = Quotas::new([
+        publishers,
+        subscriptions,
+        requesters,
+        listeners,
+        callers,
+        repliers,
+    ])?;
+    Some(Line::AddSlot(quotas))
 }
 
 /// `call SLOT publish COMID DATASET CYCLE GROUP ETB OPTRN TO`

@@ -353,7 +353,7 @@ impl Player {
         writer: &mut W,
     ) -> Result<(), ScriptFault>
         requires slots { length self.old.node.slots ≤ 16 }
-        ensures count { length self.new.node.slots ≡ length self.old.node.slots }
+        ensures few { length self.new.node.slots ≤ 16 }
         ensures line { LineComesTo self.old self.new
             (W.contents writer.old) (W.contents writer.new)
             number (line_of line.now) result }
@@ -372,7 +372,7 @@ impl Player {
     #[tactic(auto, unfolding(crate::specs::ScriptSteps::LineComesTo))]
     fn take_event<W: Write>(&mut self, event: &Event<'_>, writer: &mut W) -> Result<(), ScriptFault>
         requires slots { length self.old.node.slots ≤ 16 }
-        ensures count { length self.new.node.slots ≡ length self.old.node.slots }
+        ensures few { length self.new.node.slots ≤ 16 }
         ensures line { LineComesTo self.old self.new
             (W.contents writer.old) (W.contents writer.new)
             0 (Ok (Some (event_model event.now))) result }

@@ -1,6 +1,7 @@
-//! What a node shows of its subscriptions.
+//! What a node shows: its slots, its subscriptions, and what an event cost.
 
-ghost use Rattle.std.specs.Prelude.{◌≡◌, slice_get};
+ghost use Rattle.std.specs.Prelude.{◌≡◌, ◌≤◌, ◌∷◌, [], length, slice_get};
+ghost use Rattle.trdp_table.specs.Tables.{slot_limit};
 ghost use Rattle.trdp_engine.specs.Configs.{setup_of};
 ghost use Rattle.trdp_engine.specs.Peeks.{peeked, peek_in};
 ghost use Rattle.trdp_engine.specs.ShownItems.{showing_in, ShowsItem};
@@ -14,6 +15,29 @@ use trdp_marshal::Item;
 use trdp_pd::Peek;
 
 impl Node {
+    /// How many slots it has, 1 to 16.
+    pub fn slots(&self) -> usize
+        ensures count { result ≡ length self.now.slots }
+        ensures within { result ≤ slot_limit }
+    {
+        self.store.slots()
+    }
+
+    /// What the latest event cost that the node took: how often two rows or two orders were
+    /// compared, or an order with the moment; filter tests; and look-ups of sessions, in this
+    /// order. Each number stays at 2^64 - 1 where it is that or more. All are 0 for a new node and
+    /// after a call. An event that is refused leaves them.
+    pub fn counts(&self) -> [u64; 3]
+        ensures { result ≡ self.now.counts.comparisons ∷ self.now.counts.tests
+            ∷ self.now.counts.look_ups ∷ [] }
+    {
+        [
+            self.counts.comparisons,
+            self.counts.tests,
+            self.counts.look_ups,
+        ]
+    }
+
     /// What the subscription of that handle shows, in every state of it. It takes no memory.
     ///
     /// # Errors

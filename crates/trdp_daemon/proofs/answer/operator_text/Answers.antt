@@ -22,3 +22,7 @@ returns-in-Some-NoGroup c = search rules
 pub returns-in-Some-OutOfMemory : goal.returns-in-Some-OutOfMemory
 unfolding operator_text text_of_fault
 returns-in-Some-OutOfMemory c = search rules
+
+pub returns-in-Some-SlotsFull : goal.returns-in-Some-SlotsFull
+unfolding operator_text text_of_fault
+returns-in-Some-SlotsFull c = search rules

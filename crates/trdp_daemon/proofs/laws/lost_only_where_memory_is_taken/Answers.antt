@@ -1,5 +1,5 @@
 use Rattle.trdp_daemon.proofs.Services.{wanting, is_wanting, event_not_lost, operator_not_lost}
-use Rattle.trdp_daemon.proofs.LineLosses.{control_line_sure, operator_line_sure}
+use Rattle.trdp_daemon.proofs.LineLosses.{control_line_sure, operator_line_read, operator_line_sure}
 use Rattle.trdp_daemon.proofs.laws.lost_only_where_memory_is_taken.Goals as goal
 
 pub returns-clause-tested : goal.returns-clause-tested
@@ -12,8 +12,11 @@ pub returns-clause-operator : goal.returns-clause-operator
 returns-clause-operator c = λ service from event never. operator_not_lost service from event never
 
 pub returns-clause-operator_line : goal.returns-clause-operator_line
-returns-clause-operator_line c = λ service from bytes loss.
-    operator_line_sure service from bytes loss
+returns-clause-operator_line c = λ service from bytes loss none.
+    operator_line_sure service from bytes loss none
+
+pub returns-clause-operator_read : goal.returns-clause-operator_read
+returns-clause-operator_read c = λ service from bytes. operator_line_read service from bytes
 
 pub returns-clause-control_line : goal.returns-clause-control_line
 returns-clause-control_line c = λ service slot from bytes none.

@@ -1,7 +1,7 @@
 use Rattle.std.proofs.Common.{◌≡◌, length, arith, ◌++◌, ap, ◌∙◌}
 use Rattle.trdp_daemon.specs.declared.port.Port.TheVariants.{Operator}
-use Rattle.trdp_daemon.specs.Ports.{port_unless_0}
-use Rattle.trdp_daemon.proofs.ControlPorts.{ports_start, ports_end}
+use Rattle.trdp_daemon.specs.Ports.{control_numbers, port_unless_0}
+use Rattle.trdp_daemon.proofs.ControlPorts.{numbers_count, ports_start, ports_end}
 use Rattle.trdp_daemon.proofs.ports.ports_of.Goals as goal
 
 pub loop-slot-init : goal.loop-slot-init
@@ -11,10 +11,12 @@ loop-slot-init c = ports_start c.args.config.now _ _ c.operator_port.ensures.val
 
 pub returns : goal.returns
 returns c =
-    let end : length c.args.config.now.slots ≡ c.loop-slot.slot = omega (
+    let end : length (control_numbers c.args.config.now) ≡ c.loop-slot.slot = omega (
       arith,
       c.loop-slot-test.false,
       c.loop-slot.auto.slot-end,
-      c.slots-slot-end.ensures.value,
+      c.slots.ensures.value,
+      c.spare_control_ports.ensures.value,
+      numbers_count c.args.config.now.slots c.args.config.now.spare_control_ports,
     ) in
-    ports_end c.loop-slot.slot c.args.config.now.slots _ _ end c.loop-slot.invariant
+    ports_end c.loop-slot.slot (control_numbers c.args.config.now) _ _ end c.loop-slot.invariant

@@ -1,6 +1,6 @@
-use Rattle.std.proofs.Common.{sym, ◌∙◌}
+use Rattle.std.proofs.Common.{sym, ◌∙◌, arith, length}
 use Rattle.trdp_engine.specs.Events.{event_model}
-use Rattle.trdp_script.proofs.Playing.{node_played}
+use Rattle.trdp_script.proofs.Playing.{node_played, still_few}
 use Rattle.trdp_daemon.proofs.Steps.{records_played, records_refused}
 use Rattle.trdp_daemon.proofs.Services.{no_records}
 use Rattle.trdp_daemon.proofs.service.step.Goals as goal
@@ -8,12 +8,27 @@ use Rattle.trdp_daemon.proofs.service.step.Goals as goal
 pub returns-in-Ok-clause-node : goal.returns-in-Ok-clause-node
 returns-in-Ok-clause-node c =
     node_played c.args.node.now c.step.new.self _ _ _ c.in-Ok.ensures.fault
-    c.step.ensures.config c.in-Ok.ensures.globals c.step.ensures.count c.in-Ok.ensures.steps
+    c.step.ensures.config c.in-Ok.ensures.globals c.in-Ok.ensures.steps
 
 pub returns-in-Ok-clause-records : goal.returns-in-Ok-clause-records
 returns-in-Ok-clause-records c =
     records_played 16 c.args.node.now c.step.new.self _ _ _ c.in-Ok.ensures.fault
-    c.requires.slots c.clear.ensures.records c.in-Ok.ensures.steps c.step.ensures.appends
+    (omega (
+      arith,
+      c.in-Ok.ensures.count,
+      still_few (length c.args.node.now.slots)
+          (event_model c.args.event.now) c.requires.slots,
+    )) c.in-Ok.ensures.count
+    c.clear.ensures.records c.in-Ok.ensures.steps c.step.ensures.appends
+
+pub returns-in-Ok-clause-few : goal.returns-in-Ok-clause-few
+returns-in-Ok-clause-few c =
+    omega (
+      arith,
+      c.in-Ok.ensures.count,
+      still_few (length c.args.node.now.slots)
+          (event_model c.args.event.now) c.requires.slots,
+    )
 
 pub returns-in-Some-clause-records : goal.returns-in-Some-clause-records
 returns-in-Some-clause-records c =

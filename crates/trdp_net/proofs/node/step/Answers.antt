@@ -24,6 +24,5 @@ returns-clause-moves c =
       admitted = admitted;
       config = c.step.ensures.config;
       globals = globals;
-      count = c.step.ensures.count;
       slots = steps;
     }))

@@ -2,7 +2,8 @@ use Rattle.std.proofs.Common.{arith, refl, ◌∙◌, map, take}
 use Rattle.std.proofs.lemmas.Option.{slice_get-get_or, slice_get_past}
 use Rattle.trdp_engine.specs.Events.{event_model}
 use Rattle.trdp_engine.specs.NodeRuns.{NoneTaken}
-use Rattle.trdp_engine.proofs.Latest.{has_come, globals_next, latest_next}
+use Rattle.trdp_engine.proofs.Latest.{has_come, globals_next, latest_next, slots_next}
+use Rattle.trdp_engine.proofs.AddedSlots.{node_grows}
 use Rattle.trdp_engine.proofs.Runs.{one_event, so_far, one_more}
 use Rattle.trdp_engine.proofs.Steps.{appends_none, appends_more}
 use Rattle.trdp_engine.proofs.node.Node.run.Goals as goal
@@ -22,7 +23,17 @@ pub loop-event-preserved : goal.loop-event-preserved
 loop-event-preserved c = record {
   taken = omega arith;
   config = c.step-result.ensures.config ∙ c.loop-event.invariant.config;
-  count = c.step-result.ensures.count ∙ c.loop-event.invariant.count;
+  count =
+      rw (
+        one_more c.args.events.now c.loop-event.event-index
+            c.event-item.result c.loop-event-test.true,
+        ← c.event-item.is,
+      )
+      (slots_next c.args.self.now c.loop-event.self c.step-result.new.self
+      (map event_model (take c.loop-event.event-index c.args.events.now))
+      (event_model c.event-item.result) c.step-result.result c.step-result.ensures.fault
+      (c.is_out_of_memory.ensures.no c.if-is_out_of_memory.false) c.step-result.ensures.kept
+      c.step-result.ensures.count c.loop-event.invariant.count);
   runs = λ s.
       rw (
         one_more c.args.events.now c.loop-event.event-index
@@ -34,9 +45,11 @@ loop-event-preserved c = record {
       _ _ s _ c.step-result.result c.loop-event.invariant.config refl
       c.step-result.ensures.fault (c.is_out_of_memory.ensures.no c.if-is_out_of_memory.false)
       c.step-result.ensures.kept c.step-result.ensures.unrecorded c.step-result.ensures.globals
-      c.step-result.ensures.steps (c.loop-event.invariant.runs s));
-  appends = appends_more c.args.self.now.slots c.loop-event.self.slots _
-      _ _ c.loop-event.invariant.count c.loop-event.invariant.appends c.step-result.ensures.appends;
+      c.step-result.ensures.count c.step-result.ensures.steps (c.loop-event.invariant.runs s));
+  appends = appends_more c.loop-event.self.slots c.step-result.new.self.slots _ _ _
+      (node_grows c.loop-event.self c.step-result.new.self (event_model c.event-item.result)
+      c.step-result.result c.step-result.ensures.kept c.step-result.ensures.count)
+      c.loop-event.invariant.appends c.step-result.ensures.appends;
   globals =
       rw (
         one_more c.args.events.now c.loop-event.event-index
@@ -56,7 +69,7 @@ loop-event-preserved c = record {
         ← c.event-item.is,
       )
       (latest_next c.args.self.now c.loop-event.self c.step-result.new.self _ _ c.step-result.result
-      c.loop-event.invariant.count c.step-result.ensures.fault
+      c.step-result.ensures.fault
       (c.is_out_of_memory.ensures.no c.if-is_out_of_memory.false)
       (has_come c.args.self.now c.loop-event.self c.args.out.now.records
       c.loop-event.out.records _ c.loop-event.invariant.runs)
@@ -122,3 +135,12 @@ returns-then-is_out_of_memory-clause-counted c =
 
 pub returns-clause-counted : goal.returns-clause-counted
 returns-clause-counted c = rw c.loop-event.invariant.taken c.loop-event.invariant.counted
+
+pub returns-then-is_out_of_memory-clause-count : goal.returns-then-is_out_of_memory-clause-count
+returns-then-is_out_of_memory-clause-count c =
+    let memory = c.is_out_of_memory.ensures.yes c.if-is_out_of_memory.true in
+    let kept = rw memory at c.step-result.ensures.kept in
+    rw (c.loop-event.invariant.taken, kept) c.loop-event.invariant.count
+
+pub returns-clause-count : goal.returns-clause-count
+returns-clause-count c = rw c.loop-event.invariant.taken c.loop-event.invariant.count

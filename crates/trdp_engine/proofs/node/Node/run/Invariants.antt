@@ -1,7 +1,7 @@
 use Rattle.std.proofs.Common.{◌≡◌, ℕ, length, map, take}
 use Rattle.trdp_engine.specs.Events.{event_model}
 use Rattle.trdp_engine.specs.NodeStates.{Appends}
-use Rattle.trdp_engine.specs.NodeRuns.{CountsLatest, globals_through}
+use Rattle.trdp_engine.specs.NodeRuns.{CountsLatest, globals_through, slots_through}
 use Rattle.trdp_engine.proofs.Runs.{RunsAsAloneSoFar}
 use Rattle.trdp_engine.proofs.node.Node.run.Given as goal
 
@@ -10,10 +10,11 @@ abbrev pub invariant-loop-event : goal.invariant-loop-event
 invariant-loop-event l = record {
   taken : l.taken ≡ l.event-index;
   config : l.self.config ≡ l.fn.self.config;
-  count : length l.self.slots ≡ length l.fn.self.slots;
+  count : length l.self.slots
+      ≡ slots_through (length l.fn.self.slots) (map event_model (take l.event-index l.events));
   runs : (s : ℕ) → RunsAsAloneSoFar l.fn.self l.self l.fn.out.records
       l.out.records (map event_model (take l.event-index l.events)) s;
-  appends : Appends l.fn.self.slots l.fn.out.records l.out.records;
+  appends : Appends l.self.slots l.fn.out.records l.out.records;
   globals : l.self.globals ≡ globals_through (length l.fn.self.slots) l.fn.self.globals
       (map event_model (take l.event-index l.events));
   counted : CountsLatest l.fn.self l.self (map event_model (take l.event-index l.events));

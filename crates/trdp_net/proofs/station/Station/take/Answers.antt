@@ -10,14 +10,13 @@ returns-clause-taken c =
     let event = event_model c.args.event.now in
     let step = c.in_ok-step.ensures in
     rw (← c.self.view_is) (takes old c.step.new.self c.new-out.result.records event
-    (record { home = c.self.inside.home; slots = c.self.inside.slots; out = c.step.new.out })
+    (record { home = c.self.inside.home; slots = c.slots-slots.result; out = c.step.new.out })
     (record {
       admitted =
           admitted_by (refused_as (length old.slots) old.globals event) c.in_ok-step.field-0
           step.fault;
       config = step.config;
       globals = step.globals;
-      count = step.count;
       slots = step.steps;
     })
-    step.appends c.new-out.ensures c.self.invariant.0 c.self.invariant.1)
+    c.new-out.ensures c.self.invariant c.slots-slots.ensures.count)

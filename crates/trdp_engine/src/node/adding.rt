@@ -1,0 +1,48 @@
+//! A slot is opened while the node runs.
+
+ghost use Rattle.std.specs.Prelude.{◌≡◌, ◌++◌, [], ◌∷◌, length, OnOk, OnErr};
+ghost use Rattle.trdp_engine.specs.Alone.{FaultIs, refused_as};
+ghost use Rattle.trdp_engine.specs.Events.{AddSlotIs};
+ghost use Rattle.trdp_engine.specs.NodeStates.{no_counts};
+ghost use Rattle.trdp_engine.specs.Records.{Answers, OpenedIs, labelled};
+ghost use Rattle.trdp_engine.specs.Slots.{opened_slot};
+
+use crate::counts::Counts;
+use crate::fault::NodeFault;
+use crate::node::Node;
+use crate::outbox::Outbox;
+use crate::row::PlainAnswer;
+use crate::store::SLOTS_MAX;
+use trdp_base::Quotas;
+
+impl Node {
+    /// Opens the next slot, empty, with these quotas, and tells it so: room for its objects and
+    /// for the record comes first.
+    ///
+    /// # Errors
+    /// The first that applies of `SlotsFull` and `OutOfMemory`.
+    pub(crate) fn step_add_slot(
+        &mut self,
+        quotas: Quotas,
+        out: &mut Outbox,
+    ) -> Result<(), NodeFault>
+        ensures fault { FaultIs
+            (refused_as (length self.old.slots) self.old.globals (AddSlotIs quotas)) result }
+        ensures kept { OnErr result (self.new ≡ self.old) }
+        ensures unrecorded { OnErr result (out.new.records ≡ out.old.records) }
+        ensures config { self.new.config ≡ self.old.config }
+        ensures globals { self.new.globals ≡ self.old.globals }
+        ensures slots { OnOk result (self.new.slots ≡ self.old.slots ++ opened_slot quotas ∷ []) }
+        ensures told { OnOk result (out.new.records
+            ≡ out.old.records ++ labelled (length self.old.slots) (Answers OpenedIs ∷ [])) }
+        ensures counts { OnOk result (self.new.counts ≡ no_counts) }
+    {
+        if self.store.slots() >= SLOTS_MAX {
+            return Err(NodeFault::SlotsFull);
+        }
+        let slot = self.store.open_slot(quotas, out)?;
+        out.push_plain_answer(slot, PlainAnswer::Opened);
+        self.counts = Counts::none();
+        Ok(())
+    }
+}
