@@ -73,6 +73,25 @@ impl Alone {
         })
     }
 
+    /// A slot of these quotas that is opened at this one's moment, and is told so.
+    pub fn opened_beside(&self, slot: u16, quotas: Quotas) -> Result<Alone, Fail> {
+        let alloc = self.given.alloc;
+        let mut given = Given {
+            alloc,
+            slot,
+            lines: Vec::new(alloc),
+        };
+        given.opened()?;
+        Ok(Alone {
+            quotas,
+            pd_port: self.pd_port,
+            globals: self.globals,
+            objects: Vec::new(alloc),
+            next: 1,
+            given,
+        })
+    }
+
     /// The handle and the kind of the object at that place; where there is none, the handle of the
     /// next one.
     pub fn object_at(&self, place: u32) -> (u32, Kind) {
@@ -106,6 +125,8 @@ impl Alone {
                     Ok(())
                 }
             }
+            // Another slot is opened.
+            Event::AddSlot(_) => Ok(()),
         }
     }
 

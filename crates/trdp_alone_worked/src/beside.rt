@@ -1,12 +1,16 @@
-//! A node of two slots, and each of them by itself, over the same events.
+//! A node of two slots, to which others are added, and each of them by itself, over the same
+//! events.
+
+ghost use Rattle.std.specs.Prelude.{◌<◌, ◌≤◌};
 
 use crate::alone::Alone;
 use crate::chance::{Chance, Sent};
 use std::alloc::Global;
 use std::process::Abort;
 use std::test::Fail;
+use trdp_base::Quotas;
 use trdp_dataset::NodeConfig;
-use trdp_engine::{Node, Outbox, What};
+use trdp_engine::{Event, Node, NodeFault, Outbox, What};
 use trdp_script::print_record;
 
 /// Two slots that run short of each kind of object.
@@ -35,8 +39,8 @@ struct Beside {
     node: Node,
     /// What the node gave at the latest event.
     out: Outbox,
-    first: Alone,
-    second: Alone,
+    /// Its slots by themselves, those that were added too.
+    slots: Vec<Alone>,
     /// Some of the telegrams that the node sent, at most 8.
     sent: Vec<Sent>,
 }
@@ -98,27 +102,56 @@ impl Beside {
     fn new(alloc: Global) -> Result<Beside, Fail> {
         let config = NodeConfig::from_toml(alloc, CONFIG)?;
         let node = Node::new(alloc, config).ok().ok_or("no memory")?;
+        let mut slots = Vec::new(alloc);
+        slots.push(Alone::new(alloc, CONFIG, 0)?)?;
+        slots.push(Alone::new(alloc, CONFIG, 1)?)?;
         Ok(Beside {
             node,
             out: Outbox::new(alloc),
-            first: Alone::new(alloc, CONFIG, 0)?,
-            second: Alone::new(alloc, CONFIG, 1)?,
+            slots,
             sent: Vec::new(alloc),
         })
     }
 
+    /// How many slots there are.
+    fn count(&self) -> u16
+        ensures some { 0 < result }
+        ensures few { result ≤ 16 }
+    {
+        self.slots.len().max(1).min(16) as u16
+    }
+
+    /// A slot of these quotas is opened by itself, as the node has opened it.
+    fn open(&mut self, quotas: Quotas) -> Result<(), Fail> {
+        let slot = self.count();
+        let first = self.slots.first().ok_or("no slot")?;
+        let opened = first.opened_beside(slot, quotas)?;
+        self.slots.push(opened)?;
+        Ok(())
+    }
+
     /// Takes an event by chance; the node gives each slot what it gives by itself.
     fn step(&mut self, rt: &(impl Abort + AllocGlobal), chance: &mut Chance) -> Result<(), Fail> {
-        let objects = [
-            self.first.object_at(chance.below(10)),
-            self.second.object_at(chance.below(10)),
-        ];
-        let event = chance.event(self.node.now(), objects, &self.sent);
-        self.node.step(&event, &mut self.out)?;
-        self.first.step(&event)?;
-        self.second.step(&event)?;
-        are_alike(rt, &self.out, &mut self.first)?;
-        are_alike(rt, &self.out, &mut self.second)?;
+        let slot = chance.below(u32::from(self.count())) as u16;
+        let alone = self.slots.get(usize::from(slot)).ok_or("no slot")?;
+        let object = alone.object_at(chance.below(10));
+        let event = chance.event(self.node.now(), slot, object, &self.sent);
+        let taken = self.node.step(&event, &mut self.out);
+        for alone in self.slots.iter_mut() {
+            alone.step(&event)?;
+        }
+        if let Event::AddSlot(quotas) = event {
+            if self.count() < 16 {
+                self.open(quotas)?;
+            } else {
+                assert!(rt; taken == Err(NodeFault::SlotsFull));
+            }
+        } else {
+            assert!(rt; taken.is_ok());
+        }
+        for alone in self.slots.iter_mut() {
+            are_alike(rt, &self.out, alone)?;
+        }
         keep(rt.alloc(), &self.out, &mut self.sent, chance)?;
         self.out.clear();
         Ok(())

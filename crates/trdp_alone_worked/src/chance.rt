@@ -2,7 +2,7 @@
 
 ghost use Rattle.std.specs.Prelude.{◌<◌};
 
-use trdp_base::{Ip, Place, SessionId, Topo, Uri};
+use trdp_base::{Ip, Place, Quotas, SessionId, Topo, Uri};
 use trdp_engine::{Call, Event, Protocol};
 use trdp_filter::{MdFilter, PdFilter};
 use trdp_md::{CallerTerms, NotifyTerms};
@@ -269,14 +269,35 @@ impl Chance {
         }
     }
 
+    /// A slot is opened, with up to two objects of each kind.
+    fn opening(&mut self, now: u64) -> Event<'static> {
+        let quotas = Quotas::new([
+            self.below(3) as u16,
+            self.below(3) as u16,
+            self.below(3) as u16,
+            self.below(3) as u16,
+            self.below(3) as u16,
+            self.below(3) as u16,
+        ]);
+        match quotas {
+            Some(quotas) => Event::AddSlot(quotas),
+            None => Event::Moment(now),
+        }
+    }
+
     /// An event of a node at the moment `now`: some time passes, a role changes, one of the
-    /// telegrams arrives, or one of the two slots makes a call, which may be at that object.
+    /// telegrams arrives, the slot makes a call, which may be at that object, or, once in 1,000
+    /// events, another slot is opened.
     pub fn event<'a>(
         &mut self,
         now: u64,
-        objects: [(u32, Kind); 2],
+        slot: u16,
+        object: (u32, Kind),
         sent: &'a [Sent],
     ) -> Event<'a> {
+        if self.below(1_000) == 0 {
+            return self.opening(now);
+        }
         match self.below(16) {
             0..=2 => Event::Moment(now.saturating_add(200 * u64::from(self.below(6)))),
             3 => Event::Role {
@@ -287,13 +308,9 @@ impl Chance {
                 Some(sent) => self.arrival(sent),
                 None => Event::Moment(now),
             },
-            8..=11 => Event::Call {
-                slot: 0,
-                call: self.call(objects[0]),
-            },
             _ => Event::Call {
-                slot: 1,
-                call: self.call(objects[1]),
+                slot,
+                call: self.call(object),
             },
         }
     }

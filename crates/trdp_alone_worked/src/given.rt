@@ -50,6 +50,11 @@ impl Given {
         self.answered(Answer::Done)
     }
 
+    /// The slot was opened.
+    pub fn opened(&mut self) -> Result<(), Fail> {
+        self.answered(Answer::Opened)
+    }
+
     /// A call was refused.
     pub fn refused(&mut self, refusal: Refusal) -> Result<(), Fail> {
         self.answered(Answer::Refused(refusal))

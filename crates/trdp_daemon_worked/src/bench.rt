@@ -3,7 +3,8 @@
 use crate::same::same;
 use std::alloc::Global;
 use std::process::Abort;
-use trdp_daemon::{Daemon, MemoryClock, MemoryWire, Totals};
+use trdp_base::Place;
+use trdp_daemon::{Daemon, MemoryClock, MemoryWire, Port, Totals};
 use trdp_dataset::NodeConfig;
 
 /// A daemon in memory.
@@ -42,4 +43,24 @@ pub fn turns_give(
 ) {
     same(rt, case, daemon.run(turns), counts);
     same(rt, case, daemon.wire().bytes(), offers);
+}
+
+/// A datagram that a daemon offered: the port that it left from, its destination, and its bytes.
+type Offer<'a> = (Port, Place, &'a [u8]);
+
+/// Whether the wire was offered this.
+fn is_offer(offer: Option<Offer>, (port, place, bytes): Offer) -> bool {
+    match offer {
+        Some((from, to, offered)) => from == port && to == place && offered == bytes,
+        None => false,
+    }
+}
+
+/// Asserts that the wire was offered these and no more, in this order.
+pub fn offers_are(rt: &(impl Abort + AllocGlobal), wire: &MemoryWire, wanted: &[Offer]) {
+    let mut offers = wire.offers();
+    for (give, offer) in wanted.iter().enumerate() {
+        assert!(rt; is_offer(offers.next(), *offer), "at {give}");
+    }
+    assert!(rt; offers.next().is_none());
 }

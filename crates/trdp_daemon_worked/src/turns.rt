@@ -1,6 +1,6 @@
 //! A daemon over a wire and a clock in memory, whose takes, gives and memory fail in turn.
 
-use crate::bench::{MemoryDaemon, memory_daemon, totals, turns_give};
+use crate::bench::{MemoryDaemon, memory_daemon, offers_are, totals, turns_give};
 use crate::same::same;
 use std::alloc::{AllocError, Global};
 use std::process::Abort;
@@ -135,14 +135,6 @@ fn refused_memory_is_counted(rt: HostRuntime) {
     assert!(rt; is_among(daemon.wire().bytes(), counts), "{counts:?}");
 }
 
-/// Whether the wire was offered these bytes from that port to that place.
-fn is_offer(offer: Option<(Port, Place, &[u8])>, port: Port, place: Place, bytes: &[u8]) -> bool {
-    match offer {
-        Some((from, to, offered)) => from == port && to == place && offered == bytes,
-        None => false,
-    }
-}
-
 /// Asserts from where to where the offers of three turns went.
 fn leave_from_their_ports(rt: &(impl Abort + AllocGlobal), wire: &MemoryWire) {
     let device = Place {
@@ -151,16 +143,12 @@ fn leave_from_their_ports(rt: &(impl Abort + AllocGlobal), wire: &MemoryWire) {
     };
     let (answers, telegram) = THREE_TURNS.split_at(18);
     let (handle, done) = answers.split_at(11);
-    let mut offers = wire.offers();
-    for (give, port, place, bytes) in [
-        (0, Port::Control(0), APPLICATION, handle),
-        (1, Port::Control(0), APPLICATION, done),
-        (2, Port::Pd, device, telegram),
-    ] {
-        let offer = offers.next();
-        assert!(rt; is_offer(offer, port, place, bytes), "at {give}");
-    }
-    assert!(rt; offers.next().is_none());
+    let wanted = [
+        (Port::Control(0), APPLICATION, handle),
+        (Port::Control(0), APPLICATION, done),
+        (Port::Pd, device, telegram),
+    ];
+    offers_are(rt, wire, &wanted);
 }
 
 #[test]

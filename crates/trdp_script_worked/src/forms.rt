@@ -14,7 +14,7 @@ struct Form {
     bad: &'static [&'static [u8]],
 }
 
-static FORMS: [Form; 17] = [
+static FORMS: [Form; 18] = [
     Form {
         head: 1,
         good: &[b"moment", b"18446744073709551615"],
@@ -29,6 +29,11 @@ static FORMS: [Form; 17] = [
         head: 1,
         good: &[b"role", b"255", b"leader"],
         bad: &[b"rol", b"256", b"Leader"],
+    },
+    Form {
+        head: 1,
+        good: &[b"addslot", b"256", b"0", b"1", b"10", b"100", b"255"],
+        bad: &[b"addslots", b"257", b"-1", b"01", b"1a", b"", b"65536"],
     },
     Form {
         head: 1,
@@ -366,24 +371,12 @@ fn reads_each_word(
             let doubled = fault_of(alloc, form, index, good, 2)?;
             let exchanged = fault_of(alloc, form, index, bad, 1)?;
             same(rt, index, whole, None);
-            same(
-                rt,
-                index,
-                left_out,
-                unknown_or(LineFault::Count, index < form.head),
-            );
-            same(
-                rt,
-                index,
-                doubled,
-                unknown_or(longer, index + 1 < form.head),
-            );
-            same(
-                rt,
-                index,
-                exchanged,
-                unknown_or(LineFault::BadWord, keyword),
-            );
+            let fewer = unknown_or(LineFault::Count, index < form.head);
+            same(rt, index, left_out, fewer);
+            let more = unknown_or(longer, index + 1 < form.head);
+            same(rt, index, doubled, more);
+            let other = unknown_or(LineFault::BadWord, keyword);
+            same(rt, index, exchanged, other);
         }
     }
     Ok(())

@@ -48,7 +48,7 @@ type Row = (&'static [u8], &'static [u8], Result<(), ScriptFault>);
 
 /// A script up to its first bad line, and last lines without a newline, which keep their carriage
 /// return.
-static ROWS: [Row; 5] = [
+static ROWS: [Row; 6] = [
     (SCRIPT, OUTPUT, Err(ScriptFault::Line(6, LineFault::Count))),
     (b"moment 5\nmoment 4", b"fault Past\n", Ok(())),
     (
@@ -65,6 +65,11 @@ static ROWS: [Row; 5] = [
         b"moment 5\r\n\r",
         b"",
         Err(ScriptFault::Line(2, LineFault::Unknown)),
+    ),
+    (
+        b"addslot 257 0 0 0 0 0\nmoment 5\nmoment 4",
+        b"",
+        Err(ScriptFault::Line(1, LineFault::BadWord)),
     ),
 ];
 

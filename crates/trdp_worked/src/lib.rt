@@ -12,6 +12,8 @@
 #![tactic(auto)]
 
 #[cfg(test)]
+mod added;
+#[cfg(test)]
 mod bench;
 #[cfg(test)]
 mod callers;

@@ -61,7 +61,13 @@ listeners = 2
 repliers = 1
 ";
 
-static ROWS: [Row; 6] = [
+static ROWS: [Row; 7] = [
+    Row {
+        name: "a slot",
+        before: &[],
+        line: "addslot 256 256 256 256 256 256",
+        gives: "2 opened\n",
+    },
     Row {
         name: "a publisher",
         before: &[],
