@@ -17,6 +17,7 @@ use Rattle.trdp_dataset.specs.declared.fault.ConfigFault.TheVariants.{Real, TooM
 use Rattle.trdp_dataset.specs.declared.key.Key.{Key}
 use Rattle.trdp_dataset.specs.declared.key.Key.TheVariants.{Node, Address, PdPort, MdPort}
 use Rattle.trdp_dataset.specs.declared.key.Key.TheVariants.{OperatorPort, SpareControlPorts, Slot}
+use Rattle.trdp_dataset.specs.declared.key.Key.TheVariants.{ControlAddress}
 use Rattle.trdp_dataset.specs.declared.key.Key.TheVariants.{Dataset, DatasetId, Elements}
 use Rattle.trdp_dataset.specs.declared.key.Key.TheVariants.{ElementType, ElementSize}
 use Rattle.trdp_dataset.specs.Keys.{wanted_by, is_required, dataset_keys, element_keys}
@@ -326,7 +327,9 @@ spare_by None g = omega arith
 spare_by (Some node) g =
     let front = positions_at (Address ∷ PdPort ∷ MdPort ∷ OperatorPort ∷ []) node in
     let own = position_at node SpareControlPorts in
-    spare_few (value_at SpareControlPorts node) (good_first own [] (good_back front (own ∷ []) g))
+    let last = position_at node ControlAddress in
+    spare_few (value_at SpareControlPorts node)
+    (good_first own (last ∷ []) (good_back front (own ∷ last ∷ []) g))
 
 -- there are at most 15 spare control ports
 pub few_spare : (top : Members) → AreGood (node_positions top)

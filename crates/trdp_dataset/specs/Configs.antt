@@ -14,7 +14,8 @@ use Rattle.trdp_dataset.specs.declared.element.Element.{Element}
 use Rattle.trdp_dataset.specs.declared.element.ElementKind.{ElementKind}
 use Rattle.trdp_dataset.specs.declared.key.Key.{Key}
 use Rattle.trdp_dataset.specs.declared.key.Key.TheVariants.{Address, PdPort, MdPort, OperatorPort}
-use Rattle.trdp_dataset.specs.declared.key.Key.TheVariants.{SpareControlPorts, Slot, ControlPort}
+use Rattle.trdp_dataset.specs.declared.key.Key.TheVariants.{SpareControlPorts, ControlAddress}
+use Rattle.trdp_dataset.specs.declared.key.Key.TheVariants.{Slot, ControlPort}
 use Rattle.trdp_dataset.specs.declared.key.Key.TheVariants.{Dataset, DatasetId}
 use Rattle.trdp_dataset.specs.declared.key.Key.TheVariants.{Elements, ElementType, ElementSize}
 use Rattle.trdp_dataset.specs.declared.fault.ConfigFault.{ConfigFault}
@@ -83,7 +84,7 @@ unfoldable pub slots_in : Members → List SlotModel
 slots_in top = map slot_in (tables_at Slot top)
 
 -- the configuration of a node; the spare control ports are those of the slots that are added while
--- the node runs, in their order
+-- the node runs, in their order, and the control address is where all control ports are
 pub record ConfigModel : Type 0 where
   pub registry : List DatasetModel
   pub address : ℕ
@@ -91,11 +92,17 @@ pub record ConfigModel : Type 0 where
   pub md_port : ℕ
   pub operator_port : ℕ
   pub spare_control_ports : List ℕ
+  pub control_address : ℕ
   pub slots : List SlotModel
 
 -- what the table of the node has at a key
 unfoldable pub node_value : Key → Members → Option Data
 node_value key top = option_and_then (value_at key) (node_in top)
+
+-- the address that the table of the node has at a key; this one where it has none
+abbrev pub address_at : Key → ℕ → Members → ℕ
+address_at key absent top =
+    unwrap_or (option_and_then address_in (node_value key top)) absent
 
 -- the spare control ports of a file
 unfoldable pub spare_control_ports_in : Members → List ℕ
@@ -105,11 +112,12 @@ spare_control_ports_in top = numbers_of SpareControlPorts (node_value SpareContr
 unfoldable pub config_in : Members → ConfigModel
 config_in top = record {
   registry = datasets_in top;
-  address = unwrap_or (option_and_then address_in (node_value Address top)) 0;
+  address = address_at Address 0 top;
   pd_port = number_of PdPort (node_value PdPort top);
   md_port = number_of MdPort (node_value MdPort top);
   operator_port = number_of OperatorPort (node_value OperatorPort top);
   spare_control_ports = spare_control_ports_in top;
+  control_address = address_at ControlAddress (address_at Address 0 top) top;
   slots = slots_in top;
 }
 

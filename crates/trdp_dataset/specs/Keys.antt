@@ -3,7 +3,7 @@ use Rattle.std.specs.Prelude.{ℕ, Bool, true, false, List, [], ◌∷◌, codes
 use Rattle.trdp_dataset.specs.declared.key.Key.{Key}
 use Rattle.trdp_dataset.specs.declared.key.Key.TheVariants.{Node, Address, PdPort, MdPort}
 use Rattle.trdp_dataset.specs.declared.key.Key.TheVariants.{OperatorPort, SpareControlPorts}
-use Rattle.trdp_dataset.specs.declared.key.Key.TheVariants.{Slot, Publishers}
+use Rattle.trdp_dataset.specs.declared.key.Key.TheVariants.{ControlAddress, Slot, Publishers}
 use Rattle.trdp_dataset.specs.declared.key.Key.TheVariants.{Subscriptions, Requesters}
 use Rattle.trdp_dataset.specs.declared.key.Key.TheVariants.{Listeners, Callers, Repliers}
 use Rattle.trdp_dataset.specs.declared.key.Key.TheVariants.{ControlPort, Dataset, DatasetId}
@@ -33,6 +33,7 @@ key_row MdPort = row (codes "md_port") (wanted.Number 1 65535) (absent.Default 1
 key_row OperatorPort = row (codes "operator_port") (wanted.Number 0 65535) (absent.Default 0)
 key_row SpareControlPorts =
     row (codes "spare_control_ports") (wanted.Numbers 15 0 65535) absent.Empty
+key_row ControlAddress = row (codes "control_address") wanted.Address absent.Own
 key_row Slot = row (codes "slot") (wanted.Tables 16) absent.Missing
 key_row Publishers = row (codes "publishers") (wanted.Quota 256) (absent.Default 0)
 key_row Subscriptions = row (codes "subscriptions") (wanted.Quota 256) (absent.Default 0)
@@ -58,6 +59,7 @@ wanted_by key = (key_row key).wanted
 abbrev pub is_fault : Absent → Bool
 is_fault absent.Missing = true
 is_fault absent.Empty = false
+is_fault absent.Own = false
 is_fault (absent.Default n) = false
 
 -- a key must be there
@@ -67,6 +69,7 @@ is_required key = is_fault (key_row key).absent
 abbrev pub default_number : Absent → ℕ
 default_number absent.Missing = 0
 default_number absent.Empty = 0
+default_number absent.Own = 0
 default_number (absent.Default n) = n
 
 -- the number that stands for a key where it isn't there; 0 where no number does
@@ -75,7 +78,8 @@ default_of key = default_number (key_row key).absent
 
 -- the keys of each table, in order
 abbrev pub node_keys : List Key
-node_keys = Address ∷ PdPort ∷ MdPort ∷ OperatorPort ∷ SpareControlPorts ∷ []
+node_keys =
+    Address ∷ PdPort ∷ MdPort ∷ OperatorPort ∷ SpareControlPorts ∷ ControlAddress ∷ []
 
 abbrev pub quota_keys : List Key
 quota_keys = Publishers ∷ Subscriptions ∷ Requesters ∷ Listeners ∷ Callers ∷ Repliers ∷ []

@@ -1,13 +1,13 @@
 //! The configuration of a node.
 
-ghost use Rattle.std.specs.Prelude.{◌≡◌, ◌≤◌, length, unwrap_or, option_map, option_and_then, IfOk};
+ghost use Rattle.std.specs.Prelude.{◌≡◌, ◌≤◌, length, option_map, IfOk};
 ghost use Rattle.toml.specs.Data.{as_table};
 ghost use Rattle.toml.specs.View.{view, table_view};
 ghost use Rattle.trdp_dataset.specs.Keys.{wanted_by, default_of};
-ghost use Rattle.trdp_dataset.specs.Values.{address_in, IsAllowed};
+ghost use Rattle.trdp_dataset.specs.Values.{IsAllowed};
 ghost use Rattle.trdp_dataset.specs.Positions.{value_at};
 ghost use Rattle.trdp_dataset.specs.Seen.{tables_seen};
-ghost use Rattle.trdp_dataset.specs.Configs.{number_of, node_value, config_in};
+ghost use Rattle.trdp_dataset.specs.Configs.{number_of, node_value, address_at, config_in};
 ghost use Rattle.trdp_dataset.specs.Configs.{datasets_in, spare_control_ports_in};
 ghost use Rattle.trdp_dataset.specs.Configs.{quotas_in, slot_in, slots_in};
 ghost use Rattle.trdp_dataset.specs.StoredSlots.{slot_seen, slots_of};
@@ -51,6 +51,8 @@ pub struct NodeConfig {
     /// The UDP ports for the calls of slots that are added while the node runs, in the order in
     /// which they are added, at most 15, each in host order; 0 for none.
     spare_control_ports: Vec<u16>,
+    /// The IPv4 address of the control ports and the operator's port, in host order.
+    control_address: Ip,
     /// The application slots in the order of the file, 1 to 16.
     slots: Vec<Slot>,
 }
@@ -69,6 +71,7 @@ impl Model for NodeConfig {
       md_port = c.md_port;
       operator_port = c.operator_port;
       spare_control_ports = c.spare_control_ports.items;
+      control_address = c.control_address.0;
       slots = slots_of c.slots.items;
     } };
 
@@ -146,17 +149,16 @@ fn spare_control_ports_in(alloc: Global, top: &Table) -> Result<Vec<u16>, AllocE
     numbers_of(alloc, Key::SpareControlPorts, found)
 }
 
-/// The address of the node; 0.0.0.0 where there is none.
-fn address_in(top: &Table) -> Ip
-    ensures value { result.0
-        ≡ unwrap_or (option_and_then address_in (node_value Key.Address (table_view top.now))) 0 }
+/// The address that the table of the node has at a key; `absent` where it has none.
+fn address_at(top: &Table, key: Key, absent: Ip) -> Ip
+    ensures value { result.0 ≡ address_at key absent.0 (table_view top.now) }
 {
-    match node_value(top, Key::Address) {
+    match node_value(top, key) {
         Some(value) => match address(value) {
             Some(address) => address,
-            None => Ip(0),
+            None => absent,
         },
-        None => Ip(0),
+        None => absent,
     }
 }
 
@@ -176,13 +178,15 @@ fn config_in(
     requires few { length (slots_in (table_view top.now)) ≤ 16 }
     ensures value { result ≡ config_in (table_view top.now) }
 {
+    let address = address_at(top, Key::Address, Ip(0));
     NodeConfig {
         registry,
-        address: address_in(top),
+        address,
         pd_port: node_number(top, Key::PdPort),
         md_port: node_number(top, Key::MdPort),
         operator_port: node_number(top, Key::OperatorPort),
         spare_control_ports,
+        control_address: address_at(top, Key::ControlAddress, address),
         slots,
     }
 }
@@ -258,6 +262,14 @@ impl NodeConfig {
         ensures value { result ≡ slice_get self.now.spare_control_ports added }
     {
         self.spare_control_ports.get(added).copied()
+    }
+
+    /// The address of the control ports and the operator's port; the node's own where the file names
+    /// no other.
+    pub fn control_address(&self) -> Ip
+        ensures value { result.0 ≡ self.now.control_address }
+    {
+        self.control_address
     }
 
     /// How many application slots there are, 1 to 16.

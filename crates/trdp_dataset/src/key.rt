@@ -21,6 +21,8 @@ pub enum Key {
     OperatorPort,
     /// `spare_control_ports` of the node, the control ports of slots that are added while it runs.
     SpareControlPorts,
+    /// `control_address` of the node, at which the control ports and the operator's are bound.
+    ControlAddress,
     /// `slot`, the tables of the application slots.
     Slot,
     /// `publishers` of a slot.
@@ -80,6 +82,8 @@ pub enum Absent {
     Missing,
     /// An array without members.
     Empty,
+    /// The address of the node.
+    Own,
     /// This number.
     Default(u16),
 }
@@ -131,6 +135,7 @@ impl Key {
                 Wanted::Numbers(15, 0, 65535),
                 Absent::Empty,
             ),
+            Key::ControlAddress => row("control_address", Wanted::Address, Absent::Own),
             Key::Slot => row("slot", Wanted::Tables(16), Absent::Missing),
             Key::Publishers => row("publishers", Wanted::Quota(256), Absent::Default(0)),
             Key::Subscriptions => row("subscriptions", Wanted::Quota(256), Absent::Default(0)),

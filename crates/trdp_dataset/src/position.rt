@@ -14,12 +14,13 @@ use crate::value::items;
 use std::alloc::{AllocError, Global};
 use toml::{Table, Value};
 
-const NODE_KEYS: [Key; 5] = [
+const NODE_KEYS: [Key; 6] = [
     Key::Address,
     Key::PdPort,
     Key::MdPort,
     Key::OperatorPort,
     Key::SpareControlPorts,
+    Key::ControlAddress,
 ];
 
 const SLOT_KEYS: [Key; 7] = [

@@ -15,7 +15,7 @@ pub(crate) fn config_fault(alloc: Global, text: &str) -> Option<ConfigFault> {
 }
 
 /// Files, and the fault of each.
-static FILES: [(&str, ConfigFault); 44] = [
+static FILES: [(&str, ConfigFault); 48] = [
     ("", ConfigFault::Missing(Key::Node)),
     ("slot = [{}]", ConfigFault::Missing(Key::Node)),
     ("node = 5", ConfigFault::Missing(Key::Slot)),
@@ -71,6 +71,14 @@ static FILES: [(&str, ConfigFault); 44] = [
         ConfigFault::WrongType(Key::Address),
     ),
     (
+        "node = { address = '10.0.0.1', control_address = 18100 }\nslot = [{}]",
+        ConfigFault::WrongType(Key::ControlAddress),
+    ),
+    (
+        "node = { address = '10.0.0.1', control_address = '127.0.0.256' }\nslot = [{}]",
+        ConfigFault::WrongType(Key::ControlAddress),
+    ),
+    (
         "node = { address = '10.0.0.1' }",
         ConfigFault::Missing(Key::Slot),
     ),
@@ -89,6 +97,16 @@ static FILES: [(&str, ConfigFault); 44] = [
         "node = { address = '10.0.0.1', spare_control_ports = 5 }\n\
          slot = [{ control_port = -1 }]",
         ConfigFault::WrongType(Key::SpareControlPorts),
+    ),
+    (
+        "node = { address = '10.0.0.1', control_address = 5, spare_control_ports = 5 }\n\
+         slot = [{ control_port = -1 }]",
+        ConfigFault::WrongType(Key::SpareControlPorts),
+    ),
+    (
+        "node = { address = '10.0.0.1', control_address = 5 }\n\
+         slot = [{ control_port = -1 }]",
+        ConfigFault::WrongType(Key::ControlAddress),
     ),
     (
         "node = { address = '10.0.0.1', pd_port = 0, md_port = 0 }\nslot = []",

@@ -34,7 +34,7 @@ element = [{ type = \"INT16\" }, { type = 15 }, { type = 1001 }]
 /// A node with ports of its own, and two slots of which the second has quotas.
 const PORTS: &str = "slot = [{ control_port = 18000 }, { publishers = 256, repliers = 7 }]
 node = { operator_port = 65535, md_port = 2, pd_port = 1, address = '255.254.0.9', \
-spare_control_ports = [0, 18002, 18002] }
+spare_control_ports = [0, 18002, 18002], control_address = '127.0.0.1' }
 other = { key = 1 }
 ";
 
@@ -47,6 +47,7 @@ pub(crate) struct NodeNumbers {
     pub(crate) md_port: u16,
     pub(crate) operator_port: u16,
     pub(crate) spare_control_ports: usize,
+    pub(crate) control_address: Ip,
     pub(crate) slots: usize,
 }
 
@@ -60,6 +61,7 @@ pub(crate) fn node_numbers(alloc: Global, text: &str) -> Option<NodeNumbers> {
             md_port: config.md_port(),
             operator_port: config.operator_port(),
             spare_control_ports: config.spare_control_ports(),
+            control_address: config.control_address(),
             slots: config.slots(),
         }),
         Err(_) => None,
@@ -77,6 +79,7 @@ static NODES: [(&str, NodeNumbers); 2] = [
             md_port: 17225,
             operator_port: 0,
             spare_control_ports: 0,
+            control_address: Ip(0x0a000001),
             slots: 2,
         },
     ),
@@ -89,6 +92,7 @@ static NODES: [(&str, NodeNumbers); 2] = [
             md_port: 2,
             operator_port: 65535,
             spare_control_ports: 3,
+            control_address: Ip(0x7f000001),
             slots: 2,
         },
     ),

@@ -169,6 +169,7 @@ fn reads_the_largest(rt: HostRuntime) -> Result<(), Fail> {
         md_port: 65535,
         operator_port: 65535,
         spare_control_ports: 15,
+        control_address: Ip(0xffffffff),
         slots: 16,
     };
     let found = node_numbers(rt.alloc(), text.as_str());

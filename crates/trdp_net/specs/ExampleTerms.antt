@@ -25,6 +25,7 @@ node_at address = record {
   md_port = 17225;
   operator_port = 0;
   spare_control_ports = [];
+  control_address = address;
   slots = record { quotas = replicate 6 1; control_port = 0 } ∷ [];
 }
 
