@@ -1,21 +1,19 @@
 -- A store in which one slot more is opened, empty: what its parts know of the others stays true.
 use Rattle.std.proofs.Common.{zero, suc, ◌≡◌, ℕ, ◌+◌, ◌≤◌, List, [], ◌∷◌, ◌++◌, length, refl, ◌∙◌}
-use Rattle.std.proofs.Common.{ap, sym, subst, arith, Option, Some}
-use Rattle.std.specs.Prelude.{slice_index_or, None}
+use Rattle.std.proofs.Common.{ap, sym, arith, Option}
 use Rattle.std.specs.List.{sum_by}
 use Rattle.std.specs.Prelude.{max}
 use Rattle.std.proofs.Math.Nat.{le-max_left, le-max_right}
-use Rattle.std.proofs.lemmas.List.{append-nil}
-use Rattle.std.proofs.lemmas.List.Sums.{sum_by-append, sum_by-cons}
+use Rattle.std.proofs.lemmas.List.Sums.{sum_by-cons}
 use Rattle.trdp_timers.specs.declared.order.Order.{Order}
 use Rattle.trdp_index.specs.ComIndexes.{ComIndexState}
 use Rattle.trdp_index.specs.SessionIndexes.{SessionIndexState}
 use Rattle.trdp_table.specs.Tables.{Keyed, SlotTable, TableState, all_quotas, by_handle}
 use Rattle.trdp_table.specs.Tables.{opened_slot, room_of, slot_in}
 use Rattle.trdp_engine.specs.Indexed.{IsIndexed, rows_from, rows_in, listed_in}
-use Rattle.trdp_engine.specs.InSession.{AreInSession, IsInSession, sessions_in}
-use Rattle.trdp_engine.specs.OfKind.{AllOfKind, AreOfKind}
-use Rattle.trdp_engine.specs.Timed.{IsKeptSchedule, IsOwned, IsScheduled, IsStore, IsTimed}
+use Rattle.trdp_engine.specs.InSession.{IsInSession, sessions_in}
+use Rattle.trdp_engine.specs.OfKind.{AllOfKind}
+use Rattle.trdp_engine.specs.Timed.{IsKeptSchedule, IsOwned, IsScheduled, IsStore}
 use Rattle.trdp_engine.specs.Timed.{ScheduleState}
 use Rattle.trdp_engine.proofs.Grown.{scheduled_kept}
 

@@ -2,13 +2,11 @@
 use Rattle.std.proofs.Common.{◌≡◌, ℕ, List, [], ◌∷◌, ◌++◌, length, Bool, true, false}
 use Rattle.std.proofs.Common.{is_some, refl, sym, ◌∙◌, ap, subst, append_assoc}
 use Rattle.std.proofs.Common.{Option, Some, None, Result, Ok, Err, OnOk, OnErr}
-use Rattle.std.specs.Prelude.{slice_get}
 use Rattle.trdp_filter.specs.declared.globals.Globals.{Globals}
 use Rattle.trdp_engine.specs.declared.fault.NodeFault.{NodeFault}
 use Rattle.trdp_engine.specs.declared.fault.NodeFault.TheVariants.{OutOfMemory}
 use Rattle.trdp_engine.specs.Records.{RecordModel}
 use Rattle.trdp_engine.specs.Events.{EventModel}
-use Rattle.trdp_engine.specs.Slots.{SlotState}
 use Rattle.trdp_engine.specs.Alone.{FaultIs, refused_as, globals_after, slots_then}
 use Rattle.trdp_engine.specs.NodeStates.{NodeState}
 use Rattle.trdp_engine.specs.NodeRuns.{HasCome, AreRefused, globals_through, slots_through}

@@ -16,6 +16,7 @@ pub mod Retimed
 pub mod Sizes
 pub mod Weighing
 pub mod NextDue
+pub mod Soonest
 pub mod InSession
 pub mod SessionKeys
 pub mod HasSession

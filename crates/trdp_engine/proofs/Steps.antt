@@ -1,17 +1,14 @@
 -- A step of a node: what each slot sees of it, and what it adds to the outbox.
-use Rattle.std.proofs.Common.{zero, suc, ◌≡◌, ℕ, ◌+◌, take, ◌≤◌, ◌<◌, List}
+use Rattle.std.proofs.Common.{zero, suc, ◌≡◌, ℕ, ◌+◌, take, ◌≤◌, List}
 use Rattle.std.proofs.Common.{[], ◌∷◌, ◌++◌, length, map, refl, ◌∙◌, ap, sym}
-use Rattle.std.proofs.Common.{arith, append_assoc, Some, None, Option, Result, Ok, Err, OnOk, false}
-use Rattle.std.specs.Prelude.{slice_get, option_map, nat_le, nat_lt}
-use Rattle.std.proofs.lemmas.Bool.Decides.{nat_tests}
+use Rattle.std.proofs.Common.{arith, append_assoc, Some, None, Option, Result, Ok, Err, OnOk}
+use Rattle.std.specs.Prelude.{slice_get, option_map}
 use Rattle.std.proofs.lemmas.List.{append-nil}
-use Rattle.trdp_base.specs.Moments.{last_moment}
-use Rattle.trdp_filter.specs.declared.globals.Globals.{Globals}
 use Rattle.trdp_engine.specs.declared.fault.NodeFault.{NodeFault}
 use Rattle.trdp_dataset.specs.Configs.{SlotModel}
 use Rattle.trdp_engine.specs.Configs.{NodeSetup, setup_of}
 use Rattle.trdp_engine.specs.Records.{RecordModel, records_of}
-use Rattle.trdp_engine.specs.Events.{EventModel, MomentIs, CallIs, CallModel}
+use Rattle.trdp_engine.specs.Events.{EventModel}
 use Rattle.trdp_engine.specs.Slots.{SlotState, Outcome, opened_slot, unchanged}
 use Rattle.trdp_engine.specs.Fitting.{AllFit, EachFits}
 use Rattle.trdp_engine.specs.Alone.{refused_as, FaultIs, plain_effect, slot_after, records_after}

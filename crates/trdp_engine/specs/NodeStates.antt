@@ -1,6 +1,6 @@
 -- A node, and what its events do to each slot.
 use Rattle.std.specs.Prelude.{◌≡◌, ℕ, ◌<◌, ◌++◌, List, length, filter, slice_get, Some, None}
-use Rattle.std.specs.Prelude.{true, map}
+use Rattle.std.specs.Prelude.{true, map, Option}
 use Rattle.std.specs.List.{sum_by, list_any}
 use Rattle.trdp_filter.specs.declared.globals.Globals.{Globals}
 use Rattle.trdp_dataset.specs.Configs.{ConfigModel}
@@ -67,6 +67,11 @@ pub record Appends (slots : List SlotState)
 -- how many objects of the slots are due by t
 abbrev pub due_in : ℕ → List SlotState → ℕ
 due_in t slots = sum_by (λ slot. length (filter (is_due t) slot.objects)) slots
+
+-- the least moment by which something is due in these slots; none where nothing ever will be
+abbrev pub IsNextDue : List SlotState → Option ℕ → Type 0
+IsNextDue slots None = (t : ℕ) → due_in t slots ≡ 0
+IsNextDue slots (Some due) = (0 < due_in due slots) × ((t : ℕ) → t < due → due_in t slots ≡ 0)
 
 -- the events at which memory may be wanting: a call, a moment by which something is due, a
 -- datagram that concerns a slot, the opening of a slot

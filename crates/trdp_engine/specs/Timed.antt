@@ -115,6 +115,11 @@ pub record IsStore (table : TableState) (coms : ComIndexState) (sessions : Sessi
 abbrev pub IsNoneDue : ℕ → List (Option Order) → Type 0
 IsNoneDue t orders = (key : ℕ) → is_due_by t (slice_index_or orders key None) ≡ false
 
+-- a key has this order, and none is sooner
+pub record IsSoonest (orders : List (Option Order)) (order : Order) : Type 0 where
+  pub key : ℕ
+  pub first : IsFirst orders key order
+
 -- a key has this order, which is due by t, and none is sooner
 pub record IsFirstDue (t : ℕ) (orders : List (Option Order)) (order : Order) : Type 0 where
   pub key : ℕ

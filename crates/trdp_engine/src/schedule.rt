@@ -6,9 +6,9 @@ ghost use Rattle.std.specs.Prelude.{MatchOption, slice_index_or, slice_set, sum,
 ghost use Rattle.std.specs.Prelude.{count_by, is_some};
 ghost use Rattle.trdp_table.specs.TableLaws.{object_limit};
 ghost use Rattle.trdp_timers.specs.Orders.{is_due_by};
-ghost use Rattle.trdp_timers.specs.Contents.{due_sizes};
+ghost use Rattle.trdp_timers.specs.Contents.{due_sizes, IsUnset};
 ghost use Rattle.trdp_engine.specs.Timed.{empty_schedule, order_at, without_order, is_same_due};
-ghost use Rattle.trdp_engine.specs.Timed.{IsKeptSchedule, IsNoneDue, IsFirstDue};
+ghost use Rattle.trdp_engine.specs.Timed.{IsKeptSchedule, IsNoneDue, IsFirstDue, IsSoonest};
 ghost use Rattle.trdp_engine.specs.Rooms.{room_rows_limit, room_bytes_limit};
 
 use crate::room::Room;
@@ -205,6 +205,16 @@ impl Schedule {
         if order.due > t {
             return None;
         }
+        Some(order)
+    }
+
+    /// The order that comes first of all: the least by due moment, slot and handle. None where no
+    /// key has one.
+    pub fn soonest(&self) -> Option<Order>
+        ensures first { MatchOption result (IsUnset self.now.orders)
+            (λ order. IsSoonest self.now.orders order) }
+    {
+        let (_, order) = self.timers.peek()?;
         Some(order)
     }
 

@@ -14,7 +14,7 @@ use std::marker::Model;
 
 /// When the objects of a node act: an order for some of the keys below the room.
 ///
-/// Every call but `room` and `probes` sets the number of comparisons that `probes` tells.
+/// Every call but `peek`, `room` and `probes` sets the number of comparisons that `probes` tells.
 #[derive(Drop)]
 pub struct Timers {
     /// The order of each key below the room; None for a key that has none.
@@ -139,6 +139,14 @@ impl Timers {
         ensures cost { self.new.probes ≡ 0 }
     {
         self.probes = 0;
+        self.peek()
+    }
+
+    /// What [`Timers::first`] gives. The comparisons that `probes` tells stay.
+    pub fn peek(&self) -> Option<(usize, Order)>
+        ensures { MatchOption result (IsUnset self.now.orders)
+            (λ found. IsFirst self.now.orders found.0 found.1) }
+    {
         if self.heap.keys.is_empty() {
             return None;
         }

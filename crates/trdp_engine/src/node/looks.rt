@@ -3,6 +3,7 @@
 ghost use Rattle.std.specs.Prelude.{◌≡◌, ◌≤◌, ◌∷◌, [], length, slice_get};
 ghost use Rattle.trdp_table.specs.Tables.{slot_limit};
 ghost use Rattle.trdp_engine.specs.Configs.{setup_of};
+ghost use Rattle.trdp_engine.specs.NodeStates.{IsNextDue};
 ghost use Rattle.trdp_engine.specs.Peeks.{peeked, peek_in};
 ghost use Rattle.trdp_engine.specs.ShownItems.{showing_in, ShowsItem};
 
@@ -21,6 +22,14 @@ impl Node {
         ensures within { result ≤ slot_limit }
     {
         self.store.slots()
+    }
+
+    /// The least moment by which something is due, in microseconds: until then nothing happens by
+    /// itself. None where nothing ever will.
+    pub fn next_due(&self) -> Option<u64>
+        ensures { IsNextDue self.now.slots result }
+    {
+        self.store.soonest()
     }
 
     /// What the latest event cost that the node took: how often two rows or two orders were

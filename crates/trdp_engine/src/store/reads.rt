@@ -1,4 +1,4 @@
-//! What a store shows of its table: the slots, and their objects by handle and key.
+//! What a store shows: its slots, their objects by handle and key, and when something is due next.
 
 ghost use Rattle.std.specs.Prelude.{◌≡◌, ℕ, ◌<◌, ◌≤◌, length, Some};
 ghost use Rattle.std.specs.Prelude.{slice_get, option_map, option_copied};
@@ -9,6 +9,8 @@ ghost use Rattle.trdp_table.specs.Tables.{exchanged, with_other_by_handle};
 ghost use Rattle.trdp_table.specs.TableLaws.{IsTable};
 ghost use Rattle.trdp_engine.specs.Openings.{opening_refusal, table_refusal};
 ghost use Rattle.trdp_engine.specs.Acting.{slot_at};
+ghost use Rattle.trdp_engine.specs.NodeStates.{IsNextDue};
+ghost use Rattle.trdp_engine.specs.Slots.{slots_of};
 
 use crate::store::Store;
 use trdp_table::{AnyObject, Kind, TableFault};
@@ -38,6 +40,16 @@ impl Store {
             ≡ option_map (λ keyed. keyed.object) (by_key key (all_objects self.now)) }
     {
         self.table.get(key)
+    }
+
+    /// The least moment by which something is due in any slot, in microseconds; None where nothing
+    /// ever will be.
+    pub fn soonest(&self) -> Option<u64>
+        ensures { IsNextDue (slots_of self.now) result }
+    {
+        self.table.sound();
+        let order = self.schedule.soonest()?;
+        Some(order.due)
     }
 
     /// Why a slot takes no further object of a kind: the first that applies of its quota and its

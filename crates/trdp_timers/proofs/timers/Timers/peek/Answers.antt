@@ -3,10 +3,10 @@ use Rattle.std.proofs.Common.{vec_capacity}
 use Rattle.std.proofs.lemmas.List.{get_or_read}
 use Rattle.std.proofs.lemmas.Bool.Decides.{nat_tests}
 use Rattle.trdp_timers.proofs.Admitting.{first_is}
-use Rattle.trdp_timers.proofs.timers.Timers.first.Goals as goal
+use Rattle.trdp_timers.proofs.timers.Timers.peek.Goals as goal
 
-pub returns-clause-first : goal.returns-clause-first
-returns-clause-first c =
+pub returns : goal.returns
+returns c =
     let t = c.self.inside in
     let some : 0 < length t.heap.keys.items = grind (arith, nat_tests) in
     rw (← c.self.view_is)
