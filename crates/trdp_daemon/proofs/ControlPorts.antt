@@ -1,5 +1,5 @@
 -- The control ports of slots, one after another.
-use Rattle.std.proofs.Common.{◌≡◌, suc, ◌+◌, ◌<◌, ℕ, List, [], ◌∷◌, ◌++◌, Option, Some, None}
+use Rattle.std.proofs.Common.{◌≡◌, suc, ◌+◌, ◌<◌, ℕ, List, [], ◌∷◌, ◌++◌, Some, None}
 use Rattle.std.proofs.Common.{refl, sym, ◌∙◌, ap, arith, append_assoc, append-nil, length, drop}
 use Rattle.std.proofs.Common.{zero, map}
 use Rattle.std.specs.Prelude.{slice_get}

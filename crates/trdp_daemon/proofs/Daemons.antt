@@ -31,7 +31,7 @@ daemon_of service link clock = record {
 }
 
 -- one turn
-pub one_turn : {W C : Type 0} {takings_in : W → Option (List Taking)}
+unfoldable pub one_turn : {W C : Type 0} {takings_in : W → Option (List Taking)}
     {gives_in : W → Option (List Give)} {readings_in : C → Option (List ℕ)}
     (s t : Service) (a b : Link W) (x y : C) (ports : List Port) (reading : ℕ)
     → ports ≡ ports_of s.node.config → t.node.config ≡ s.node.config
@@ -66,7 +66,7 @@ one_turn {W} {C} {takings_in} {gives_in} {readings_in} s
     }
 
 -- no turn
-pub no_turns : {W C : Type 0} (takings_in : W → Option (List Taking))
+unfoldable pub no_turns : {W C : Type 0} (takings_in : W → Option (List Taking))
     (gives_in : W → Option (List Give)) (readings_in : C → Option (List ℕ)) (d : DaemonState W C)
     → TakesTurns takings_in gives_in readings_in 0 d d
 no_turns takings_in gives_in readings_in d = record {
@@ -84,7 +84,7 @@ no_turns takings_in gives_in readings_in d = record {
 }
 
 -- turns after turns
-pub turns_both : {W C : Type 0} {takings_in : W → Option (List Taking)}
+unfoldable pub turns_both : {W C : Type 0} {takings_in : W → Option (List Taking)}
     {gives_in : W → Option (List Give)} {readings_in : C → Option (List ℕ)}
     {m n : ℕ} {a b c : DaemonState W C} → TakesTurns takings_in gives_in readings_in m a b
     → TakesTurns takings_in gives_in readings_in n b c

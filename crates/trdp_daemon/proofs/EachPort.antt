@@ -1,12 +1,12 @@
 -- Where its slots are open, each port of a configuration is taken from.
 use Rattle.std.proofs.Common.{◌≡◌, suc, ◌+◌, ◌<◌, ◌≤◌, ℕ, Bool, true, false, List, [], ◌∷◌, ◌++◌}
 use Rattle.std.proofs.Common.{refl, ◌∙◌, ap, subst, arith, length, map, if◌then◌else◌}
-use Rattle.std.specs.Prelude.{nat_lt, ◌==◌, All}
+use Rattle.std.specs.Prelude.{◌==◌, All}
 use Rattle.std.proofs.lemmas.Bool.{lt-ltb}
 use Rattle.std.proofs.lemmas.Bool.Decides.{nat_tests}
 use Rattle.std.proofs.lemmas.List.{length-map}
 use Rattle.std.proofs.lemmas.List.Elements.{All-cons, All-nil}
-use Rattle.trdp_dataset.specs.Configs.{ConfigModel, SlotModel}
+use Rattle.trdp_dataset.specs.Configs.{ConfigModel}
 use Rattle.trdp_engine.specs.NodeStates.{NodeState}
 use Rattle.trdp_engine.specs.Slots.{opened_slot}
 use Rattle.trdp_daemon.specs.declared.port.Port.{Port}

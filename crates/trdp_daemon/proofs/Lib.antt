@@ -8,6 +8,7 @@ pub mod Visits
 pub mod Turns
 pub mod EachPort
 pub mod Daemons
+pub mod Resting
 pub mod ControlPorts
 pub mod GiveRows
 pub mod Losses

@@ -8,6 +8,8 @@ use Rattle.trdp_daemon.specs.MemoryWires.{ArrivalModel, MemoryWireState, with_ar
 use Rattle.trdp_daemon.specs.MemoryWires.{is_failing, takes_at, failure_after, arrival_for}
 use Rattle.trdp_daemon.specs.MemoryWires.{next_take_fails, next_arrival, is_give_beyond}
 use Rattle.trdp_daemon.specs.MemoryWires.{next_give_fails, one_more_if, after_take, after_give}
+use Rattle.trdp_daemon.specs.MemoryWires.{after_rest}
+use Rattle.trdp_daemon.specs.declared.rows.Rest.{Rest}
 use Rattle.trdp_daemon.specs.Told.{Arrived, Taking, Give}
 
 by_true : {X : Type 0} (b : Bool) (x y : X) → b ≡ true → x ≡ (if b then x else y)
@@ -174,3 +176,21 @@ give_within w give gives failures room byte_room within more is less fewer =
       byte_room = w.byte_room - length give.offer.bytes;
     } in
     x) within
+
+-- a rest beyond the room, and one within it
+pub rest_beyond : (w : MemoryWireState) (rest : Rest) → w.rest_room ≡ 0 → w ≡ after_rest w rest
+unfolding after_rest
+rest_beyond w rest none = by_true (w.rest_room == 0) w _ (is_zero w.rest_room none)
+
+pub rest_within : (w : MemoryWireState) (rest : Rest) (rests : List Rest) (room : ℕ)
+    → 0 < w.rest_room → rests ≡ w.rests ++ rest ∷ [] → room ≡ w.rest_room - 1
+    → (let x : MemoryWireState = record w { rests = rests; rest_room = room } in x)
+    ≡ after_rest w rest
+unfolding after_rest
+rest_within w rest rests room some more less =
+    let whole : (let x : MemoryWireState = record w { rests = rests; rest_room = room } in x)
+    ≡ (let x : MemoryWireState =
+    record w { rests = w.rests ++ rest ∷ []; rest_room = w.rest_room - 1 } in x) = cc in
+    whole ∙ by_false (w.rest_room == 0) w (let x : MemoryWireState =
+    record w { rests = w.rests ++ rest ∷ []; rest_room = w.rest_room - 1 } in x)
+    (not_zero w.rest_room some)

@@ -5,6 +5,7 @@ pub mod Links
 pub mod MemoryClocks
 pub mod MemoryWires
 pub mod Ports
+pub mod Resting
 pub mod Rows
 pub mod Services
 pub mod Tellings

@@ -5,6 +5,7 @@ use Rattle.std.specs.Prelude.{take, drop, length}
 use Rattle.std.specs.List.{find, list_any, count_by}
 use Rattle.trdp_base.specs.declared.place.Place.{Place}
 use Rattle.trdp_daemon.specs.declared.port.Port.{Port}
+use Rattle.trdp_daemon.specs.declared.rows.Rest.{Rest}
 use Rattle.trdp_daemon.specs.Counting.{has_failed}
 use Rattle.trdp_daemon.specs.Ports.{is_port}
 use Rattle.trdp_daemon.specs.Told.{Arrived, Failed, Nothing, Came, Taking, Give}
@@ -24,17 +25,20 @@ pub record LaidDown : Type 0 where
   pub failing_takes : List ℕ
   pub failing_gives : List ℕ
 
--- a wire in memory: what was laid down, its takes and gives within its rooms, whether it tells
--- them, how often it failed, and how many more takes, gives and bytes of gives find room
+-- a wire in memory: what was laid down, its takes, gives and rests within its rooms, whether it
+-- tells takes and gives, how often it failed, and how many more takes, gives, bytes of gives and
+-- rests find room
 pub record MemoryWireState : Type 0 where
   pub laid_down : LaidDown
   pub takings : List Taking
   pub gives : List Give
+  pub rests : List Rest
   pub tells : Bool
   pub failures : ℕ
   pub take_room : ℕ
   pub give_room : ℕ
   pub byte_room : ℕ
+  pub rest_room : ℕ
 
 abbrev pub nothing_laid_down : LaidDown
 nothing_laid_down = record { arrivals = []; failing_takes = []; failing_gives = [] }
@@ -142,3 +146,12 @@ after_give wire give = if is_give_beyond wire (length give.offer.bytes)
       give_room = wire.give_room - 1;
       byte_room = wire.byte_room - length give.offer.bytes;
     }
+
+-- a rest that a wire is asked for now
+abbrev pub rest_of : MemoryWireState → ℕ → Rest
+rest_of wire most = record { takes = length wire.takings; most = most }
+
+-- a wire after a rest; beyond its room it isn't remembered
+unfoldable pub after_rest : MemoryWireState → Rest → MemoryWireState
+after_rest wire rest = if wire.rest_room == 0 then wire
+    else record wire { rests = wire.rests ++ rest ∷ []; rest_room = wire.rest_room - 1 }

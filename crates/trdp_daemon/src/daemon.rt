@@ -67,6 +67,7 @@ impl<W: Wire, C: Clock> Daemon<W, C> {
     ghost use Rattle.std.specs.Prelude.{◌≡◌, ◌+◌, ℕ, IfOk, IfErr};
     ghost use Rattle.trdp_dataset.specs.Configs.{ConfigModel};
     ghost use Rattle.trdp_daemon.specs.Daemons.{HasServed, TakesTurns, opened_daemon};
+    ghost use Rattle.trdp_daemon.specs.Resting.{AttendsUntil, Rests, TakesTurnAt};
 
     /// A daemon that has taken no turn: its node is at moment 0, and no slot has a control place.
     /// All buffers are made here.
@@ -129,16 +130,7 @@ impl<W: Wire, C: Clock> Daemon<W, C> {
             → HasServed W.takings W.gives C.readings config wire clock (n + 1) self.new }
         ensures totals { result ≡ self.new.totals }
     {
-        let reading = self.clock.now();
-        take_turn(
-            self.alloc,
-            &mut self.service,
-            self.home,
-            &self.ports,
-            &mut self.room,
-            reading,
-            &mut self.link,
-        );
+        self.timed_turn();
         self.totals()
     }
 
@@ -154,6 +146,52 @@ impl<W: Wire, C: Clock> Daemon<W, C> {
             self.turn();
         }
         self.totals()
+    }
+
+    /// Takes turns until one begins at the reading `until` of the clock or later, in microseconds,
+    /// and at most 2^64 - 1 of them. Between two turns the wire rests: until a datagram may be
+    /// there, and at most until something is due or `until` comes. Answers the totals since the
+    /// daemon was made.
+    pub fn attend(&mut self, until: u64) -> Totals
+        ensures turns { AttendsUntil W.takings W.gives C.readings until self.old self.new }
+        ensures served { (config : ConfigModel) (wire : W) (clock : C) (n : ℕ)
+            → HasServed W.takings W.gives C.readings config wire clock n self.old
+            → (m : ℕ) × HasServed W.takings W.gives C.readings config wire clock (n + m) self.new }
+        ensures totals { result ≡ self.new.totals }
+    {
+        for _turn in 0..u64::MAX {
+            let reading = self.timed_turn();
+            if until <= reading {
+                return self.totals();
+            }
+            self.rest(reading, until);
+        }
+        self.totals()
+    }
+
+    /// Takes one turn. Answers the reading of the clock at which it began.
+    fn timed_turn(&mut self) -> u64
+        ensures { TakesTurnAt W.takings W.gives C.readings result self.old self.new }
+    {
+        let reading = self.clock.now();
+        take_turn(
+            self.alloc,
+            &mut self.service,
+            self.home,
+            &self.ports,
+            &mut self.room,
+            reading,
+            &mut self.link,
+        );
+        reading
+    }
+
+    /// Rests from a reading of the clock while nothing is due, at most up to `until`.
+    fn rest(&mut self, reading: u64, until: u64)
+        ensures { Rests W.takings W.gives self.old self.new }
+    {
+        let most = self.service.idle_time(reading, until);
+        self.link.rest(most);
     }
 }
 

@@ -8,7 +8,9 @@
 //! contract, as a network may be so, and so does a [`RunClock`] that stands still; that they work
 //! is tested. For the same reason no contract says which sockets [`UdpWire::bind`] binds, and its
 //! must-fail edit turns all that it promises, a wire without failures: ports that are shifted or
-//! left out are for the tests over loopback to find.
+//! left out are for the tests over loopback to find. How long a rest is no contract of a wire says,
+//! nor that a daemon rests at all: one that never does offers the same. That it asks for rests, and
+//! for how long, is tested over a [`MemoryWire`]; that a datagram ends one is measured.
 #![tactic(auto)]
 
 mod answer;
@@ -23,6 +25,7 @@ mod memory_wire;
 mod offers;
 mod port;
 mod ports;
+mod resting_wire;
 mod rows;
 mod run_clock;
 mod service;
@@ -41,6 +44,8 @@ pub use memory_clock::MemoryClock;
 pub use memory_wire::MemoryWire;
 pub use offers::Offers;
 pub use port::Port;
+pub use resting_wire::RestingWire;
+pub use rows::Rest;
 pub use run_clock::RunClock;
 pub use totals::Totals;
 pub use udp_wire::{BindFault, UdpWire};

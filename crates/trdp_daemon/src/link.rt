@@ -64,6 +64,15 @@ impl<W: Wire> Link<W> {
         count_give(&mut self.totals, given.is_err());
     }
 
+    /// Waits until a datagram may be there, at most so many microseconds.
+    pub(crate) fn rest(&mut self, most: u64)
+        ensures takes_nothing { W.takings self.new.wire ≡ W.takings self.old.wire }
+        ensures gives_nothing { W.gives self.new.wire ≡ W.gives self.old.wire }
+        ensures totals { self.new.totals ≡ self.old.totals }
+    {
+        self.wire.rest(most);
+    }
+
     /// Counts something that was lost for want of memory.
     pub(crate) fn miss(&mut self)
         ensures { Carries W.takings W.gives self.old self.new [] missing }

@@ -10,7 +10,7 @@ use crate::arrivals::{Arrival, answer_take, failing_take, is_failing, takes_at};
 use crate::fault::{WireFault, fail};
 use crate::offers::Offers;
 use crate::port::Port;
-use crate::rows::{GiveRow, TakeRow};
+use crate::rows::{GiveRow, Rest, TakeRow};
 use crate::wire::Wire;
 use std::alloc::{AllocError, Global};
 use std::marker::Model;
@@ -19,7 +19,8 @@ use trdp_base::Place;
 /// A wire over which what was laid down before arrives, and which remembers what it is given.
 ///
 /// It has room for so many takes, gives and bytes of gives. A call beyond one of these rooms is a
-/// fault, and from then on it tells nothing.
+/// fault, and from then on it tells nothing. It never waits: of the rests that it is asked for it
+/// remembers the first, as many as it has room for takes.
 #[derive(Drop)]
 pub struct MemoryWire {
     /// Where what is laid down takes its memory from.
@@ -36,6 +37,8 @@ pub struct MemoryWire {
     given: Vec<GiveRow>,
     /// The bytes of the gives so far, one after the other.
     bytes: Vec<u8>,
+    /// The first rests that it was asked for.
+    rested: Vec<Rest>,
     /// How many more bytes of gives find room.
     byte_room: usize,
     /// How often it has failed, at most 2^64 - 1.
@@ -59,11 +62,13 @@ impl Model for MemoryWire {
       };
       takings = map (row_taking w.arrivals.items) w.taken.items;
       gives = gives_of w.bytes.items w.given.items;
+      rests = w.rested.items;
       tells = w.tells;
       failures = w.failures;
       take_room = vec_capacity w.taken - vec_len w.taken;
       give_room = vec_capacity w.given - vec_len w.given;
       byte_room = w.byte_room;
+      rest_room = vec_capacity w.rested - vec_len w.rested;
     } };
 
     ghost invariant = { λ w. (bytes_in w.given.items ≡ length w.bytes.items)
@@ -93,15 +98,18 @@ impl MemoryWire {
         ensures laid_down { IfOk result (λ wire. wire.laid_down ≡ nothing_laid_down) }
         ensures takings { IfOk result (λ wire. wire.takings ≡ []) }
         ensures gives { IfOk result (λ wire. wire.gives ≡ []) }
+        ensures rests { IfOk result (λ wire. wire.rests ≡ []) }
         ensures tells { IfOk result (λ wire. wire.tells ≡ true) }
         ensures failures { IfOk result (λ wire. wire.failures ≡ 0) }
         ensures take_room { IfOk result (λ wire. wire.take_room ≡ takes) }
         ensures give_room { IfOk result (λ wire. wire.give_room ≡ gives) }
         ensures byte_room { IfOk result (λ wire. wire.byte_room ≡ bytes) }
+        ensures rest_room { IfOk result (λ wire. wire.rest_room ≡ takes) }
     {
         let taken = Vec::with_capacity(alloc, takes)?;
         let given = Vec::with_capacity(alloc, gives)?;
         let byte_list = Vec::with_capacity(alloc, bytes)?;
+        let rested = Vec::with_capacity(alloc, takes)?;
         Ok(MemoryWire {
             alloc,
             arrivals: Vec::new(alloc),
@@ -110,6 +118,7 @@ impl MemoryWire {
             taken,
             given,
             bytes: byte_list,
+            rested,
             byte_room: bytes,
             failures: 0,
             tells: true,
@@ -128,6 +137,13 @@ impl MemoryWire {
         ensures { result ≡ map (λ give. give.offer) self.now.gives }
     {
         Offers::new(&self.given, &self.bytes)
+    }
+
+    /// The first rests that it was asked for, in order.
+    pub fn rests(&self) -> &[Rest]
+        ensures { result.now ≡ self.now.rests }
+    {
+        &self.rested
     }
 
     /// Lays down that a datagram arrives at that take at the port, counted from 1; of two for one
@@ -201,6 +217,7 @@ impl Wire for MemoryWire {
     ghost use Rattle.std.specs.Prelude.{is_err};
     ghost use Rattle.trdp_daemon.specs.MemoryWires.{after_give, after_take, next_arrival};
     ghost use Rattle.trdp_daemon.specs.MemoryWires.{next_give_fails, room_after, told};
+    ghost use Rattle.trdp_daemon.specs.MemoryWires.{after_rest, rest_of};
     ghost use Rattle.trdp_daemon.specs.Told.{Adds, arrived_in, give_of, taking_of};
 
     ghost takings = { λ w. told w.tells w.takings };
@@ -267,9 +284,33 @@ impl Wire for MemoryWire {
         result
     }
 
+    fn rest(&mut self, most: u64)
+        ensures takes_nothing { told self.new.tells self.new.takings
+            ≡ told self.old.tells self.old.takings }
+        ensures gives_nothing { told self.new.tells self.new.gives
+            ≡ told self.old.tells self.old.gives }
+        ensures fault { self.new.failures ≡ self.old.failures }
+        ensures after { self.new ≡ after_rest self.old (rest_of self.old most) }
+    {
+        let takes = self.taken.len();
+        if self.rested.len() < self.rested.capacity() {
+            push_rest(&mut self.rested, Rest { takes, most });
+        }
+    }
+
     fn failures(&self) -> u64 {
         self.failures
     }
+}
+
+/// Adds a rest within the room.
+fn push_rest(rested: &mut Vec<Rest>, rest: Rest)
+    requires { vec_len rested.old < vec_capacity rested.old }
+    ensures items { rested.new.items ≡ rested.old.items ++ rest ∷ [] }
+    ensures len { vec_len rested.new ≡ vec_len rested.old + 1 }
+    ensures capacity { vec_capacity rested.new ≡ vec_capacity rested.old }
+{
+    rested.push_reserved(rest);
 }
 
 /// Fails where it is to fail, unless the count of failures is at its last value.

@@ -23,6 +23,15 @@ pub(crate) struct TakeRow {
     pub(crate) answer: TakeAnswer,
 }
 
+/// One rest that a wire was asked for.
+#[derive(Clone, Copy, Debug, PartialEq, Eq)]
+pub struct Rest {
+    /// How many takes came before it.
+    pub takes: usize,
+    /// How long it may have been at most, in microseconds.
+    pub most: u64,
+}
+
 /// One give, whose bytes lie in the wire's list behind those of the gives before.
 #[derive(Clone, Copy)]
 pub(crate) struct GiveRow {

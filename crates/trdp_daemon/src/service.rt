@@ -9,6 +9,7 @@ ghost use Rattle.trdp_engine.specs.NodeStates.{MayTakeMemory, uncounted};
 ghost use Rattle.trdp_script.specs.ScriptText.{node_after};
 ghost use Rattle.trdp_script.specs.SlotOrder.{by_slot};
 ghost use Rattle.trdp_daemon.specs.Effects.{event_records, event_effect};
+ghost use Rattle.trdp_daemon.specs.Resting.{IsIdleTime};
 ghost use Rattle.trdp_daemon.specs.Services.{ComesWith, IsSound, service_state};
 ghost use Rattle.trdp_daemon.specs.Turns.{is_there, no_places, opened_service};
 ghost use Rattle.trdp_daemon.specs.Visits.{operator_event};
@@ -72,6 +73,18 @@ impl Service {
             Port::Pd | Port::Md | Port::Operator => true,
             Port::Control(slot) => usize::from(slot) < self.node.slots(),
         }
+    }
+
+    /// How many microseconds from a reading of the clock nothing is due, up to `until`; 0 where
+    /// something is due already.
+    pub(crate) fn idle_time(&self, reading: u64, until: u64) -> u64
+        ensures { IsIdleTime self.now.node.slots reading until result }
+    {
+        let next = match self.node.next_due() {
+            Some(due) => due.min(until),
+            None => until,
+        };
+        next.saturating_sub(reading)
     }
 
     /// Gives the node an event, and offers what its records send. An event that finds no memory is

@@ -6,7 +6,10 @@ use crate::fault::{WireFault, fail};
 use crate::port::Port;
 use crate::ports::control_number;
 use crate::wire::Wire;
+use mio::unix::SourceFd;
+use mio::{Interest, Poll, Token};
 use std::net::{Ipv4Addr, Net, SocketAddr, SocketAddrV4, UdpSocket};
+use std::os::fd::AsRawFd;
 use std::{array, io};
 use thiserror::Error;
 use trdp_base::{Ip, Place};
@@ -26,7 +29,14 @@ pub enum BindFault {
     OutOfMemory = 2,
 }
 
-/// The UDP ports of a node, which never wait. It tells no takes and gives.
+/// How each answer to a datagram begins that is no line of its port.
+const FAULT_FRONT: &[u8] = b"line fault ";
+
+/// The UDP ports of a node, which never wait, nor rest. It tells no takes and gives.
+///
+/// At a control port and at the operator's it hands in no datagram that begins with `line fault `:
+/// such a one is an answer, and can't be read as a line. To answer it in turn would let two ports
+/// answer each other for ever.
 #[derive(Drop)]
 pub struct UdpWire {
     /// The port of process data.
@@ -39,12 +49,15 @@ pub struct UdpWire {
     controls: [Option<UdpSocket>; CONTROL_PORTS_MAX],
     /// How often the system refused a take or a give, at most 2^64 - 1.
     failures: u64,
+    /// Whether something came or failed at a take since the latest rest.
+    heard: bool,
 }
 
 impl UdpWire {
-    /// Binds the ports that a configuration names, at its address: process data, message data, the
-    /// operator's, and the control ports of the slots, one after another. It takes no memory of its
-    /// own, so that a port which can't be bound is found whatever memory is there.
+    /// Binds the ports that a configuration names, one after another: process data and message data
+    /// at its address, the operator's and the control ports of the slots at its control address. It
+    /// takes no memory of its own, so that a port which can't be bound is found whatever memory is
+    /// there.
     ///
     /// # Errors
     /// At the first port that isn't bound: `OutOfMemory` where the system has no memory for it, and
@@ -55,7 +68,7 @@ impl UdpWire {
         let ip = config.address();
         let pd = open(rt, ip, config.pd_port())?;
         let md = open(rt, ip, config.md_port())?;
-        let operator = open_unless_0(rt, ip, config.operator_port())?;
+        let operator = open_unless_0(rt, config.control_address(), config.operator_port())?;
         let controls = open_controls(rt, config)?;
         Ok(UdpWire {
             pd,
@@ -63,7 +76,35 @@ impl UdpWire {
             operator,
             controls,
             failures: 0,
+            heard: false,
         })
+    }
+
+    /// Whether something came or failed at a take since this was asked the last time.
+    pub(crate) fn has_heard(&mut self) -> bool
+        ensures { self.new.failures ≡ self.old.failures }
+    {
+        let heard = self.heard;
+        self.heard = false;
+        heard
+    }
+
+    /// Has the poll tell when a datagram comes at one of the ports.
+    ///
+    /// # Errors
+    /// What the system says to it.
+    pub(crate) fn watch(&self, poll: &Poll) -> io::Result<()> {
+        watch(poll, &self.pd)?;
+        watch(poll, &self.md)?;
+        if let Some(operator) = &self.operator {
+            watch(poll, operator)?;
+        }
+        for control in &self.controls {
+            if let Some(control) = control {
+                watch(poll, control)?;
+            }
+        }
+        Ok(())
     }
 
     /// The socket of a port, if the node has it.
@@ -88,15 +129,23 @@ impl Wire for UdpWire {
     ghost faults = { λ wire. wire.failures };
 
     fn take(&mut self, port: Port, room: &mut [u8]) -> Result<Option<(Place, usize)>, WireFault> {
-        match self.socket(port) {
-            Some(socket) => match receive(socket, room) {
-                Ok(found) => Ok(found),
-                Err(_) => {
-                    fail(&mut self.failures)?;
-                    Ok(None)
+        let Some(socket) = self.socket(port) else {
+            return Ok(None);
+        };
+        match receive(socket, room) {
+            Ok(None) => Ok(None),
+            Ok(Some((from, len))) => {
+                self.heard = true;
+                if is_answer(port, room, len) {
+                    return Ok(None);
                 }
-            },
-            None => Ok(None),
+                Ok(Some((from, len)))
+            }
+            Err(_) => {
+                self.heard = true;
+                fail(&mut self.failures)?;
+                Ok(None)
+            }
         }
     }
 
@@ -112,9 +161,37 @@ impl Wire for UdpWire {
         }
     }
 
+    fn rest(&mut self, _most: u64) {}
+
     fn failures(&self) -> u64 {
         self.failures
     }
+}
+
+/// Whether a datagram at a port, of so many bytes at the room's front, is an answer to one that was
+/// no line.
+fn is_answer(port: Port, room: &[u8], len: usize) -> bool {
+    match port {
+        Port::Pd | Port::Md => false,
+        Port::Operator | Port::Control(_) => match room.get(..len) {
+            Some(bytes) => bytes.starts_with(FAULT_FRONT),
+            None => false,
+        },
+    }
+}
+
+/// Has the poll tell when a datagram comes at a socket.
+///
+/// # Errors
+/// What the system says to it.
+fn watch(poll: &Poll, socket: &UdpSocket) -> io::Result<()> {
+    // The token is of no use: a turn takes at each port.
+    let token = Token(0);
+    poll.registry().register(
+        &mut SourceFd(&socket.as_raw_fd()),
+        token,
+        Interest::READABLE,
+    )
 }
 
 /// What is there at a socket: where it came from, and how many bytes it has at the room's front.
@@ -186,7 +263,7 @@ fn open_controls<R: Net>(
     let mut controls = array::from_fn(|_| None);
     for slot in 0..config.slots() + config.spare_control_ports() {
         if let Some(port) = control_number(config, slot) {
-            controls[slot] = open_unless_0(rt, config.address(), port)?;
+            controls[slot] = open_unless_0(rt, config.control_address(), port)?;
         }
     }
     Ok(controls)

@@ -7,7 +7,8 @@ use crate::fault::WireFault;
 use crate::port::Port;
 use trdp_base::Place;
 
-/// A wire at the ports of a node, which never waits. It may tell what it took and gave.
+/// A wire at the ports of a node. A take and a give never wait; only a rest may. It may tell what it
+/// took and gave.
 pub trait Wire {
     ghost use Rattle.std.specs.Prelude.{ℕ, List, Option};
     ghost use Rattle.trdp_daemon.specs.Told.{Give, Taking};
@@ -43,6 +44,13 @@ pub trait Wire {
             (give_of port to bytes.now result ∷ []) }
         ensures takes_nothing { Adds (takings self.old) (takings self.new) [] }
         ensures fault { OnErr result (faults self.old < faults self.new) };
+
+    /// Waits until a datagram may be at one of the ports, at most so many microseconds. A wire may
+    /// come back at once: a rest changes nothing of what is taken and given.
+    fn rest(&mut self, most: u64)
+        ensures takes_nothing { takings self.new ≡ takings self.old }
+        ensures gives_nothing { gives self.new ≡ gives self.old }
+        ensures fault { faults self.new ≡ faults self.old };
 
     /// How often the wire has failed; it stops at 2^64 - 1.
     fn failures(&self) -> u64

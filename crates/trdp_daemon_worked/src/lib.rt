@@ -17,6 +17,8 @@ mod programs;
 #[cfg(test)]
 mod random_bytes;
 #[cfg(test)]
+mod resting;
+#[cfg(test)]
 mod same;
 #[cfg(test)]
 mod turns;

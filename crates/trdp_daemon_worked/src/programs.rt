@@ -8,7 +8,9 @@ use std::process::Abort;
 use std::test::Fail;
 use std::time::Clock;
 use trdp_dataset::ConfigFault;
-use trdp_program::{ConfigFaultText, ScriptFaultText, run_program, script_status, serve_program};
+use trdp_program::{
+    ConfigFaultText, ScriptFaultText, daemon_program, run_program, script_status, serve_program,
+};
 use trdp_script::ScriptFault;
 
 /// A node with two slots and two datasets.
@@ -286,4 +288,20 @@ fn a_failing_writer_ends_the_service(rt: HostRuntime) {
     let status = serve_program(&rt, config, 0, &mut FailingWriter, &mut errors);
     same(&rt, "the writer", errors.as_slice(), b"write fault\n");
     assert!(rt; status == 4);
+}
+
+/// A service that goes on ends where its ports aren't there, and where its first line of totals
+/// can't be written, after a second.
+#[test]
+fn a_service_that_goes_on_ends_at_a_fault(rt: HostRuntime) {
+    let config = b"[node]\naddress = \"127.0.0.1\"\npd_port = 27254\nmd_port = 27255\n[[slot]]\n";
+    let mut errors = Vec::new(rt.alloc());
+    let status = daemon_program(&rt, config, 1, &mut FailingWriter, &mut errors);
+    same(&rt, "the writer", errors.as_slice(), b"write fault\n");
+    assert!(rt; status == 4);
+    let mut output = Vec::new(rt.alloc());
+    let mut errors = Vec::new(rt.alloc());
+    let status = daemon_program(&rt, ONE_PORT, 1, &mut output, &mut errors);
+    same(&rt, "the ports", errors.as_slice(), b"bind fault\n");
+    assert!(rt; status == 4 && output.is_empty());
 }

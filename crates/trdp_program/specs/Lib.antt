@@ -1,3 +1,4 @@
+pub mod Attending
 pub mod ConfigNames
 pub mod Faults
 pub mod Programs

@@ -1,8 +1,9 @@
 //! What the program `trdpd` does, over any reader and writer: a script played over a node
-//! (`run_program`), or a node served over the system's sockets (`serve_program`).
+//! (`run_program`), or a node served over the system's sockets, for so many turns (`serve_program`)
+//! or until the program is stopped (`daemon_program`).
 //!
 //! The configuration is looked at first, as bytes of TOML. The exit status is
-//! - 0 at the script's end, and after the last turn;
+//! - 0 at the script's end, and after the last turn, which a service that goes on hardly comes to;
 //! - 1 where the configuration isn't taken, with `config fault NAME` on `errors`. Behind the name
 //!   stands the key of a Missing or WrongType and the number of a dataset for NoDataset;
 //! - 3 for a bad line, with `line N fault NAME`;
@@ -14,17 +15,20 @@
 //! `trdp_daemon::Daemon::run`: for any wire and clock they are those of so many turns over them,
 //! and `serve_program` repeats this with the exit status and the line. What the system's sockets
 //! took and gave no contract tells, so of them it says only that the totals are those of so many
-//! turns. On `errors` stands nothing at 0, and else a front of the fault's line. No contract says
-//! that the outside works: a `run_program` or a `serve_program` that answers 1 at once meets its
-//! contract, as if memory had run out while the configuration was read.
+//! turns; when `daemon_program` writes a line of them no contract tells either. On `errors` stands
+//! nothing at 0, and else a front of the fault's line. No contract says that the outside works: each
+//! of the three that answers 1 at once meets its contract, as if memory had run out while the
+//! configuration was read.
 #![tactic(auto)]
 
+mod attend;
 mod config_names;
 mod faults;
 mod program;
 mod serve;
 mod told;
 
+pub use attend::daemon_program;
 pub use config_names::ConfigFaultText;
 pub use faults::{ScriptFaultText, script_status};
 pub use program::{CONFIG_STATUS, run_program};

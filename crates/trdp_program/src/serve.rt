@@ -100,7 +100,11 @@ fn serve_over<L: Wire + Drop, C: trdp_daemon::Clock + Drop>(
 ///
 /// # Errors
 /// `Write` where the writer fails, and `OutOfMemory`.
-fn write_totals<W: Write>(alloc: Global, totals: Totals, writer: &mut W) -> Result<(), ServeFault>
+pub(crate) fn write_totals<W: Write>(
+    alloc: Global,
+    totals: Totals,
+    writer: &mut W,
+) -> Result<(), ServeFault>
     ensures ok { OnOk result (WritesTotals totals (W.contents writer.old) (W.contents writer.new)) }
     ensures err { IfErr result (λ fault. FailsToWrite fault totals
         (W.contents writer.old) (W.contents writer.new)) }
@@ -123,8 +127,17 @@ fn bind<H: Net + AllocGlobal>(rt: &H, config: &NodeConfig) -> Result<UdpWire, Se
 {
     match UdpWire::bind(rt, config) {
         Ok(wire) => Ok(wire),
-        Err(BindFault::Bind) => Err(ServeFault::Bind),
-        Err(BindFault::OutOfMemory) => Err(ServeFault::OutOfMemory),
+        Err(fault) => Err(bind_fault(fault)),
+    }
+}
+
+/// What it is to a service that its ports aren't bound.
+pub(crate) fn bind_fault(fault: BindFault) -> ServeFault
+    ensures { result ≢ ServeFault.Write }
+{
+    match fault {
+        BindFault::Bind => ServeFault::Bind,
+        BindFault::OutOfMemory => ServeFault::OutOfMemory,
     }
 }
 

@@ -1,4 +1,4 @@
-//! The command line: `trdpd run CONFIG` and `trdpd serve CONFIG --turns N`.
+//! The command line: `trdpd run CONFIG`, `trdpd serve CONFIG --turns N` and `trdpd daemon CONFIG`.
 
 use clap::{Arg, ArgAction, ArgMatches, Command, Error, value_parser};
 use std::alloc::{AllocError, Global};
@@ -17,11 +17,18 @@ pub enum Task<'a> {
         /// How many turns to take.
         turns: u32,
     },
+    /// To serve the node over the system's sockets until the program is stopped.
+    Daemon {
+        /// The path of the configuration file.
+        path: &'a str,
+        /// How many seconds lie between two lines of totals; 0 for no line.
+        seconds: u32,
+    },
 }
 
 /// Reads the words of the command line, of which the first names the program: good is `run` with
-/// a configuration file, and `serve` with a configuration file and `--turns` with a number of 0 to
-/// 4,294,967,295.
+/// a configuration file, `serve` with a configuration file and `--turns` with a number of 0 to
+/// 4,294,967,295, and `daemon` with a configuration file and maybe `--totals` with such a number.
 ///
 /// The error's text is for the user. Its kind tells want of memory from wrong words and from a
 /// wish for help.
@@ -32,15 +39,21 @@ pub fn read_words<'a>(alloc: Global, words: &'a [String]) -> Result<Task<'a>, Er
 
 /// What good words ask for.
 fn task_of<'a>(matches: &ArgMatches<'a>) -> Task<'a> {
-    match matches.subcommand_matches("serve") {
-        Some(serve) => Task::Serve {
+    if let Some(serve) = matches.subcommand_matches("serve") {
+        return Task::Serve {
             path: path_of(Some(serve)),
             // The number is required, so that good words have it. No turn does no harm.
             turns: serve.get_one::<u32>("turns").unwrap_or(0),
-        },
-        None => Task::Run {
-            path: path_of(matches.subcommand_matches("run")),
-        },
+        };
+    }
+    if let Some(daemon) = matches.subcommand_matches("daemon") {
+        return Task::Daemon {
+            path: path_of(Some(daemon)),
+            seconds: daemon.get_one::<u32>("totals").unwrap_or(0),
+        };
+    }
+    Task::Run {
+        path: path_of(matches.subcommand_matches("run")),
     }
 }
 
@@ -75,7 +88,24 @@ fn command<'a>(alloc: Global) -> Result<Command<'a>, AllocError> {
         .about("A communication node for the Train Real-time Data Protocol")
         .subcommand_required(true)
         .subcommand(run)?
-        .subcommand(serve)
+        .subcommand(serve)?
+        .subcommand(daemon(alloc)?)
+}
+
+/// The words that a daemon is asked for by.
+fn daemon<'a>(alloc: Global) -> Result<Command<'a>, AllocError> {
+    let totals = Arg::new(alloc, "totals")
+        .long("totals")
+        .value_name("SECONDS")
+        .action(ArgAction::Set)
+        .value_parser(value_parser!(u32))
+        .help("How many seconds lie between two lines that say how many datagrams came and went");
+    Command::new(alloc, "daemon")
+        .about(
+            "Serves the node at its UDP ports until it is stopped, and rests while nothing is due",
+        )
+        .arg(config(alloc))?
+        .arg(totals)
 }
 
 /// The word that names the configuration file.

@@ -10,6 +10,10 @@
 //! network, how many of these it refused, the takes that failed, and what was lost for want of
 //! memory.
 //!
+//! `trdpd daemon CONFIG` does the same until it is stopped: between two turns it rests until a
+//! datagram comes or something is due. With `--totals SECONDS` the line of its totals so far goes to
+//! standard output every so many seconds.
+//!
 //! The exit status is
 //! - 0 at the script's end, and after the last turn;
 //! - 1 where the configuration isn't taken, with `config fault NAME` on standard error. Behind
@@ -21,8 +25,8 @@
 //! - 4 after a `read fault`, a `write fault` or a `memory fault`, and after a `bind fault`, where
 //!   the system refuses a port.
 //!
-//! What it does in either case, with the exit status, is the contract of `trdp_program`'s
-//! `run_program` and `serve_program`. The functions here and in `command` have no clauses: how the
+//! What it does in each case, with the exit status, is the contract of `trdp_program`'s
+//! `run_program`, `serve_program` and `daemon_program`. The functions here and in `command` have no clauses: how the
 //! command line is read, which is `clap`'s, how the file is read, and status 2 are tried by hand.
 #![tactic(auto)]
 
@@ -35,7 +39,8 @@ use std::process::ExitCode;
 use std::{env, fs, io};
 use trdp_dataset::ConfigFault;
 use trdp_program::{
-    CONFIG_STATUS, ConfigFaultText, ScriptFaultText, run_program, script_status, serve_program,
+    CONFIG_STATUS, ConfigFaultText, ScriptFaultText, daemon_program, run_program, script_status,
+    serve_program,
 };
 use trdp_script::ScriptFault;
 
@@ -57,6 +62,7 @@ fn status(rt: &HostRuntime) -> u8 {
         Ok(words) => match read_words(rt.alloc(), &words) {
             Ok(Task::Run { path }) => run_file(rt, path),
             Ok(Task::Serve { path, turns }) => serve_file(rt, path, turns),
+            Ok(Task::Daemon { path, seconds }) => attend_file(rt, path, seconds),
             Err(error) => refuse(rt, &error, error.kind() == ErrorKind::OutOfMemory),
         },
         Err(error) => refuse(rt, NO_TEXT, error.kind() == io::ErrorKind::OutOfMemory),
@@ -82,6 +88,14 @@ fn run_file(rt: &HostRuntime, path: &str) -> u8 {
 fn serve_file(rt: &HostRuntime, path: &str, turns: u32) -> u8 {
     match read_file(rt, path) {
         Some(config) => serve_program(rt, &config, turns, &mut rt.stdout(), &mut rt.stderr()),
+        None => CONFIG_STATUS,
+    }
+}
+
+/// Serves the configuration of a file until the program is stopped, and answers the exit status.
+fn attend_file(rt: &HostRuntime, path: &str, seconds: u32) -> u8 {
+    match read_file(rt, path) {
+        Some(config) => daemon_program(rt, &config, seconds, &mut rt.stdout(), &mut rt.stderr()),
         None => CONFIG_STATUS,
     }
 }

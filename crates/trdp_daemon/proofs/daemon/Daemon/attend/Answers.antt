@@ -1,0 +1,46 @@
+use Rattle.std.proofs.Common.{◌≡◌, ◌≤◌, ◌^◌, ◌-◌, arith, inl, inr, refl, false, nat_le}
+use Rattle.std.proofs.lemmas.Bool.Decides.{nat_tests}
+use Rattle.trdp_daemon.proofs.Resting.{early_none, early_more, early_rest, served_until}
+use Rattle.trdp_daemon.proofs.daemon.Daemon.attend.Goals as goal
+
+pub loop-turn-init : goal.loop-turn-init
+loop-turn-init g c = early_none _ _ _ c.args.until c.args.self.now
+
+pub loop-turn-preserved : goal.loop-turn-preserved
+loop-turn-preserved g c =
+    let late : nat_le c.args.until c.timed_turn-reading.result ≡ false =
+    grind (arith, nat_tests) in
+    early_rest (early_more c.loop-turn.invariant c.timed_turn-reading.ensures late) c.rest.ensures
+
+pub returns-then-until-reading-clause-turns : goal.returns-then-until-reading-clause-turns
+returns-then-until-reading-clause-turns g c =
+    let come : c.args.until ≤ c.timed_turn-reading.result = grind (arith, nat_tests) in
+    record {
+      before = c.loop-turn._turn;
+      then_at = c.loop-turn.self;
+      early = c.loop-turn.invariant;
+      last = inl (record {
+        reading = c.timed_turn-reading.result;
+        come = come;
+        takes = c.timed_turn-reading.ensures;
+      });
+    }
+
+pub returns-then-until-reading-clause-served : goal.returns-then-until-reading-clause-served
+returns-then-until-reading-clause-served g c = λ config wire clock n before.
+    served_until before (returns-then-until-reading-clause-turns g c)
+
+pub returns-clause-turns : goal.returns-clause-turns
+returns-clause-turns g c =
+    let all : c.loop-turn._turn ≡ 2 ^ 64 - 1 =
+    omega (arith, c.loop-turn-test.false, c.loop-turn.auto._turn-end) in
+    record {
+      before = c.loop-turn._turn;
+      then_at = c.loop-turn.self;
+      early = c.loop-turn.invariant;
+      last = inr (all, refl);
+    }
+
+pub returns-clause-served : goal.returns-clause-served
+returns-clause-served g c = λ config wire clock n before.
+    served_until before (returns-clause-turns g c)
