@@ -122,7 +122,7 @@ fn come_back<C: Clock>(
     for (case, (port, line, answer)) in ANSWERS.iter().enumerate() {
         let client = application(rt, 0x7f00_0003, *port)?;
         client.send(*line)?;
-        until += STEP;
+        until = STEP.saturating_add(until);
         daemon.attend(until);
         same(rt, case, heard(&client, &mut room)?, *answer);
     }
