@@ -117,7 +117,7 @@ pub struct Element {
 
 impl Element {
     /// The dataset that this element is of; None of a basic type.
-    pub(crate) fn nested(self) -> Option<u32>
+    pub fn nested(self) -> Option<u32>
         ensures value { result ≡ nested_id (form_of self.kind) }
     {
         match self.kind.form() {

@@ -27,4 +27,6 @@ pub use config::NodeConfig;
 pub use element::{Element, ElementKind, Form, Width};
 pub use fault::ConfigFault;
 pub use key::Key;
+pub use position::{DATASET_KEYS, ELEMENT_KEYS, NODE_KEYS, SLOT_KEYS};
+pub use read::{element_in, identifier_of};
 pub use registry::Registry;

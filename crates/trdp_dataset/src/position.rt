@@ -14,7 +14,8 @@ use crate::value::items;
 use std::alloc::{AllocError, Global};
 use toml::{Table, Value};
 
-const NODE_KEYS: [Key; 6] = [
+/// The keys of the table of the node, in the order in which faults are looked for.
+pub const NODE_KEYS: [Key; 6] = [
     Key::Address,
     Key::PdPort,
     Key::MdPort,
@@ -23,7 +24,8 @@ const NODE_KEYS: [Key; 6] = [
     Key::ControlAddress,
 ];
 
-const SLOT_KEYS: [Key; 7] = [
+/// The keys of the table of a slot, in that order.
+pub const SLOT_KEYS: [Key; 7] = [
     Key::Publishers,
     Key::Subscriptions,
     Key::Requesters,
@@ -33,9 +35,11 @@ const SLOT_KEYS: [Key; 7] = [
     Key::ControlPort,
 ];
 
-const DATASET_KEYS: [Key; 2] = [Key::DatasetId, Key::Elements];
+/// The keys of the table of a dataset, in that order.
+pub const DATASET_KEYS: [Key; 2] = [Key::DatasetId, Key::Elements];
 
-const ELEMENT_KEYS: [Key; 2] = [Key::ElementType, Key::ElementSize];
+/// The keys of the table of an element, in that order.
+pub const ELEMENT_KEYS: [Key; 2] = [Key::ElementType, Key::ElementSize];
 
 /// A key, and what the file has there.
 #[derive(Clone, Copy)]

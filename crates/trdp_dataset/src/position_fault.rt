@@ -1,13 +1,14 @@
 //! The fault of a position of a key, and of all positions of a file the fault that counts.
 
-ghost use Rattle.std.specs.Prelude.{◌≡◌, map};
+ghost use Rattle.std.specs.Prelude.{◌≡◌, map, option_map};
 ghost use Rattle.toml.specs.View.{view};
 ghost use Rattle.trdp_dataset.specs.Keys.{wanted_by};
 ghost use Rattle.trdp_dataset.specs.Values.{natural_in};
 ghost use Rattle.trdp_dataset.specs.Seen.{position_seen, positions_seen};
 ghost use Rattle.trdp_dataset.specs.Faults.{wrong_unless, count_fault, tables_fault, numbers_fault};
 ghost use Rattle.trdp_dataset.specs.Faults.{quota_fault, bad_unless, identifier_fault};
-ghost use Rattle.trdp_dataset.specs.Faults.{kind_fault, value_fault, fault_at, least_fault};
+ghost use Rattle.trdp_dataset.specs.Faults.{kind_fault, value_fault, found_fault, fault_at};
+ghost use Rattle.trdp_dataset.specs.Faults.{least_fault};
 
 use crate::fault::{ConfigFault, least_of_two};
 use crate::key::{Key, Wanted};
@@ -132,16 +133,26 @@ fn value_fault(key: Key, value: &Value) -> Option<ConfigFault>
     }
 }
 
+impl Key {
+    /// The fault of what a table has at the key: of a value that isn't what the key wants, or of a
+    /// required key that isn't there.
+    pub fn fault(self, found: Option<&Value>) -> Option<ConfigFault>
+        ensures value { result ≡ found_fault self (option_map (λ v. view v.now) found.entry) }
+    {
+        match found {
+            Some(value) => value_fault(self, value),
+            None if self.is_required() => Some(ConfigFault::Missing(self)),
+            None => None,
+        }
+    }
+}
+
 impl Position<'_> {
     /// The fault of this position.
     fn fault(&self) -> Option<ConfigFault>
         ensures value { result ≡ fault_at (position_seen self.now) }
     {
-        match self.value {
-            Some(value) => value_fault(self.key, value),
-            None if self.key.is_required() => Some(ConfigFault::Missing(self.key)),
-            None => None,
-        }
+        self.key.fault(self.value)
     }
 }
 

@@ -78,9 +78,10 @@ pub(crate) fn number_at(table: &Table, key: Key) -> u16
     number_of(key, value_at(table, key))
 }
 
-/// The element that a table is, if its type is known.
+/// The element of a dataset that a table is; None where its type isn't known. A size that is no
+/// number in range counts as 1.
 #[tactic(auto, unfolding(crate::specs::Configs::element_in))]
-fn element_in(table: &Table) -> Option<Element>
+pub fn element_in(table: &Table) -> Option<Element>
     ensures value { result ≡ element_in (table_view table.now) }
 {
     match value_at(table, Key::ElementType) {
@@ -120,8 +121,8 @@ fn elements_in(alloc: Global, dataset: &Table) -> Result<Vec<Element>, AllocErro
     Ok(elements)
 }
 
-/// The identifier of a dataset.
-fn identifier_of(dataset: &Table) -> Option<u32>
+/// The identifier of the dataset that a table is; None where it has none that is in range.
+pub fn identifier_of(dataset: &Table) -> Option<u32>
     ensures value { result
         ≡ option_and_then identifier_in (value_at Key.DatasetId (table_view dataset.now)) }
 {
