@@ -47,7 +47,7 @@ class Node:
         self.config.writelines(f"[[slot]]\npublishers = 1\ncontrol_port = {it}\n" for it in self.controls)
         self.config.flush()
         words = [program, words[0], self.config.name, *words[1:]]
-        self.process = subprocess.Popen(words, stdout=subprocess.DEVNULL)
+        self.process = subprocess.Popen(words, stdout=subprocess.DEVNULL, stderr=subprocess.DEVNULL)
         self.clients = [self.client(it) for it in self.controls]
 
     def client(self, port):

@@ -28,7 +28,7 @@ def node(program, ports, first):
     config.write(f'[node]\naddress = "{HOST}"\npd_port = {first}\nmd_port = {first + 1}\noperator_port = {ports[0]}\n'
                  f"[[slot]]\ncontrol_port = {ports[1]}\n")
     config.flush()
-    return subprocess.Popen([program, "daemon", config.name], stdout=subprocess.DEVNULL), config
+    return subprocess.Popen([program, "daemon", config.name], stdout=subprocess.DEVNULL, stderr=subprocess.DEVNULL), config
 
 
 def forge(source, to, payload):

@@ -30,6 +30,7 @@ mod told;
 
 pub use attend::daemon_program;
 pub use config_names::ConfigFaultText;
-pub use faults::{ScriptFaultText, script_status};
-pub use program::{CONFIG_STATUS, run_program};
+pub use faults::{SERVE_FAULT_STATUS, ScriptFaultText, ServeFault, script_status};
+pub use program::{CONFIG_STATUS, read_config, run_program};
 pub use serve::serve_program;
+pub use told::tell_fault;

@@ -1,10 +1,16 @@
-//! The command line: `trdpd run CONFIG`, `trdpd serve CONFIG --turns N` and `trdpd daemon CONFIG`.
+//! The command line: `trdpd check CONFIG`, `trdpd run CONFIG`, `trdpd serve CONFIG --turns N` and
+//! `trdpd daemon CONFIG`.
 
 use clap::{Arg, ArgAction, ArgMatches, Command, Error, value_parser};
 use std::alloc::{AllocError, Global};
 
 /// What the program is asked to do.
 pub enum Task<'a> {
+    /// To say what a configuration means.
+    Check {
+        /// The path of the configuration file.
+        path: &'a str,
+    },
     /// To run the script at standard input.
     Run {
         /// The path of the configuration file.
@@ -26,9 +32,10 @@ pub enum Task<'a> {
     },
 }
 
-/// Reads the words of the command line, of which the first names the program: good is `run` with
-/// a configuration file, `serve` with a configuration file and `--turns` with a number of 0 to
-/// 4,294,967,295, and `daemon` with a configuration file and maybe `--totals` with such a number.
+/// Reads the words of the command line, of which the first names the program: good is `check` or
+/// `run` with a configuration file, `serve` with a configuration file and `--turns` with a number of
+/// 0 to 4,294,967,295, and `daemon` with a configuration file and maybe `--totals` with such a
+/// number.
 ///
 /// The error's text is for the user. Its kind tells want of memory from wrong words and from a
 /// wish for help.
@@ -52,6 +59,11 @@ fn task_of<'a>(matches: &ArgMatches<'a>) -> Task<'a> {
             seconds: daemon.get_one::<u32>("totals").unwrap_or(0),
         };
     }
+    if let Some(check) = matches.subcommand_matches("check") {
+        return Task::Check {
+            path: path_of(Some(check)),
+        };
+    }
     Task::Run {
         path: path_of(matches.subcommand_matches("run")),
     }
@@ -68,6 +80,9 @@ fn path_of<'a>(words: Option<&ArgMatches<'a>>) -> &'a str {
 
 /// The words that are understood.
 fn command<'a>(alloc: Global) -> Result<Command<'a>, AllocError> {
+    let check = Command::new(alloc, "check")
+        .about("Says what the configuration means, or where its fault is")
+        .arg(config(alloc))?;
     let run = Command::new(alloc, "run")
         .about(
             "Runs the script at standard input and writes what the node gives to standard output",
@@ -87,6 +102,7 @@ fn command<'a>(alloc: Global) -> Result<Command<'a>, AllocError> {
     Command::new(alloc, "trdpd")
         .about("A communication node for the Train Real-time Data Protocol")
         .subcommand_required(true)
+        .subcommand(check)?
         .subcommand(run)?
         .subcommand(serve)?
         .subcommand(daemon(alloc)?)

@@ -1,5 +1,8 @@
 //! The program `trdpd`: a communication node, whose events come from a script or from a network.
 //!
+//! `trdpd check CONFIG` says what the configuration in the file CONFIG (TOML) means and what its author
+//! may not have meant, on standard output.
+//!
 //! `trdpd run CONFIG` reads the configuration of a node from the file CONFIG (TOML), and where
 //! nothing is wrong with it the script from standard input. What the node gives its slots goes to
 //! standard output.
@@ -12,12 +15,13 @@
 //!
 //! `trdpd daemon CONFIG` does the same until it is stopped: between two turns it rests until a
 //! datagram comes or something is due. With `--totals SECONDS` the line of its totals so far goes to
-//! standard output every so many seconds.
+//! standard output every so many seconds. It begins with the words of a check, on standard error.
 //!
 //! The exit status is
-//! - 0 at the script's end, and after the last turn;
+//! - 0 at the script's end, after the last turn, and for a configuration without a fault;
 //! - 1 where the configuration isn't taken, with `config fault NAME` on standard error. Behind
-//!   the name stands the key of a Missing or WrongType and the number of a dataset for NoDataset.
+//!   the name stands the key of a Missing or WrongType and the number of a dataset for NoDataset;
+//!   a check and a daemon say in a second line where the fault is.
 //!   A file that can't be read is `config fault Unreadable`, and want of memory while it is read
 //!   `config fault OutOfMemory`;
 //! - 2 for other words, with the usage;
@@ -26,8 +30,9 @@
 //!   the system refuses a port.
 //!
 //! What it does in each case, with the exit status, is the contract of `trdp_program`'s
-//! `run_program`, `serve_program` and `daemon_program`. The functions here and in `command` have no clauses: how the
-//! command line is read, which is `clap`'s, how the file is read, and status 2 are tried by hand.
+//! `run_program` and `serve_program`, and of `trdp_report`'s `check_program` and `report_daemon`. The
+//! functions here and in `command` have no clauses: how the command line is read, which is `clap`'s,
+//! how the file is read, and status 2 are tried by hand.
 #![tactic(auto)]
 
 mod command;
@@ -39,9 +44,9 @@ use std::process::ExitCode;
 use std::{env, fs, io};
 use trdp_dataset::ConfigFault;
 use trdp_program::{
-    CONFIG_STATUS, ConfigFaultText, ScriptFaultText, daemon_program, run_program, script_status,
-    serve_program,
+    CONFIG_STATUS, ConfigFaultText, ScriptFaultText, run_program, script_status, serve_program,
 };
+use trdp_report::{check_program, report_daemon};
 use trdp_script::ScriptFault;
 
 /// The exit status of words that are no task, and of a wish for help (profile).
@@ -60,12 +65,21 @@ fn main(rt: HostRuntime) -> ExitCode {
 fn status(rt: &HostRuntime) -> u8 {
     match given_words(rt) {
         Ok(words) => match read_words(rt.alloc(), &words) {
+            Ok(Task::Check { path }) => check_file(rt, path),
             Ok(Task::Run { path }) => run_file(rt, path),
             Ok(Task::Serve { path, turns }) => serve_file(rt, path, turns),
             Ok(Task::Daemon { path, seconds }) => attend_file(rt, path, seconds),
             Err(error) => refuse(rt, &error, error.kind() == ErrorKind::OutOfMemory),
         },
         Err(error) => refuse(rt, NO_TEXT, error.kind() == io::ErrorKind::OutOfMemory),
+    }
+}
+
+/// Says what the configuration of a file means, and answers the exit status.
+fn check_file(rt: &HostRuntime, path: &str) -> u8 {
+    match read_file(rt, path) {
+        Some(config) => check_program(rt.alloc(), &config, &mut rt.stdout(), &mut rt.stderr()),
+        None => CONFIG_STATUS,
     }
 }
 
@@ -95,7 +109,7 @@ fn serve_file(rt: &HostRuntime, path: &str, turns: u32) -> u8 {
 /// Serves the configuration of a file until the program is stopped, and answers the exit status.
 fn attend_file(rt: &HostRuntime, path: &str, seconds: u32) -> u8 {
     match read_file(rt, path) {
-        Some(config) => daemon_program(rt, &config, seconds, &mut rt.stdout(), &mut rt.stderr()),
+        Some(config) => report_daemon(rt, &config, seconds, &mut rt.stdout(), &mut rt.stderr()),
         None => CONFIG_STATUS,
     }
 }

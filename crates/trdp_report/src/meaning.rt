@@ -1,0 +1,139 @@
+//! What a configuration means, in a screen.
+
+use std::alloc::AllocError;
+use std::fmt::Write;
+use std::net::{Ipv4Addr, SocketAddrV4};
+use trdp_base::{Ip, Quotas};
+use trdp_dataset::NodeConfig;
+
+/// The names of what a slot may hold, in the order of its quotas.
+const KINDS: [&str; 6] = [
+    "publishers",
+    "subscriptions",
+    "requesters",
+    "listeners",
+    "callers",
+    "repliers",
+];
+
+/// An address as it is printed.
+pub(crate) fn shown(ip: Ip) -> Ipv4Addr {
+    Ipv4Addr::from_bits(ip.0)
+}
+
+/// Adds what a configuration means: a line for the node, one for each slot, one for the spare control
+/// ports, and one for each dataset.
+///
+/// # Errors
+/// Want of memory.
+pub(crate) fn push_meaning(text: &mut String, config: &NodeConfig) -> Result<(), AllocError> {
+    push_node(text, config)?;
+    for slot in 0..config.slots() {
+        push_slot(text, config, slot)?;
+    }
+    push_spare_ports(text, config)?;
+    push_datasets(text, config)
+}
+
+/// Adds the line of the node, and the one of its operator's port.
+///
+/// # Errors
+/// Want of memory.
+fn push_node(text: &mut String, config: &NodeConfig) -> Result<(), AllocError> {
+    let address = shown(config.address());
+    let pd_port = config.pd_port();
+    let md_port = config.md_port();
+    writeln!(
+        text,
+        "node {address}: process data at port {pd_port}, message data at port {md_port}"
+    )?;
+    if config.operator_port() == 0 {
+        return Ok(());
+    }
+    let operator = SocketAddrV4::new(shown(config.control_address()), config.operator_port());
+    writeln!(text, "operator at {operator}")
+}
+
+/// Adds the line of a slot.
+///
+/// # Errors
+/// Want of memory.
+fn push_slot(text: &mut String, config: &NodeConfig, slot: usize) -> Result<(), AllocError> {
+    write!(text, "slot {slot}")?;
+    match config.control_port(slot) {
+        Some(port) if port != 0 => {
+            let control = SocketAddrV4::new(shown(config.control_address()), port);
+            write!(text, " at {control}")?;
+        }
+        _ => text.push_str(", no control port")?,
+    }
+    match config.quotas(slot) {
+        Some(quotas) => push_quotas(text, quotas)?,
+        None => {}
+    }
+    text.push_str("\n")
+}
+
+/// Adds the quotas of a slot.
+///
+/// # Errors
+/// Want of memory.
+fn push_quotas(text: &mut String, quotas: Quotas) -> Result<(), AllocError> {
+    let mut mark = ":";
+    for (kind, name) in KINDS.iter().enumerate() {
+        let count = quotas.get(kind);
+        write!(text, "{mark} {count} {name}")?;
+        mark = ",";
+    }
+    Ok(())
+}
+
+/// Adds the line of the spare control ports, if there are any.
+///
+/// # Errors
+/// Want of memory.
+fn push_spare_ports(text: &mut String, config: &NodeConfig) -> Result<(), AllocError> {
+    if config.spare_control_ports() == 0 {
+        return Ok(());
+    }
+    let address = shown(config.control_address());
+    write!(text, "slots that are added have, at {address}, the ports")?;
+    for added in 0..config.spare_control_ports() {
+        if let Some(port) = config.spare_control_port(added) {
+            write!(text, " {port}")?;
+        }
+    }
+    text.push_str("\n")
+}
+
+/// Adds the lines of the datasets.
+///
+/// # Errors
+/// Want of memory.
+fn push_datasets(text: &mut String, config: &NodeConfig) -> Result<(), AllocError> {
+    let registry = config.registry();
+    for index in 0..registry.len() {
+        if let Some(id) = registry.id_at(index) {
+            push_dataset(text, config, id)?;
+        }
+    }
+    Ok(())
+}
+
+/// Adds the line of a dataset.
+///
+/// # Errors
+/// Want of memory.
+fn push_dataset(text: &mut String, config: &NodeConfig, id: u32) -> Result<(), AllocError> {
+    let registry = config.registry();
+    let elements = registry.elements(id).map_or(0, |elements| elements.len());
+    let size = registry.zero_size(id).unwrap_or(0);
+    let more = match registry.fixed_size(id) {
+        Some(_) => "",
+        None => " and more",
+    };
+    writeln!(
+        text,
+        "dataset {id}: elements {elements}, bytes {size}{more}"
+    )
+}

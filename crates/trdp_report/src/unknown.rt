@@ -1,0 +1,96 @@
+//! Keys of a file that mean nothing.
+
+use crate::place::{DatasetName, Place, members_at, node_in};
+use std::alloc::AllocError;
+use std::fmt::Write;
+use toml::Table;
+use trdp_dataset::{DATASET_KEYS, ELEMENT_KEYS, Key, NODE_KEYS, SLOT_KEYS};
+
+/// The keys of the root.
+const ROOT_KEYS: [Key; 3] = [Key::Node, Key::Slot, Key::Dataset];
+
+/// The key of the root at which the clients have what the node takes no notice of: the dataset of each
+/// comId.
+const CLIENTS_KEY: &str = "telegram";
+
+/// Adds a warning for each key of a file that means nothing.
+///
+/// # Errors
+/// Want of memory.
+pub(crate) fn push_unknown(text: &mut String, top: &Table) -> Result<(), AllocError> {
+    push_unknown_in(text, top, Place::Root, &ROOT_KEYS)?;
+    if let Some(node) = node_in(top) {
+        push_unknown_in(text, node, Place::Node, &NODE_KEYS)?;
+    }
+    push_unknown_in_slots(text, top)?;
+    push_unknown_in_datasets(text, top)
+}
+
+/// Adds a warning for each key of a table that isn't one of these.
+///
+/// # Errors
+/// Want of memory.
+fn push_unknown_in(
+    text: &mut String,
+    table: &Table,
+    place: Place,
+    keys: &[Key],
+) -> Result<(), AllocError> {
+    for (name, _) in table {
+        if !is_known(place, keys, name) {
+            writeln!(text, "warning: {place}: the key {name} means nothing")?;
+        }
+    }
+    Ok(())
+}
+
+/// Whether a name is one of the keys of a table, or at the root the one of the clients.
+fn is_known(place: Place, keys: &[Key], name: &str) -> bool {
+    let is_clients = matches!(place, Place::Root) && name == CLIENTS_KEY;
+    is_clients || keys.iter().any(|key| key.text() == name)
+}
+
+/// Adds the warnings of the slots.
+///
+/// # Errors
+/// Want of memory.
+fn push_unknown_in_slots(text: &mut String, top: &Table) -> Result<(), AllocError> {
+    for (slot, member) in members_at(top, Key::Slot).iter().enumerate() {
+        if let Some(table) = member.as_table() {
+            push_unknown_in(text, table, Place::Slot(slot), &SLOT_KEYS)?;
+        }
+    }
+    Ok(())
+}
+
+/// Adds the warnings of the datasets and their elements.
+///
+/// # Errors
+/// Want of memory.
+fn push_unknown_in_datasets(text: &mut String, top: &Table) -> Result<(), AllocError> {
+    for (index, member) in members_at(top, Key::Dataset).iter().enumerate() {
+        if let Some(table) = member.as_table() {
+            let name = DatasetName::of(table, index);
+            push_unknown_in(text, table, Place::Dataset(name), &DATASET_KEYS)?;
+            push_unknown_in_elements(text, table, name)?;
+        }
+    }
+    Ok(())
+}
+
+/// Adds the warnings of the elements of a dataset.
+///
+/// # Errors
+/// Want of memory.
+fn push_unknown_in_elements(
+    text: &mut String,
+    dataset: &Table,
+    name: DatasetName,
+) -> Result<(), AllocError> {
+    for (index, member) in members_at(dataset, Key::Elements).iter().enumerate() {
+        if let Some(table) = member.as_table() {
+            push_unknown_in(text, table, Place::Element(name, index), &ELEMENT_KEYS)?;
+        }
+    }
+    Ok(())
+}

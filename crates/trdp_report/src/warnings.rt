@@ -1,0 +1,141 @@
+//! What the author of a configuration may not have meant.
+
+use crate::meaning::shown;
+use crate::unknown::push_unknown;
+use std::alloc::AllocError;
+use std::fmt::Write;
+use std::net::Ipv4Addr;
+use toml::Table;
+use trdp_base::Quotas;
+use trdp_dataset::NodeConfig;
+use trdp_head::PD_PAYLOAD_MAX;
+
+/// Adds a warning, a line, for each thing of a file that its author may not have meant.
+///
+/// # Errors
+/// Want of memory.
+pub(crate) fn push_warnings(
+    text: &mut String,
+    top: &Table,
+    config: &NodeConfig,
+) -> Result<(), AllocError> {
+    push_unknown(text, top)?;
+    push_address(text, "address", shown(config.address()))?;
+    if has_control_port(config) {
+        push_control_address(text, config)?;
+    }
+    for slot in 0..config.slots() {
+        push_empty_slot(text, config, slot)?;
+    }
+    push_long_datasets(text, config)
+}
+
+/// Adds a warning where an address is none of a device's own.
+///
+/// # Errors
+/// Want of memory.
+fn push_address(text: &mut String, key: &str, address: Ipv4Addr) -> Result<(), AllocError> {
+    if address.is_unspecified() {
+        writeln!(
+            text,
+            "warning: {key} is 0.0.0.0: its ports are at every interface, and a telegram counts as \
+             sent to 0.0.0.0"
+        )
+    } else if address.is_multicast() {
+        writeln!(
+            text,
+            "warning: {key} is the group {address}: what is sent to the group alone comes in, and \
+             what goes out bears another address"
+        )
+    } else if address.is_broadcast() {
+        writeln!(
+            text,
+            "warning: {key} is the broadcast {address}: what is sent to all alone comes in, and what \
+             goes out bears another address"
+        )
+    } else {
+        Ok(())
+    }
+}
+
+/// Whether a node has a port for calls or for the operator's lines.
+fn has_control_port(config: &NodeConfig) -> bool {
+    let mut has = config.operator_port() != 0;
+    for slot in 0..config.slots() {
+        has = has || config.control_port(slot) != Some(0);
+    }
+    for added in 0..config.spare_control_ports() {
+        has = has || config.spare_control_port(added) != Some(0);
+    }
+    has
+}
+
+/// Adds a warning where the control ports are at an address that the network reaches.
+///
+/// # Errors
+/// Want of memory.
+fn push_control_address(text: &mut String, config: &NodeConfig) -> Result<(), AllocError> {
+    let address = shown(config.control_address());
+    if address.is_loopback() {
+        return Ok(());
+    }
+    if config.control_address() != config.address() {
+        push_address(text, "control_address", address)?;
+    }
+    writeln!(
+        text,
+        "warning: the network reaches the control ports at {address}: a stranger's datagram, an empty \
+         one too, takes a slot's indications, and his lines are its calls; control_address = \
+         \"127.0.0.1\" keeps him out"
+    )
+}
+
+/// Adds a warning where a slot can hold nothing.
+///
+/// # Errors
+/// Want of memory.
+fn push_empty_slot(text: &mut String, config: &NodeConfig, slot: usize) -> Result<(), AllocError> {
+    match config.quotas(slot) {
+        Some(quotas) if is_nothing(quotas) => {
+            writeln!(
+                text,
+                "warning: slot {slot} can hold nothing: each of its quotas is 0"
+            )
+        }
+        _ => Ok(()),
+    }
+}
+
+/// Whether each quota is 0.
+fn is_nothing(quotas: Quotas) -> bool {
+    (0..6usize).all(|kind| quotas.get(kind) == 0)
+}
+
+/// Adds a warning for each dataset that process data can't carry.
+///
+/// # Errors
+/// Want of memory.
+fn push_long_datasets(text: &mut String, config: &NodeConfig) -> Result<(), AllocError> {
+    let registry = config.registry();
+    for index in 0..registry.len() {
+        if let Some(id) = registry.id_at(index) {
+            push_long_dataset(text, id, registry.zero_size(id).unwrap_or(0))?;
+        }
+    }
+    Ok(())
+}
+
+/// Adds a warning where a dataset is longer than process data carries.
+///
+/// # Errors
+/// Want of memory.
+fn push_long_dataset(text: &mut String, id: u32, size: usize) -> Result<(), AllocError> {
+    if size <= PD_PAYLOAD_MAX {
+        return Ok(());
+    }
+    writeln!(
+        text,
+        "warning: no telegram of process data carries dataset {id}: it has {size} bytes or more, and \
+         {PD_PAYLOAD_MAX} fit"
+    )
+}
