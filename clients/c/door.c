@@ -1,0 +1,106 @@
+/* A door controller: it tells the other side how its doors are, and shows how those of the other
+ * side are, once a second.
+ *
+ *     gcc -std=c99 -Wall -Wextra -O2 -o door clients/c/door.c
+ *     ./door ADDRESS PORT OTHER SECONDS
+ *     ./door 127.0.9.1 18000 127.0.9.2 60
+ *
+ * ADDRESS and PORT are those of its slot's control port, OTHER is the address of the other side's
+ * node. door.toml and other.toml configure both sides. It makes its objects anew where the daemon
+ * was started anew. The exit status is 2 for other words, 1 where the slot can't be opened. */
+#include "trdp_slot.h"
+
+#include <stdio.h>
+#include <stdlib.h>
+
+struct doors {
+    struct trdp_slot slot;
+    uint32_t other;
+    uint32_t publisher; /* the handles; 0 where there is none */
+    uint32_t subscription;
+};
+
+/* Makes what isn't there yet: one publisher and one subscription, of comId 2101. */
+static enum trdp_slot_error begin(struct doors *doors)
+{
+    struct trdp_slot_publisher tells = { .com_id = 2101, .dataset = 5002, .cycle = 100000,
+        .to = { doors->other, 17224 } };
+    struct trdp_slot_subscription hears = { .com_id = 2101, .dataset = 5002,
+        .low = doors->other, .high = doors->other, .time = 500000, .keep = true };
+    enum trdp_slot_error error = TRDP_SLOT_OK;
+    if (doors->publisher == 0)
+        error = trdp_slot_publish(&doors->slot, &tells, &doors->publisher);
+    if (error == TRDP_SLOT_OK && doors->subscription == 0)
+        error = trdp_slot_subscribe(&doors->slot, &hears, &doors->subscription);
+    return error;
+}
+
+/* Tells how the doors are, and shows how those of the other side are. */
+static enum trdp_slot_error tell_and_show(struct doors *doors, uint8_t obstacles)
+{
+    uint8_t status[] = { 4, 0, 0, 0, 0, 0, obstacles }, bytes[TRDP_SLOT_VALUE];
+    struct trdp_slot_value value;
+    enum trdp_slot_error error = begin(doors);
+    if (error == TRDP_SLOT_OK)
+        error = trdp_slot_put(&doors->slot, doors->publisher, status, sizeof status);
+    if (error == TRDP_SLOT_OK)
+        error = trdp_slot_get(&doors->slot, doors->subscription, &value, bytes, sizeof bytes);
+    if (error == TRDP_SLOT_OK)
+        printf("%s: %u doors, %u bytes\n", trdp_slot_state_text(value.state),
+            (unsigned)bytes[0], (unsigned)value.length);
+    if (error == TRDP_SLOT_REFUSED_NO_HANDLE) /* the daemon was started anew */
+        doors->publisher = doors->subscription = 0;
+    return error;
+}
+
+/* Shows what the node tells of its own accord, for some time. */
+static void listen_for(struct doors *doors, uint32_t milliseconds)
+{
+    int64_t end = trdp_slot_now() + milliseconds, left;
+    while ((left = end - trdp_slot_now()) > 0) {
+        struct trdp_slot_indication told;
+        switch (trdp_slot_next(&doors->slot, (uint32_t)left, &told, NULL, 0)) {
+        case TRDP_SLOT_OK:
+            printf("%s %u\n", trdp_slot_kind_text(told.kind), (unsigned)told.handle);
+            break;
+        case TRDP_SLOT_LOST:
+            printf("%u lost\n", (unsigned)told.lost);
+            break;
+        default:
+            break;
+        }
+    }
+}
+
+int main(int argc, char **argv)
+{
+    static char line[512], text[TRDP_SLOT_TEXT_ROOM];
+    static uint8_t kept[4096];
+    struct doors doors = { .publisher = 0 };
+    struct trdp_slot_terms terms = { .timeout = 200, .tries = 1,
+        .line = line, .line_room = sizeof line, .text = text, .text_room = sizeof text,
+        .kept = kept, .kept_room = sizeof kept };
+    if (argc != 5 || !trdp_slot_address(argv[1], &terms.address)
+        || !trdp_slot_address(argv[3], &doors.other)) {
+        fprintf(stderr, "usage: door ADDRESS PORT OTHER SECONDS\n");
+        return 2;
+    }
+    terms.port = (uint16_t)atoi(argv[2]);
+    enum trdp_slot_error error = trdp_slot_open(&doors.slot, &terms);
+    if (error != TRDP_SLOT_OK) {
+        fprintf(stderr, "door: %s\n", trdp_slot_error_text(error));
+        return 1;
+    }
+    setvbuf(stdout, NULL, _IOLBF, 0);
+    for (int second = 0; second < atoi(argv[4]); second++) {
+        error = tell_and_show(&doors, (uint8_t)second);
+        if (error != TRDP_SLOT_OK)
+            printf("%s\n", trdp_slot_error_text(error));
+        listen_for(&doors, 1000);
+    }
+    /* What isn't ended stays in the daemon. */
+    trdp_slot_unpublish(&doors.slot, doors.publisher);
+    trdp_slot_unsubscribe(&doors.slot, doors.subscription);
+    trdp_slot_close(&doors.slot);
+    return 0;
+}

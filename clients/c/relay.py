@@ -1,0 +1,72 @@
+"""A relay before a control port, that drops, doubles or holds back answers.
+
+A client calls at the relay's port in place of the daemon's, and the daemon hears the relay. What
+isn't an answer passes.
+"""
+import socket
+import threading
+
+ANSWERS = {b"handle", b"done", b"value", b"refused"}
+
+
+class Relay(threading.Thread):
+    """From one place to another, until the program ends."""
+
+    def __init__(self, here, daemon):
+        super().__init__(daemon=True)
+        self.lock = threading.Lock()
+        self.client = None
+        self.left = {"drop": 0, "double": 0, "hold": 0}  # how many of the next answers
+        self.held = []
+        self.down = socket.socket(socket.AF_INET, socket.SOCK_DGRAM)
+        self.down.bind(here)
+        self.up = socket.socket(socket.AF_INET, socket.SOCK_DGRAM)
+        self.up.connect(daemon)
+        threading.Thread(target=self.come_back, daemon=True).start()
+
+    def run(self):
+        """Passes lines on to the daemon."""
+        while True:
+            line, self.client = self.down.recvfrom(65536)
+            try:
+                self.up.send(line)
+            except OSError:
+                pass  # nobody is there now
+
+    def come_back(self):
+        """Passes texts back to the client, or does with them what it was told to."""
+        while True:
+            try:
+                text = self.up.recv(65536)
+            except OSError:
+                continue
+            with self.lock:
+                self.give(text)
+
+    def give(self, text):
+        """Gives one text to the client."""
+        ways = [way for way, count in self.left.items() if count] if self.is_answer(text) else []
+        if ways:
+            self.left[ways[0]] -= 1
+        if ways[:1] == ["hold"]:
+            self.held.append(text)
+        elif ways[:1] != ["drop"]:
+            for _ in range(2 if ways else 1):
+                self.down.sendto(text, self.client)
+
+    @staticmethod
+    def is_answer(text):
+        words = text.split()
+        return len(words) > 1 and words[1] in ANSWERS
+
+    def set(self, way, count):
+        """Drops, doubles or holds back so many of the next answers."""
+        with self.lock:
+            self.left[way] = count
+
+    def release(self):
+        """Gives what was held back."""
+        with self.lock:
+            for text in self.held:
+                self.down.sendto(text, self.client)
+            self.held.clear()
