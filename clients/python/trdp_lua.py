@@ -1,0 +1,59 @@
+#!/usr/bin/env python3
+"""Writes the datasets of comIds for wireshark/trdp.lua, so that Wireshark and tshark show values in place of bytes.
+
+    trdp_lua.py node.toml > datasets.lua
+    tshark -X lua_script:wireshark/trdp.lua -X lua_script:datasets.lua -r capture.pcapng
+
+The file is a node's configuration, or any other one, with its `[[dataset]]` tables, and beside them one
+
+    [[telegram]]
+    com_id = 2101
+    dataset = 5002
+
+for each comId. The node ignores these.
+"""
+from __future__ import annotations
+
+import sys
+
+from trdp_slot import Datasets, Element
+
+HEAD = """\
+-- The datasets of comIds, a second script beside wireshark/trdp.lua. Written by clients/python/trdp_lua.py.
+"""
+
+
+def element_table(element: Element) -> str:
+    """An element in Lua: the name of a basic type or the number of a dataset, and the size."""
+    kind = element.type if isinstance(element.type, int) else f'"{element.type}"'
+    return f"{{ {kind}, {element.size} }}"
+
+
+def lua_table(datasets: Datasets) -> str:
+    """The script: a global table of the comIds that have a dataset, and of all datasets."""
+    lines = [HEAD + "_G.trdp_datasets = {", "    com_ids = {"]
+    lines += [f"        [{com_id}] = {number}," for com_id, number in sorted(datasets.com_ids.items()) if number]
+    lines += ["    },", "    datasets = {"]
+    for number, elements in datasets.elements.items():
+        lines.append(f"        [{number}] = {{ {', '.join(map(element_table, elements))} }},")
+    return "\n".join([*lines, "    },", "}", ""])
+
+
+def main(words: list[str]) -> int:
+    """Exit status 0, 1 where the file can't be read, 2 for other words."""
+    if len(words) != 1 or words[0].startswith("-"):
+        print("usage: trdp_lua.py FILE", file=sys.stderr)
+        return 2
+    try:
+        datasets = Datasets.from_toml(words[0])
+    except (OSError, ValueError) as fault:
+        print(f"trdp_lua.py: {words[0]}: {fault}", file=sys.stderr)
+        return 1
+    if not datasets.com_ids:
+        print(f"trdp_lua.py: {words[0]} has no [[telegram]] tables, so that no comId has a dataset", file=sys.stderr)
+    sys.stdout.write(lua_table(datasets))
+    return 0
+
+
+if __name__ == "__main__":
+    sys.exit(main(sys.argv[1:]))

@@ -1,0 +1,1218 @@
+"""A client of trdpd: the calls of one slot's application, over the control port of a daemon.
+
+    from trdp_slot import Slot
+
+    with Slot("node.toml", 0) as doors:
+        status = doors.publish(2101, "10.0.0.2:17224", dataset=5002, cycle_us=100_000)
+        doors.put(status, [4, [0, 0, 0, 0], 0])
+
+This one file needs the standard library of Python 3.11 alone, and can be copied. docs/CLIENTS.md tells how it is
+used, and docs/SCRIPT.md what each call does and when it is refused.
+
+All times are whole numbers of microseconds, and named so: `cycle_us`. Addresses are texts as "10.0.0.2", places
+texts as "10.0.0.2:17224", URIs texts of at most 32 bytes, and sessions are `uuid.UUID`.
+"""
+from __future__ import annotations
+
+import collections
+import ipaddress
+import os
+import selectors
+import socket
+import struct
+import time
+import tomllib
+import uuid
+from collections.abc import Callable, Iterator, Mapping, Sequence
+from typing import Any, NamedTuple, overload
+
+PD_MOST = 1432
+"""The most bytes that a telegram of process data carries."""
+MD_MOST = 65388
+"""The most bytes that a message carries, and the most of a dataset's zero value."""
+DATAGRAM_MOST = 65507
+"""The most bytes of one datagram, and so of one line to a control port."""
+ANY = "0.0.0.0"
+"""In a filter: from any address, to any address."""
+
+# -----------------------------------------------------------------------------
+# What goes wrong
+# -----------------------------------------------------------------------------
+
+
+class Refused(Exception):
+    """The node refused a call, which changed nothing.
+
+    `name` is the refusal's name by docs/SCRIPT.md, as "NoHandle"; `line` the call; `tries` how often it had been
+    sent by then: where that is more than once, an earlier try may have taken effect.
+    """
+
+    def __init__(self, name: str, line: str, tries: int = 1) -> None:
+        super().__init__(f"{name}: {line if len(line) <= 80 else line[:77] + '...'}")
+        self.name = name
+        self.line = line
+        self.tries = tries
+
+
+class DoesNotFit(ValueError):
+    """A value isn't one of its dataset, or bytes aren't; the text names the place in the dataset."""
+
+
+class ConfigFault(ValueError):
+    """A configuration isn't one of a node, or lacks what is asked of it."""
+
+
+# -----------------------------------------------------------------------------
+# Datasets
+# -----------------------------------------------------------------------------
+
+
+class Number(NamedTuple):
+    """A basic type whose values are numbers: its letter for `struct`, and the range of its values."""
+
+    code: str
+    low: int
+    high: int
+
+
+class Time(NamedTuple):
+    """A basic type whose values are pairs of numbers: its letters for `struct`, and the highest of each; the lowest
+    is 0."""
+
+    code: str
+    highest: tuple[int, int]
+
+
+def _signed(code: str, bits: int) -> Number:
+    return Number(code, -(1 << bits - 1), (1 << bits - 1) - 1)
+
+
+def _unsigned(code: str, bits: int) -> Number:
+    return Number(code, 0, (1 << bits) - 1)
+
+
+BASIC_TYPES: Mapping[str, Number | Time] = {
+    "BOOL8": _unsigned("B", 8),
+    "CHAR8": _unsigned("B", 8),
+    "UTF16": _unsigned("H", 16),
+    "INT8": _signed("b", 8),
+    "INT16": _signed("h", 16),
+    "INT32": _signed("i", 32),
+    "INT64": _signed("q", 64),
+    "UINT8": _unsigned("B", 8),
+    "UINT16": _unsigned("H", 16),
+    "UINT32": _unsigned("I", 32),
+    "UINT64": _unsigned("Q", 64),
+    "TIMEDATE32": _unsigned("I", 32),
+    "TIMEDATE48": Time("IH", (0xFFFFFFFF, 0xFFFF)),
+    "TIMEDATE64": Time("II", (0xFFFFFFFF, 0xFFFFFFFF)),
+}
+"""The basic types by name. A TIMEDATE48 is (seconds, ticks of 1/65536 s), a TIMEDATE64 (seconds, microseconds)."""
+
+TYPE_NAMES: Mapping[int | str, str] = {
+    1: "BOOL8", 2: "CHAR8", 3: "UTF16", 4: "INT8", 5: "INT16", 6: "INT32", 7: "INT64", 8: "UINT8", 9: "UINT16",
+    10: "UINT32", 11: "UINT64", 14: "TIMEDATE32", 15: "TIMEDATE48", 16: "TIMEDATE64", "BITSET8": "BOOL8",
+} | {name: name for name in BASIC_TYPES}
+"""The name of a basic type, by what a configuration may have for it."""
+
+REAL_TYPES = (12, 13, "REAL32", "REAL64")
+COUNT_TYPES = ("UINT8", "UINT16", "UINT32")
+DEPTH_MOST = 5
+FIRST_DATASET = 31
+
+
+class Element(NamedTuple):
+    """An element of a dataset: a basic type's name or the number of a dataset, and how many values it has: 1 is a
+    single one, more an array of so many, and 0 an array of as many as the element before it says."""
+
+    type: str | int
+    size: int
+
+
+_Way = tuple[str, ...]  # from a dataset to a value in it, in words
+
+
+def _fault(way: _Way, text: str) -> DoesNotFit:
+    return DoesNotFit(f"{', '.join(way)}: {text}")
+
+
+class Datasets:
+    """The datasets of a configuration, and their values.
+
+    A value of a dataset is a list with one entry for each element, in order: a number, a pair (a tuple) for a
+    TIMEDATE48 or a TIMEDATE64, a list for a value of another dataset, and for an element whose size isn't 1 a list
+    of these. Bytes are a value of dataset 0. For `{UINT8, UINT16 array of size 0}` it is [2, [700, 800]].
+
+    `com_ids` says of comIds which dataset their payload is, by the tables `[[telegram]] com_id = .. dataset = ..`
+    that a file may have beside its datasets. The node doesn't look at these.
+    """
+
+    def __init__(self, elements: Mapping[int, Sequence[Element]], com_ids: Mapping[int, int] | None = None) -> None:
+        """Datasets by their numbers, with their elements. Raises ConfigFault where they don't fit together."""
+        self.elements = {number: tuple(of) for number, of in elements.items()}
+        self.com_ids = dict(com_ids or {})
+        self._zero_sizes: dict[int, int] = {}
+        for number, of in self.elements.items():
+            self._check(number, of)
+        self._check_depth()
+        for number in self.elements:
+            if self.zero_size(number) > MD_MOST:
+                raise ConfigFault(f"dataset {number}: its zero value has more than {MD_MOST} bytes")
+        for com_id, number in self.com_ids.items():
+            if number and number not in self.elements:
+                raise ConfigFault(f"comId {com_id}: there is no dataset {number}")
+
+    @classmethod
+    def from_toml(cls, path: str | os.PathLike[str]) -> Datasets:
+        """The datasets of a node's configuration, or of any other file that has `[[dataset]]` tables as
+        examples/node.toml explains them. Raises ConfigFault, OSError, or tomllib.TOMLDecodeError."""
+        return cls.from_tables(_read_toml(path))
+
+    @classmethod
+    def from_tables(cls, config: Mapping[str, Any]) -> Datasets:
+        """The same of the tables of such a file."""
+        elements: dict[int, list[Element]] = {}
+        for table in _tables(config, "dataset"):
+            number = _config_number(table, "id", FIRST_DATASET, 0xFFFFFFFF)
+            if number in elements:
+                raise ConfigFault(f"dataset {number} is there twice")
+            elements[number] = [_element(number, it) for it in _tables(table, "element")]
+            if not 0 < len(elements[number]) <= 256:
+                raise ConfigFault(f"dataset {number} has {len(elements[number])} elements, and not 1 to 256")
+        com_ids: dict[int, int] = {}
+        for table in _tables(config, "telegram"):
+            com_id = _config_number(table, "com_id", 0, 0xFFFFFFFF)
+            if com_id in com_ids:
+                raise ConfigFault(f"comId {com_id} is there twice")
+            com_ids[com_id] = _config_number(table, "dataset", 0, 0xFFFFFFFF)
+        return cls(elements, com_ids)
+
+    def _check(self, number: int, elements: Sequence[Element]) -> None:
+        counts = False
+        for index, element in enumerate(elements):
+            if isinstance(element.type, int) and element.type not in self.elements:
+                raise ConfigFault(f"dataset {number}, element {index}: there is no dataset {element.type}")
+            if element.size == 0 and not counts:
+                raise ConfigFault(f"dataset {number}, element {index}: no UINT8, UINT16 or UINT32 before it counts it")
+            counts = element.size == 1 and element.type in COUNT_TYPES
+
+    def _check_depth(self) -> None:
+        within: set[int] = set()  # the datasets that nest no deeper than the round
+        for _ in range(DEPTH_MOST):
+            within = {number for number, of in self.elements.items()
+                      if all(it.type in within for it in of if isinstance(it.type, int))}
+        if len(within) < len(self.elements):
+            raise ConfigFault(f"datasets nest deeper than {DEPTH_MOST}")
+
+    def __contains__(self, number: int) -> bool:
+        """Whether there is a dataset of that number. Bytes of any kind are dataset 0, which always is."""
+        return number == 0 or number in self.elements
+
+    def zero_size(self, number: int) -> int:
+        """How many bytes the zero value of a dataset has: each number in it is 0, and each array of size 0 empty."""
+        if number not in self._zero_sizes:
+            sizes = (it.size * self._zero_size_of(it.type) for it in self.elements[number])
+            self._zero_sizes[number] = sum(sizes)
+        return self._zero_sizes[number]
+
+    def _zero_size_of(self, kind: str | int) -> int:
+        return self.zero_size(kind) if isinstance(kind, int) else struct.calcsize(">" + BASIC_TYPES[kind].code)
+
+    def zero(self, number: int) -> Any:
+        """The zero value of a dataset, which a subscription shows before its first telegram; b"" for dataset 0."""
+        return b"" if number == 0 else self.unpack(number, bytes(self.zero_size(number)))
+
+    def pack(self, number: int, value: Any, most: int = MD_MOST) -> bytes:
+        """The bytes of a value of a dataset, as the node has them: packed, with the highest byte first.
+
+        Raises DoesNotFit, with the place in the dataset, where the value isn't one of it, or has more bytes than
+        `most`, and KeyError where there is no such dataset."""
+        if number == 0:
+            if not isinstance(value, (bytes, bytearray, memoryview)):
+                raise DoesNotFit(f"dataset 0: {_shown(value)} is no bytes")
+            data = bytes(value)
+        else:
+            parts: list[bytes] = []
+            self._pack_dataset(number, value, (f"dataset {number}",), parts)
+            data = b"".join(parts)
+        if len(data) > most:
+            raise DoesNotFit(f"dataset {number}: the value has {len(data)} bytes, and at most {most} are carried")
+        return data
+
+    def _pack_dataset(self, number: int, value: Any, way: _Way, parts: list[bytes]) -> None:
+        elements = self.elements[number]
+        entries = _listed(value, len(elements), way)
+        count: Any = 0
+        for index, (element, entry) in enumerate(zip(elements, entries)):
+            at = (*way, f"element {index}")
+            if element.size == 1:
+                self._pack_items(element.type, [entry], at, parts, is_array=False)
+            else:
+                self._pack_items(element.type, _listed(entry, element.size or count, at), at, parts, is_array=True)
+            count = entry  # of an array of size 0 behind it
+
+    def _pack_items(self, kind: str | int, items: Sequence[Any], at: _Way, parts: list[bytes], is_array: bool) -> None:
+        for index, item in enumerate(items):
+            way = (*at, f"item {index}") if is_array else at
+            if isinstance(kind, int):
+                self._pack_dataset(kind, item, way, parts)
+            else:
+                parts.append(_pack_basic(kind, item, way))
+
+    def unpack(self, number: int, data: bytes) -> Any:
+        """The value of a dataset that these bytes are; bytes for dataset 0.
+
+        Raises DoesNotFit, with the place in the dataset, where they are none: too few, or some left over. KeyError
+        where there is no such dataset."""
+        if number == 0:
+            return bytes(data)
+        value, end = self._unpack_dataset(number, bytes(data), 0, (f"dataset {number}",))
+        if end != len(data):
+            raise DoesNotFit(f"dataset {number}: {len(data) - end} bytes are left over")
+        return value
+
+    def _unpack_dataset(self, number: int, data: bytes, offset: int, way: _Way) -> tuple[list[Any], int]:
+        value: list[Any] = []
+        count: Any = 0
+        for index, element in enumerate(self.elements[number]):
+            at = (*way, f"element {index}")
+            items, offset = self._unpack_items(element.type, element.size or count, data, offset, at)
+            value.append(items[0] if element.size == 1 else items)
+            count = value[-1]  # of an array of size 0 behind it
+        return value, offset
+
+    def _unpack_items(self, kind: str | int, count: int, data: bytes, offset: int, at: _Way) -> tuple[list[Any], int]:
+        if isinstance(kind, int):
+            # Each value has a byte at least, so that a count beyond the bytes ends where they do.
+            items = []
+            for index in range(count):
+                item, offset = self._unpack_dataset(kind, data, offset, (*at, f"item {index}"))
+                items.append(item)
+            return items, offset
+        basic = BASIC_TYPES[kind]
+        size = struct.calcsize(">" + basic.code)
+        end = offset + count * size
+        if end > len(data):
+            raise _fault(at, f"{len(data) - offset} bytes are left, and {count} of {kind} have {count * size}")
+        values = list(struct.iter_unpack(">" + basic.code, data[offset:end]))
+        return values if isinstance(basic, Time) else [it for it, in values], end
+
+
+def _shown(value: Any) -> str:
+    text = repr(value)
+    return text if len(text) <= 40 else text[:37] + "..."
+
+
+def _listed(value: Any, count: int, way: _Way) -> Sequence[Any]:
+    """A list of so many entries."""
+    if not isinstance(value, (list, tuple)):
+        raise _fault(way, f"{_shown(value)} is no list")
+    if len(value) != count:
+        raise _fault(way, f"the list has {len(value)} entries, and not {count}")
+    return value
+
+
+def _pack_basic(kind: str, item: Any, way: _Way) -> bytes:
+    basic = BASIC_TYPES[kind]
+    if isinstance(basic, Number):
+        if not isinstance(item, int) or not basic.low <= item <= basic.high:
+            raise _fault(way, f"{_shown(item)} is no {kind}, {basic.low} to {basic.high}")
+        return struct.pack(">" + basic.code, item)
+    if not isinstance(item, (tuple, list)) or len(item) != 2:
+        raise _fault(way, f"{_shown(item)} is no {kind}, a pair of numbers")
+    for half, highest in zip(item, basic.highest):
+        if not isinstance(half, int) or not 0 <= half <= highest:
+            raise _fault(way, f"{_shown(item)} is no {kind}: {_shown(half)} isn't in 0 to {highest}")
+    return struct.pack(">" + basic.code, *item)
+
+
+# -----------------------------------------------------------------------------
+# Configurations
+# -----------------------------------------------------------------------------
+
+
+def _read_toml(path: str | os.PathLike[str]) -> dict[str, Any]:
+    with open(path, "rb") as file:
+        return tomllib.load(file)
+
+
+def _tables(table: Mapping[str, Any], key: str) -> list[Mapping[str, Any]]:
+    """The tables of an array at a key; none where it isn't there."""
+    found = table.get(key, [])
+    if not isinstance(found, list) or not all(isinstance(it, dict) for it in found):
+        raise ConfigFault(f"{key} is no array of tables")
+    return found
+
+
+def _config_number(table: Mapping[str, Any], key: str, low: int, high: int, default: int | None = None) -> int:
+    """The whole number at a key."""
+    number = table.get(key, default)
+    if not isinstance(number, int) or isinstance(number, bool) or not low <= number <= high:
+        raise ConfigFault(f"{key} is {number!r}, and no whole number of {low} to {high}")
+    return number
+
+
+def _element(number: int, table: Mapping[str, Any]) -> Element:
+    """The element of a dataset that a table says."""
+    kind = table.get("type")
+    if kind in REAL_TYPES:
+        raise ConfigFault(f"dataset {number}: the node takes no {kind}")
+    if isinstance(kind, bool) or not isinstance(kind, (int, str)):
+        raise ConfigFault(f"dataset {number}: type is {kind!r}, and no name or number")
+    name: str | int = TYPE_NAMES.get(kind, kind)
+    if not (name in BASIC_TYPES or isinstance(name, int) and FIRST_DATASET <= name <= 0xFFFFFFFF):
+        raise ConfigFault(f"dataset {number}: there is no type {kind!r}")
+    return Element(name, _config_number(table, "size", 0, 0xFFFF, default=1))
+
+
+def control_place(config: Mapping[str, Any], slot: int) -> tuple[str, int]:
+    """Address and port at which the application of a slot makes its calls, by the tables of a node's configuration.
+    A slot that is added while the node runs has the next of the spare ports. Raises ConfigFault where it has none."""
+    node = config.get("node")
+    if not isinstance(node, dict):
+        raise ConfigFault("there is no table node")
+    slots = _tables(config, "slot")
+    ports = [it.get("control_port", 0) for it in slots] + list(node.get("spare_control_ports", []))
+    if not 0 <= slot < len(ports) or not ports[slot]:
+        raise ConfigFault(f"slot {slot} has no control port")
+    address = node.get("control_address", node.get("address"))
+    port = _config_number({"control_port": ports[slot]}, "control_port", 1, 0xFFFF)
+    return _address_word("control_address", address), port
+
+
+# -----------------------------------------------------------------------------
+# Words of a line
+# -----------------------------------------------------------------------------
+
+
+def _number_word(name: str, value: int, low: int = 0, high: int = 0xFFFFFFFF) -> str:
+    if not isinstance(value, int) or not low <= value <= high:
+        raise ValueError(f"{name} is {value!r}, and no whole number of {low} to {high}")
+    return str(int(value))
+
+
+def _status_word(value: int) -> str:
+    return _number_word("status", value, -(1 << 31), (1 << 31) - 1)
+
+
+def _address_word(name: str, value: Any) -> str:
+    try:
+        return str(ipaddress.IPv4Address(value))
+    except ValueError:
+        raise ValueError(f"{name} is {value!r}, and no address as 10.0.0.2") from None
+
+
+def _place_word(name: str, value: str) -> str:
+    address, colon, port = str(value).rpartition(":")
+    try:
+        return f"{ipaddress.IPv4Address(address)}:{_number_word(name, int(port), 0, 0xFFFF)}"
+    except ValueError:
+        raise ValueError(f"{name} is {value!r}, and no place as 10.0.0.2:17224") from None
+
+
+def _hex_word(data: bytes) -> str:
+    return data.hex() or "-"
+
+
+def _uri_word(name: str, value: str) -> str:
+    data = value.encode("utf-8", "surrogateescape")
+    if len(data) > 32 or 0 in data:
+        raise ValueError(f"{name} is {value!r}, and no text of at most 32 bytes, none of them zero")
+    return _hex_word(data)
+
+
+def _bytes_of(word: str) -> bytes:
+    return b"" if word == "-" else bytes.fromhex(word)
+
+
+def _uri_of(word: str) -> str:
+    return _bytes_of(word).decode("utf-8", "surrogateescape")
+
+
+# -----------------------------------------------------------------------------
+# Handles, values, indications
+# -----------------------------------------------------------------------------
+
+
+class Handle:
+    """An object of the slot: what calls name it by, and indications tell of.
+
+    `kind` is "publisher", "subscription", "requester", "listener", "caller" or "replier", and "unknown" where an
+    indication tells of an object that this client never heard of. `number` is the node's number of it, 1, 2, 3 ..;
+    it changes where the object is made again. `dataset` is that of its values, 0 for bytes.
+    """
+
+    def __init__(self, kind: str, number: int, dataset: int = 0, line: str | None = None) -> None:
+        self.kind = kind
+        self.number = number
+        self.dataset = dataset
+        self._line = line  # by which it is made again
+        self._data: bytes | None = None  # the value that a publisher has
+        self._start = -1  # at which start of the daemon it was made, as its client counts them
+
+    def __repr__(self) -> str:
+        return f"<{self.kind} {self.number}>"
+
+
+class Value(NamedTuple):
+    """What a subscription shows. `state` is "Never" before the first telegram, "Valid" or "Silent"; `counter` that
+    of the latest telegram that was taken; `value` a value of the subscription's dataset, or bytes."""
+
+    state: str
+    counter: int
+    value: Any
+
+
+class Silent(NamedTuple):
+    """No telegram was taken by the subscription within its supervision time."""
+
+    handle: Handle
+
+
+class Alive(NamedTuple):
+    """The subscription was silent, and has taken a telegram again."""
+
+    handle: Handle
+
+
+class Notified(NamedTuple):
+    """A listener heard a notification."""
+
+    listener: Handle
+    source: str
+    com_id: int
+    source_uri: str
+    dest_uri: str
+    payload: bytes
+
+
+class Asked(NamedTuple):
+    """A listener heard a request. The replier owes the answer: `reply`, `query` or `replyerror`, in the time that
+    the request left."""
+
+    listener: Handle
+    replier: Handle
+    session: uuid.UUID
+    source: str
+    com_id: int
+    source_uri: str
+    dest_uri: str
+    payload: bytes
+
+
+class Overrun(NamedTuple):
+    """A listener heard a request, and the slot can't have one more replier. Nobody will answer it."""
+
+    listener: Handle
+
+
+class Replied(NamedTuple):
+    """A caller has an answer. `kind` is "Mp", a reply, "Mq", a reply that is to be confirmed, or "Me", an error."""
+
+    caller: Handle
+    source: str
+    kind: str
+    status: int
+    com_id: int
+    payload: bytes
+
+
+class Confirmed(NamedTuple):
+    """The query of a replier is confirmed, and the replier is over."""
+
+    replier: Handle
+    status: int
+
+
+class Closed(NamedTuple):
+    """A caller or a replier is over. `reason` is "Done", "NoReply", "NotAllReplies", "NotConfirmed" (of a caller),
+    "ReplyMissed" or "NoConfirm" (of a replier)."""
+
+    handle: Handle
+    reason: str
+
+
+class Restarted(NamedTuple):
+    """Not of the node: this client noticed that the daemon was started anew, and so has none of the objects of
+    before.
+
+    `declared` are the publishers, subscriptions, requesters and listeners, which a client with `restore` makes
+    again; `lost` the callers and repliers, whose sessions nobody will tell of any more."""
+
+    declared: tuple[Handle, ...]
+    lost: tuple[Handle, ...]
+
+
+Indication = Silent | Alive | Notified | Asked | Overrun | Replied | Confirmed | Closed | Restarted
+
+_DECLARED = ("publisher", "subscription", "requester", "listener")
+
+# A line that can't be read is answered by its fault, and does nothing. So these, which are no calls, mark a place
+# among the answers: three, of which one after the other is sent, so that a mark that comes twice isn't taken for
+# the next one.
+_MARKS = (("mark", "line fault Unknown"), ("get", "line fault Count"), ("get mark", "line fault BadWord"))
+
+
+# -----------------------------------------------------------------------------
+# The client
+# -----------------------------------------------------------------------------
+
+
+class Slot:
+    """The application of one slot of a node, at its control port.
+
+    It has one socket for all, and at most one call is under way. It isn't made for several threads at a time, nor
+    for several clients of one slot: the node tells indications to where the latest line came from.
+
+    **Answers.** An answer doesn't say to which call it is. So behind each call goes a line that can't be read,
+    whose fault marks the end of the call's answers: what comes between two marks is the answer. Where one of them
+    doesn't come in its time, the client goes on with a new socket, at which no earlier answer comes any more. So in
+    a network that keeps the order, which the one within a machine does, an answer that was lost, late or doubled is
+    never taken for that of another call. In one that doesn't, a doubled answer that falls behind a mark can be
+    taken for the next one of the same form. What can't be told in any network is whether it was the call that got
+    lost or its answer, nor that a call was brought twice.
+
+    **Tries.** A call is sent again where no answer came within `answer_us`, `tries` times in all, and raises
+    TimeoutError where none came at all. That is so for calls that may be made twice: `put`, `get`, and those that
+    end an object. All others are sent once, unless `tries` is given with the call, and each says what a second try
+    may do.
+
+    **A daemon that was started anew** has no objects. It is noticed where the node refuses a handle as NoHandle
+    that this client was given and hasn't ended, or gives one a second time; then all handles of before are void,
+    and an indication `Restarted` says so. With `restore`, the publishers, with their latest values, subscriptions,
+    requesters and listeners are made again under the same `Handle`, and the call that noticed it is made again. A
+    client that makes no calls notices by `check`.
+
+    All calls raise Refused, TimeoutError where no answer came, ValueError where an argument can't stand in a line,
+    and OSError where the socket fails.
+    """
+
+    @overload
+    def __init__(self, config: str | os.PathLike[str], slot: int, /, *, datasets: Datasets | None = None,
+                 answer_us: int = 200_000, tries: int = 3, restore: bool = False) -> None: ...
+
+    @overload
+    def __init__(self, address: str, port: int, /, *, datasets: Datasets | None = None,
+                 answer_us: int = 200_000, tries: int = 3, restore: bool = False) -> None: ...
+
+    def __init__(self, config: str | os.PathLike[str], slot: int, /, *, datasets: Datasets | None = None,
+                 answer_us: int = 200_000, tries: int = 3, restore: bool = False) -> None:
+        """A client of slot `slot` of the node with that configuration, or at that address and port, as 127.0.0.1
+        and 18000.
+
+        `datasets` are those by which values are packed; where it is None, those of the configuration, and at an
+        address none: then values are bytes. `answer_us` is how long an answer is waited for, and `tries` how often
+        a call is sent that may be made twice. Nothing is sent yet. Raises ConfigFault where the slot has no control
+        port."""
+        if answer_us <= 0 or tries < 1:
+            raise ValueError("answer_us and tries are at least 1")
+        if _is_address(config):
+            address, port = str(config), slot
+        else:
+            tables = _read_toml(config)
+            address, port = control_place(tables, slot)
+            datasets = datasets or Datasets.from_tables(tables)
+        self.datasets = datasets or Datasets({})
+        self.answer_us = answer_us
+        self.tries = tries
+        self.restore = restore
+        self._handles: dict[int, Handle] = {}
+        self._declared: list[Handle] = []
+        self._highest = 0  # of the handles that the node gave
+        self._start = 0  # how often the daemon was seen to be started anew
+        self._told: collections.deque[Indication] = collections.deque()
+        self._callbacks: dict[type, list[Callable[[Any], object]]] = {}
+        self._marks = 0  # how many were sent
+        self._awaited: str | None = None  # the answer to the latest mark, where it hasn't come
+        self._mark_end = 0.0  # until when it is waited for
+        self._place = (address, port)
+        self._selector = selectors.DefaultSelector()
+        self._socket = self._connected()
+        self._known = self._socket  # at which the node answered last: indications may come there still
+
+    def close(self) -> None:
+        """Closes the socket. The objects stay as they are."""
+        for port in {self._socket, self._known}:
+            port.close()
+        self._selector.close()
+
+    def __enter__(self) -> Slot:
+        return self
+
+    def __exit__(self, *_: object) -> None:
+        self.close()
+
+    # -- process data ---------------------------------------------------------
+
+    def publish(self, com_id: int, place: str, *, dataset: int = 0, cycle_us: int = 0, group: int = 0, etb: int = 0,
+                op_trn: int = 0, tries: int = 1) -> Handle:
+        """Makes a publisher, which sends a value of `dataset` (0: bytes) to `place` every `cycle_us` (0: when it is
+        pulled, else 1000 or more) while the node leads redundancy group `group` (0: always), once it has a value by
+        `put`.
+
+        A second try, where the answer to the first got lost, makes a second publisher."""
+        words = [_number_word("com_id", com_id), _number_word("dataset", dataset), _number_word("cycle_us", cycle_us),
+                 _number_word("group", group, 0, 255), *_counts(etb, op_trn), _place_word("place", place)]
+        return self._open("publisher", "publish", words, tries, dataset)
+
+    def put(self, handle: Handle | int, value: Any, *, tries: int | None = None) -> None:
+        """Gives a publisher its value. A value of its dataset is packed, and refused by DoesNotFit where it doesn't
+        fit; bytes are sent as they are, and the node looks whether they are one. A second try does no harm."""
+        dataset = handle.dataset if isinstance(handle, Handle) else 0
+        data = self._payload(dataset, value, PD_MOST)
+        self._act("put", handle, [_hex_word(data)], tries or self.tries)
+        if isinstance(handle, Handle):
+            handle._data = data
+
+    def unpublish(self, handle: Handle | int, *, tries: int | None = None) -> None:
+        """Ends a publisher. A second try does no harm."""
+        self._end("unpublish", handle, tries)
+
+    def subscribe(self, com_id: int, *, dataset: int = 0, low: str = ANY, high: str = ANY, dest: str = ANY,
+                  etb: int = 0, op_trn: int = 0, time_us: int = 0, behaviour: str = "zero", tries: int = 1) -> Handle:
+        """Makes a subscription of telegrams of `com_id` whose payload is a value of `dataset` (0: bytes), from an
+        address in `low` to `high`, sent to `dest`. `time_us` is the supervision time (0: none, else 1000 or more),
+        after which without a telegram `Silent` is told and the value becomes zero (`behaviour` "zero") or stays
+        ("keep").
+
+        A second try, where the answer to the first got lost, makes a second subscription, of which nobody knows the
+        handle."""
+        if behaviour not in ("zero", "keep"):
+            raise ValueError(f"behaviour is {behaviour!r}, and neither zero nor keep")
+        words = [_number_word("com_id", com_id), _number_word("dataset", dataset), _address_word("low", low),
+                 _address_word("high", high), _address_word("dest", dest), *_counts(etb, op_trn),
+                 _number_word("time_us", time_us), behaviour]
+        return self._open("subscription", "subscribe", words, tries, dataset)
+
+    def get(self, handle: Handle | int, *, tries: int | None = None) -> Value:
+        """What a subscription shows: its state, the counter of its latest telegram, and the value. A second try
+        does no harm. Raises DoesNotFit where the daemon has another dataset of that number than this client."""
+        _, state, counter, data = self._act("get", handle, [], tries or self.tries, "value")
+        dataset = handle.dataset if isinstance(handle, Handle) else 0
+        value = _bytes_of(data)
+        return Value(state, int(counter), self.datasets.unpack(dataset, value) if dataset in self.datasets else value)
+
+    def unsubscribe(self, handle: Handle | int, *, tries: int | None = None) -> None:
+        """Ends a subscription. A second try does no harm."""
+        self._end("unsubscribe", handle, tries)
+
+    def openpull(self, com_id: int, place: str, *, reply_com_id: int = 0, reply_address: str = ANY, etb: int = 0,
+                 op_trn: int = 0, tries: int = 1) -> Handle:
+        """Makes a requester, which asks `place` for `reply_com_id` (0: for `com_id`) by requests of `com_id`; the
+        reply goes to `reply_address` (0.0.0.0: to where the request came from). A second try may make a second
+        requester."""
+        words = [_number_word("com_id", com_id), _number_word("reply_com_id", reply_com_id),
+                 _address_word("reply_address", reply_address), *_counts(etb, op_trn), _place_word("place", place)]
+        return self._open("requester", "openpull", words, tries)
+
+    def pull(self, handle: Handle | int, *, tries: int = 1) -> None:
+        """Sends one pull request. A second try may send a second one."""
+        self._act("pull", handle, [], tries)
+
+    def closepull(self, handle: Handle | int, *, tries: int | None = None) -> None:
+        """Ends a requester. A second try does no harm."""
+        self._end("closepull", handle, tries)
+
+    # -- message data ---------------------------------------------------------
+
+    def listen(self, com_id: int | None, *, low: str = ANY, high: str = ANY, dest: str = ANY, uri: str = "",
+               etb: int = 0, op_trn: int = 0, tries: int = 1) -> Handle:
+        """Makes a listener to messages of `com_id` (None: of any) from an address in `low` to `high`, sent to
+        `dest`, whose destination URI is `uri` ("": any). `Notified`, `Asked` and `Overrun` tell what it hears.
+
+        A second try may make a second listener, which hears nothing while the first one is there."""
+        words = ["any" if com_id is None else _number_word("com_id", com_id), _address_word("low", low),
+                 _address_word("high", high), _address_word("dest", dest), _uri_word("uri", uri),
+                 *_counts(etb, op_trn)]
+        return self._open("listener", "listen", words, tries)
+
+    def unlisten(self, handle: Handle | int, *, tries: int | None = None) -> None:
+        """Ends a listener. Its open repliers stay. A second try does no harm."""
+        self._end("unlisten", handle, tries)
+
+    def notify(self, com_id: int, place: str, value: Any = b"", *, dataset: int = 0, source_uri: str = "",
+               dest_uri: str = "", etb: int = 0, op_trn: int = 0, tries: int = 1) -> None:
+        """Sends one notification, with bytes or a value of `dataset`. A second try may send a second one."""
+        words = [_number_word("com_id", com_id), _uri_word("source_uri", source_uri), _uri_word("dest_uri", dest_uri),
+                 *_counts(etb, op_trn), _place_word("place", place), _hex_word(self._payload(dataset, value, MD_MOST))]
+        self._ask(["notify", *words], "done", tries)
+
+    def request(self, com_id: int, place: str, value: Any = b"", *, dataset: int = 0, session: uuid.UUID | None = None,
+                expected: int = 1, time_us: int = 5_000_000, source_uri: str = "", dest_uri: str = "", etb: int = 0,
+                op_trn: int = 0, retries: int = 0, tries: int = 1) -> Handle:
+        """Makes a caller, and sends its request, with bytes or a value of `dataset`. Answers of `expected` places
+        (1 to 8; 0: whoever answers) are waited for over `time_us` (1000 or more), and told by `Replied`; `Closed`
+        tells how it ended. `retries` (0 to 2) is how often the node sends it again while nobody answers. `session`
+        names the exchange; where it is None, one is drawn by chance.
+
+        A second try, where the answer to the first got lost, is refused by SessionOpen, as the first one's session
+        is open; what comes of that one is told under a handle of kind "unknown"."""
+        session = session or uuid.uuid4()
+        words = [_number_word("com_id", com_id), str(session), _number_word("expected", expected, 0, 255),
+                 _number_word("time_us", time_us), _uri_word("source_uri", source_uri),
+                 _uri_word("dest_uri", dest_uri), *_counts(etb, op_trn), _place_word("place", place),
+                 _hex_word(self._payload(dataset, value, MD_MOST))]
+        if retries:
+            words.append(_number_word("retries", retries, 0, 255))
+        return self._open("caller", "request", words, tries)
+
+    def reply(self, handle: Handle | int, com_id: int, value: Any = b"", *, dataset: int = 0, status: int = 0,
+              tries: int = 1) -> None:
+        """Answers what a replier was asked, with bytes or a value of `dataset`; the replier is over. `status` is 0
+        or more.
+
+        A second try sends no second reply: where the first one took effect it is refused by NoHandle."""
+        data = self._payload(dataset, value, MD_MOST)
+        words = [_number_word("com_id", com_id), _status_word(status), _hex_word(data)]
+        self._act("reply", handle, words, tries)
+        self._forget(handle)
+
+    def query(self, handle: Handle | int, com_id: int, value: Any = b"", *, dataset: int = 0, status: int = 0,
+              time_us: int = 5_000_000, tries: int = 1) -> None:
+        """Answers in the same way, and waits over `time_us` (1000 or more) for a confirmation: `Confirmed` or
+        `Closed` tells what comes of it. A second try sends no second one: where the first one took effect it is
+        refused by State."""
+        words = [_number_word("com_id", com_id), _status_word(status), _number_word("time_us", time_us),
+                 _hex_word(self._payload(dataset, value, MD_MOST))]
+        self._act("query", handle, words, tries)
+
+    def replyerror(self, handle: Handle | int, com_id: int, status: int, *, tries: int = 1) -> None:
+        """Answers by an error, with a `status` below 0; the replier is over. A second try sends no second one:
+        where the first one took effect it is refused by NoHandle."""
+        self._act("replyerror", handle, [_number_word("com_id", com_id), _status_word(status)], tries)
+        self._forget(handle)
+
+    def confirm(self, handle: Handle | int, place: str, status: int = 0, *, tries: int = 1) -> None:
+        """Confirms the query that a caller has from `place`, which is the `source` of its `Replied`. `status` is 0
+        or more. A second try sends no second one: where the first one took effect it is refused by State or
+        NoHandle."""
+        self._act("confirm", handle, [_place_word("place", place), _status_word(status)], tries)
+
+    def abort(self, handle: Handle | int, *, tries: int | None = None) -> None:
+        """Ends a caller or a replier at once. The other side isn't told. A second try does no harm."""
+        self._end("abort", handle, tries)
+
+    # -- indications ----------------------------------------------------------
+
+    def indications(self, time_us: int | None = None) -> Iterator[Indication]:
+        """The indications, as they come. Ends when none has come for `time_us`; None is for ever. What came during
+        calls waits here. The node tells them to where the latest line came from: where this client has made no call
+        yet, `begin` says one."""
+        while (told := self.next_indication(time_us)) is not None:
+            yield told
+
+    def next_indication(self, time_us: int | None = None) -> Indication | None:
+        """The next indication; None where none has come within `time_us`. 0 doesn't wait."""
+        end = None if time_us is None else time.monotonic() + time_us / 1_000_000
+        while not self._told:
+            if self._take_next(end) is None:
+                return None
+        return self._told.popleft()
+
+    def on(self, kind: type[Any], callback: Callable[[Any], object]) -> None:
+        """Has `run` call `callback` with each indication of that kind, as `slot.on(Silent, print)`. Several
+        callbacks of a kind are called in the order in which they were given. Each may make calls."""
+        self._callbacks.setdefault(kind, []).append(callback)
+
+    def run(self, time_us: int | None = None) -> None:
+        """Calls the callbacks of the indications that come within `time_us`; None is for ever. Those without one
+        are dropped. What a callback raises ends it."""
+        end = None if time_us is None else time.monotonic() + time_us / 1_000_000
+        left = time_us
+        while (told := self.next_indication(left)) is not None:
+            for callback in self._callbacks.get(type(told), []):
+                callback(told)
+            if end is not None:
+                left = max(0, int((end - time.monotonic()) * 1_000_000))
+                if left == 0 and not self._told:
+                    return
+
+    # -- the daemon -----------------------------------------------------------
+
+    def begin(self) -> None:
+        """Has the node tell indications to this client from now on, by a remark, which has no answer; so it may get
+        lost. Each call does the same."""
+        self._send("#")
+
+    def sync(self) -> None:
+        """Returns once the daemon has taken all that was sent before; answers that were under way are dropped, and
+        indications kept. Raises TimeoutError where nobody is there."""
+        for _ in range(self.tries):
+            self._settle()
+            self._send_mark()
+            if self._reads_to_mark():
+                return
+        raise TimeoutError(f"no answer, at {self.tries} tries of {self.answer_us} microseconds")
+
+    def check(self) -> bool:
+        """Whether the daemon still has the objects of this client; False where it was started anew since the call
+        before. Makes one call, which changes nothing. With `restore` they are there again. TimeoutError where
+        nobody is there."""
+        known = next((it for it in self._declared if it._start == self._start), None)
+        if known is None:
+            self.sync()
+            return True
+        try:
+            self._ask(["get", str(known.number)], "value", self.tries)
+        except Refused as refusal:
+            if refusal.name == "NoHandle":
+                self._begin_anew()
+                return False
+        return True
+
+    def send_line(self, line: str) -> None:
+        """Sends a line as it is, and waits for nothing. Its answer is read by `read_line`; don't mix this with
+        calls."""
+        self._send(line)
+
+    def read_line(self, time_us: int) -> str | None:
+        """The next line that comes, an answer or an indication, without its end; None where none came within
+        `time_us`. Don't mix this with calls. Raises ConnectionRefusedError where the system knows that nobody is at
+        the control port."""
+        if not self._selector.select(time_us / 1_000_000):
+            return None
+        return _line_of(self._socket.recv(65536))
+
+    # -- inside ----------------------------------------------------------------
+
+    def _connected(self) -> socket.socket:
+        """A socket that takes datagrams of the control port alone."""
+        made = socket.socket(socket.AF_INET, socket.SOCK_DGRAM)
+        made.connect(self._place)
+        self._selector.register(made, selectors.EVENT_READ, made)
+        return made
+
+    def _drop(self, port: socket.socket) -> None:
+        self._selector.unregister(port)
+        port.close()
+
+    def _renew(self) -> None:
+        """Goes on with a new socket: the answers that are under way go to the old one."""
+        if self._socket is not self._known:
+            self._drop(self._socket)
+        self._socket = self._connected()
+        self._awaited = None
+        self._send("#")
+
+    def _lines(self, end: float | None) -> list[tuple[socket.socket, str]]:
+        """What comes first before the moment `end` of `time.monotonic`, at each socket; none where nothing does.
+        What is there already is read even then. Where nobody is at the port, it goes on waiting, as somebody may
+        come."""
+        while ready := self._selector.select(None if end is None else max(0.0, end - time.monotonic())):
+            lines = []
+            for key, _ in ready:
+                port = key.data
+                try:
+                    lines.append((port, _line_of(port.recv(65536, socket.MSG_DONTWAIT))))
+                except (ConnectionRefusedError, BlockingIOError):
+                    continue
+            if lines:
+                return lines
+        return []
+
+    def _send(self, line: str) -> None:
+        data = line.encode()
+        if len(data) > DATAGRAM_MOST:
+            raise ValueError(f"the line has {len(data)} bytes, and a datagram carries {DATAGRAM_MOST}")
+        for _ in range(2):
+            try:
+                self._socket.send(data)
+                return
+            except ConnectionRefusedError:
+                # Told of what was sent before, to a port that nobody had. Then nothing was sent now.
+                continue
+
+    def _send_mark(self) -> None:
+        line, self._awaited = _MARKS[self._marks % len(_MARKS)]
+        self._marks += 1
+        self._mark_end = time.monotonic() + self.answer_us / 1_000_000
+        self._send(line)
+
+    def _settle(self) -> None:
+        """Sees to it that no answer to an earlier call comes any more."""
+        if not self._reads_to_mark():
+            self._renew()
+
+    def _reads_to_mark(self) -> bool:
+        """Reads up to the answer to the latest mark. Answers whether it came in its time."""
+        while self._awaited is not None:
+            if self._take_next(self._mark_end) is None:
+                return False
+        return True
+
+    def _ask(self, words: Sequence[str], answer: str, tries: int) -> list[str]:
+        """Makes a call. Answers the words of its answer, of which `answer` is the first."""
+        line = " ".join(words)
+        if tries < 1:
+            raise ValueError("tries is at least 1")
+        self._settle()
+        for number in range(1, tries + 1):
+            self._send(line)
+            self._send_mark()
+            found = self._answer(answer)
+            if found is None:
+                self._settle()
+            elif found[0] == "refused":
+                raise Refused(found[1], line, number)
+            else:
+                return found
+        shown = line if len(line) <= 80 else line[:77] + "..."
+        raise TimeoutError(f"no answer, at {tries} tries of {self.answer_us} microseconds: {shown}")
+
+    def _answer(self, answer: str) -> list[str] | None:
+        """The first answer of that form, or the refusal, before the mark; None where none came."""
+        while self._awaited is not None and time.monotonic() < self._mark_end:
+            answers = self._take_next(self._mark_end)
+            if answers is None:
+                return None
+            for words in answers:
+                if words[0] in (answer, "refused"):
+                    return words
+        return None
+
+    def _take_next(self, end: float | None) -> list[list[str]] | None:
+        """Takes what comes first: notes a mark, keeps indications. Answers the words of the answers among it; None
+        where nothing came."""
+        lines = self._lines(end)
+        if not lines:
+            return None
+        answers = []
+        for port, line in lines:
+            if port is not self._socket:
+                self._keep(line)
+            elif line == self._awaited:
+                self._note_mark()
+            elif (words := self._keep(line)):
+                answers.append(words)
+        return answers
+
+    def _note_mark(self) -> None:
+        """The answer to the mark came. With it the node answers at this socket, and nothing more goes to another
+        one."""
+        self._awaited = None
+        if self._known is not self._socket:
+            try:
+                while True:
+                    self._keep(_line_of(self._known.recv(65536, socket.MSG_DONTWAIT)))
+            except (BlockingIOError, ConnectionRefusedError):
+                self._drop(self._known)
+            self._known = self._socket
+
+    def _keep(self, line: str) -> list[str]:
+        """Keeps an indication, and answers the words of an answer; none of any other line."""
+        _, *words = line.split(" ")
+        if not words or words[0] not in ("handle", "done", "value", "refused"):
+            told = self._indication(words)
+            if told is not None:
+                self._told.append(told)
+            return []
+        return words
+
+    def _indication(self, words: list[str]) -> Indication | None:
+        """The indication of these words; None where they are none."""
+        match words:
+            case ["silent", handle]:
+                return Silent(self._told_handle(handle))
+            case ["alive", handle]:
+                return Alive(self._told_handle(handle))
+            case ["notified", handle, source, com_id, source_uri, dest_uri, data]:
+                return Notified(self._told_handle(handle), source, int(com_id), _uri_of(source_uri), _uri_of(dest_uri),
+                                _bytes_of(data))
+            case ["asked", handle, replier, session, source, com_id, source_uri, dest_uri, data]:
+                made = self._note(Handle("replier", int(replier)))
+                return Asked(self._told_handle(handle), made, uuid.UUID(session), source, int(com_id),
+                             _uri_of(source_uri), _uri_of(dest_uri), _bytes_of(data))
+            case ["overrun", handle]:
+                return Overrun(self._told_handle(handle))
+            case ["replied", handle, source, kind, status, com_id, data]:
+                return Replied(self._told_handle(handle), source, kind, int(status), int(com_id), _bytes_of(data))
+            case ["confirmed", handle, status]:
+                return Confirmed(self._forget(self._told_handle(handle)), int(status))
+            case ["closed", handle, reason]:
+                return Closed(self._forget(self._told_handle(handle)), reason)
+        return None
+
+    def _told_handle(self, word: str) -> Handle:
+        number = int(word)
+        return self._handles.get(number) or Handle("unknown", number)
+
+    def _note(self, handle: Handle) -> Handle:
+        """Notes a handle that the node gave."""
+        handle._start = self._start
+        self._handles[handle.number] = handle
+        self._highest = max(self._highest, handle.number)
+        return handle
+
+    def _forget(self, handle: Handle | int) -> Handle:
+        """Forgets an object that is over."""
+        if isinstance(handle, int):
+            handle = self._handles.get(handle) or Handle("unknown", handle)
+        if self._handles.get(handle.number) is handle:
+            del self._handles[handle.number]
+        if handle in self._declared:
+            self._declared.remove(handle)
+        return handle
+
+    def _payload(self, dataset: int, value: Any, most: int) -> bytes:
+        """The bytes of a value, or the bytes that it is."""
+        if isinstance(value, (bytes, bytearray, memoryview)):
+            return bytes(value)
+        if dataset == 0 or dataset not in self.datasets:
+            raise DoesNotFit(f"dataset {dataset}: {_shown(value)} is no bytes, and the dataset isn't known here")
+        return self.datasets.pack(dataset, value, most)
+
+    def _open(self, kind: str, verb: str, words: Sequence[str], tries: int, dataset: int = 0) -> Handle:
+        """Makes an object."""
+        line = " ".join([verb, *words])
+        handle = Handle(kind, 0, dataset, line)
+        self._make(handle, tries)
+        if kind in _DECLARED:
+            self._declared.append(handle)
+        return handle
+
+    def _make(self, handle: Handle, tries: int) -> None:
+        """Has the node make an object, by the line of its handle. A number that isn't new says that the daemon
+        began anew."""
+        assert handle._line is not None
+        number = int(self._ask([handle._line], "handle", tries)[1])
+        is_new = number > self._highest
+        if not is_new:
+            self._void()
+        handle.number = number
+        self._note(handle)
+        if not is_new and self.restore:
+            self._make_all()
+
+    def _void(self) -> None:
+        """Voids all handles: the daemon that gave them is gone."""
+        lost = [it for it in self._handles.values() if it.kind not in _DECLARED]
+        self._handles.clear()
+        self._highest = 0
+        self._start += 1
+        self._told.append(Restarted(tuple(self._declared), tuple(lost)))
+
+    def _begin_anew(self) -> None:
+        """Takes notice of a daemon that was started anew."""
+        self._void()
+        if self.restore:
+            self._make_all()
+
+    def _make_all(self) -> None:
+        """Makes the declared objects that aren't there, in the order in which they were declared."""
+        for handle in list(self._declared):
+            self._number_of(handle)
+
+    def _number_of(self, handle: Handle | int) -> str:
+        """The node's number of an object, which is made again where the daemon that had it is gone."""
+        if isinstance(handle, int):
+            return _number_word("handle", handle)
+        if handle._start not in (-1, self._start):
+            if not self.restore or handle not in self._declared:
+                raise Refused("NoHandle", f"{handle} of a daemon that was started anew since")
+            self._make(handle, 1)
+            if handle._data is not None:
+                self._ask(["put", str(handle.number), _hex_word(handle._data)], "done", self.tries)
+        return str(handle.number)
+
+    def _act(self, verb: str, handle: Handle | int, words: Sequence[str], tries: int,
+             answer: str = "done") -> list[str]:
+        """Makes a call of an object; once more where the daemon was started anew and the object is made again."""
+        number = self._number_of(handle)
+        try:
+            return self._ask([verb, number, *words], answer, tries)
+        except Refused as refusal:
+            if refusal.name != "NoHandle" or handle not in self._declared:
+                raise
+            self._begin_anew()
+            if not self.restore:
+                raise
+        return self._ask([verb, self._number_of(handle), *words], answer, tries)
+
+    def _end(self, verb: str, handle: Handle | int, tries: int | None) -> None:
+        """Ends an object. Where an earlier try did that, a later one finds no handle."""
+        if handle in self._declared and handle._start != self._start:
+            # Of a daemon that is gone. From here on it isn't made again.
+            self._forget(handle)
+            return
+        try:
+            self._ask([verb, self._number_of(handle)], "done", tries or self.tries)
+        except Refused as refusal:
+            if refusal.name != "NoHandle":
+                raise
+            if refusal.tries == 1 and handle not in self._declared:
+                raise
+            self._forget(handle)
+            if refusal.tries == 1:
+                # No earlier try ended it, so the daemon was started anew.
+                self._begin_anew()
+                if not self.restore:
+                    raise
+            return
+        self._forget(handle)
+
+
+def _line_of(data: bytes) -> str:
+    """The line in a datagram of the daemon, without its end."""
+    return data.decode("ascii", "replace").rstrip("\n")
+
+
+def _counts(etb: int, op_trn: int) -> tuple[str, str]:
+    return _number_word("etb", etb), _number_word("op_trn", op_trn)
+
+
+def _is_address(text: str | os.PathLike[str]) -> bool:
+    try:
+        ipaddress.IPv4Address(text)
+    except ValueError:
+        return False
+    return True
+
+
+# -----------------------------------------------------------------------------
+# The operator
+# -----------------------------------------------------------------------------
+
+
+class Operator:
+    """The operator of a node, at its operator's port: what concerns all slots.
+
+    Each line goes from a socket of its own, so that no answer is taken for that of another line. Each method raises
+    Refused with the fault's name (NoGroup, SlotsFull), and TimeoutError where no answer came."""
+
+    def __init__(self, address: str, port: int, *, answer_us: int = 200_000, tries: int = 3) -> None:
+        """The operator at that address and port. `answer_us` is how long an answer is waited for, and `tries` how
+        often a line is sent that may be sent twice."""
+        self.place = (_address_word("address", address), port)
+        self.answer_us = answer_us
+        self.tries = tries
+
+    def topology(self, etb: int, op_trn: int) -> None:
+        """The train's network has these topology counts from now on. A second try does no harm."""
+        self._say(" ".join(["topology", *_counts(etb, op_trn)]), self.tries)
+
+    def role(self, group: int, is_leader: bool) -> None:
+        """The node leads that redundancy group, 1 to 255, from now on, or follows in it. A second try does no harm."""
+        word = "leader" if is_leader else "follower"
+        self._say(f"role {_number_word('group', group, 0, 255)} {word}", self.tries)
+
+    def addslot(self, publishers: int = 0, subscriptions: int = 0, requesters: int = 0, listeners: int = 0,
+                callers: int = 0, repliers: int = 0) -> None:
+        """Opens the next slot, for so many objects of each kind, 0 to 256. It is sent once: a second try may open a
+        second one."""
+        quotas = [publishers, subscriptions, requesters, listeners, callers, repliers]
+        self._say(" ".join(["addslot", *(_number_word("quota", it, 0, 256) for it in quotas)]), 1)
+
+    def _say(self, line: str, tries: int) -> None:
+        for _ in range(tries):
+            with socket.socket(socket.AF_INET, socket.SOCK_DGRAM) as port:
+                port.connect(self.place)
+                port.settimeout(self.answer_us / 1_000_000)
+                try:
+                    port.send(line.encode())
+                    answer = port.recv(65536).decode("ascii", "replace").split()
+                except (TimeoutError, ConnectionRefusedError):
+                    continue
+            if answer != ["ok"]:
+                raise Refused(answer[-1], line)
+            return
+        raise TimeoutError(f"no answer, at {tries} tries of {self.answer_us} microseconds: {line}")
