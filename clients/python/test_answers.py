@@ -1,0 +1,476 @@
+"""How answers are matched to calls, and what each call says: at a port that is made up, without a daemon."""
+from __future__ import annotations
+
+import time
+import unittest
+import uuid
+
+import testing
+import trdp_slot
+from trdp_slot import Alive, Asked, Closed, Confirmed, Notified, Overrun, Refused, Replied, Restarted, Silent, Slot
+
+ADDRESS = "127.0.8.40"
+MARKS = {"mark": "line fault Unknown", "get": "line fault Count", "get mark": "line fault BadWord"}
+FIRST = uuid.UUID(int=0x0a0b0c0d000000000000000000000001)
+
+
+class Node:
+    """What a control port of a node says of calls, as far as the tests need it."""
+
+    def __init__(self) -> None:
+        self.made: dict[int, str] = {}  # the lines that made the objects, by handle
+        self.put: dict[str, str] = {}
+        self.highest = 0
+
+    def start_anew(self) -> None:
+        self.__init__()
+
+    def answer(self, line: str) -> list[str]:
+        """The answer to a line."""
+        if line in MARKS:
+            return [MARKS[line]]
+        verb, *words = line.split()
+        if verb in ("publish", "subscribe", "openpull", "listen", "request"):
+            self.highest += 1
+            self.made[self.highest] = line
+            return [f"0 handle {self.highest}"]
+        if verb not in ("notify", "#") and int(words[0]) not in self.made:
+            return ["0 refused NoHandle"]
+        if verb == "get":
+            is_subscription = self.made[int(words[0])].startswith("subscribe")
+            return [f"0 value Valid {words[0]} {int(words[0]):02x}"] if is_subscription else ["0 refused WrongKind"]
+        if verb == "put":
+            self.put[words[0]] = words[1]
+        if verb in ("unpublish", "unsubscribe", "closepull", "unlisten", "abort", "reply", "replyerror"):
+            del self.made[int(words[0])]
+        return ["0 done"]
+
+
+class Case(unittest.TestCase):
+    """A client at a made-up port. `self.say` may be set to what a line is answered by."""
+
+    def setUp(self) -> None:
+        self.node = Node()
+        self.say = self.node.answer
+        self.port = testing.Port(ADDRESS, lambda line: self.say(line))
+        self.addCleanup(self.port.close)
+
+    def client(self, **words: object) -> Slot:
+        """A client at the port."""
+        slot = Slot(ADDRESS, self.port.number, **{"answer_us": 50_000, **words})
+        self.addCleanup(slot.close)
+        return slot
+
+    def calls(self) -> list[str]:
+        """The calls that came, without marks and remarks."""
+        return [it for it in self.port.lines if it not in MARKS and it != "#"]
+
+
+class Calls(Case):
+    """The lines of all calls are those of docs/SCRIPT.md."""
+
+    def test_lines(self) -> None:
+        self.say = lambda line: [MARKS[line]] if line in MARKS else [f"0 {self.told}"]
+        slot = self.client()
+        for told, call, line in [
+            ("handle 1", lambda: slot.publish(100, "10.0.0.2:17224", dataset=1001, cycle_us=100_000, group=3),
+             "publish 100 1001 100000 3 0 0 10.0.0.2:17224"),
+            ("done", lambda: slot.put(1, bytes.fromhex("0200010002")), "put 1 0200010002"),
+            ("done", lambda: slot.put(1, b""), "put 1 -"),
+            ("done", lambda: slot.unpublish(1), "unpublish 1"),
+            ("handle 2", lambda: slot.subscribe(100, dataset=1001, low="10.0.0.2", high="10.0.0.4", dest="10.0.0.1",
+                                                time_us=500_000),
+             "subscribe 100 1001 10.0.0.2 10.0.0.4 10.0.0.1 0 0 500000 zero"),
+            ("handle 3", lambda: slot.subscribe(100, etb=17, op_trn=4, behaviour="keep"),
+             "subscribe 100 0 0.0.0.0 0.0.0.0 0.0.0.0 17 4 0 keep"),
+            ("value Valid 7 0200010002", lambda: slot.get(2), "get 2"),
+            ("done", lambda: slot.unsubscribe(2), "unsubscribe 2"),
+            ("handle 4", lambda: slot.openpull(100, "10.0.0.3:17224", reply_com_id=200, reply_address="10.0.0.7"),
+             "openpull 100 200 10.0.0.7 0 0 10.0.0.3:17224"),
+            ("done", lambda: slot.pull(3), "pull 3"),
+            ("done", lambda: slot.closepull(3), "closepull 3"),
+            ("handle 5", lambda: slot.listen(300, low="10.0.0.2", high="10.0.0.4", dest="10.0.0.1", uri="car"),
+             "listen 300 10.0.0.2 10.0.0.4 10.0.0.1 636172 0 0"),
+            ("handle 6", lambda: slot.listen(None), "listen any 0.0.0.0 0.0.0.0 0.0.0.0 - 0 0"),
+            ("done", lambda: slot.unlisten(4), "unlisten 4"),
+            ("done", lambda: slot.notify(300, "10.0.0.2:17225", b"\x0d", source_uri="door", dest_uri="car"),
+             "notify 300 646f6f72 636172 0 0 10.0.0.2:17225 0d"),
+            ("handle 7", lambda: slot.request(300, "10.0.0.2:17225", b"\x0d", session=uuid.UUID(int=1), expected=2,
+                                              time_us=1_000_000, source_uri="door", dest_uri="car"),
+             "request 300 00000000-0000-0000-0000-000000000001 2 1000000 646f6f72 636172 0 0 10.0.0.2:17225 0d"),
+            ("handle 8", lambda: slot.request(300, "10.0.0.2:17225", session=uuid.UUID(int=2), expected=0, retries=2,
+                                              time_us=1000),
+             "request 300 00000000-0000-0000-0000-000000000002 0 1000 - - 0 0 10.0.0.2:17225 - 2"),
+            ("done", lambda: slot.reply(4, 301, b"\x0c"), "reply 4 301 0 0c"),
+            ("done", lambda: slot.query(4, 301, b"\x0c", time_us=500_000), "query 4 301 0 500000 0c"),
+            ("done", lambda: slot.replyerror(4, 301, -5), "replyerror 4 301 -5"),
+            ("done", lambda: slot.confirm(3, "10.0.0.3:17225"), "confirm 3 10.0.0.3:17225 0"),
+            ("done", lambda: slot.abort(3), "abort 3"),
+        ]:
+            with self.subTest(line):
+                self.told = told
+                call()
+                self.assertEqual(self.calls()[-1], line)
+
+    def test_what_cant_stand_in_a_line_is_not_sent(self) -> None:
+        slot = self.client()
+        for call in [
+            lambda: slot.publish(-1, "10.0.0.2:17224"), lambda: slot.publish(1 << 32, "10.0.0.2:17224"),
+            lambda: slot.publish(100, "10.0.0.2"), lambda: slot.publish(100, "10.0.0.02:17224"),
+            lambda: slot.publish(100, "10.0.0.2:65536"), lambda: slot.publish(100, "10.0.0.2:17224", group=256),
+            lambda: slot.publish(100, "10.0.0.2:17224", cycle_us=1.5), lambda: slot.subscribe(100, low="10.0.0.256"),
+            lambda: slot.subscribe(100, behaviour="hold"), lambda: slot.put(-1, b""), lambda: slot.put(1, [1]),
+            lambda: slot.listen(100, uri="x" * 33), lambda: slot.listen(100, uri="a\0b"),
+            lambda: slot.request(1, "10.0.0.2:17225", retries=256), lambda: slot.replyerror(1, 1, -(1 << 31) - 1),
+            lambda: slot.notify(1, "10.0.0.2:17225", bytes(40_000)),
+        ]:
+            with self.assertRaises(ValueError):
+                call()
+        self.assertEqual(self.port.lines, [])
+        self.assertRaises(ValueError, Slot, ADDRESS, 1, tries=0)
+        self.assertRaises(ValueError, Slot, ADDRESS, 1, answer_us=0)
+
+    def test_a_uri_of_any_bytes_comes_and_goes(self) -> None:
+        slot = self.client()
+        slot.notify(1, "10.0.0.2:17225", source_uri=trdp_slot._uri_of("ff41"))
+        self.assertEqual(self.calls()[-1].split()[2], "ff41")
+
+
+class Answers(Case):
+    """An answer is never taken for that of another call."""
+
+    def test_a_lost_answer_of_put_is_called_for_again(self) -> None:
+        slot = self.client()
+        slot.publish(100, "10.0.0.2:17224")
+        lost = iter([True, True])
+        self.say = lambda line: [] if line.startswith("put") and next(lost, False) else self.node.answer(line)
+        slot.put(1, b"\x01")
+        self.assertEqual(self.calls()[1:], ["put 1 01"] * 3)
+
+    def test_a_lost_answer_of_publish_is_told_and_sent_once(self) -> None:
+        slot = self.client()
+        self.say = lambda line: [] if line.startswith("publish") else self.node.answer(line)
+        with self.assertRaises(TimeoutError):
+            slot.publish(100, "10.0.0.2:17224")
+        self.assertEqual(len(self.calls()), 1)
+        with self.assertRaises(TimeoutError):
+            slot.publish(100, "10.0.0.2:17224", tries=2)
+        self.assertEqual(len(self.calls()), 3)
+
+    def test_silence_ends_after_its_time(self) -> None:
+        slot = self.client(tries=3, answer_us=40_000)
+        self.say = lambda line: []
+        start = time.monotonic()
+        with self.assertRaises(TimeoutError):
+            slot.get(1)
+        self.assertTrue(0.11 < time.monotonic() - start < 1, time.monotonic() - start)
+        self.assertEqual(self.calls(), ["get 1"] * 3)
+        with self.assertRaises(TimeoutError):
+            slot.get(1)
+        self.say = self.node.answer
+        with self.assertRaises(Refused):
+            slot.get(1)
+
+    def test_nobody_at_the_port(self) -> None:
+        with testing.socket.socket(testing.socket.AF_INET, testing.socket.SOCK_DGRAM) as free:
+            free.bind((ADDRESS, 0))
+            number = free.getsockname()[1]
+        with Slot(ADDRESS, number, tries=2, answer_us=20_000) as slot:
+            for call in (lambda: slot.get(1), slot.sync, slot.check):
+                with self.assertRaises(TimeoutError):
+                    call()
+            self.assertIsNone(slot.next_indication(1000))
+
+    def test_doubled_answers(self) -> None:
+        slot = self.client()
+        self.say = lambda line: [it for it in self.node.answer(line) for _ in range(2)]
+        first = slot.subscribe(100)
+        second = slot.subscribe(101)
+        self.assertEqual((first.number, second.number), (1, 2))
+        for _ in range(5):
+            self.assertEqual(slot.get(first).value, b"\x01")
+            self.assertEqual(slot.get(second).value, b"\x02")
+        self.assertRaises(Refused, slot.get, 3)
+        slot.unsubscribe(first)
+        self.assertRaises(Refused, slot.get, 1)
+        slot.put(second, b"")
+
+    def test_late_answers(self) -> None:
+        slot = self.client()
+        first, second = slot.subscribe(100), slot.subscribe(101)
+        held: list[str] = []
+
+        def hold(line: str) -> list[str]:
+            held.extend((self.port.client, it) for it in self.node.answer(line))
+            return []
+
+        def release(line: str) -> list[str]:
+            self.say = self.node.answer
+            late = held + self.node.answer(line)
+            held.clear()
+            return late
+
+        self.say = hold
+        with self.assertRaises(TimeoutError):
+            slot.get(first, tries=1)
+        self.say = release
+        self.assertEqual(slot.get(second).value, b"\x02")
+        self.assertEqual(slot.get(first).value, b"\x01")
+        self.say = hold
+        with self.assertRaises(TimeoutError):
+            slot.publish(102, "10.0.0.2:17224")
+        self.say = release
+        self.assertEqual(slot.publish(103, "10.0.0.2:17224").number, 4)
+
+    def test_lost_doubled_and_late_by_chance(self) -> None:
+        for seed in range(20):
+            chance = testing.random.Random(seed)
+            held: list[str] = []
+
+            def say(line: str) -> list[str]:
+                times = chance.choice([0, 1, 1, 1, 2])
+                told = held + [(self.port.client, it) for it in self.node.answer(line) for _ in range(times)]
+                held.clear()
+                if chance.randrange(4) == 0:
+                    held.extend(told)
+                    return []
+                return told
+
+            self.node.start_anew()
+            self.say = self.node.answer
+            slot = self.client(tries=50, answer_us=3_000)
+            handles = [slot.subscribe(100 + it) for it in range(3)]
+            self.say = say
+            for _ in range(20):
+                number = chance.randrange(4)
+                if number == 3:
+                    self.assertRaises(Refused, slot.get, 9)
+                else:
+                    self.assertEqual(slot.get(handles[number]).counter, number + 1)
+
+    def test_an_ended_object_that_a_second_try_doesnt_find(self) -> None:
+        slot = self.client()
+        handle = slot.publish(100, "10.0.0.2:17224")
+        lost = iter([True])
+
+        def say(line: str) -> list[str]:
+            told = self.node.answer(line)
+            return [] if line.startswith("unpublish") and next(lost, False) else told
+
+        self.say = say
+        slot.unpublish(handle)
+        self.assertEqual(self.calls()[1:], ["unpublish 1"] * 2)
+        with self.assertRaises(Refused) as caught:
+            slot.unpublish(handle)
+        self.assertEqual((caught.exception.name, caught.exception.tries), ("NoHandle", 1))
+
+    def test_indications_come_after_a_silence(self) -> None:
+        slot = self.client(tries=2)
+        handle = slot.subscribe(100)
+        slot.sync()
+        before = self.port.client
+        self.say = lambda line: []
+        for _ in range(2):
+            self.assertRaises(TimeoutError, slot.get, handle)
+        # To where the latest line came from, though that was no call.
+        testing.wait_until(lambda: self.port.lines[-1] == "#")
+        self.port.say("0 silent 1")
+        self.assertEqual(slot.next_indication(50_000), Silent(handle))
+        # And to where it was before, as of a daemon that has yet to read what was sent meanwhile.
+        self.assertNotEqual(self.port.client, before)
+        answer = iter([[(before, "0 alive 1"), (before, "0 done"), (before, "0 silent 1")] * 10])
+        self.say = lambda line: [*next(answer, []), *self.node.answer(line)]
+        self.assertEqual(slot.get(handle).value, b"\x01")
+        self.assertEqual([type(it) for it in slot.indications(20_000)], [Alive, Silent] * 10)
+
+    def test_indications_between_are_kept(self) -> None:
+        slot = self.client()
+        self.say = lambda line: ["0 silent 1", *self.node.answer(line), "0 alive 1"]
+        handle = slot.subscribe(100)
+        self.assertEqual(slot.get(handle).value, b"\x01")
+        told = list(slot.indications(20_000))
+        # Two calls and two marks, each with one of either kind round its answer.
+        self.assertEqual([type(it) for it in told], [Silent, Alive] * 4)
+        self.assertIs(told[-1].handle, handle)
+
+
+class Indications(Case):
+    """The lines of docs/SCRIPT.md as named tuples."""
+
+    def setUp(self) -> None:
+        super().setUp()
+        self.slot = self.client()
+        self.slot.subscribe(100)
+
+    def tell(self, *lines: str) -> list[object]:
+        for line in lines:
+            self.port.say(line)
+        return list(self.slot.indications(30_000))
+
+    def test_each(self) -> None:
+        session = "0a0b0c0d-0000-0000-0000-000000000001"
+        told = self.tell(
+            "0 silent 1", "0 alive 1", "0 notified 2 10.0.0.2:17225 300 646f6f72 636172 0d",
+            f"0 asked 2 3 {session} 10.0.0.2:17225 300 - 636172 -", "0 overrun 2",
+            "0 replied 4 10.0.0.3:17225 Mp 7 301 0c", "0 replied 4 10.0.0.3:17225 Mq 0 301 -",
+            "0 replied 4 10.0.0.3:17225 Me -5 301 -", "0 confirmed 3 9", "0 closed 4 Done")
+        handle = self.slot._declared[0]
+        self.assertIs(told[0].handle, handle)
+        self.assertEqual(told[1], Alive(handle))
+        listener, replier, caller = told[2].listener, told[3].replier, told[5].caller
+        self.assertEqual([(it.kind, it.number) for it in (listener, replier, caller)],
+                         [("unknown", 2), ("replier", 3), ("unknown", 4)])
+        self.assertEqual(told[2], Notified(listener, "10.0.0.2:17225", 300, "door", "car", b"\x0d"))
+        self.assertEqual(told[3][1:], (replier, FIRST, "10.0.0.2:17225", 300, "", "car", b""))
+        self.assertIsInstance(told[3], Asked)
+        self.assertIsInstance(told[4], Overrun)
+        self.assertEqual(told[5], Replied(caller, "10.0.0.3:17225", "Mp", 7, 301, b"\x0c"))
+        self.assertEqual(told[6][2:], ("Mq", 0, 301, b""))
+        self.assertEqual(told[7][2:], ("Me", -5, 301, b""))
+        self.assertEqual(told[8], Confirmed(replier, 9))
+        self.assertEqual((told[9].handle.number, told[9].reason), (4, "Done"))
+        self.assertIsInstance(told[9], Closed)
+
+    def test_other_lines_are_left_out(self) -> None:
+        self.assertEqual(self.tell("0 done", "line fault Count", "0 handle 9", "", "0", "ok", "0 jumped 1"), [])
+
+    def test_time(self) -> None:
+        start = time.monotonic()
+        self.assertIsNone(self.slot.next_indication(50_000))
+        self.assertTrue(0.045 < time.monotonic() - start < 0.5)
+        self.assertIsNone(self.slot.next_indication(0))
+        self.port.say("0 silent 1")
+        self.assertIsInstance(self.slot.next_indication(None), Silent)
+
+    def test_callbacks(self) -> None:
+        heard: list[object] = []
+        self.slot.on(Silent, heard.append)
+        self.slot.on(Silent, lambda it: heard.append(self.slot.get(it.handle).value))
+        self.slot.on(Closed, heard.append)
+        for line in ("0 silent 1", "0 alive 1", "0 closed 7 NoReply"):
+            self.port.say(line)
+        self.slot.run(50_000)
+        self.assertEqual([type(heard[0]), heard[1], heard[2].reason], [Silent, b"\x01", "NoReply"])
+        self.slot.on(Alive, lambda _: 1 // 0)
+        self.port.say("0 alive 1")
+        self.assertRaises(ZeroDivisionError, self.slot.run, 50_000)
+
+
+class Restarts(Case):
+    """A daemon that was started anew."""
+
+    def declare(self, **words: object) -> tuple[Slot, dict[str, trdp_slot.Handle]]:
+        slot = self.client(**words)
+        handles = {
+            "publisher": slot.publish(100, "10.0.0.2:17224", cycle_us=1000), "subscription": slot.subscribe(101),
+            "requester": slot.openpull(102, "10.0.0.2:17224"), "caller": slot.request(103, "10.0.0.2:17225"),
+            "listener": slot.listen(104),
+        }
+        slot.put(handles["publisher"], b"\x07")
+        return slot, handles
+
+    def test_all_that_was_declared_is_made_again(self) -> None:
+        slot, handles = self.declare(restore=True)
+        made = [self.node.made[it] for it in (1, 2, 3, 5)]
+        self.node.start_anew()
+        self.assertEqual(slot.get(handles["subscription"]), ("Valid", 2, b"\x02"))
+        self.assertEqual(list(self.node.made.values()), made)
+        self.assertEqual(self.node.put, {"1": "07"})
+        told = slot.next_indication(0)
+        self.assertIsInstance(told, Restarted)
+        self.assertEqual([it.kind for it in told.declared], ["publisher", "subscription", "requester", "listener"])
+        self.assertEqual(told.lost, (handles["caller"],))
+        self.assertEqual([it.number for it in told.declared], [1, 2, 3, 4])
+        self.assertRaises(Refused, slot.abort, handles["caller"])
+        self.assertEqual(list(self.node.made.values()), made)
+        slot.put(handles["publisher"], b"\x08")
+        slot.pull(handles["requester"])
+        slot.unlisten(handles["listener"])
+        self.assertIsNone(slot.next_indication(0))
+
+    def test_put_that_notices_it_has_the_last_word(self) -> None:
+        slot, handles = self.declare(restore=True)
+        self.node.start_anew()
+        slot.put(handles["publisher"], b"\x09")
+        self.assertEqual(self.node.put, {"1": "09"})
+
+    def test_a_new_object_notices_it(self) -> None:
+        slot, handles = self.declare(restore=True)
+        self.node.start_anew()
+        new = slot.subscribe(105)
+        self.assertEqual(new.number, 1)
+        self.assertEqual(len(self.node.made), 5)
+        self.assertEqual(slot.get(handles["subscription"]).counter, handles["subscription"].number)
+        self.assertNotEqual(handles["subscription"].number, 1)
+
+    def test_an_end_notices_it(self) -> None:
+        slot, handles = self.declare(restore=True)
+        self.node.start_anew()
+        slot.unpublish(handles["publisher"])
+        self.assertEqual([it.split()[0] for it in self.node.made.values()], ["subscribe", "openpull", "listen"])
+
+    def test_check_notices_it(self) -> None:
+        slot, handles = self.declare(restore=True)
+        self.assertTrue(slot.check())
+        self.node.start_anew()
+        self.assertFalse(slot.check())
+        self.assertTrue(slot.check())
+        self.assertEqual(len(self.node.made), 4)
+
+    def test_without_restore_it_is_refused(self) -> None:
+        slot, handles = self.declare()
+        self.node.start_anew()
+        with self.assertRaises(Refused) as caught:
+            slot.put(handles["publisher"], b"\x01")
+        self.assertEqual(caught.exception.name, "NoHandle")
+        self.assertIsInstance(slot.next_indication(0), Restarted)
+        self.assertEqual(self.node.made, {})
+        # A handle of before isn't taken for the object that has its number now.
+        again = slot.subscribe(200)
+        self.assertEqual(again.number, handles["publisher"].number)
+        count = len(self.calls())
+        with self.assertRaises(Refused):
+            slot.put(handles["publisher"], b"\x01")
+        self.assertEqual(len(self.calls()), count)
+        slot.unpublish(handles["publisher"])
+        self.assertEqual(list(self.node.made), [1])
+
+    def test_twice(self) -> None:
+        slot, handles = self.declare(restore=True)
+        for _ in range(3):
+            self.node.start_anew()
+            self.assertEqual(slot.get(handles["subscription"]).state, "Valid")
+            self.assertEqual((len(self.node.made), self.node.put), (4, {"1": "07"}))
+
+    def test_a_restart_while_objects_are_made_again(self) -> None:
+        slot, handles = self.declare(restore=True)
+        self.node.start_anew()
+        anew = iter([False, True])
+
+        def say(line: str) -> list[str]:
+            if line.startswith("subscribe") and next(anew, True):
+                self.node.start_anew()
+                self.say = self.node.answer
+            return self.node.answer(line)
+
+        self.say = say
+        anew = iter([True])
+        slot.pull(handles["requester"])
+        self.assertEqual(sorted(it.split()[0] for it in self.node.made.values()),
+                         ["listen", "openpull", "publish", "subscribe"])
+        self.assertEqual(set(self.node.put.values()), {"07"})
+
+    def test_silence_while_objects_are_made_again(self) -> None:
+        slot, handles = self.declare(restore=True)
+        self.node.start_anew()
+        self.say = lambda line: [] if line.startswith("openpull") else self.node.answer(line)
+        with self.assertRaises(TimeoutError):
+            slot.get(handles["subscription"])
+        self.say = self.node.answer
+        slot.pull(handles["requester"])
+        slot.unlisten(handles["listener"])
+        self.assertEqual(slot.get(handles["subscription"]).counter, 2)
+
+
+if __name__ == "__main__":
+    unittest.main()

@@ -1,0 +1,183 @@
+"""What the tests of the clients stand on: daemons, and a network before one that loses and doubles."""
+from __future__ import annotations
+
+import os
+import pathlib
+import random
+import select
+import signal
+import socket
+import subprocess
+import tempfile
+import threading
+import time
+from collections.abc import Callable
+
+HERE = pathlib.Path(__file__).resolve().parent
+TOP = HERE.parent.parent
+PROGRAM = os.environ.get("TRDPD") or str(TOP / "crates/trdpd/out/trdpd")
+# Addresses and ports of their own, so that the tests collide with nobody.
+PD, MD, OPERATOR, CONTROL = 18224, 18225, 18790, 18800
+SECOND = 1_000_000
+
+
+def wait_until(is_so: Callable[[], bool], seconds: float = 5) -> None:
+    """Waits until something is so."""
+    end = time.monotonic() + seconds
+    while not is_so():
+        if time.monotonic() > end:
+            raise AssertionError(f"not so within {seconds} s")
+        time.sleep(0.002)
+
+
+class Daemon:
+    """A daemon of a configuration, as a process."""
+
+    def __init__(self, config: str, folder: str | None = None) -> None:
+        self.folder = tempfile.TemporaryDirectory() if folder is None else None
+        self.path = pathlib.Path(folder or self.folder.name) / "node.toml"
+        self.path.write_text(config)
+        self.process: subprocess.Popen[bytes] | None = None
+        self.start()
+
+    def start(self) -> None:
+        """Starts it, and waits until it has its ports."""
+        # What it says goes to a file: a pipe that nobody reads would fill.
+        errors = self.path.with_suffix(".errors")
+        with open(errors, "wb") as out:
+            self.process = subprocess.Popen([PROGRAM, "daemon", str(self.path)], stdout=out, stderr=out)
+        wait_until(lambda: self.process.poll() is not None or self._has_ports())
+        if self.process.poll() is not None:
+            raise RuntimeError(f"the daemon ended: {errors.read_text()}")
+
+    def _has_ports(self) -> bool:
+        """Whether the process has its sockets."""
+        sockets = 0
+        for number in os.listdir(f"/proc/{self.process.pid}/fd"):
+            try:
+                sockets += os.readlink(f"/proc/{self.process.pid}/fd/{number}").startswith("socket:")
+            except FileNotFoundError:
+                pass
+        return sockets >= self.ports()
+
+    def ports(self) -> int:
+        """How many ports the configuration names, of which a spare one is at most one."""
+        text = self.path.read_text()
+        return 2 + sum(text.count(it) for it in ("\noperator_port", "\nspare_control_ports", "\ncontrol_port"))
+
+    def end(self) -> None:
+        """Ends it at once."""
+        if self.process is not None:
+            self.process.send_signal(signal.SIGKILL)
+            self.process.wait()
+            self.process = None
+
+    def close(self) -> None:
+        """Ends it for good."""
+        self.end()
+        if self.folder:
+            self.folder.cleanup()
+
+
+def play(config: str, script: str) -> list[str]:
+    """What `trdpd run` gives for a script."""
+    with tempfile.TemporaryDirectory() as folder:
+        path = pathlib.Path(folder) / "node.toml"
+        path.write_text(config)
+        ran = subprocess.run([PROGRAM, "run", str(path)], input=script.encode(), capture_output=True, timeout=20)
+    if ran.returncode:
+        raise AssertionError(ran.stderr.decode())
+    return ran.stdout.decode().splitlines()
+
+
+class Port(threading.Thread):
+    """A UDP port that answers each datagram by what a function says of its line, as a control port would: texts in
+    their order, or pairs of a place and a text."""
+
+    def __init__(self, address: str, answer: Callable[[str], list[str | tuple]]) -> None:
+        super().__init__(daemon=True)
+        self.answer = answer
+        self.lines: list[str] = []
+        self.client: tuple[str, int] | None = None
+        self.socket = socket.socket(socket.AF_INET, socket.SOCK_DGRAM)
+        self.socket.bind((address, 0))
+        self.number = self.socket.getsockname()[1]
+        self.start()
+
+    def run(self) -> None:
+        while True:
+            data, self.client = self.socket.recvfrom(65536)
+            if data == b"end":
+                return
+            line = data.decode()
+            self.lines.append(line)
+            for text in self.answer(line):
+                self.say(text)
+
+    def say(self, text: str | tuple) -> None:
+        """Sends a text to where the latest line came from, or to its place."""
+        place, text = text if isinstance(text, tuple) else (self.client, text)
+        self.socket.sendto(text.encode() + b"\n", place)
+
+    def close(self) -> None:
+        """Ends it."""
+        with socket.socket(socket.AF_INET, socket.SOCK_DGRAM) as out:
+            out.sendto(b"end", self.socket.getsockname())
+        self.join()
+        self.socket.close()
+
+
+class Relay(threading.Thread):
+    """A network between clients and a port that keeps the order, and of the answers, or of the lines too, loses one
+    in so many and brings one in so many twice."""
+
+    def __init__(self, address: str, to: tuple[str, int], seed: int, lost: int, doubled: int, both_ways: bool) -> None:
+        super().__init__(daemon=True)
+        self.to = to
+        self.chance = random.Random(seed)
+        self.lost, self.doubled, self.both_ways = lost, doubled, both_ways
+        self.counts = {"lost": 0, "doubled": 0}
+        self.front = socket.socket(socket.AF_INET, socket.SOCK_DGRAM)
+        self.front.bind((address, 0))
+        self.number = self.front.getsockname()[1]
+        self.backs: dict[tuple[str, int], socket.socket] = {}  # a socket for each client
+        self.is_over = False
+        self.start()
+
+    def run(self) -> None:
+        while not self.is_over:
+            ready, _, _ = select.select([self.front, *self.backs.values()], [], [], 0.05)
+            if self.front in ready:
+                data, client = self.front.recvfrom(65536)
+                back = self.back(client)
+                for _ in range(self.times() if self.both_ways else 1):
+                    back.send(data)
+            for client, back in list(self.backs.items()):
+                if back in ready:
+                    data = back.recv(65536)
+                    for _ in range(self.times()):
+                        self.front.sendto(data, client)
+
+    def back(self, client: tuple[str, int]) -> socket.socket:
+        """The socket that stands for a client."""
+        if client not in self.backs:
+            self.backs[client] = socket.socket(socket.AF_INET, socket.SOCK_DGRAM)
+            self.backs[client].connect(self.to)
+        return self.backs[client]
+
+    def times(self) -> int:
+        """How often a datagram is brought."""
+        if self.chance.randrange(self.lost) == 0:
+            self.counts["lost"] += 1
+            return 0
+        if self.chance.randrange(self.doubled) == 0:
+            self.counts["doubled"] += 1
+            return 2
+        return 1
+
+    def close(self) -> None:
+        """Ends it."""
+        self.is_over = True
+        self.join()
+        for port in (self.front, *self.backs.values()):
+            port.close()
