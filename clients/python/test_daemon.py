@@ -3,6 +3,7 @@ from __future__ import annotations
 
 import pathlib
 import random
+import re
 import socket
 import struct
 import subprocess
@@ -371,11 +372,12 @@ class Programs(Case):
 
     def programs(self) -> list[str]:
         """The programs in Python of the page."""
-        blocks = (testing.TOP / "docs/CLIENTS.md").read_text().split("\n\n    from trdp_slot import ")[1:]
-        return ["from trdp_slot import " + it.split("\n\nA")[0].split("\n\n<")[0] for it in blocks]
+        page = (testing.TOP / "docs/CLIENTS.md").read_text()
+        blocks = re.findall(r"^    from trdp_slot import .*\n(?:    .*\n|\n)*", page, re.MULTILINE)
+        return [textwrap.dedent(it) for it in blocks]
 
     def test_the_shortest_programs(self) -> None:
-        doors, display = map(textwrap.dedent, ("    " + it for it in self.programs()))
+        doors, display = self.programs()
         datasets = "[[dataset]]" + (testing.TOP / "examples/control/door.toml").read_text().partition("[[dataset]]")[2]
         for daemon in self.daemons:
             daemon.end()
