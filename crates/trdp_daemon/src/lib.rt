@@ -8,7 +8,9 @@
 //! contract, as a network may be so, and so does a [`RunClock`] that stands still; that they work
 //! is tested. For the same reason no contract says which sockets [`UdpWire::bind`] binds, and its
 //! must-fail edit turns all that it promises, a wire without failures: ports that are shifted or
-//! left out are for the tests over loopback to find. How long a rest is no contract of a wire says,
+//! left out are for the tests over loopback to find. A [`RestingWire`] is such a wire that waits: of
+//! what it takes, gives and binds the same is said, and one that binds nothing answers `Bind` always
+//! as far as its contract tells. How long a rest is no contract of a wire says,
 //! nor that a daemon rests at all: one that never does offers the same. That it asks for rests, and
 //! for how long, is tested over a [`MemoryWire`]; that a datagram ends one is measured.
 #![tactic(auto)]
