@@ -12,8 +12,8 @@ use Rattle.trdp_engine.specs.declared.fault.Refusal.{Refusal}
 use Rattle.trdp_engine.specs.declared.fault.Refusal.TheVariants.{NoHandle}
 use Rattle.trdp_engine.specs.Records.{Content, RefusedIs, Answers, labelled}
 use Rattle.trdp_engine.specs.Slots.{Entry, SlotState, entry_of}
-use Rattle.trdp_engine.specs.declared.asked.Left.{Left}
-use Rattle.trdp_engine.specs.declared.asked.Left.TheVariants.{Stays, Ended}
+use Rattle.trdp_engine.specs.declared.deed.Left.{Left}
+use Rattle.trdp_engine.specs.declared.deed.Left.TheVariants.{Stays, Ended}
 use Rattle.trdp_engine.specs.Acts.{Act, left_at, acted}
 use Rattle.trdp_engine.specs.Calls.{at_object, at_entry, told_unless}
 use Rattle.trdp_engine.specs.Openings.{refused}

@@ -20,7 +20,7 @@ use Rattle.trdp_engine.specs.Acts.{entry_left, left_at, acted}
 use Rattle.trdp_engine.specs.Acting.{act_of}
 use Rattle.trdp_engine.proofs.Handles.{IsRising}
 use Rattle.trdp_engine.specs.Moments.{is_due, is_before, inserted, in_order, left_firing}
-use Rattle.trdp_engine.specs.Moments.{firing_records, firing_act, after_moment, moved_to}
+use Rattle.trdp_engine.specs.Moments.{firing_act, after_moment, moved_to}
 use Rattle.trdp_engine.specs.Firing.{IsNext}
 use Rattle.trdp_engine.specs.Fitting.{AllSound}
 use Rattle.trdp_engine.proofs.AllObjects.{AllObjects-found, IsLeft, AllObjects-acted}
@@ -55,22 +55,6 @@ sound_left (Data head) object sound = sound
 sound_left (Again head) object sound = sound
 sound_left Silent object sound = sound
 sound_left (Closed reason) object sound = tt
-
--- what is left of an object that fired is what its act leaves
-pub left_by_firing :
-    (globals : Globals) (entry : Entry) (object : AnyObject) (left : Option AnyObject) → object
-    ≡ entry.object → left ≡ left_firing (fired object globals) (after_firing object globals)
-    → left ≡ (firing_act globals entry).left
-left_by_firing globals entry object left of is = is
-    ∙ ap (λ (o : AnyObject). left_firing (fired o globals) (after_firing o globals)) of
-
--- and gives its records
-pub gives_firing : (globals : Globals) (entry : Entry) (handle : ℕ) (object : AnyObject)
-    → handle ≡ entry.handle → object ≡ entry.object
-    → firing_records handle object (fired object globals) ≡ (firing_act globals entry).records
-gives_firing globals entry handle object under of =
-    ap (λ (h : ℕ). firing_records h object (fired object globals)) under
-    ∙ ap (λ (o : AnyObject). firing_records entry.handle o (fired o globals)) of
 
 -- where nothing is due the moment changes nothing
 pub none_fires : (globals : Globals) (objects : List Entry)

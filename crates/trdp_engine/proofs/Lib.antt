@@ -21,6 +21,7 @@ pub mod InSession
 pub mod SessionKeys
 pub mod HasSession
 pub mod Asking
+pub mod Deeds
 pub mod Turns
 pub mod Rooms
 pub mod Orders

@@ -314,7 +314,7 @@ pub record IsOne (s h : ℕ) (object : AnyObject) (es : List Entry) : Type 0 whe
   pub noted : noted_as s es ≡ record { slot = s; handle = h } ∷ []
   pub room : entries_room es ≡ kind_room (kind_of object)
 
-handle_is : (h : ℕ) (es : List Entry) (e : Entry) → entry_of h es ≡ Some e → e.handle ≡ h
+pub handle_is : (h : ℕ) (es : List Entry) (e : Entry) → entry_of h es ≡ Some e → e.handle ≡ h
 handle_is h [] e at = absurd (none-some e at)
 handle_is h (x ∷ es) e at = either (x.handle == h) refl at (handle_is h es e)
   where

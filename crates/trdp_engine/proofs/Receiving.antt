@@ -35,13 +35,13 @@ use Rattle.trdp_md.specs.Callers.{replied as replied_as, caller_taking}
 use Rattle.trdp_md.specs.Repliers.{is_for_replier, replier_taking}
 use Rattle.trdp_head.specs.MdTelegrams.{MdTelegram}
 use Rattle.trdp_engine.specs.Requests.{asked_by_hearing}
-use Rattle.trdp_table.specs.Objects.{after_taking, taken}
+use Rattle.trdp_table.specs.Objects.{taken}
 use Rattle.trdp_engine.specs.Configs.{NodeSetup}
 use Rattle.trdp_engine.specs.Slots.{Entry, SlotState, Outcome, unchanged}
 use Rattle.trdp_engine.specs.Datagrams.{is_listening, hearing, is_valid_at, handed, is_request}
 use Rattle.trdp_engine.specs.Datagrams.{requested, received, received_if, concerns}
 use Rattle.trdp_engine.specs.Datagrams.{is_for_entry, is_acting, acting, after_telegram}
-use Rattle.trdp_engine.specs.Datagrams.{fits_object, taken_records, left_taking, taking_act}
+use Rattle.trdp_engine.specs.Datagrams.{taking_act}
 use Rattle.trdp_engine.specs.Outboxes.{OutboxState}
 use Rattle.trdp_engine.specs.Rooms.{LacksRoom, entries_room}
 
@@ -52,22 +52,6 @@ or_left false b is = refl
 or_right : (a b : Bool) → (a || b) ≡ false → b ≡ false
 or_right true b is = absurd (cc)
 or_right false b is = is
-
--- what is left of an object is what its act leaves
-pub left_by_taking : (setup : NodeSetup) (telegram : TelegramModel) (globals : Globals)
-    (entry : Entry) (object : AnyObject) (left : Option AnyObject) → object ≡ entry.object
-    → left ≡ left_taking (taken object telegram globals (fits_object setup telegram object))
-    (after_taking object telegram globals (fits_object setup telegram object))
-    → left ≡ (taking_act setup telegram globals entry).left
-left_by_taking setup telegram globals entry object left same is = rw (is, same) refl
-
--- and the records that it gave are those of its act
-pub gives_taking : (setup : NodeSetup) (telegram : TelegramModel)
-    (globals : Globals) (entry : Entry) (handle : ℕ) (object : AnyObject)
-    → handle ≡ entry.handle → object ≡ entry.object → taken_records setup
-    telegram handle object (taken object telegram globals (fits_object setup telegram object))
-    ≡ (taking_act setup telegram globals entry).records
-gives_taking setup telegram globals entry handle object number same = rw (number, same) refl
 
 -- a telegram that is for none of these objects leaves them all
 unconcerned_objects :

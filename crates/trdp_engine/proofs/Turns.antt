@@ -10,17 +10,15 @@ use Rattle.std.proofs.lemmas.Grind.{flat_map-append}
 use Rattle.trdp_table.specs.declared.any_object.AnyObject.{AnyObject}
 use Rattle.trdp_engine.specs.Acts.{Act, entry_left, acted}
 use Rattle.trdp_table.specs.Kinds.{kind_of}
-use Rattle.trdp_table.specs.Tables.{TableState, slot_in, without, changed_at, exchanged}
+use Rattle.trdp_table.specs.Tables.{TableState}
 use Rattle.trdp_engine.specs.Records.{labelled}
-use Rattle.trdp_engine.specs.Acting.{slot_at, MayAct, TookWithin, ActsAt, act_of}
+use Rattle.trdp_engine.specs.Acting.{slot_at, TookWithin, ActsAt, act_of}
 use Rattle.trdp_engine.specs.Outboxes.{OutboxState}
 use Rattle.trdp_engine.specs.Rooms.{kind_room}
 use Rattle.trdp_engine.proofs.Tables.{slots_length, slot_there, slot_within, slot_is}
-use Rattle.trdp_engine.proofs.Tables.{handle_found, ExchangesAlone, IsReached}
-use Rattle.trdp_engine.proofs.Tables.{reached_entry, reached_touched, reached_removed}
 use Rattle.trdp_engine.proofs.Sweeps.{get-set}
 use Rattle.trdp_engine.proofs.Handles.{AllAbove, IsRising}
-use Rattle.trdp_engine.specs.Slots.{Entry, SlotState, Outcome, entry_of, entry_of_keyed, slots_of}
+use Rattle.trdp_engine.specs.Slots.{Entry, SlotState, Outcome, entry_of, slots_of}
 
 -- one outcome, and then the next
 abbrev pub followed_by : Outcome → (SlotState → Outcome) → Outcome
@@ -242,78 +240,7 @@ those-filter p objects rising = record {
   covered = covered-filter p objects rising;
 }
 
--- The object of a handle of the table acts.
-
--- the object that was reached is the one that may act
-pub reached_is : (table : TableState) (s h key : ℕ) (object : AnyObject) (out : OutboxState)
-    → IsReached table s h key object → (may : MayAct (slot_at s table) h out)
-    → may.entry.object ≡ object
-reached_is table s h key object out r may =
-    ap (λ (e : Entry). e.object) (same_Some may.entry
-    (entry_of_keyed r.keyed) (sym may.found ∙ reached_entry table s h key object r))
-    ∙ sym r.object_is
-
-pub reached_handle : (table : TableState) (s h key : ℕ) (object : AnyObject)
-    → (r : IsReached table s h key object) → h ≡ r.keyed.handle
-reached_handle table s h key object r =
-    sym (handle_found h (slot_in s table).objects r.keyed r.found)
-
-pub acts_reached : (table : TableState) (s h key : ℕ) (object object_then : AnyObject)
-    (act : Entry → Act) (out out_then : OutboxState) → ExchangesAlone table
-    → (r : IsReached table s h key object) → Some object_then ≡ (act (entry_of_keyed r.keyed)).left
-    → out_then.records ≡ out.records ++ labelled s (act (entry_of_keyed r.keyed)).records
-    → TookWithin out out_then (kind_room (kind_of object))
-    → ActsAt s h act table (exchanged key table object_then) out out_then
-acts_reached table s h key object object_then act out out_then alone r left records within =
-    let entry = entry_of_keyed r.keyed in
-    let of : h ≡ r.keyed.handle = reached_handle table s h key object r in
-    record {
-      entry = entry;
-      found = reached_entry table s h key object r;
-      becomes = record {
-        slots =
-            reached_touched table s h key object object_then alone r
-            ∙ ap (λ (o : Option AnyObject). slice_set (slots_of table)
-            s (record (slot_at s table) { objects = acted h o (slot_at s table).objects })) left
-            ∙ ap (λ (k : ℕ). slice_set (slots_of table) s (record (slot_at s table)
-            { objects = acted k (act entry).left (slot_at s table).objects })) of;
-        records = records;
-      };
-      within = subst (λ (o : AnyObject). TookWithin out out_then (kind_room (kind_of o)))
-          r.object_is within;
-    }
-
--- an object that ended
-pub acts_removed : (table : TableState) (s h key : ℕ) (object object_then : AnyObject)
-    (act : Entry → Act) (out out_then : OutboxState) → s < length table → ExchangesAlone table
-    → (r : IsReached table s h key object) → None ≡ (act (entry_of_keyed r.keyed)).left
-    → out_then.records ≡ out.records ++ labelled s (act (entry_of_keyed r.keyed)).records
-    → TookWithin out out_then (kind_room (kind_of object))
-    → ActsAt s h act table (changed_at s (without h) (exchanged key table object_then)) out out_then
-acts_removed table s h key object object_then act out out_then lt alone r left records within =
-    let entry = entry_of_keyed r.keyed in
-    let of : h ≡ r.keyed.handle = reached_handle table s h key object r in
-    record {
-      entry = entry;
-      found = reached_entry table s h key object r;
-      becomes = record {
-        slots =
-            reached_removed table s h key object object_then lt alone r
-            ∙ ap (λ (o : Option AnyObject). slice_set (slots_of table)
-            s (record (slot_at s table) { objects = acted h o (slot_at s table).objects })) left
-            ∙ ap (λ (k : ℕ). slice_set (slots_of table) s (record (slot_at s table)
-            { objects = acted k (act entry).left (slot_at s table).objects })) of;
-        records = records;
-      };
-      within = subst (λ (o : AnyObject). TookWithin out out_then (kind_room (kind_of o)))
-          r.object_is within;
-    }
-
--- where there is no object of the handle, none may act
-pub nobody_acts : (P : Type 0) (slot : SlotState) (h : ℕ) (out : OutboxState)
-    → MayAct slot h out → entry_of h slot.objects ≡ None → P
-nobody_acts P slot h out may none = let both : Some may.entry ≡ None =
-    sym may.found ∙ none in absurd (cc)
+-- An object of the table acts.
 
 -- what an act makes of its slot
 pub record IsActed (s h : ℕ) (act : Entry → Act)

@@ -5,8 +5,8 @@ use Rattle.trdp_table.specs.declared.any_object.AnyObject.{AnyObject}
 use Rattle.trdp_engine.specs.declared.asked.Asked.{Asked}
 use Rattle.trdp_engine.specs.declared.asked.Asked.TheVariants.{Put, Get, Pull, End, Reply, Query}
 use Rattle.trdp_engine.specs.declared.asked.Asked.TheVariants.{ReplyError, Confirm, Abort}
-use Rattle.trdp_engine.specs.declared.asked.Left.{Left}
-use Rattle.trdp_engine.specs.declared.asked.Left.TheVariants.{Stays, Ended}
+use Rattle.trdp_engine.specs.declared.deed.Left.{Left}
+use Rattle.trdp_engine.specs.declared.deed.Left.TheVariants.{Stays, Ended}
 use Rattle.trdp_engine.specs.Configs.{NodeSetup}
 use Rattle.trdp_engine.specs.Acts.{Act}
 use Rattle.trdp_engine.specs.Pulls.{pulls}

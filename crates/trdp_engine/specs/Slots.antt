@@ -11,6 +11,10 @@ pub record Entry : Type 0 where
   pub handle : ℕ
   pub object : AnyObject
 
+-- the object under that handle
+abbrev pub entry_at : ℕ → AnyObject → Entry
+entry_at handle object = record { handle = handle; object = object }
+
 -- an application slot: a quota for each kind of object, the next handle, and its objects by
 -- rising handle
 pub record SlotState : Type 0 where

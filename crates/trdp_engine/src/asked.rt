@@ -13,6 +13,7 @@ ghost use Rattle.trdp_engine.specs.Indexed.{com_of};
 ghost use Rattle.trdp_engine.specs.InSession.{session_of};
 
 use crate::callers::confirm;
+use crate::deed::{Deed, Left};
 use crate::fault::Refusal;
 use crate::outbox::Outbox;
 use crate::publishers::put;
@@ -63,13 +64,15 @@ pub enum Asked<'a> {
     Abort,
 }
 
-/// What becomes of an object of which something was asked.
+/// That something is asked of an object.
 #[derive(Clone, Copy)]
-pub enum Left {
-    /// It stays.
-    Stays,
-    /// It ends, and is to be taken out of the table.
-    Ended,
+pub struct Asking<'a, 'b> {
+    /// What is asked.
+    pub asked: &'a Asked<'b>,
+    /// The datasets.
+    pub config: &'a NodeConfig,
+    /// The time and the topology counts.
+    pub globals: &'a Globals,
 }
 
 /// Records whether an object ends: one of another kind refuses.
@@ -107,7 +110,7 @@ fn abort(object: &AnyObject, s: u16, out: &mut Outbox) -> Left
 }
 
 /// Has the object of that handle do what is asked, and records what it gives.
-pub fn ask(
+fn ask(
     object: &mut AnyObject,
     handle: u32,
     asked: &Asked<'_>,
@@ -156,4 +159,34 @@ pub fn ask(
         Asked::Abort => return abort(object, s, out),
     }
     Left::Stays
+}
+
+impl Deed for Asking<'_, '_> {
+    ghost use Rattle.std.specs.Prelude.{◌≤◌};
+    ghost use Rattle.trdp_base.specs.Moments.{last_moment};
+    ghost use Rattle.trdp_engine.specs.Configs.{setup_of};
+    ghost use Rattle.trdp_engine.specs.Asked.{asked_act};
+    ghost use Rattle.trdp_engine.specs.Rooms.{HasRoom, asked_room};
+
+    ghost act = { λ d handle object.
+        asked_act (setup_of d.config.now) d.globals.now handle d.asked.now object };
+
+    ghost may = { λ d _ _ out.
+        (d.globals.now.now ≤ last_moment) × HasRoom out (asked_room d.asked.now) };
+
+    ghost spends = { λ _ _ _ _. Unit {0} };
+
+    ghost ends_still = { λ _. ⊥ };
+
+    fn on(&self, object: &mut AnyObject, handle: u32, s: u16, out: &mut Outbox) -> Left {
+        ask(
+            object,
+            handle,
+            self.asked,
+            self.config,
+            self.globals,
+            s,
+            out,
+        )
+    }
 }

@@ -19,8 +19,8 @@ ghost use Rattle.trdp_engine.specs.Asked.{left_of};
 ghost use Rattle.trdp_engine.specs.Indexed.{com_of};
 ghost use Rattle.trdp_engine.specs.InSession.{session_of};
 
-use crate::asked::Left;
 use crate::counts::Counts;
+use crate::deed::Left;
 use crate::fault::Refusal;
 use crate::opening::{open, opening_refusal};
 use crate::outbox::Outbox;

@@ -6,14 +6,15 @@ ghost use Rattle.trdp_base.specs.Moments.{last_moment};
 ghost use Rattle.trdp_marshal.specs.Items.{model_of};
 ghost use Rattle.trdp_engine.specs.Configs.{setup_of};
 ghost use Rattle.trdp_engine.specs.Events.{call_model};
-ghost use Rattle.trdp_engine.specs.Calls.{called};
+ghost use Rattle.trdp_engine.specs.Calls.{called, at_object};
 ghost use Rattle.trdp_engine.specs.Values.{item_bytes, item_refusal, IsRefusedAs, valued};
 ghost use Rattle.trdp_engine.specs.Slots.{entry_of};
-ghost use Rattle.trdp_engine.specs.Rooms.{HasRoom, call_room, makes_buffer, CallMayLack};
-ghost use Rattle.trdp_engine.specs.Asked.{concerns_no_object, IsAskedBy};
+ghost use Rattle.trdp_engine.specs.Rooms.{HasRoom, asked_room, call_room, makes_buffer};
+ghost use Rattle.trdp_engine.specs.Rooms.{CallMayLack};
+ghost use Rattle.trdp_engine.specs.Asked.{asked_act, concerns_no_object, IsAskedBy};
 ghost use Rattle.trdp_engine.specs.Acting.{slot_at, Becomes};
 
-use crate::asked::Asked;
+use crate::asked::{Asked, Asking};
 use crate::callers::request;
 use crate::event::Call;
 use crate::fault::Refusal;
@@ -135,6 +136,22 @@ fn serve_slot(
     Ok(())
 }
 
+/// Has the object of that handle in slot `s` do what is asked, and records what it gives; where
+/// there is none, the call is refused.
+fn ask(store: &mut Store, s: u16, handle: u32, asking: &Asking<'_, '_>, out: &mut Outbox)
+    requires slot { s < length store.old }
+    requires now { asking.now.globals.now.now ≤ last_moment }
+    requires room { HasRoom out.old (asked_room asking.now.asked.now) }
+    ensures { Becomes s
+        (at_object (slot_at s store.old) handle
+        (asked_act (setup_of asking.now.config.now) asking.now.globals.now handle
+        asking.now.asked.now)) store.old store.new out.old out.new }
+{
+    if store.act(s, handle, asking, out).is_none() {
+        out.push_plain_answer(s, PlainAnswer::Refused(Refusal::NoHandle));
+    }
+}
+
 /// Serves a call of slot `s` and records its answer. A refused call changes nothing.
 ///
 /// # Errors
@@ -161,7 +178,12 @@ pub fn serve(
     let room = Room::of_call(call);
     out.reserve(room.rows, room.bytes)?;
     if let Some((handle, asked)) = asked_of(call) {
-        store.ask(s, handle, &asked, config, globals, out);
+        let asking = Asking {
+            asked: &asked,
+            config,
+            globals,
+        };
+        ask(store, s, handle, &asking, out);
         return Ok(());
     }
     serve_slot(store, s, alloc, config, call, globals, out)
@@ -232,7 +254,12 @@ pub fn put_value(
         }
         Ok(bytes) => {
             let asked = Asked::Put(&bytes);
-            store.ask(s, handle, &asked, config, globals, out);
+            let asking = Asking {
+                asked: &asked,
+                config,
+                globals,
+            };
+            ask(store, s, handle, &asking, out);
             Ok(())
         }
     }

@@ -1,7 +1,7 @@
 //! What a telegram does to the objects of the slots.
 
 ghost use Rattle.std.specs.Prelude.{◌≡◌, ℕ, ◌+◌, ◌*◌, ◌^◌, ◌<◌, ◌≤◌, ◌++◌, ◌∷◌, [], length};
-ghost use Rattle.std.specs.Prelude.{Some, true, slice_get};
+ghost use Rattle.std.specs.Prelude.{Some, true, slice_get, IfSome};
 ghost use Rattle.std.specs.List.{flat_map};
 ghost use Rattle.trdp_base.specs.Moments.{last_moment};
 ghost use Rattle.trdp_filter.specs.Telegrams.{telegram_model, IsWithinLimit};
@@ -9,29 +9,29 @@ ghost use Rattle.trdp_table.specs.Kinds.{kind_of};
 ghost use Rattle.trdp_table.specs.Tables.{room_of};
 ghost use Rattle.trdp_table.specs.Objects.{due_of, is_addressed, after_taking, taken};
 ghost use Rattle.trdp_engine.specs.Configs.{setup_of};
-ghost use Rattle.trdp_engine.specs.Slots.{SlotState, slots_of};
+ghost use Rattle.trdp_engine.specs.Slots.{SlotState, entry_of, slots_of};
 ghost use Rattle.trdp_engine.specs.Records.{labelled};
 ghost use Rattle.trdp_engine.specs.Datagrams.{is_valid_at, fits_object};
 ghost use Rattle.trdp_engine.specs.Datagrams.{taken_records, left_taking};
-ghost use Rattle.trdp_engine.specs.Datagrams.{acting, handed};
+ghost use Rattle.trdp_engine.specs.Datagrams.{acting, handed, is_for_entry, taking_act};
 ghost use Rattle.trdp_engine.specs.Timed.{IsOver};
 ghost use Rattle.trdp_engine.specs.Asked.{left_of};
 ghost use Rattle.trdp_engine.specs.NodeStates.{HasOutcome, Appends};
 ghost use Rattle.trdp_engine.specs.Rooms.{HasRoom, kind_room, entries_room};
-ghost use Rattle.trdp_engine.specs.Acting.{TookWithin};
+ghost use Rattle.trdp_engine.specs.Acting.{TookWithin, slot_at, MayAct, ActsAt};
 ghost use Rattle.trdp_engine.specs.Noted.{noted_from};
 ghost use Rattle.trdp_engine.specs.Indexed.{com_of};
 ghost use Rattle.trdp_engine.specs.InSession.{session_of};
 
 use crate::addressees::Addressee;
-use crate::asked::Left;
 use crate::callers::push_replied;
 use crate::counts::Counts;
+use crate::deed::{Deed, Left};
 use crate::notices::push_heard;
 use crate::outbox::Outbox;
 use crate::pull::{answer_place, push_answer};
 use crate::row::Form;
-use crate::store::Store;
+use crate::store::{Store, count_act};
 use trdp_dataset::NodeConfig;
 use trdp_filter::{Globals, Telegram, topo_valid};
 use trdp_marshal::fits;
@@ -62,7 +62,7 @@ fn fits_object(config: &NodeConfig, telegram: &Telegram<'_>, object: &AnyObject)
 }
 
 /// Hands the telegram to an object of that handle, which it is for, and records what it gives.
-pub fn take_object(
+fn take_object(
     object: &mut AnyObject,
     handle: u32,
     config: &NodeConfig,
@@ -116,6 +116,84 @@ pub fn take_object(
     Left::Stays
 }
 
+/// That a telegram is handed to an object which it is for.
+#[derive(Clone, Copy)]
+pub struct Handing<'a, 'b> {
+    /// The telegram.
+    pub telegram: &'a Telegram<'b>,
+    /// The datasets, and the port of a pull request's answer.
+    pub config: &'a NodeConfig,
+    /// The time, the topology counts and the groups that are led.
+    pub globals: &'a Globals,
+}
+
+impl Deed for Handing<'_, '_> {
+    ghost use Rattle.std.specs.Prelude.{◌≡◌, ◌≤◌, true};
+    ghost use Rattle.trdp_base.specs.Moments.{last_moment};
+    ghost use Rattle.trdp_filter.specs.Telegrams.{telegram_model, IsWithinLimit};
+    ghost use Rattle.trdp_table.specs.Kinds.{kind_of};
+    ghost use Rattle.trdp_table.specs.Objects.{is_addressed};
+    ghost use Rattle.trdp_engine.specs.Configs.{setup_of};
+    ghost use Rattle.trdp_engine.specs.Datagrams.{taking_act};
+    ghost use Rattle.trdp_engine.specs.Slots.{entry_at};
+    ghost use Rattle.trdp_engine.specs.Rooms.{HasRoom, kind_room};
+    ghost use Rattle.trdp_engine.specs.Acting.{TookWithin};
+
+    ghost act = { λ d handle object.
+        taking_act (setup_of d.config.now) (telegram_model d.telegram.now) d.globals.now
+        (entry_at handle object) };
+
+    ghost may = { λ d _ object out.
+        (d.globals.now.now ≤ last_moment) × IsWithinLimit (telegram_model d.telegram.now)
+        × (is_addressed object (telegram_model d.telegram.now) d.globals.now ≡ true)
+        × HasRoom out (kind_room (kind_of object)) };
+
+    ghost spends = { λ _ object out out_then. TookWithin out out_then (kind_room (kind_of object)) };
+
+    ghost ends_still = { λ _. Unit {0} };
+
+    fn on(&self, object: &mut AnyObject, handle: u32, s: u16, out: &mut Outbox) -> Left {
+        take_object(
+            object,
+            handle,
+            self.config,
+            self.telegram,
+            self.globals,
+            s,
+            out,
+        )
+    }
+}
+
+/// Hands the telegram to the object of that handle in slot `s`, which it is for. An object that
+/// ends leaves the store, which counts as a look-up.
+fn hand(
+    store: &mut Store,
+    s: u16,
+    handle: u32,
+    handing: &Handing<'_, '_>,
+    out: &mut Outbox,
+    counts: &mut Counts,
+)
+    requires slot { s < length store.old }
+    requires may { MayAct (slot_at s store.old) handle out.old }
+    requires addressed { IfSome (entry_of handle (slot_at s store.old).objects)
+        (λ entry. is_for_entry (telegram_model handing.now.telegram.now)
+        handing.now.globals.now entry ≡ true) }
+    requires now { handing.now.globals.now.now ≤ last_moment }
+    requires limit { IsWithinLimit (telegram_model handing.now.telegram.now) }
+    ensures acts { ActsAt s handle
+        (taking_act (setup_of handing.now.config.now) (telegram_model handing.now.telegram.now)
+        handing.now.globals.now)
+        store.old store.new out.old out.new }
+    ensures comparisons { (b : ℕ) → room_of store.old < 2 ^ b
+        → counts.new.comparisons ≤ counts.old.comparisons + (2 * b + 2) }
+    ensures tests { counts.new.tests ≡ counts.old.tests }
+    ensures look_ups { counts.new.look_ups ≤ counts.old.look_ups + 1 }
+{
+    count_act(store.act(s, handle, handing, out), counts);
+}
+
 /// Hands the telegram to each object that was noted, in turn. That it tests it by itself is
 /// counted, and that it ends as a look-up.
 pub fn take_all(
@@ -145,14 +223,18 @@ pub fn take_all(
     ensures look_ups { counts.new.look_ups ≤ counts.old.look_ups + length noted.now }
 {
     store.sound();
+    let handing = Handing {
+        telegram,
+        config,
+        globals,
+    };
     for addressee in noted {
         counts.tested();
-        store.take(
+        hand(
+            store,
             addressee.slot,
             addressee.handle,
-            config,
-            telegram,
-            globals,
+            &handing,
             out,
             counts,
         );

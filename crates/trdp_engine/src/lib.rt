@@ -20,6 +20,7 @@ mod callers;
 mod calls;
 mod counts;
 mod datagram;
+mod deed;
 mod event;
 mod fault;
 mod filter_test;

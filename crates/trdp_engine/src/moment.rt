@@ -1,7 +1,7 @@
 //! What a moment does to the objects of all slots.
 
 ghost use Rattle.std.specs.Prelude.{◌≡◌, ◌+◌, ◌*◌, ◌^◌, ◌<◌, ◌≤◌, ◌++◌, ℕ, length, true, Some};
-ghost use Rattle.std.specs.Prelude.{slice_get};
+ghost use Rattle.std.specs.Prelude.{slice_get, IfSome};
 ghost use Rattle.trdp_base.specs.Moments.{last_moment};
 ghost use Rattle.trdp_head.specs.declared.pd.TheConstants.{PD_TELEGRAM_MAX};
 ghost use Rattle.trdp_head.specs.declared.md.TheConstants.{MD_TELEGRAM_MAX};
@@ -10,22 +10,22 @@ ghost use Rattle.trdp_table.specs.Kinds.{kind_of};
 ghost use Rattle.trdp_table.specs.Tables.{room_of};
 ghost use Rattle.trdp_table.specs.Objects.{due_of, after_firing, fired};
 ghost use Rattle.trdp_engine.specs.Records.{labelled};
-ghost use Rattle.trdp_engine.specs.Slots.{SlotState, slots_of};
+ghost use Rattle.trdp_engine.specs.Slots.{SlotState, entry_of, slots_of};
 ghost use Rattle.trdp_engine.specs.Moments.{sends_data, sends_again, firing_records, left_firing};
-ghost use Rattle.trdp_engine.specs.Moments.{moved_to};
+ghost use Rattle.trdp_engine.specs.Moments.{moved_to, is_due, firing_act};
 ghost use Rattle.trdp_engine.specs.NodeStates.{HasOutcome, Appends, due_in};
 ghost use Rattle.trdp_engine.specs.Asked.{left_of};
 ghost use Rattle.trdp_engine.specs.Rooms.{HasRoom, kind_room, moment_room};
-ghost use Rattle.trdp_engine.specs.Acting.{TookWithin};
+ghost use Rattle.trdp_engine.specs.Acting.{TookWithin, slot_at, MayAct, ActsAt};
 ghost use Rattle.trdp_engine.specs.Indexed.{com_of};
 ghost use Rattle.trdp_engine.specs.InSession.{session_of};
 ghost use Rattle.trdp_engine.specs.Fitting.{EachSound};
 
-use crate::asked::Left;
 use crate::counts::Counts;
+use crate::deed::{Deed, Left};
 use crate::outbox::Outbox;
 use crate::row::Form;
-use crate::store::Store;
+use crate::store::{Store, count_act};
 use trdp_filter::Globals;
 use trdp_head::{MD_TELEGRAM_MAX, MdHead, PD_TELEGRAM_MAX, PdHead};
 use trdp_pd::{Fired, Object};
@@ -62,7 +62,7 @@ fn push_again(object: &AnyObject, head: &MdHead, s: u16, out: &mut Outbox)
 }
 
 /// Fires one object that is due, of that handle, and records what it gives.
-pub fn fire_object(
+fn fire_object(
     object: &mut AnyObject,
     handle: u32,
     globals: &Globals,
@@ -96,6 +96,64 @@ pub fn fire_object(
     Left::Stays
 }
 
+/// That an object fires which is due.
+#[derive(Clone, Copy)]
+pub struct Firing<'a> {
+    /// The moment, the topology counts and the groups that are led.
+    pub globals: &'a Globals,
+}
+
+impl Deed for Firing<'_> {
+    ghost use Rattle.std.specs.Prelude.{◌≡◌, ◌≤◌, true};
+    ghost use Rattle.trdp_base.specs.Moments.{last_moment};
+    ghost use Rattle.trdp_pd.specs.Due.{is_due_by};
+    ghost use Rattle.trdp_table.specs.Kinds.{kind_of};
+    ghost use Rattle.trdp_table.specs.Objects.{due_of};
+    ghost use Rattle.trdp_engine.specs.Moments.{firing_act};
+    ghost use Rattle.trdp_engine.specs.Slots.{entry_at};
+    ghost use Rattle.trdp_engine.specs.Rooms.{HasRoom, kind_room};
+    ghost use Rattle.trdp_engine.specs.Acting.{TookWithin};
+
+    ghost act = { λ d handle object. firing_act d.globals.now (entry_at handle object) };
+
+    ghost may = { λ d _ object out.
+        (is_due_by d.globals.now.now (due_of object) ≡ true)
+        × (d.globals.now.now ≤ last_moment) × HasRoom out (kind_room (kind_of object)) };
+
+    ghost spends = { λ _ object out out_then. TookWithin out out_then (kind_room (kind_of object)) };
+
+    ghost ends_still = { λ _. ⊥ };
+
+    fn on(&self, object: &mut AnyObject, handle: u32, s: u16, out: &mut Outbox) -> Left {
+        fire_object(object, handle, self.globals, s, out)
+    }
+}
+
+/// Fires the object of that handle in slot `s`, which is due. One that ends leaves the store, which
+/// counts as a look-up.
+fn fire(
+    store: &mut Store,
+    s: u16,
+    handle: u32,
+    globals: &Globals,
+    out: &mut Outbox,
+    counts: &mut Counts,
+)
+    requires slot { s < length store.old }
+    requires may { MayAct (slot_at s store.old) handle out.old }
+    requires due { IfSome (entry_of handle (slot_at s store.old).objects)
+        (λ entry. is_due globals.now.now entry ≡ true) }
+    requires now { globals.now.now ≤ last_moment }
+    ensures acts { ActsAt s handle (firing_act globals.entry.now) store.old store.new out.old
+        out.new }
+    ensures comparisons { (b : ℕ) → room_of store.old < 2 ^ b
+        → counts.new.comparisons ≤ counts.old.comparisons + (4 * b + 4) }
+    ensures tests { counts.new.tests ≡ counts.old.tests }
+    ensures look_ups { counts.new.look_ups ≤ counts.old.look_ups + 1 }
+{
+    count_act(store.act(s, handle, &Firing { globals }, out), counts);
+}
+
 /// Fires the objects of all slots that are due, once each, each slot's in the order of their due
 /// moments and handles.
 pub fn fire_all(store: &mut Store, globals: &Globals, out: &mut Outbox, counts: &mut Counts)
@@ -117,7 +175,7 @@ pub fn fire_all(store: &mut Store, globals: &Globals, out: &mut Outbox, counts: 
     store.sound();
     counts.compared(1);
     while let Some(order) = store.next_due(globals.now) {
-        store.fire(order.slot, order.handle, globals, out, counts);
+        fire(store, order.slot, order.handle, globals, out, counts);
         counts.compared(1);
     }
 }

@@ -13,8 +13,8 @@ ghost use Rattle.trdp_engine.specs.Asked.{left_of};
 ghost use Rattle.trdp_engine.specs.Indexed.{com_of};
 ghost use Rattle.trdp_engine.specs.InSession.{session_of};
 
-use crate::asked::Left;
 use crate::callers::TIMEOUT_MIN;
+use crate::deed::Left;
 use crate::fault::Refusal;
 use crate::outbox::Outbox;
 use crate::row::PlainAnswer;

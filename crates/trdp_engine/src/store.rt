@@ -2,10 +2,8 @@
 //! the heap by which a moment finds those that are due.
 
 ghost use Rattle.std.specs.Prelude.{◌≡◌, ℕ, ◌<◌, ◌≤◌, length, map, Some, None, IfOk, IfErr, OnOk};
-ghost use Rattle.std.specs.Prelude.{OnErr, IfSome, slice_get};
+ghost use Rattle.std.specs.Prelude.{OnErr, IfNone, IfSome, MatchOption, slice_get};
 ghost use Rattle.std.specs.Prelude.{◌+◌, ◌*◌, ◌^◌, Option, true, is_some};
-ghost use Rattle.trdp_base.specs.Moments.{last_moment};
-ghost use Rattle.trdp_filter.specs.Telegrams.{telegram_model, IsWithinLimit};
 ghost use Rattle.trdp_table.specs.declared.any_object.AnyObject.{AnyObject};
 ghost use Rattle.trdp_table.specs.Kinds.{kind_of};
 ghost use Rattle.trdp_table.specs.Objects.{due_of};
@@ -13,18 +11,14 @@ ghost use Rattle.trdp_table.specs.Tables.{Keyed, slot_limit, opened_slot, slot_i
 ghost use Rattle.trdp_table.specs.Tables.{by_handle, Adds, changed_at, without};
 ghost use Rattle.trdp_table.specs.Tables.{room_of};
 ghost use Rattle.trdp_table.specs.TableLaws.{object_limit};
-ghost use Rattle.trdp_engine.specs.Configs.{setup_of};
 ghost use Rattle.trdp_engine.specs.Slots.{entry_of};
 ghost use Rattle.trdp_engine.specs.Openings.{opening_refusal, table_refusal};
 ghost use Rattle.trdp_engine.specs.Calls.{at_object};
-ghost use Rattle.trdp_engine.specs.Asked.{asked_act};
-ghost use Rattle.trdp_engine.specs.Datagrams.{is_for_entry, taking_act};
-ghost use Rattle.trdp_engine.specs.Moments.{is_due, firing_act};
 ghost use Rattle.trdp_engine.specs.Slots.{slots_of};
 ghost use Rattle.trdp_engine.specs.Firing.{ComesNext};
 ghost use Rattle.trdp_engine.specs.NodeStates.{due_in};
-ghost use Rattle.trdp_engine.specs.Rooms.{HasRoom, asked_room, moment_room};
-ghost use Rattle.trdp_engine.specs.Acting.{slot_at, MayAct, Becomes, ActsAt};
+ghost use Rattle.trdp_engine.specs.Rooms.{moment_room};
+ghost use Rattle.trdp_engine.specs.Acting.{slot_at, Becomes};
 ghost use Rattle.trdp_engine.specs.Indexed.{com_of, com_in, rows_from};
 ghost use Rattle.trdp_base.specs.declared.session.SessionId.{SessionId};
 ghost use Rattle.trdp_index.specs.declared.session_row.Role.{Role};
@@ -32,22 +26,16 @@ ghost use Rattle.trdp_engine.specs.Requests.{has_session};
 ghost use Rattle.trdp_engine.specs.InSession.{session_of, session_in, kind_as, IsNewInSession};
 ghost use Rattle.trdp_engine.specs.InSession.{HasPart};
 
-use crate::asked::{Asked, Left, ask};
 use crate::by_com::{com_of, delist, enlist};
 use crate::by_session::{enter, leave, session_of};
 use crate::counts::Counts;
-use crate::datagram::take_object;
-use crate::fault::Refusal;
-use crate::moment::fire_object;
+use crate::deed::{Deed, Left};
 use crate::outbox::Outbox;
 use crate::room::Room;
-use crate::row::PlainAnswer;
 use crate::schedule::Schedule;
 use std::alloc::{AllocError, Global};
 use std::marker::Model;
 use trdp_base::{Quotas, SessionId};
-use trdp_dataset::NodeConfig;
-use trdp_filter::{Globals, Telegram};
 use trdp_index::{ComIndex, ComRow, Role, SessionIndex};
 use trdp_pd::Object;
 use trdp_table::{AnyObject, Table, TableFault};
@@ -258,129 +246,59 @@ impl Store {
         self.schedule.due_room(t)
     }
 
-    /// Hands the telegram to the object of that handle in slot `s`, which it is for. An object that
-    /// ends leaves the store, which counts as a look-up.
-    pub fn take(
+    /// Does a deed to the object of that handle in slot `s`, if it has one; one that ends leaves the
+    /// store. It answers what became of the object, and how often two orders were compared; None
+    /// where there is no such object, and nothing was done.
+    pub fn act<D: Deed>(
         &mut self,
         s: u16,
         handle: u32,
-        config: &NodeConfig,
-        telegram: &Telegram<'_>,
-        globals: &Globals,
+        deed: &D,
         out: &mut Outbox,
-        counts: &mut Counts,
-    )
+    ) -> Option<(Left, u64)>
         requires slot { s < length self.old }
-        requires may { MayAct (slot_at s self.old) handle out.old }
-        requires addressed { IfSome (entry_of handle (slot_at s self.old).objects)
-            (λ entry. is_for_entry (telegram_model telegram.now) globals.now entry ≡ true) }
-        requires now { globals.now.now ≤ last_moment }
-        requires limit { IsWithinLimit (telegram_model telegram.now) }
-        ensures acts { ActsAt s handle
-            (taking_act (setup_of config.now) (telegram_model telegram.now) globals.entry.now)
-            self.old self.new out.old out.new }
-        ensures comparisons { (b : ℕ) → room_of self.old < 2 ^ b
-            → counts.new.comparisons ≤ counts.old.comparisons + (2 * b + 2) }
-        ensures tests { counts.new.tests ≡ counts.old.tests }
-        ensures look_ups { counts.new.look_ups ≤ counts.old.look_ups + 1 }
+        requires may { IfSome (entry_of handle (slot_at s self.old).objects)
+            (λ entry. D.may deed.now handle entry.object out.old) }
+        ensures done { IfSome result (λ _. Becomes s
+            (at_object (slot_at s self.old) handle (D.act deed.now handle)) self.old self.new
+            out.old out.new) }
+        ensures spends { IfSome result (λ _. IfSome (entry_of handle (slot_at s self.old).objects)
+            (λ entry. D.spends deed.now entry.object out.old out.new)) }
+        ensures found { is_some result ≡ is_some (entry_of handle (slot_at s self.old).objects) }
+        ensures kept { IfNone result (self.new ≡ self.old) }
+        ensures unrecorded { IfNone result (out.new ≡ out.old) }
+        ensures comparisons { IfSome result (λ did. (b : ℕ) → room_of self.old < 2 ^ b
+            → did.1 ≤ 4 * b + 4) }
+        ensures still { IfSome result (λ did. D.ends_still deed.now → (b : ℕ)
+            → room_of self.old < 2 ^ b → did.1 ≤ 2 * b + 2) }
     {
         self.table.sound();
-        let left = match self.table.find(s, handle) {
-            None => Left::Stays,
-            Some(key) => match self.table.get_mut(key) {
-                None => Left::Stays,
-                Some(object) => {
-                    let before = object.due();
-                    let left = take_object(object, handle, config, telegram, globals, s, out);
-                    let due = object.due();
-                    counts.compared(self.schedule.change(key, s, handle, before, due));
-                    left
-                }
-            },
-        };
-        if let Left::Ended = left {
-            counts.looked_up();
-            counts.compared(self.remove(s, handle));
+        let key = self.table.find(s, handle)?;
+        let object = self.table.get_mut(key)?;
+        let before = object.due();
+        let left = deed.on(object, handle, s, out);
+        let due = object.due();
+        let changed = self.schedule.change(key, s, handle, before, due);
+        match left {
+            Left::Stays => Some((left, changed)),
+            Left::Ended => Some((left, changed.saturating_add(self.remove(s, handle)))),
         }
     }
+}
 
-    /// Fires the object of that handle in slot `s`, which is due. One that ends leaves the store,
-    /// which counts as a look-up.
-    pub fn fire(
-        &mut self,
-        s: u16,
-        handle: u32,
-        globals: &Globals,
-        out: &mut Outbox,
-        counts: &mut Counts,
-    )
-        requires slot { s < length self.old }
-        requires may { MayAct (slot_at s self.old) handle out.old }
-        requires due { IfSome (entry_of handle (slot_at s self.old).objects)
-            (λ entry. is_due globals.now.now entry ≡ true) }
-        requires now { globals.now.now ≤ last_moment }
-        ensures acts { ActsAt s handle (firing_act globals.entry.now) self.old self.new out.old
-            out.new }
-        ensures comparisons { (b : ℕ) → room_of self.old < 2 ^ b
-            → counts.new.comparisons ≤ counts.old.comparisons + (4 * b + 4) }
-        ensures tests { counts.new.tests ≡ counts.old.tests }
-        ensures look_ups { counts.new.look_ups ≤ counts.old.look_ups + 1 }
-    {
-        self.table.sound();
-        let left = match self.table.find(s, handle) {
-            None => Left::Stays,
-            Some(key) => match self.table.get_mut(key) {
-                None => Left::Stays,
-                Some(object) => {
-                    let left = fire_object(object, handle, globals, s, out);
-                    counts.compared(self.schedule.set(key, s, handle, object.due()));
-                    left
-                }
-            },
-        };
-        if let Left::Ended = left {
-            counts.looked_up();
-            counts.compared(self.remove(s, handle));
-        }
-    }
-
-    /// Has the object of that handle in slot `s` do what is asked, and records what it gives; where
-    /// there is none, the call is refused.
-    pub fn ask(
-        &mut self,
-        s: u16,
-        handle: u32,
-        asked: &Asked<'_>,
-        config: &NodeConfig,
-        globals: &Globals,
-        out: &mut Outbox,
-    )
-        requires slot { s < length self.old }
-        requires now { globals.now.now ≤ last_moment }
-        requires room { HasRoom out.old (asked_room asked.now) }
-        ensures { Becomes s
-            (at_object (slot_at s self.old) handle
-            (asked_act (setup_of config.now) globals.entry.now handle asked.now)) self.old self.new
-            out.old out.new }
-    {
-        self.table.sound();
-        let left = match self.table.find(s, handle) {
-            None => None,
-            Some(key) => match self.table.get_mut(key) {
-                None => None,
-                Some(object) => {
-                    let left = ask(object, handle, asked, config, globals, s, out);
-                    self.schedule.set(key, s, handle, object.due());
-                    Some(left)
-                }
-            },
-        };
-        let Some(left) = left else {
-            out.push_plain_answer(s, PlainAnswer::Refused(Refusal::NoHandle));
-            return;
-        };
-        if let Left::Ended = left {
-            self.remove(s, handle);
-        }
+/// Counts what a deed cost: its comparisons, and a look-up where the object ended.
+pub fn count_act(did: Option<(Left, u64)>, counts: &mut Counts)
+    ensures comparisons { MatchOption did
+        (counts.new.comparisons ≡ counts.old.comparisons)
+        (λ d. counts.new.comparisons ≤ counts.old.comparisons + d.1) }
+    ensures tests { counts.new.tests ≡ counts.old.tests }
+    ensures look_ups { counts.new.look_ups ≤ counts.old.look_ups + 1 }
+{
+    let Some((left, comparisons)) = did else {
+        return;
+    };
+    counts.compared(comparisons);
+    if let Left::Ended = left {
+        counts.looked_up();
     }
 }

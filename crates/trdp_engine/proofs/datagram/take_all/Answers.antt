@@ -20,20 +20,20 @@ loop-addressee-init c = record {
   look_ups = omega arith;
 }
 
-pub take-requires-clause-slot : goal.take-requires-clause-slot
-take-requires-clause-slot c =
+pub hand-requires-clause-slot : goal.hand-requires-clause-slot
+hand-requires-clause-slot c =
     goes_within _ _ _ _ _ (goes_next _ _ _ c.args.noted.now c.loop-addressee.addressee-index
     (record { slot = 0; handle = 0 })
     c.loop-addressee-test.true c.loop-addressee.invariant.goes)
 
-pub take-requires-clause-may : goal.take-requires-clause-may
-take-requires-clause-may c =
+pub hand-requires-clause-may : goal.hand-requires-clause-may
+hand-requires-clause-may c =
     goes_may _ _ _ _ _ (goes_next _ _ _ c.args.noted.now c.loop-addressee.addressee-index
     (record { slot = 0; handle = 0 })
     c.loop-addressee-test.true c.loop-addressee.invariant.goes)
 
-pub take-requires-clause-addressed : goal.take-requires-clause-addressed
-take-requires-clause-addressed c =
+pub hand-requires-clause-addressed : goal.hand-requires-clause-addressed
+hand-requires-clause-addressed c =
     goes_addressed _ _ _ _ _ (goes_next _ _ _
     c.args.noted.now c.loop-addressee.addressee-index (record { slot = 0; handle = 0 })
     c.loop-addressee-test.true c.loop-addressee.invariant.goes)
@@ -45,28 +45,28 @@ loop-addressee-preserved c =
     c.loop-addressee-test.true c.loop-addressee.invariant.goes in
     let lt = goes_within _ _ _ _ _ next in
     record {
-      goes = goes_on _ _ _ _ _ _ _ next c.take.ensures.acts;
+      goes = goes_on _ _ _ _ _ _ _ next c.hand.ensures.acts;
       room_is = room_stays (taking_act (setup_of c.args.config.now)
           (telegram_model c.args.telegram.now) c.args.globals.now) _ _ c.loop-addressee.store
-          c.take.new.self c.loop-addressee.out c.take.new.out lt c.take.ensures.acts
+          c.hand.new.store c.loop-addressee.out c.hand.new.out lt c.hand.ensures.acts
           ∙ c.loop-addressee.invariant.room_is;
       comparisons = λ b within.
-          one_taker c.take.new.counts.comparisons
+          one_taker c.hand.new.counts.comparisons
           c.tested.new.self.comparisons c.loop-addressee.counts.comparisons
           c.args.counts.now.comparisons c.loop-addressee.addressee-index b
-          (c.take.ensures.comparisons b
+          (c.hand.ensures.comparisons b
           (subst (λ (n : ℕ). n < 2 ^ b) (sym c.loop-addressee.invariant.room_is) within))
           c.tested.ensures.comparisons
           (c.loop-addressee.invariant.comparisons b within);
       tests = omega (
         arith,
-        c.take.ensures.tests,
+        c.hand.ensures.tests,
         c.tested.ensures.tests,
         c.loop-addressee.invariant.tests,
       );
       look_ups = omega (
         arith,
-        c.take.ensures.look_ups,
+        c.hand.ensures.look_ups,
         c.tested.ensures.look_ups,
         c.loop-addressee.invariant.look_ups,
       );

@@ -35,7 +35,7 @@ loop-order-smaller c =
     let next = nexts c.args.globals.now c.args.store.now c.loop-order.store c.args.out.now.records
     c.loop-order.out c.in-Some.order c.loop-order.invariant.moving c.in-Some.ensures.next in
     (moves_on c.args.globals.now c.args.store.now c.loop-order.store
-    c.fire.new.self c.args.out.now.records c.loop-order.out c.fire.new.out c.in-Some.order
+    c.fire.new.store c.args.out.now.records c.loop-order.out c.fire.new.out c.in-Some.order
     c.loop-order.invariant.moving next (rw c.in-Some.ensures.kept at c.fire.ensures.acts)).fewer
 
 pub loop-order-preserved : goal.loop-order-preserved
@@ -44,17 +44,17 @@ loop-order-preserved c =
     c.loop-order.out c.in-Some.order c.loop-order.invariant.moving c.in-Some.ensures.next in
     let acts = rw c.in-Some.ensures.kept at c.fire.ensures.acts in
     let moves = moves_on c.args.globals.now c.args.store.now
-    c.loop-order.store c.fire.new.self c.args.out.now.records
+    c.loop-order.store c.fire.new.store c.args.out.now.records
     c.loop-order.out c.fire.new.out c.in-Some.order c.loop-order.invariant.moving next acts in
     let comparisons = rw c.in-Some.ensures.kept at c.fire.ensures.comparisons in
     record {
       moving = moves.moving;
       counting =
           counting_on c.args.globals.now c.args.store.now
-          c.loop-order.store c.fire.new.self c.args.counts.now
+          c.loop-order.store c.fire.new.store c.args.counts.now
           c.loop-order.counts c.compared-in-Some.new.self c.loop-order.invariant.counting
           (room_stays (firing_act c.args.globals.now) c.in-Some.order.slot c.in-Some.order.handle
-          c.loop-order.store c.fire.new.self c.loop-order.out c.fire.new.out next.0 acts)
+          c.loop-order.store c.fire.new.store c.loop-order.out c.fire.new.out next.0 acts)
           moves.fewer
           (λ b lt. omega (arith, comparisons b lt, c.compared-in-Some.ensures.comparisons))
           (c.compared-in-Some.ensures.tests ∙ c.fire.ensures.tests)
