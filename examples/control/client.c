@@ -4,54 +4,48 @@
  *     ./client ADDRESS PORT SECONDS LINE..
  *     ./client 127.0.0.1 18000 1 'get 2'
  *
- * The exit status is 0 where something came back, 1 where nothing did, 2 for other words. */
-#include <arpa/inet.h>
-#include <poll.h>
+ * It is written on clients/c/trdp_slot.h, of which it takes the socket alone: its lines are those of
+ * docs/SCRIPT.md as they stand. clients/c/door.c is an application on the calls. The exit status is
+ * 0 where something came back, 1 where nothing did, 2 for other words. */
+#include "../../clients/c/trdp_slot.h"
 #include <stdio.h>
 #include <stdlib.h>
-#include <string.h>
-#include <sys/socket.h>
-#include <time.h>
 
-/* Milliseconds since some moment. */
-static long long now(void)
+/* Prints what comes back until that moment. Answers whether something did. */
+static bool show(struct trdp_slot *slot, int64_t until)
 {
-    struct timespec t;
-    clock_gettime(CLOCK_MONOTONIC, &t);
-    return t.tv_sec * 1000LL + t.tv_nsec / 1000000;
+    bool heard = false;
+    size_t length;
+    enum trdp_slot_error error;
+    while ((error = trdp_slot_await(slot, until, &length)) == TRDP_SLOT_OK) {
+        fwrite(slot->terms.text, 1, length, stdout);
+        fflush(stdout);
+        heard = true;
+    }
+    if (error != TRDP_SLOT_TIMEOUT)
+        fprintf(stderr, "client: %s\n", trdp_slot_error_text(error));
+    return heard;
 }
 
 int main(int argc, char **argv)
 {
-    struct sockaddr_in node = { .sin_family = AF_INET };
-    if (argc < 5 || inet_pton(AF_INET, argv[1], &node.sin_addr) != 1) {
+    static char line[TRDP_SLOT_OVERHEAD], text[TRDP_SLOT_DATAGRAM];
+    struct trdp_slot_terms terms = { .timeout = 1, .tries = 1, .line = line,
+        .line_room = sizeof line, .text = text, .text_room = sizeof text };
+    if (argc < 5 || !trdp_slot_address(argv[1], &terms.address)) {
         fprintf(stderr, "usage: client ADDRESS PORT SECONDS LINE..\n");
         return 2;
     }
-    node.sin_port = htons((unsigned short)atoi(argv[2]));
-    int control = socket(AF_INET, SOCK_DGRAM, 0);
-    /* Connected, it takes datagrams of the control port alone. */
-    if (control < 0 || connect(control, (struct sockaddr *)&node, sizeof node) < 0) {
-        perror("client");
+    terms.port = (uint16_t)atoi(argv[2]);
+    struct trdp_slot slot;
+    enum trdp_slot_error error = trdp_slot_open(&slot, &terms);
+    for (int i = 4; i < argc && error == TRDP_SLOT_OK; i++)
+        error = trdp_slot_send(&slot, argv[i], strlen(argv[i]));
+    if (error != TRDP_SLOT_OK) {
+        fprintf(stderr, "client: %s\n", trdp_slot_error_text(error));
         return 1;
     }
-    for (int i = 4; i < argc; i++)
-        if (send(control, argv[i], strlen(argv[i]), 0) < 0)
-            perror("client");
-
-    long long end = now() + (long long)(atof(argv[3]) * 1000), left;
-    struct pollfd wait = { .fd = control, .events = POLLIN };
-    int heard = 0;
-    while ((left = end - now()) > 0 && poll(&wait, 1, (int)left) > 0) {
-        static char text[65536];
-        ssize_t length = recv(control, text, sizeof text, 0);
-        if (length < 0) { /* as where nobody is at the control port */
-            perror("client");
-            return 1;
-        }
-        fwrite(text, 1, (size_t)length, stdout);
-        fflush(stdout);
-        heard = 1;
-    }
+    bool heard = show(&slot, trdp_slot_now() + (int64_t)(atof(argv[3]) * 1000));
+    trdp_slot_close(&slot);
     return heard ? 0 : 1;
 }
