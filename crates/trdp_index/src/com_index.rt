@@ -10,6 +10,7 @@ ghost use Rattle.trdp_index.specs.ComIndexes.{empty_com_index};
 use crate::com_row::{ComRow, com_rank};
 use crate::com_run::run_in;
 use crate::ranked::Ranked;
+use crate::row_list::put_in;
 use crate::search::{index_of, place_for};
 use std::alloc::{AllocError, Global};
 use std::marker::Model;
@@ -102,7 +103,7 @@ impl ComIndex {
         ensures count { length self.new.rows ≡ length self.old.rows + 1 }
     {
         let place = place_for(&self.rows, row.rank());
-        self.rows.insert(place, row).unwrap();
+        put_in(&mut self.rows, place, row);
     }
 
     /// Takes away the row of that comId, or any, with that slot and handle, and no other. Answers

@@ -12,6 +12,7 @@ mod com_row;
 mod com_run;
 mod rank;
 mod ranked;
+mod row_list;
 mod search;
 mod session_index;
 mod session_row;

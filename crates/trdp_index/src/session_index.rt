@@ -10,6 +10,7 @@ ghost use Rattle.trdp_index.specs.SessionRows.{session_rank, session_row_rank};
 ghost use Rattle.trdp_index.specs.SessionRows.{session_row, session_key};
 ghost use Rattle.trdp_index.specs.SessionIndexes.{empty_session_index};
 
+use crate::row_list::put_in;
 use crate::search::{index_of, place_for};
 use crate::session_row::{Role, SessionRow, session_rank};
 use std::alloc::{AllocError, Global};
@@ -114,7 +115,7 @@ impl SessionIndex {
             role,
             key,
         };
-        self.rows.insert(place, row).unwrap();
+        put_in(&mut self.rows, place, row);
     }
 
     /// Takes away the key of a slot's object for a session in a role, and no other. Answers whether

@@ -1,0 +1,18 @@
+//! A row that comes into a list of rows.
+
+ghost use Rattle.std.specs.Prelude.{◌≡◌, ◌<◌, ◌≤◌, vec_len, vec_capacity, insert};
+
+/// Puts a row in at a place; those behind it move up by one. The list has room for it.
+///
+/// They move all at once: LLVM makes one `memmove` of this form, and of `Vec::insert` on rows like
+/// these a move for each row.
+pub fn put_in<R>(rows: &mut Vec<R>, place: usize, row: R)
+    requires place { place ≤ vec_len rows.old }
+    requires room { vec_len rows.old < vec_capacity rows.old }
+    ensures items { rows.new.items ≡ insert rows.old.items place row }
+    ensures capacity { vec_capacity rows.new ≡ vec_capacity rows.old }
+{
+    rows.push_reserved(row);
+    let (_, behind) = rows.split_at_mut(place);
+    behind.rotate_right(1);
+}
