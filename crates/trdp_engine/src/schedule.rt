@@ -224,15 +224,13 @@ impl Schedule {
         ensures rows { result.0.rows ≡ sum (due_sizes t self.old.orders self.old.rows) }
         ensures bytes { result.0.bytes ≡ sum (due_sizes t self.old.orders self.old.bytes) }
         ensures kept { self.new ≡ self.old }
-        ensures cost { result.1 ≤ 4 * count_by (is_due_by t) self.old.orders + 2 }
+        ensures cost { result.1 ≤ 2 * count_by (is_due_by t) self.old.orders + 1 }
     {
-        let rows = self.timers.due_total(t, &self.rows);
-        let comparisons = self.timers.probes();
-        let bytes = self.timers.due_total(t, &self.bytes);
+        let (rows, bytes) = self.timers.due_totals(t, &self.rows, &self.bytes);
         let room = Room {
             rows: rows as usize,
             bytes: bytes as usize,
         };
-        (room, comparisons.saturating_add(self.timers.probes()))
+        (room, self.timers.probes())
     }
 }

@@ -240,7 +240,7 @@ impl Store {
     pub fn due_room(&mut self, t: u64) -> (Room, u64)
         ensures room { result.0 ≡ moment_room t (slots_of self.old) }
         ensures kept { self.new ≡ self.old }
-        ensures cost { result.1 ≤ 4 * due_in t (slots_of self.old) + 2 }
+        ensures cost { result.1 ≤ 2 * due_in t (slots_of self.old) + 1 }
     {
         self.table.sound();
         self.schedule.due_room(t)

@@ -19,8 +19,8 @@ enum Does {
     First(Option<(usize, Parts)>),
     /// This key is taken as the first, with its order.
     Pop(Option<(usize, Parts)>),
-    /// By this moment keys of so large a size, together, are due.
-    DueTotal(u64, u64),
+    /// By this moment keys of so large a size, together, are due, and so many of them.
+    DueTotals(u64, (u64, u64)),
 }
 
 /// Calls with their comparisons, on timers with room for eight keys: one with the order that stood
@@ -40,8 +40,8 @@ static ROWS: [(Does, u64); 20] = [
     (Does::First(Some((2, (10, 1, 1)))), 0),
     (Does::Pop(Some((2, (10, 1, 1)))), 4),
     (Does::Pop(Some((3, (30, 1, 2)))), 3),
-    (Does::DueTotal(50, 2), 3),
-    (Does::DueTotal(29, 0), 1),
+    (Does::DueTotals(50, (2, 1)), 3),
+    (Does::DueTotals(29, (0, 0)), 1),
     (Does::Pop(Some((1, (50, 0, 2)))), 2),
     (Does::Pop(Some((0, (60, 0, 1)))), 1),
     (Does::Pop(Some((4, (70, 2, 1)))), 0),
@@ -75,10 +75,10 @@ fn act(rt: &(impl Abort + AllocGlobal), timers: &mut Timers, case: usize, does: 
         Does::Clear(key) => timers.clear(key),
         Does::First(wanted) => same(rt, case, timers.first(), found(wanted)),
         Does::Pop(wanted) => same(rt, case, timers.pop(), found(wanted)),
-        Does::DueTotal(t, wanted) => {
+        Does::DueTotals(t, wanted) => {
             assert!(rt; timers.room() <= 8);
-            let total = timers.due_total(t, &[1, 2, 4, 8, 16, 32, 64, 128]);
-            same(rt, case, total, wanted);
+            let totals = timers.due_totals(t, &[1, 2, 4, 8, 16, 32, 64, 128], &[1; 8]);
+            same(rt, case, totals, wanted);
         }
     }
 }
@@ -98,8 +98,8 @@ static ORDERED: [Does; 9] = [
     Does::Set(0, (5, 1, 1)),
     Does::Set(1, (5, 0, 2)),
     Does::Set(2, (4, 1, 9)),
-    Does::DueTotal(5, 7),
-    Does::DueTotal(4, 4),
+    Does::DueTotals(5, (7, 3)),
+    Does::DueTotals(4, (4, 1)),
     Does::Pop(Some((2, (4, 1, 9)))),
     Does::Pop(Some((1, (5, 0, 2)))),
     Does::Pop(Some((0, (5, 1, 1)))),

@@ -11,22 +11,26 @@ use crate::heap::Heap;
 use crate::order::{Order, is_due};
 
 impl Heap {
-    /// The size of the key at a place, if it is due by t.
+    /// The two sizes of the key at a place, if it is due by t.
     fn due_at(
         &self,
         orders: &Vec<Option<Order>>,
-        sizes: &[usize],
+        sizes: (&[usize], &[usize]),
         t: u64,
         place: usize,
         probes: &mut u64,
-    ) -> Option<u64>
+    ) -> Option<(u64, u64)>
         requires placed { IsPlaced orders.now.items self.now.keys.items self.now.places.items }
         requires place { place < length self.now.keys.items }
-        requires sizes { length orders.now.items ≤ length sizes.now }
+        requires first { length orders.now.items ≤ length sizes.0.now }
+        requires second { length orders.now.items ≤ length sizes.1.now }
         requires probes { probes.old + 1 < 2 ^ 64 }
-        ensures size { IfSome result (λ size.
-            weight_at (due_sizes t orders.now.items sizes.now) self.now.keys.items place
-            ≡ size) }
+        ensures first { IfSome result (λ its.
+            weight_at (due_sizes t orders.now.items sizes.entry.0.now) self.now.keys.items place
+            ≡ its.0) }
+        ensures second { IfSome result (λ its.
+            weight_at (due_sizes t orders.now.items sizes.entry.1.now) self.now.keys.items place
+            ≡ its.1) }
         ensures one { OnSome result
             (weight_at (due_ones t orders.now.items) self.now.keys.items place ≡ 1) }
         ensures none { IfNone result
@@ -36,29 +40,38 @@ impl Heap {
         if !is_due(self.order_of(orders, place), t, probes) {
             return None;
         }
-        Some(sizes[self.keys[place]] as u64)
+        let key = self.keys[place];
+        Some((sizes.0[key] as u64, sizes.1[key] as u64))
     }
 
-    /// The sizes, together, of the keys at a place and below it that are due by t. Nothing is due
-    /// below a key that isn't, so that it goes no further there.
+    /// The sizes of either kind, together, of the keys at a place and below it that are due by t.
+    /// Nothing is due below a key that isn't, so that it goes no further there.
     pub fn due_below(
         &self,
         orders: &Vec<Option<Order>>,
-        sizes: &[usize],
+        sizes: (&[usize], &[usize]),
         t: u64,
         place: usize,
         probes: &mut u64,
-    ) -> u64
+    ) -> (u64, u64)
         requires placed { IsPlaced orders.now.items self.now.keys.items self.now.places.items }
         requires order { IsHeap (length self.now.keys.items)
             (order_at orders.now.items self.now.keys.items) }
-        requires sizes { length orders.now.items ≤ length sizes.now }
-        requires fits { CanAdd (length self.now.keys.items)
-            (weight_at (due_sizes t orders.now.items sizes.now) self.now.keys.items) place }
+        requires first { length orders.now.items ≤ length sizes.0.now }
+        requires second { length orders.now.items ≤ length sizes.1.now }
+        requires first_fits { CanAdd (length self.now.keys.items)
+            (weight_at (due_sizes t orders.now.items sizes.0.now) self.now.keys.items) place }
+        requires second_fits { CanAdd (length self.now.keys.items)
+            (weight_at (due_sizes t orders.now.items sizes.1.now) self.now.keys.items) place }
         requires probes { CanCountDue (length self.now.keys.items)
             (weight_at (due_ones t orders.now.items) self.now.keys.items) place probes.old }
-        ensures total { (d : ℕ) → length self.now.keys.items < (place + 1) * 2 ^ d → result
-            ≡ below (weight_at (due_sizes t orders.now.items sizes.now) self.now.keys.items)
+        ensures first_total { (d : ℕ) → length self.now.keys.items < (place + 1) * 2 ^ d
+            → result.0
+            ≡ below (weight_at (due_sizes t orders.now.items sizes.entry.0.now) self.now.keys.items)
+            d place }
+        ensures second_total { (d : ℕ) → length self.now.keys.items < (place + 1) * 2 ^ d
+            → result.1
+            ≡ below (weight_at (due_sizes t orders.now.items sizes.entry.1.now) self.now.keys.items)
             d place }
         ensures cost { (d : ℕ) → length self.now.keys.items < (place + 1) * 2 ^ d
             → probes.new ≤ probes.old
@@ -70,14 +83,14 @@ impl Heap {
             ≤ probes.new }
     {
         if place >= self.keys.len() {
-            return 0;
+            return (0, 0);
         }
         match self.due_at(orders, sizes, t, place, probes) {
-            None => 0,
-            Some(size) => {
+            None => (0, 0),
+            Some((first, second)) => {
                 let left = self.due_below(orders, sizes, t, 2 * place + 1, probes);
                 let right = self.due_below(orders, sizes, t, 2 * place + 2, probes);
-                size + left + right
+                (first + left.0 + right.0, second + left.1 + right.1)
             }
         }
     }

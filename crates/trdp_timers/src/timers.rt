@@ -170,17 +170,22 @@ impl Timers {
         Some((key, order))
     }
 
-    /// The sizes, together, of the keys that are due by the moment t; a key has the size of its
-    /// index. It takes no memory, and at most `2 * k + 1` comparisons for k keys that are due.
-    pub fn due_total(&mut self, t: u64, sizes: &[usize]) -> u64
-        requires sizes { length self.old.orders ≤ length sizes.now }
-        requires fits { sum sizes.now < 2 ^ 64 }
-        ensures total { result ≡ sum (due_sizes t self.old.orders sizes.now) }
+    /// The sizes of either kind, together, of the keys that are due by the moment t; a key has the
+    /// sizes of its index. It takes no memory, and at most `2 * k + 1` comparisons for k keys that
+    /// are due.
+    pub fn due_totals(&mut self, t: u64, first: &[usize], second: &[usize]) -> (u64, u64)
+        requires first { length self.old.orders ≤ length first.now }
+        requires first_fits { sum first.now < 2 ^ 64 }
+        requires second { length self.old.orders ≤ length second.now }
+        requires second_fits { sum second.now < 2 ^ 64 }
+        ensures first { result.0 ≡ sum (due_sizes t self.old.orders first.now) }
+        ensures second { result.1 ≡ sum (due_sizes t self.old.orders second.now) }
         ensures kept { self.new.orders ≡ self.old.orders }
         ensures cost { self.new.probes ≤ 2 * count_by (is_due_by t) self.old.orders + 1 }
         ensures least { count_by (is_due_by t) self.old.orders ≤ self.new.probes }
     {
         self.probes = 0;
+        let sizes = (first, second);
         self.heap
             .due_below(&self.orders, sizes, t, 0, &mut self.probes)
     }

@@ -3,9 +3,16 @@ use Rattle.trdp_timers.specs.Orders.{is_due_by}
 use Rattle.trdp_timers.proofs.DueSizes.{weight_size}
 use Rattle.trdp_timers.proofs.heap.Heap.due_at.Goals as goal
 
-pub returns-clause-size : goal.returns-clause-size
-returns-clause-size c =
-    weight_size c.args.t c.args.orders.now.items c.args.sizes.now c.args.self.now.keys.items
-    c.args.place c.index.result.now c.requires.sizes c.requires.place c.index.ensures
+pub returns-clause-first : goal.returns-clause-first
+returns-clause-first c =
+    weight_size c.args.t c.args.orders.now.items c.args.sizes.0.now c.args.self.now.keys.items
+    c.args.place c.index-key.result.now c.requires.first c.requires.place c.index-key.ensures
+    (ap (is_due_by c.args.t) (sym c.order_of.ensures)
+    ∙ sym c.is_due.ensures.answer ∙ c.if-not-is_due.false)
+
+pub returns-clause-second : goal.returns-clause-second
+returns-clause-second c =
+    weight_size c.args.t c.args.orders.now.items c.args.sizes.1.now c.args.self.now.keys.items
+    c.args.place c.index-key.result.now c.requires.second c.requires.place c.index-key.ensures
     (ap (is_due_by c.args.t) (sym c.order_of.ensures)
     ∙ sym c.is_due.ensures.answer ∙ c.if-not-is_due.false)
