@@ -2,10 +2,12 @@
 use Rattle.std.proofs.Common.{◌≡◌, ℕ, ◌+◌, ◌-◌, ◌*◌, ◌/◌, ◌%◌, ◌<◌, List, []}
 use Rattle.std.proofs.Common.{◌∷◌, ◌++◌, length, get_or, drop, take, refl, sym}
 use Rattle.std.proofs.Common.{ap, ◌∙◌, subst, inl, inr, arith, append_assoc}
-use Rattle.std.specs.Prelude.{All, ◌⊎◌}
+use Rattle.std.specs.Prelude.{All, ◌⊎◌, ◌↔◌, ◌&&◌, Bool, true, false, IsTrue}
+use Rattle.std.proofs.lemmas.Bool.{false≢true}
 use Rattle.std.proofs.lemmas.Bool.Decides.{nat_tests}
 use Rattle.std.proofs.lemmas.List.{take_more}
 use Rattle.std.proofs.lemmas.List.Elements.{All-nil, All-cons, All-head, All-tail}
+use Rattle.std.proofs.lemmas.List.Elements.{All-push, All-same}
 use Rattle.trdp_base.specs.HexText.{hex_digit, hex_pairs, text_of_hex}
 use Rattle.trdp_base.specs.HexText.{IsHexText, IsHexDigit, IsInPairs}
 
@@ -123,6 +125,20 @@ pub read_alone : (text read bytes : List ℕ) → IsInPairs text → hex_pairs r
 read_alone text read [] pairs same p q e = absurd (omega (arith, pairs.even, ap length e))
 read_alone text read (byte ∷ bytes) pairs same p q e =
     pairs_alone read (byte ∷ bytes) p q (same ∙ e)
+
+-- one more character is looked at
+pub digits_more : (good also : Bool) (text : List ℕ) (index : ℕ) → index < length text
+    → (IsTrue good → All IsHexDigit (take index text)) → (All IsHexDigit text → IsTrue good)
+    → (IsTrue also ↔ IsHexDigit (get_or text index 0))
+    → (IsTrue (good && also) → All IsHexDigit (take (index + 1) text))
+    × (All IsHexDigit text → IsTrue (good && also))
+digits_more false also text index inside before all this =
+    (λ no. absurd (false≢true no), λ digits. all digits)
+digits_more true also text index inside before all this = (
+  λ yes. All-same IsHexDigit _ _ (take_more text index 0 inside)
+      (All-push IsHexDigit (take index text) (get_or text index 0) (before refl) (this.0 yes)),
+  λ digits. this.1 (digits index 0 inside),
+)
 
 -- one more byte is written
 pub push_more : (old out bytes : List ℕ) (index high low : ℕ)

@@ -41,7 +41,21 @@ pub(crate) fn is_dash(text: &[u8]) -> bool
 pub(crate) fn is_in_pairs(text: &[u8]) -> bool
     ensures { IsTrue result ↔ IsInPairs text.now }
 {
-    !text.is_empty() && text.len() % 2 == 0 && text.iter().all(|digit| is_digit(*digit))
+    !text.is_empty() && text.len() % 2 == 0 && are_digits(text)
+}
+
+/// Whether all characters are lower-case hexadecimal digits.
+///
+/// It looks at each, also behind one that isn't: so LLVM takes sixteen at once, as it does where
+/// digits are read and written.
+fn are_digits(text: &[u8]) -> bool
+    ensures { IsTrue result ↔ All IsHexDigit text.now }
+{
+    let mut good = true;
+    for digit in text {
+        good &= is_digit(*digit);
+    }
+    good
 }
 
 /// Whether a character is a lower-case hexadecimal digit.
@@ -105,11 +119,22 @@ pub fn push_hex(out: &mut Vec<u8>, bytes: &[u8]) -> Result<(), AllocError>
         return out.extend_from_slice(b"-");
     }
     out.reserve(2 * bytes.len())?;
-    for byte in bytes {
-        out.push_reserved(digit_of(byte / 16));
-        out.push_reserved(digit_of(byte % 16));
-    }
+    let start = out.len();
+    out.resize(start + 2 * bytes.len(), 0).unwrap();
+    let (_, digits) = out.split_at_mut(start);
+    write_pairs(bytes, digits);
     Ok(())
+}
+
+/// Writes the pairs of digits of these bytes.
+fn write_pairs(bytes: &[u8], digits: &mut [u8])
+    requires { length digits.old ≡ 2 * length bytes.now }
+    ensures { digits.new ≡ hex_pairs bytes.now }
+{
+    for index in 0..bytes.len() {
+        digits[2 * index] = digit_of(bytes[index] / 16);
+        digits[2 * index + 1] = digit_of(bytes[index] % 16);
+    }
 }
 
 /// The lower-case hexadecimal digit of a value below 16.
