@@ -17,18 +17,22 @@ use Rattle.trdp_filter.specs.Telegrams.{TelegramModel, PdIs, MdIs}
 use Rattle.trdp_md.specs.declared.terms.CallerTerms.{CallerTerms}
 use Rattle.trdp_md.specs.declared.caller.Caller.{Caller as AnyCaller}
 use Rattle.trdp_md.specs.Callers.{called as new_caller, request_of}
+use Rattle.trdp_md.specs.declared.replier.Replier.{Replier as AnyReplier}
+use Rattle.trdp_md.specs.Repliers.{asked_by}
 use Rattle.trdp_table.specs.declared.any_object.AnyObject.{AnyObject}
-use Rattle.trdp_table.specs.declared.any_object.AnyObject.TheVariants.{Caller}
+use Rattle.trdp_table.specs.declared.any_object.AnyObject.TheVariants.{Caller, Replier}
 use Rattle.trdp_table.specs.declared.kind.Kind.{Kind}
 use Rattle.trdp_table.specs.declared.kind.Kind.TheVariants as kind
 use Rattle.trdp_table.specs.Kinds.{kind_of, is_same_kind}
-use Rattle.trdp_table.specs.Tables.{TableState}
+use Rattle.trdp_table.specs.Tables.{TableState, slot_in, Adds}
 use Rattle.trdp_engine.specs.declared.fault.Refusal.{Refusal}
 use Rattle.trdp_engine.specs.declared.fault.Refusal.TheVariants.{State, Timeout, Expected}
 use Rattle.trdp_engine.specs.declared.fault.Refusal.TheVariants.{TooLong, SessionOpen}
 use Rattle.trdp_engine.specs.declared.room.Room.{Room}
 use Rattle.trdp_engine.specs.declared.record.Protocol.TheVariants.{Md}
 use Rattle.trdp_engine.specs.Records.{RecordModel, AnswerModel, HandleIs, Answers, Sends, labelled}
+use Rattle.trdp_engine.specs.Records.{Indicates, AskedIs, OverrunIs}
+use Rattle.trdp_engine.specs.Notices.{message_of}
 use Rattle.trdp_engine.specs.Slots.{Entry, SlotState, Outcome, unchanged, with_object, slots_of}
 use Rattle.trdp_engine.specs.Openings.{answered, opening_refusal, opened_unless, opened_with}
 use Rattle.trdp_engine.specs.Requests.{has_session, request_refusal, request_sent, asked}
@@ -39,7 +43,7 @@ use Rattle.trdp_engine.specs.Outboxes.{OutboxState}
 use Rattle.trdp_engine.specs.Rooms.{kind_room, entries_room}
 use Rattle.trdp_engine.specs.Acting.{slot_at, Becomes}
 use Rattle.trdp_engine.proofs.Rooms.{entry_rows, entry_bytes}
-use Rattle.trdp_engine.proofs.Tables.{slots_kept}
+use Rattle.trdp_engine.proofs.Tables.{slots_kept, added}
 use Rattle.trdp_engine.proofs.Turns.{same_number}
 
 -- A new object and its answer.
@@ -124,6 +128,33 @@ pub asked_again : (table : TableState) (s listener : ℕ)
     → has_session kind.Replier telegram.head.session (slot_at s table).objects ≡ true
     → Becomes s (asked (slot_at s table) listener globals src telegram) table table out out
 asked_again table s listener globals src telegram out lt is = rw is (stays table s out lt)
+
+-- the slot takes a replier for it
+pub asked_opens : (table table_then : TableState) (s listener handle : ℕ) (globals : Globals)
+    (src : Place) (telegram : MdTelegram) (replier : AnyReplier) (out out_then : OutboxState)
+    → has_session kind.Replier telegram.head.session (slot_at s table).objects ≡ false
+    → opening_refusal (slot_at s table) kind.Replier ≡ None
+    → replier ≡ asked_by src telegram.head globals.now → handle ≡ (slot_in s table).next
+    → Adds s (Replier replier) table table_then → out_then.records ≡ out.records ++ labelled s
+    (Indicates (AskedIs listener handle telegram.head.session (message_of src telegram)) ∷ [])
+    → Becomes s (asked (slot_at s table) listener globals src telegram) table table_then out out_then
+asked_opens table table_then s listener handle globals src telegram replier out out_then new takes
+    made numbered adds told =
+    rw (new, takes, ← made)
+    (record { slots = added table table_then s (Replier replier) adds; records = rw numbered at told })
+
+-- it takes none
+pub asked_overruns : (table table_then : TableState) (s listener : ℕ) (globals : Globals)
+    (src : Place) (telegram : MdTelegram) (refusal : Refusal) (out out_then : OutboxState)
+    → s < length table
+    → has_session kind.Replier telegram.head.session (slot_at s table).objects ≡ false
+    → opening_refusal (slot_at s table) kind.Replier ≡ Some refusal → table_then ≡ table
+    → out_then.records ≡ out.records ++ labelled s (Indicates (OverrunIs listener) ∷ [])
+    → Becomes s (asked (slot_at s table) listener globals src telegram) table table_then out out_then
+asked_overruns table table_then s listener globals src telegram refusal out out_then lt new
+    refuses kept told =
+    rw (new, refuses)
+    (record { slots = ap slots_of kept ∙ sym (slots_kept table s lt); records = told })
 
 -- no request is process data
 pub unasked : (table : TableState) (s : ℕ) (src dst : Place)

@@ -1,22 +1,23 @@
 -- The slots of a table: how they are read, and how they change with it.
-use Rattle.std.proofs.Common.{◌≡◌, ℕ, zero, suc, ◌<◌, List, [], ◌∷◌, ◌++◌, length, map, Option}
+use Rattle.std.proofs.Common.{◌≡◌, ℕ, zero, suc, ◌+◌, ◌<◌, List, [], ◌∷◌, ◌++◌, length, map, Option}
 use Rattle.std.proofs.Common.{Some, None, Bool, true, false, not, refl, ◌∙◌, sym, ap, subst, arith}
 use Rattle.std.specs.Prelude.{slice_get, slice_set, option_map, Result}
 use Rattle.std.specs.Prelude.{Ok, Err, OnOk, OnErr, filter, ◌==◌}
 use Rattle.std.specs.List.{flat_map}
-use Rattle.std.proofs.lemmas.List.{length-map, map-set, set-set, get_or-set_same}
+use Rattle.std.proofs.lemmas.List.{length-map, map-append, map-set, set-set, get_or-set_same}
 use Rattle.std.proofs.lemmas.List.Concat.{flat_map-cons}
 use Rattle.std.proofs.lemmas.Grind.{flat_map-append}
 use Rattle.std.proofs.lemmas.Bool.Decides.{nat_tests}
 use Rattle.std.proofs.lemmas.Option.{same_Some, slice_get-map, slice_get_within, slice_get-get_or}
 use Rattle.trdp_table.specs.declared.any_object.AnyObject.{AnyObject}
 use Rattle.trdp_table.specs.Tables.{Keyed, SlotTable, TableState, opened_slot, slot_in}
-use Rattle.trdp_table.specs.Tables.{all_objects, by_handle, by_key}
+use Rattle.trdp_table.specs.Tables.{all_objects, by_handle, by_key, new_object}
 use Rattle.trdp_table.specs.Tables.{with_object as with_keyed, without, changed_at}
 use Rattle.trdp_table.specs.Tables.{exchanged, other_by_handle, with_other_by_handle, Adds}
 use Rattle.trdp_table.specs.TableLaws.{AllAbove as AllKeyedAbove}
 use Rattle.trdp_table.specs.TableLaws.{IsRising as AreKeyedRising, IsTable}
 use Rattle.trdp_engine.specs.Slots.{Entry, SlotState, entry_of, entry_of_keyed, slot_of, slots_of}
+use Rattle.trdp_engine.specs.Slots.{with_object}
 use Rattle.trdp_engine.specs.Acts.{left_at, acted}
 use Rattle.trdp_engine.proofs.Handles.{AllAbove, IsRising}
 use Rattle.trdp_engine.specs.Acting.{slot_at}
@@ -252,6 +253,19 @@ slots_of_added table table_then s object (Ok x) lt adds kept =
     slots_of_changed table table_then s (with_keyed adds.key object) lt adds.table
 slots_of_added table table_then s object (Err y) lt adds kept =
     slots_of_kept table table_then s lt kept
+
+-- the slots once an object was added
+pub added : (table table_then : TableState) (s : ℕ) (object : AnyObject)
+    → Adds s object table table_then → slots_of table_then
+    ≡ slice_set (slots_of table) s (with_object (slot_at s table) object)
+added table table_then s object adds =
+    let slot : SlotTable = slot_in s table in
+    ap slots_of adds.table
+    ∙ slots_changed table s (with_keyed adds.key object)
+    ∙ ap (λ (es : List Entry). let x : SlotState =
+    record { quotas = slot.quotas; next = slot.next + 1; objects = es } in
+    slice_set (slots_of table) s x)
+    (map-append entry_of_keyed slot.objects (new_object slot.next adds.key object ∷ []))
 
 -- How the object that a handle gives acts.
 

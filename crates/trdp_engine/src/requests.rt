@@ -18,9 +18,8 @@ ghost use Rattle.trdp_engine.specs.Costs.{meant_in, meant_of};
 use crate::counts::Counts;
 use crate::first_listeners::hearers;
 use crate::notices::message;
-use crate::opening::open;
 use crate::outbox::Outbox;
-use crate::row::{Form, PlainAnswer};
+use crate::row::Form;
 use crate::sessions::has_session;
 use crate::store::Store;
 use trdp_base::Place;
@@ -74,12 +73,12 @@ fn ask(
         return;
     }
     let replier = Replier::new(src, &view.head, globals.now);
-    match open(store, s, AnyObject::Replier(replier), counts) {
-        PlainAnswer::Handle(handle) => {
+    match store.add(s, AnyObject::Replier(replier), counts) {
+        Ok(handle) => {
             counts.looked_up();
             out.push_asked(s, listener, handle, session, &message(src, view));
         }
-        _ => out.push(s, Form::Overrun(listener)),
+        Err(_) => out.push(s, Form::Overrun(listener)),
     }
 }
 
