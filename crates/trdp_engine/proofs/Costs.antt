@@ -73,10 +73,10 @@ rows-total b com_id (x ∷ xs) =
 
 -- The objects that a telegram may be for.
 
-unfoldable pub meant_one : TelegramModel → AnyObject → ℕ
+unfoldable meant_one : TelegramModel → AnyObject → ℕ
 meant_one telegram object = one_if (is_meant telegram object)
 
-pub meant_in-cons : (telegram : TelegramModel) (e : Entry) (es : List Entry)
+meant_in-cons : (telegram : TelegramModel) (e : Entry) (es : List Entry)
     → meant_in telegram (e ∷ es) ≡ meant_one telegram e.object + meant_in telegram es
 unfolding meant_one
 meant_in-cons telegram e es =
@@ -89,7 +89,7 @@ meant_in-total telegram (k ∷ ks) =
     meant_in-cons telegram (entry_of_keyed k) (map entry_of_keyed ks)
     ∙ ap (λ n. meant_one telegram k.object + n) (meant_in-total telegram ks)
 
-pub meant_of-cons : (telegram : TelegramModel) (slot : SlotState) (slots : List SlotState)
+meant_of-cons : (telegram : TelegramModel) (slot : SlotState) (slots : List SlotState)
     → meant_of telegram (slot ∷ slots) ≡ meant_in telegram slot.objects + meant_of telegram slots
 meant_of-cons telegram slot slots =
     sum_by-cons (λ (x : SlotState). meant_in telegram x.objects) slot slots
@@ -188,7 +188,7 @@ data_rows src dst t table =
       meant_of-total (PdIs src dst t) table,
     )
 
-pub as_unasked : (k : MdKind) (head : MdHead) (object : AnyObject) → is_unasked k ≡ true
+as_unasked : (k : MdKind) (head : MdHead) (object : AnyObject) → is_unasked k ≡ true
     → is_meant_as k head object ≡ (is_of_com head.com_id object || is_of_any object)
 as_unasked message.Notify head object is = refl
 as_unasked message.Request head object is = refl

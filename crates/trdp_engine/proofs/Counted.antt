@@ -2,7 +2,7 @@
 use Rattle.std.proofs.Common.{◌≡◌, ◌≢◌, ℕ, ◌+◌, ◌<◌, ◌≤◌, List, [], ◌∷◌, ◌++◌, length, map}
 use Rattle.std.proofs.Common.{set, filter, not, cond, Option, Some, None, Bool, true, false}
 use Rattle.std.proofs.Common.{is_some, sum_by, count_by, refl, ◌∙◌, sym, ap, subst, arith}
-use Rattle.std.specs.Prelude.{◌==◌}
+use Rattle.std.specs.Prelude.{◌==◌, Result, Ok, Err, OnOk, OnErr}
 use Rattle.std.proofs.lemmas.Bool.Decides.{nat_tests}
 use Rattle.std.proofs.lemmas.List.{length-append}
 use Rattle.std.proofs.lemmas.List.Sums.{sum_by-cons, sum_by-set, count_by-le-length}
@@ -10,6 +10,7 @@ use Rattle.std.proofs.lemmas.Option.{same_Some, none-some}
 use Rattle.trdp_table.specs.declared.any_object.AnyObject.{AnyObject}
 use Rattle.trdp_table.specs.Tables.{Keyed, SlotTable, TableState, opened_slot, slot_in}
 use Rattle.trdp_table.specs.Tables.{all_objects, all_quotas, room_of, by_handle, other_by_handle}
+use Rattle.trdp_table.specs.Tables.{with_object, Adds}
 use Rattle.trdp_table.specs.TableLaws.{AllAbove, IsRising}
 use Rattle.trdp_engine.specs.Indexed.{one_if_some}
 
@@ -43,6 +44,14 @@ room-set table s x lt same =
     sum_by-set (λ (slot : SlotTable). all_quotas slot.quotas) table s x (opened_slot []) lt in
     let equal : all_quotas x.quotas ≡ all_quotas (slot_in s table).quotas = ap all_quotas same in
     omega (arith, sums, equal)
+
+-- and once an object is added
+pub room_added : {X Y : Type 0} (table table_then : TableState) (s : ℕ) (object : AnyObject)
+    (result : Result X Y) → s < length table → OnOk result (Adds s object table table_then)
+    → OnErr result (table_then ≡ table) → room_of table_then ≡ room_of table
+room_added table table_then s object (Ok x) lt adds kept = ap room_of adds.table
+    ∙ room-set table s (with_object adds.key object (slot_in s table)) lt refl
+room_added table table_then s object (Err y) lt adds kept = ap room_of kept
 
 -- where no object has the handle none goes
 pub without_none : (h : ℕ) (es : List Keyed) → by_handle h es ≡ None

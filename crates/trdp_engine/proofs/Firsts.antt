@@ -127,13 +127,13 @@ first_of_slot telegram globals table s b (suc i) com_id (x ∷ xs) of =
 
 -- Which objects hear.
 
-pub com_passes : (filter : MdFilter) (src dst : Place) (head : MdHead) (node : Topo)
+com_passes : (filter : MdFilter) (src dst : Place) (head : MdHead) (node : Topo)
     → md_passes filter src dst head node ≡ true → is_com_id filter.com_id head.com_id ≡ true
 unfolding md_passes
 com_passes filter src dst head node passes =
     and_left _ _ (and_left _ _ (and_left _ _ (and_left _ _ (and_left _ _ passes))))
 
-pub same_wanted : (a b : ℕ) → is_com_id (Some a) b ≡ true → a ≡ b
+same_wanted : (a b : ℕ) → is_com_id (Some a) b ≡ true → a ≡ b
 unfolding is_com_id
 same_wanted a b test = grind (arith, nat_tests)
 

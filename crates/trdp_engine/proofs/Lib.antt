@@ -28,9 +28,7 @@ pub mod Orders
 pub mod AllObjects
 pub mod Firing
 pub mod Moving
-pub mod SlotMoves
 pub mod Counting
-pub mod Each
 pub mod Receiving
 pub mod Over
 pub mod Noting
@@ -43,12 +41,12 @@ pub mod ListenersAlone
 pub mod Costs
 pub mod WithinCosts
 pub mod ObjectSums
-pub mod HeardCosts
 pub mod Latest
 pub mod Requesting
 pub mod Unasked
 pub mod Noted
 pub mod NotedTurns
+pub mod AskedTurns
 pub mod Rows
 pub mod Views
 pub mod Steps

@@ -94,14 +94,14 @@ IsRising-left left (d ∷ front) es e rising =
 
 -- A slot among others.
 
-slot_of_front : (front back : List SlotState) (x : SlotState) (s : ℕ)
+pub slot_of_front : (front back : List SlotState) (x : SlotState) (s : ℕ)
     → length front ≡ s → slice_get (front ++ x ∷ back) s ≡ Some x
 slot_of_front [] back x zero is = refl
 slot_of_front [] back x (suc s) is = absurd (omega (arith, is))
 slot_of_front (y ∷ front) back x zero is = absurd (omega (arith, is))
 slot_of_front (y ∷ front) back x (suc s) is = slot_of_front front back x s (omega (arith, is))
 
-set_front : (front back : List SlotState) (x y : SlotState) (s : ℕ)
+pub set_front : (front back : List SlotState) (x y : SlotState) (s : ℕ)
     → length front ≡ s → slice_set (front ++ x ∷ back) s y ≡ front ++ y ∷ back
 set_front [] back x y zero is = refl
 set_front [] back x y (suc s) is = absurd (omega (arith, is))

@@ -1,5 +1,6 @@
 -- The loop over the objects that were noted.
-use Rattle.std.proofs.Common.{suc, ◌≡◌, ℕ, ◌+◌, ◌<◌, ◌≤◌, List, [], ◌∷◌, length, get_or}
+use Rattle.std.proofs.Common.{suc, ◌≡◌, ℕ, ◌+◌, ◌<◌, ◌≤◌, List, [], ◌∷◌, ◌++◌, length, map}
+use Rattle.std.proofs.Common.{get_or}
 use Rattle.std.proofs.Common.{drop, drop-cons, Some, true, ◌∙◌, sym, ap, subst, arith}
 use Rattle.std.specs.Prelude.{slice_get, IfSome}
 use Rattle.std.specs.List.{flat_map}
@@ -18,11 +19,11 @@ use Rattle.trdp_engine.proofs.Handles.{IsRising}
 use Rattle.trdp_engine.specs.Outboxes.{OutboxState}
 use Rattle.trdp_engine.specs.Rooms.{HasRoom, entries_room}
 use Rattle.trdp_engine.specs.Acting.{slot_at, MayAct, ActsAt, act_of}
-use Rattle.trdp_engine.specs.Datagrams.{is_for_entry, acting, handed}
+use Rattle.trdp_engine.specs.Datagrams.{is_for_entry, acting}
 use Rattle.trdp_engine.specs.NodeStates.{HasOutcome, Appends}
 use Rattle.trdp_engine.specs.Noted.{noted_from}
 use Rattle.trdp_engine.proofs.Tables.{slots_length, slot_within, slot_is, rising as table_rising}
-use Rattle.trdp_engine.proofs.Sweeps.{each_part, each_appends}
+use Rattle.trdp_engine.proofs.Sweeps.{all_records, each_part, each_appends}
 use Rattle.trdp_engine.proofs.Noted.{Aim, act_in, Leads, aim_of, all_led}
 
 -- what is left to do reaches the aim, within the outbox's room
@@ -126,25 +127,22 @@ goes_first setup telegram globals table out noted sound is has = record {
       (sym (slot_is table i slot at)) (table_rising table i sound)));
 }
 
-pub reached_count : (setup : NodeSetup) (telegram : TelegramModel)
-    (globals : Globals) (table table_then : TableState) (records : List RecordModel)
-    → slots_of table_then ≡ (aim_of setup telegram globals (slots_of table) records).slots
+pub reached_count : (f : SlotState → Outcome) (table table_then : TableState)
+    → slots_of table_then ≡ map (λ slot. (f slot).slot) (slots_of table)
     → length table_then ≡ length table
-reached_count setup telegram globals table table_then records are =
+reached_count f table table_then are =
     sym (slots_length table_then)
     ∙ (ap length are ∙ (length-map (slots_of table) _ ∙ slots_length table))
 
-pub reached_parts : (setup : NodeSetup) (telegram : TelegramModel) (globals : Globals)
-    (slots slots_then : List SlotState) (records records_then : List RecordModel)
-    → slots_then ≡ (aim_of setup telegram globals slots records).slots
-    → records_then ≡ (aim_of setup telegram globals slots records).records
+pub reached_parts : (f : SlotState → Outcome) (slots slots_then : List SlotState)
+    (records records_then : List RecordModel) → slots_then ≡ map (λ slot. (f slot).slot) slots
+    → records_then ≡ records ++ all_records 0 f slots
     → (s : ℕ) (slot : SlotState) → slice_get slots s ≡ Some slot
-    → HasOutcome slots_then records records_then s (handed setup slot globals telegram)
-reached_parts setup telegram globals slots slots_then records records_then are told s slot at =
-    rw (are, told) (each_part (λ slot. handed setup slot globals telegram) slots records s slot at)
+    → HasOutcome slots_then records records_then s (f slot)
+reached_parts f slots slots_then records records_then are told s slot at =
+    rw (are, told) (each_part f slots records s slot at)
 
-pub reached_appends : (setup : NodeSetup) (telegram : TelegramModel) (globals : Globals)
-    (slots : List SlotState) (records records_then : List RecordModel) → records_then
-    ≡ (aim_of setup telegram globals slots records).records → Appends slots records records_then
-reached_appends setup telegram globals slots records records_then told =
-    rw told (each_appends (λ slot. handed setup slot globals telegram) slots records)
+pub reached_appends : (f : SlotState → Outcome) (slots : List SlotState)
+    (records records_then : List RecordModel) → records_then ≡ records ++ all_records 0 f slots
+    → Appends slots records records_then
+reached_appends f slots records records_then told = rw told (each_appends f slots records)

@@ -1,11 +1,10 @@
 -- Requests: one that a slot sends, and what a slot makes of one that its listener hears.
-use Rattle.std.proofs.Common.{◌≡◌, ℕ, ◌<◌, ◌≤◌, List, [], ◌∷◌, ◌++◌, length}
-use Rattle.std.proofs.Common.{filter, Option, Some, None, Bool, true, false}
-use Rattle.std.proofs.Common.{refl, ◌∙◌, sym, ap, subst, arith, append_assoc}
-use Rattle.std.specs.Prelude.{slice_set, ◌&&◌, not, nat_lt, if◌then◌else◌}
+use Rattle.std.proofs.Common.{◌≡◌, ℕ, ◌<◌, List, [], ◌∷◌, ◌++◌, length}
+use Rattle.std.proofs.Common.{Option, Some, None, Bool, true, false}
+use Rattle.std.proofs.Common.{refl, ◌∙◌, sym, ap, append_assoc}
+use Rattle.std.specs.Prelude.{slice_set, not, nat_lt, if◌then◌else◌}
 use Rattle.std.specs.Option.{option_or}
 use Rattle.std.proofs.lemmas.List.{append-nil}
-use Rattle.std.proofs.lemmas.List.Sums.{sum_by-cons}
 use Rattle.trdp_base.specs.declared.place.Place.{Place}
 use Rattle.trdp_head.specs.declared.md.MdHead.{MdHead}
 use Rattle.trdp_head.specs.MdTelegrams.{MdTelegram}
@@ -21,30 +20,24 @@ use Rattle.trdp_md.specs.declared.replier.Replier.{Replier as AnyReplier}
 use Rattle.trdp_md.specs.Repliers.{asked_by}
 use Rattle.trdp_table.specs.declared.any_object.AnyObject.{AnyObject}
 use Rattle.trdp_table.specs.declared.any_object.AnyObject.TheVariants.{Caller, Replier}
-use Rattle.trdp_table.specs.declared.kind.Kind.{Kind}
 use Rattle.trdp_table.specs.declared.kind.Kind.TheVariants as kind
-use Rattle.trdp_table.specs.Kinds.{kind_of, is_same_kind}
 use Rattle.trdp_table.specs.Tables.{TableState, slot_in, Adds}
 use Rattle.trdp_engine.specs.declared.fault.Refusal.{Refusal}
 use Rattle.trdp_engine.specs.declared.fault.Refusal.TheVariants.{State, Timeout, Expected}
 use Rattle.trdp_engine.specs.declared.fault.Refusal.TheVariants.{TooLong, SessionOpen}
-use Rattle.trdp_engine.specs.declared.room.Room.{Room}
 use Rattle.trdp_engine.specs.declared.record.Protocol.TheVariants.{Md}
 use Rattle.trdp_engine.specs.Records.{RecordModel, AnswerModel, HandleIs, Answers, Sends, labelled}
 use Rattle.trdp_engine.specs.Records.{Indicates, AskedIs, OverrunIs}
 use Rattle.trdp_engine.specs.Notices.{message_of}
-use Rattle.trdp_engine.specs.Slots.{Entry, SlotState, Outcome, unchanged, with_object, slots_of}
+use Rattle.trdp_engine.specs.Slots.{SlotState, Outcome, unchanged, with_object, slots_of}
 use Rattle.trdp_engine.specs.Openings.{answered, opening_refusal, opened_unless, opened_with}
 use Rattle.trdp_engine.specs.Requests.{has_session, request_refusal, request_sent, asked}
-use Rattle.trdp_engine.specs.Requests.{retries_refusal}
-use Rattle.trdp_engine.specs.Datagrams.{is_for_entry, is_listening, hearing}
-use Rattle.trdp_engine.specs.Datagrams.{acts_where, acting, requested}
+use Rattle.trdp_engine.specs.Requests.{retries_refusal, asked_by_hearing}
+use Rattle.trdp_engine.specs.Datagrams.{hearing}
+use Rattle.trdp_engine.specs.Datagrams.{requested}
 use Rattle.trdp_engine.specs.Outboxes.{OutboxState}
-use Rattle.trdp_engine.specs.Rooms.{kind_room, entries_room}
 use Rattle.trdp_engine.specs.Acting.{slot_at, Becomes}
-use Rattle.trdp_engine.proofs.Rooms.{entry_rows, entry_bytes}
 use Rattle.trdp_engine.proofs.Tables.{slots_kept, added}
-use Rattle.trdp_engine.proofs.Turns.{same_number}
 
 -- A new object and its answer.
 
@@ -117,12 +110,29 @@ sends_request table table_then s globals terms
 
 -- A request that comes in.
 
+-- where a listener of the slot hears it the slot is asked
+pub hearing_asked : (slot : SlotState) (globals : Globals) (telegram : TelegramModel)
+    (src dst : Place) (message : MdTelegram) (listener : ℕ) → telegram ≡ MdIs src dst message
+    → hearing telegram globals slot.objects ≡ Some listener
+    → requested slot globals telegram ≡ asked slot listener globals src message
+hearing_asked slot globals telegram src dst message listener is heard =
+    ap (requested slot globals) is
+    ∙ ap (λ (l : Option ℕ). asked_by_hearing l slot globals src message)
+    (ap (λ (t : TelegramModel). hearing t globals slot.objects) (sym is) ∙ heard)
+
 -- nothing happens to a slot
-pub stays : (table : TableState) (s : ℕ) (out : OutboxState)
+stays : (table : TableState) (s : ℕ) (out : OutboxState)
     → s < length table → Becomes s (unchanged (slot_at s table)) table table out out
 stays table s out lt =
     record { slots = sym (slots_kept table s lt); records = sym (append-nil out.records) }
 
+-- no request is process data
+pub unasked : (table : TableState) (s : ℕ) (src dst : Place)
+    (telegram : PdTelegram) (globals : Globals) (out : OutboxState) → s < length table
+    → Becomes s (requested (slot_at s table) globals (PdIs src dst telegram)) table table out out
+unasked table s src dst telegram globals out lt = stays table s out lt
+
+-- it is asked again
 pub asked_again : (table : TableState) (s listener : ℕ)
     (globals : Globals) (src : Place) (telegram : MdTelegram) (out : OutboxState) → s < length table
     → has_session kind.Replier telegram.head.session (slot_at s table).objects ≡ true
@@ -155,93 +165,3 @@ asked_overruns table table_then s listener globals src telegram refusal out out_
     refuses kept told =
     rw (new, refuses)
     (record { slots = ap slots_of kept ∙ sym (slots_kept table s lt); records = told })
-
--- no request is process data
-pub unasked : (table : TableState) (s : ℕ) (src dst : Place)
-    (telegram : PdTelegram) (globals : Globals) (out : OutboxState) → s < length table
-    → Becomes s (requested (slot_at s table) globals (PdIs src dst telegram)) table table out out
-unasked table s src dst telegram globals out lt = stays table s out lt
-
--- where no listener hears it nothing happens
-pub unheard :
-    (table : TableState) (s : ℕ) (telegram : TelegramModel) (globals : Globals) (out : OutboxState)
-    → s < length table → hearing telegram globals (slot_at s table).objects ≡ None
-    → Becomes s (requested (slot_at s table) globals telegram) table table out out
-unheard table s (PdIs src dst telegram) globals out lt none = stays table s out lt
-unheard table s (MdIs src dst telegram) globals out lt none = rw none (stays table s out lt)
-
--- Room for what is told of it.
-
--- room for one record, with the longest payload
-pub record HoldsOne (room : Room) : Type 0 where
-  pub rows : 1 ≤ room.rows
-  pub bytes : 65388 ≤ room.bytes
-
-listening_room : (k : Kind) → is_same_kind k kind.Listener ≡ true → HoldsOne (kind_room k)
-listening_room kind.Publisher is = absurd (cc)
-listening_room kind.Subscription is = absurd (cc)
-listening_room kind.Requester is = absurd (cc)
-listening_room kind.Listener is = record { rows = omega arith; bytes = omega arith }
-listening_room kind.Caller is = absurd (cc)
-listening_room kind.Replier is = absurd (cc)
-
-and_left : (a b : Bool) → (a && b) ≡ true → a ≡ true
-and_left true b is = refl
-and_left false b is = absurd (cc)
-
-and_right : (a b : Bool) → (a && b) ≡ true → b ≡ true
-and_right true b is = is
-and_right false b is = absurd (cc)
-
-first_holds : (x : Entry) (xs : List Entry) → HoldsOne (kind_room (kind_of x.object))
-    → HoldsOne (entries_room (x ∷ xs))
-first_holds x xs one =
-    let rows = sum_by-cons entry_rows x xs in
-    let bytes = sum_by-cons entry_bytes x xs in
-    record { rows = omega (arith, rows, one.rows); bytes = omega (arith, bytes, one.bytes) }
-
-rest_holds : (x : Entry) (xs : List Entry) → HoldsOne (entries_room xs)
-    → HoldsOne (entries_room (x ∷ xs))
-rest_holds x xs one =
-    let rows = sum_by-cons entry_rows x xs in
-    let bytes = sum_by-cons entry_bytes x xs in
-    record { rows = omega (arith, rows, one.rows); bytes = omega (arith, bytes, one.bytes) }
-
-holds_from : (telegram : TelegramModel) (globals : Globals) (h : ℕ) (objects : List Entry)
-    → hearing telegram globals objects ≡ Some h
-    → HoldsOne (entries_room (filter (acts_where (Some h) telegram globals) objects))
-holds_from telegram globals h [] is = absurd (cc)
-holds_from telegram globals h (x ∷ xs) is = either (is_listening x
-    && is_for_entry telegram globals x) refl (λ others. holds_from telegram globals h xs others)
-  where
-    rest : (b : Bool) → acts_where (Some h) telegram globals x ≡ b
-        → HoldsOne (entries_room (filter (acts_where (Some h) telegram globals) xs))
-        → HoldsOne (entries_room (filter (acts_where (Some h) telegram globals) (x ∷ xs)))
-    rest true acts one =
-        rw acts (rest_holds x (filter (acts_where (Some h) telegram globals) xs) one)
-    rest false acts one = rw acts one
-
-    either : (b : Bool) → (is_listening x && is_for_entry telegram globals x) ≡ b
-        → (hearing telegram globals xs ≡ Some h
-        → HoldsOne (entries_room (filter (acts_where (Some h) telegram globals) xs)))
-        → HoldsOne (entries_room (filter (acts_where (Some h) telegram globals) (x ∷ xs)))
-    either true hears others =
-        let same : Some x.handle ≡ Some h = rw hears at is in
-        let number : x.handle ≡ h = cc in
-        let listens = and_left (is_listening x) (is_for_entry telegram globals x) hears in
-        let concerned = and_right (is_listening x) (is_for_entry telegram globals x) hears in
-        let acts : acts_where (Some h) telegram globals x ≡ true =
-        rw (concerned, listens, number) (same_number h) in
-        rw acts (first_holds x (filter (acts_where (Some h) telegram globals) xs)
-        (listening_room (kind_of x.object) listens))
-    either false silent others =
-        rest (acts_where (Some h) telegram globals x) refl (others (rw silent at is))
-
--- where a listener hears a telegram, there is room for it among those that act
-pub hearing_holds : (telegram : TelegramModel) (globals : Globals) (h : ℕ) (objects : List Entry)
-    → hearing telegram globals objects ≡ Some h
-    → HoldsOne (entries_room (acting telegram globals objects))
-hearing_holds telegram globals h objects is =
-    subst (λ (listener : Option ℕ).
-    HoldsOne (entries_room (filter (acts_where listener telegram globals) objects)))
-    (sym is) (holds_from telegram globals h objects is)

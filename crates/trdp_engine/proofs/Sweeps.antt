@@ -1,11 +1,10 @@
 -- A change of each slot of a node, and a change of one slot after the other.
-use Rattle.std.proofs.Common.{zero, suc, ◌≡◌, ℕ, ◌+◌, ◌<◌, ◌≤◌, List, [], ◌∷◌}
-use Rattle.std.proofs.Common.{◌++◌, length, map, refl, ◌∙◌, ap, sym, arith}
+use Rattle.std.proofs.Common.{zero, suc, ◌≡◌, ℕ, ◌+◌, ◌<◌, List, [], ◌∷◌}
+use Rattle.std.proofs.Common.{◌++◌, map, refl, ◌∙◌, ap, sym, arith}
 use Rattle.std.proofs.Common.{append_assoc, Some, None, true, false, Bool}
-use Rattle.std.specs.Prelude.{slice_get, slice_set, ◌==◌, nat_lt, if◌then◌else◌}
-use Rattle.std.proofs.lemmas.Option.{slice_get_within}
+use Rattle.std.specs.Prelude.{slice_get, slice_set, ◌==◌, if◌then◌else◌}
 use Rattle.std.proofs.lemmas.Bool.Decides.{nat_tests}
-use Rattle.std.proofs.lemmas.List.{map-append, append-nil, length-set}
+use Rattle.std.proofs.lemmas.List.{map-append, append-nil}
 use Rattle.std.proofs.lemmas.List.Elements.{filter-append}
 use Rattle.trdp_engine.specs.Records.{Content, RecordModel, labelled, records_of}
 use Rattle.trdp_engine.specs.Slots.{SlotState, Outcome, unchanged}
@@ -161,35 +160,6 @@ one_appends f slots s x records at = record {
         let both : Some x ≡ None = sym at ∙ (ap (slice_get slots) same ∙ none) in absurd (cc)
     other r none false differ = records_of-other r s (f x).records differ
 
--- One slot after the other comes to its outcome, in any order.
-
--- the slot that comes to its outcome now
-pub own_next : (slots now : List SlotState) (records records_now : List RecordModel)
-    (s : ℕ) (slot : SlotState) (outcome : Outcome)
-    → HasOutcome now records records_now s (unchanged slot) → slots ≡ slice_set now s outcome.slot
-    → HasOutcome slots records (records_now ++ labelled s outcome.records) s outcome
-own_next slots now records records_now s slot outcome had is = record {
-  slot_is = ap (λ (xs : List SlotState). slice_get xs s) is
-      ∙ get-set now s slot outcome.slot had.slot_is;
-  records_are =
-      records_of-append s records_now (labelled s outcome.records)
-      ∙ rw (records_of-labelled s outcome.records, had.records_are, append-nil) refl;
-}
-
--- and another one, which keeps its own
-pub other_next : (slots now : List SlotState)
-    (records records_now : List RecordModel) (s r : ℕ) (outcome own : Outcome) → (s == r) ≡ false
-    → HasOutcome now records records_now r own → slots ≡ slice_set now s outcome.slot
-    → HasOutcome slots records (records_now ++ labelled s outcome.records) r own
-other_next slots now records records_now s r outcome own differ had is = record {
-  slot_is = ap (λ (xs : List SlotState). slice_get xs r) is
-      ∙ (get-set_other now s r outcome.slot differ ∙ had.slot_is);
-  records_are =
-      records_of-append r records_now (labelled s outcome.records)
-      ∙ (rw (records_of-other r s outcome.records differ) (append-nil (records_of r records_now))
-      ∙ had.records_are);
-}
-
 -- records of a slot that is there are added
 pub appends_next : (slots : List SlotState) (records records_now : List RecordModel)
     (s : ℕ) (slot : SlotState) (contents : List Content) → slice_get slots s ≡ Some slot
@@ -210,62 +180,3 @@ appends_next slots records records_now s slot contents at before = record {
         let both : Some slot ≡ None = sym at ∙ (ap (slice_get slots) same ∙ none) in
         absurd (cc)
     other r none false differ = differ
-
--- the slots of lower numbers have their outcome, and the others are unchanged
-abbrev pub outcome_below : (SlotState → Outcome) → ℕ → ℕ → SlotState → Outcome
-outcome_below f k s slot = if nat_lt s k then f slot else unchanged slot
-
--- the slots of numbers below k have come to their outcomes
-pub record HaveMoved (f : SlotState → Outcome) (k : ℕ) (slots now : List SlotState)
-    (records records_now : List RecordModel) : Type 0 where
-  pub parts : (s : ℕ) (slot : SlotState) → slice_get slots s ≡ Some slot
-      → HasOutcome now records records_now s (outcome_below f k s slot)
-  pub appends : Appends slots records records_now
-  pub count : length now ≡ length slots
-
--- the slot whose turn it is hasn't moved yet
-pub not_yet : (f : SlotState → Outcome) (k : ℕ) (slots now : List SlotState)
-    (records records_now : List RecordModel) (slot : SlotState)
-    → HaveMoved f k slots now records records_now
-    → slice_get slots k ≡ Some slot → HasOutcome now records records_now k (unchanged slot)
-not_yet f k slots now records records_now slot moved at =
-    let none : nat_lt k k ≡ false = grind (arith, nat_tests) in
-    rw none at (moved.parts k slot at)
-
-pub moved_next : (f : SlotState → Outcome) (k : ℕ) (slots now then_slots : List SlotState)
-    (records records_now records_then : List RecordModel) (slot : SlotState)
-    → HaveMoved f k slots now records records_now → slice_get slots k ≡ Some slot → then_slots
-    ≡ slice_set now k (f slot).slot → records_then ≡ records_now ++ labelled k (f slot).records
-    → HaveMoved f (k + 1) slots then_slots records records_then
-moved_next f k slots now then_slots records records_now records_then slot moved at is told =
-    record {
-      parts = λ s other there. rw told (part s other there (k == s) refl);
-      appends =
-          rw told (appends_next slots records records_now k slot (f slot).records at moved.appends);
-      count = rw is (length-set now k (f slot).slot ∙ moved.count);
-    }
-  where
-    part : (s : ℕ) (other : SlotState) → slice_get slots s ≡ Some other
-        → (b : Bool) → (k == s) ≡ b → HasOutcome then_slots
-        records (records_now ++ labelled k (f slot).records) s (outcome_below f (k + 1) s other)
-    part s other there true own =
-        let same : k ≡ s = grind (arith, nat_tests) in
-        let one : slot ≡ other = same_some (sym at ∙ (ap (slice_get slots) same ∙ there)) in
-        let below : nat_lt k (k + 1) ≡ true = grind (arith, nat_tests) in
-        rw (← same, ← one, below) (own_next then_slots now records records_now
-        k slot (f slot) (not_yet f k slots now records records_now slot moved at) is)
-    part s other there false differ =
-        let same : nat_lt s (k + 1) ≡ nat_lt s k = grind (arith, nat_tests) in
-        rw same (other_next then_slots now records records_now
-        k s (f slot) (outcome_below f k s other) differ (moved.parts s other there) is)
-
--- all have moved
-pub all_moved : (f : SlotState → Outcome) (k : ℕ) (slots now : List SlotState)
-    (records records_now : List RecordModel) → length slots ≤ k
-    → HaveMoved f k slots now records records_now → (s : ℕ) (slot : SlotState)
-    → slice_get slots s ≡ Some slot → HasOutcome now records records_now s (f slot)
-all_moved f k slots now records records_now past moved s slot at =
-    let lt : s < length slots = slice_get_within slots s slot at in
-    let below : nat_lt s k ≡ true = let within : s < k = omega (arith, lt, past) in
-    grind (arith, nat_tests) in
-    rw below at (moved.parts s slot at)

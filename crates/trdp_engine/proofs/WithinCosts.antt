@@ -25,11 +25,6 @@ read_and_taken new read old n m b one two few =
     let times = mul-le n (2 * b + 2) m (2 * b + 2) few (omega arith) in
     omega (arith, one, two, times)
 
--- two readings, and then a part for each of those
-pub read_and_asked : (new read old b x : ℕ) → read ≤ old + 4 * b
-    → new ≤ read + (4 * b + x) → new ≤ old + (8 * b + x)
-read_and_asked new read old b x one two = omega (arith, one, two)
-
 pub costs :
     (counts counts_then : Counts) (b : ℕ) (telegram : TelegramModel) (slots : List SlotState)
     → counts_then.comparisons ≤ counts.comparisons + (8 * b + meant_of telegram slots * (2 * b + 2))

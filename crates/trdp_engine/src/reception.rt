@@ -72,7 +72,7 @@ fn receive(
     let room = note_all(store, telegram, globals, noted, counts);
     out.reserve(room.rows, room.bytes)?;
     if is_request(telegram) {
-        ask_all(store, telegram, globals, out, counts);
+        ask_all(store, noted, telegram, globals, out, counts);
     } else {
         take_all(store, noted, config, telegram, globals, out, counts);
     }

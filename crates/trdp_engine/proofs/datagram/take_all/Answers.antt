@@ -1,5 +1,5 @@
 use Rattle.std.proofs.Common.{ℕ, ◌<◌, ◌^◌, ◌∙◌, refl, sym, subst, arith}
-use Rattle.trdp_engine.specs.Datagrams.{taking_act}
+use Rattle.trdp_engine.specs.Datagrams.{handed, taking_act}
 use Rattle.trdp_engine.proofs.Counting.{room_stays, one_taker, all_takers}
 use Rattle.trdp_filter.specs.Telegrams.{telegram_model}
 use Rattle.trdp_engine.specs.Configs.{setup_of}
@@ -88,21 +88,22 @@ pub returns-clause-count : goal.returns-clause-count
 returns-clause-count c =
     let end = goes_end _ _ _ c.args.noted.now c.loop-addressee.addressee-index
     c.loop-addressee-test.false c.loop-addressee.invariant.goes in
-    reached_count (setup_of c.args.config.now) (telegram_model c.args.telegram.now)
-    c.args.globals.now c.args.store.now c.loop-addressee.store c.args.out.now.records end.0
+    reached_count (λ slot. handed (setup_of c.args.config.now) slot c.args.globals.now
+    (telegram_model c.args.telegram.now)) c.args.store.now c.loop-addressee.store end.0
 
 pub returns-clause-parts : goal.returns-clause-parts
 returns-clause-parts c =
     let end = goes_end _ _ _ c.args.noted.now c.loop-addressee.addressee-index
     c.loop-addressee-test.false c.loop-addressee.invariant.goes in
-    reached_parts (setup_of c.args.config.now) (telegram_model c.args.telegram.now)
-    c.args.globals.now (slots_of c.args.store.now) (slots_of c.loop-addressee.store)
-    c.args.out.now.records c.loop-addressee.out.records end.0 end.1
+    reached_parts (λ slot. handed (setup_of c.args.config.now) slot c.args.globals.now
+    (telegram_model c.args.telegram.now)) (slots_of c.args.store.now)
+    (slots_of c.loop-addressee.store) c.args.out.now.records c.loop-addressee.out.records
+    end.0 end.1
 
 pub returns-clause-appends : goal.returns-clause-appends
 returns-clause-appends c =
     let end = goes_end _ _ _ c.args.noted.now c.loop-addressee.addressee-index
     c.loop-addressee-test.false c.loop-addressee.invariant.goes in
-    reached_appends (setup_of c.args.config.now)
-    (telegram_model c.args.telegram.now) c.args.globals.now
-    (slots_of c.args.store.now) c.args.out.now.records c.loop-addressee.out.records end.1
+    reached_appends (λ slot. handed (setup_of c.args.config.now) slot c.args.globals.now
+    (telegram_model c.args.telegram.now)) (slots_of c.args.store.now)
+    c.args.out.now.records c.loop-addressee.out.records end.1

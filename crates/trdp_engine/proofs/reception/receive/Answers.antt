@@ -8,8 +8,8 @@ use Rattle.trdp_table.specs.Tables.{room_of}
 use Rattle.trdp_engine.proofs.Tables.{slots_length}
 use Rattle.trdp_engine.specs.Costs.{meant_of}
 use Rattle.trdp_engine.proofs.Costs.{total_room}
-use Rattle.trdp_engine.proofs.WithinCosts.{only_read, read_and_asked, read_and_taken}
-use Rattle.trdp_engine.proofs.Costs.{heard_rows, asks_unasked}
+use Rattle.trdp_engine.proofs.WithinCosts.{only_read, read_and_taken}
+use Rattle.trdp_engine.proofs.Costs.{asks_unasked}
 use Rattle.trdp_engine.proofs.WithinCosts.{costs, costs_nothing}
 use Rattle.trdp_engine.proofs.Receiving.{of_an_error, lacking_concerns}
 use Rattle.trdp_engine.proofs.Steps.{has_outcome}
@@ -65,15 +65,16 @@ returns-then-is_request-clause-cost c = λ b lt.
     let asks : is_request (telegram_model c.args.telegram.now) ≡ true = sym c.is_request.ensures
     ∙ c.if-is_request.true in
     let unasked = asks_unasked (telegram_model c.args.telegram.now) asks in
-    let rows = heard_rows (telegram_model c.args.telegram.now) c.args.store.now unasked in
     costs c.args.counts.now c.ask_all.new.counts
     b (telegram_model c.args.telegram.now) (slots_of c.args.store.now)
-    (read_and_asked c.ask_all.new.counts.comparisons
-    c.note_all-room.new.counts.comparisons c.args.counts.now.comparisons b _ (omega (
+    (read_and_taken c.ask_all.new.counts.comparisons c.note_all-room.new.counts.comparisons
+    c.args.counts.now.comparisons (length c.deref.result.now)
+    (meant_of (telegram_model c.args.telegram.now) (slots_of c.args.store.now)) b (omega (
       arith,
       c.note_all-room.ensures.comparisons b within,
-    )) (c.ask_all.ensures.comparisons b within))
-    (omega (arith, c.note_all-room.ensures.tests, c.ask_all.ensures.tests, rows))
+    )) (c.ask_all.ensures.comparisons b within)
+    (omega (arith, c.note_all-room.ensures.few, ap length c.deref.ensures.value)))
+    (omega (arith, c.note_all-room.ensures.tests, c.ask_all.ensures.tests))
     (omega (arith, c.note_all-room.ensures.unasked unasked, c.ask_all.ensures.look_ups, count))
 
 pub returns-else-is_request-clause-cost : goal.returns-else-is_request-clause-cost
@@ -84,24 +85,24 @@ returns-else-is_request-clause-cost c = λ b lt.
     costs c.args.counts.now c.take_all.new.counts
     b (telegram_model c.args.telegram.now) (slots_of c.args.store.now)
     (read_and_taken c.take_all.new.counts.comparisons c.note_all-room.new.counts.comparisons
-    c.args.counts.now.comparisons (length c.deref.result.now)
+    c.args.counts.now.comparisons (length c.deref-else-is_request.result.now)
     (meant_of (telegram_model c.args.telegram.now) (slots_of c.args.store.now)) b (omega (
       arith,
       c.note_all-room.ensures.comparisons b within,
     )) (c.take_all.ensures.comparisons b within)
-    (omega (arith, c.note_all-room.ensures.few, ap length c.deref.ensures.value)))
+    (omega (arith, c.note_all-room.ensures.few, ap length c.deref-else-is_request.ensures.value)))
     (omega (
       arith,
       c.note_all-room.ensures.tests,
       c.take_all.ensures.tests,
       c.note_all-room.ensures.few,
-      ap length c.deref.ensures.value,
+      ap length c.deref-else-is_request.ensures.value,
     ))
     (omega (
       arith,
       c.note_all-room.ensures.look_ups,
       c.take_all.ensures.look_ups,
       c.note_all-room.ensures.few,
-      ap length c.deref.ensures.value,
+      ap length c.deref-else-is_request.ensures.value,
       count,
     ))

@@ -1,103 +1,102 @@
-use Rattle.std.proofs.Common.{◌<◌, ◌∙◌, ap, length, arith, ℕ, ◌+◌, ◌*◌, ◌^◌, ◌≤◌, sym, subst, drop}
+use Rattle.std.proofs.Common.{ℕ, ◌<◌, ◌^◌, ◌∙◌, refl, sym, subst, arith}
 use Rattle.trdp_filter.specs.Telegrams.{telegram_model}
-use Rattle.trdp_engine.specs.Datagrams.{acting, hearing, requested}
-use Rattle.trdp_engine.specs.Slots.{SlotState, slots_of}
-use Rattle.trdp_engine.specs.Acting.{slot_at}
-use Rattle.trdp_engine.specs.Costs.{meant_in, meant_of}
-use Rattle.trdp_engine.proofs.Costs.{meant_of-drop}
-use Rattle.trdp_engine.proofs.HeardCosts.{one_asked, all_asked}
-use Rattle.trdp_engine.proofs.Tables.{slots_length, slot_there}
-use Rattle.trdp_engine.proofs.Sweeps.{all_moved}
-use Rattle.trdp_engine.proofs.SlotMoves.{same_slot, slot_room, slot_moves}
+use Rattle.trdp_engine.specs.Datagrams.{requested}
+use Rattle.trdp_engine.specs.Slots.{slots_of}
+use Rattle.trdp_engine.proofs.Counting.{one_taker, all_takers}
+use Rattle.trdp_engine.proofs.Costs.{asks_unasked}
+use Rattle.trdp_engine.proofs.Tables.{slots_length}
+use Rattle.trdp_engine.proofs.AskedTurns.{asks_first, asks_next, asks_within, asks_heard}
+use Rattle.trdp_engine.proofs.AskedTurns.{asks_row, asks_bytes, asks_on, asks_end, few_noted}
+use Rattle.trdp_engine.proofs.NotedTurns.{reached_count, reached_parts, reached_appends}
 use Rattle.trdp_engine.proofs.requests.ask_all.Goals as goal
 
-pub ask_in-requires-clause-slot : goal.ask_in-requires-clause-slot
-ask_in-requires-clause-slot c =
-    let lt : c.loop-s.s < length c.args.store.now = omega (arith, c.slots-s-end.ensures.count) in
-    omega (
-      arith,
-      lt,
-      c.loop-s.invariant.moved.count,
-      slots_length c.args.store.now,
-      slots_length c.loop-s.store,
-    )
+pub loop-listener-init : goal.loop-listener-init
+loop-listener-init c = record {
+  goes = asks_first (telegram_model c.args.telegram.now) c.args.globals.now c.args.store.now
+      c.args.out.now c.args.noted.now c.sound.ensures.sound
+      (asks_unasked (telegram_model c.args.telegram.now) c.requires.asks)
+      c.requires.noted c.requires.room;
+  room_is = refl;
+  comparisons = λ b within. omega arith;
+  tests = refl;
+  look_ups = omega arith;
+}
 
-pub ask_in-requires-clause-listener : goal.ask_in-requires-clause-listener
-ask_in-requires-clause-listener c =
-    let lt : c.loop-s.s < length c.args.store.now = omega (arith, c.slots-s-end.ensures.count) in
-    let same =
-    same_slot (λ slot. requested slot c.args.globals.now (telegram_model c.args.telegram.now))
-    c.loop-s.s c.args.store.now c.loop-s.store
-    c.args.out.now.records c.loop-s.out.records lt c.loop-s.invariant.moved in
-    c.hearers-heard.ensures.heard c.loop-s.s lt ∙ ap (λ (slot : SlotState).
-    hearing (telegram_model c.args.telegram.now) c.args.globals.now slot.objects) same
+pub ask-requires-clause-slot : goal.ask-requires-clause-slot
+ask-requires-clause-slot c =
+    asks_within _ _ _ _ _ (asks_next _ _ _ c.args.noted.now c.loop-listener.listener-index
+    (record { slot = 0; handle = 0 })
+    c.loop-listener-test.true c.loop-listener.invariant.goes)
 
-pub ask_in-requires-clause-room : goal.ask_in-requires-clause-room
-ask_in-requires-clause-room c =
-    slot_room (λ slot. requested slot c.args.globals.now (telegram_model c.args.telegram.now))
-    (λ slot. acting (telegram_model c.args.telegram.now) c.args.globals.now slot.objects)
-    c.loop-s.s c.args.store.now c.loop-s.store
-    c.args.out.now.records c.loop-s.out (omega (arith, c.slots-s-end.ensures.count))
-    c.loop-s.invariant.moved c.loop-s.invariant.room
+pub ask-requires-clause-heard : goal.ask-requires-clause-heard
+ask-requires-clause-heard c =
+    asks_heard _ _ _ _ _ (asks_next _ _ _ c.args.noted.now c.loop-listener.listener-index
+    (record { slot = 0; handle = 0 })
+    c.loop-listener-test.true c.loop-listener.invariant.goes)
 
-pub loop-s-preserved : goal.loop-s-preserved
-loop-s-preserved c =
-    let lt : c.loop-s.s < length c.args.store.now = omega (arith, c.slots-s-end.ensures.count) in
-    let m =
-    slot_moves (λ slot. requested slot c.args.globals.now (telegram_model c.args.telegram.now))
-    (λ slot. acting (telegram_model c.args.telegram.now) c.args.globals.now slot.objects)
-    c.loop-s.s c.args.store.now c.loop-s.store c.ask_in.new.store
-    c.args.out.now.records c.loop-s.out c.ask_in.new.out lt c.loop-s.invariant.moved
-    c.loop-s.invariant.room c.ask_in.ensures.becomes c.ask_in.ensures.within in
+pub ask-requires-clause-row : goal.ask-requires-clause-row
+ask-requires-clause-row c =
+    asks_row _ _ _ _ _ (asks_next _ _ _ c.args.noted.now c.loop-listener.listener-index
+    (record { slot = 0; handle = 0 })
+    c.loop-listener-test.true c.loop-listener.invariant.goes)
+
+pub ask-requires-clause-bytes : goal.ask-requires-clause-bytes
+ask-requires-clause-bytes c =
+    asks_bytes _ _ _ _ _ (asks_next _ _ _ c.args.noted.now c.loop-listener.listener-index
+    (record { slot = 0; handle = 0 })
+    c.loop-listener-test.true c.loop-listener.invariant.goes)
+
+pub loop-listener-preserved : goal.loop-listener-preserved
+loop-listener-preserved c =
+    let next = asks_next _ _ _ c.args.noted.now
+    c.loop-listener.listener-index (record { slot = 0; handle = 0 })
+    c.loop-listener-test.true c.loop-listener.invariant.goes in
     record {
-      moved = m.moved;
-      room = m.room;
-      room_is = c.ask_in.ensures.room ∙ c.loop-s.invariant.room_is;
+      goes = asks_on _ _ _ _ _ _ _ next c.ask.ensures.becomes c.ask.ensures.row_room
+          c.ask.ensures.byte_room;
+      room_is = c.ask.ensures.room ∙ c.loop-listener.invariant.room_is;
       comparisons = λ b within.
-          let own = c.ask_in.ensures.comparisons b
-          (subst (λ (n : ℕ). n < 2 ^ b) (sym c.loop-s.invariant.room_is) within) in
-          let slot = same_slot (λ slot. requested slot c.args.globals.now
-          (telegram_model c.args.telegram.now)) c.loop-s.s c.args.store.now c.loop-s.store
-          c.args.out.now.records c.loop-s.out.records lt c.loop-s.invariant.moved in
-          let there = slot_there c.args.store.now c.loop-s.s lt in
-          let left = meant_of-drop (telegram_model c.args.telegram.now)
-          (slots_of c.args.store.now) (slot_at c.loop-s.s c.args.store.now)
-          c.loop-s.s (omega (arith, lt, slots_length c.args.store.now)) there in
-          let so_far = c.loop-s.invariant.comparisons b within in
-          let split = rw left at so_far in
-          one_asked c.ask_in.new.counts.comparisons c.loop-s.counts.comparisons _ 0 (meant_in
-          (telegram_model c.args.telegram.now) (slot_at c.loop-s.s c.args.store.now).objects)
-          (meant_of (telegram_model c.args.telegram.now)
-          (drop (c.loop-s.s + 1) (slots_of c.args.store.now))) b
-          (subst (λ (x : SlotState). c.ask_in.new.counts.comparisons ≤ c.loop-s.counts.comparisons
-          + meant_in (telegram_model c.args.telegram.now) x.objects * (2 * b + 2)) (sym slot)
-          own)
-          split;
-      tests = c.ask_in.ensures.tests ∙ c.loop-s.invariant.tests;
-      look_ups = omega (arith, c.ask_in.ensures.look_ups, c.loop-s.invariant.look_ups);
+          one_taker c.ask.new.counts.comparisons
+          c.loop-listener.counts.comparisons c.loop-listener.counts.comparisons
+          c.args.counts.now.comparisons c.loop-listener.listener-index b
+          (c.ask.ensures.comparisons b
+          (subst (λ (n : ℕ). n < 2 ^ b) (sym c.loop-listener.invariant.room_is) within))
+          refl (c.loop-listener.invariant.comparisons b within);
+      tests = c.ask.ensures.tests ∙ c.loop-listener.invariant.tests;
+      look_ups = omega (arith, c.ask.ensures.look_ups, c.loop-listener.invariant.look_ups);
     }
 
-pub returns-clause-parts : goal.returns-clause-parts
-returns-clause-parts c =
-    let count = slots_length c.args.store.now in
-    all_moved (λ slot. requested slot c.args.globals.now (telegram_model c.args.telegram.now))
-    c.loop-s.s (slots_of c.args.store.now)
-    (slots_of c.loop-s.store) c.args.out.now.records c.loop-s.out.records
-    (omega (arith, count, c.slots-s-end.ensures.count)) c.loop-s.invariant.moved
-
 pub returns-clause-comparisons : goal.returns-clause-comparisons
-returns-clause-comparisons c = λ b lt.
-    let ended = all_asked c.loop-s.counts.comparisons _ _ (c.loop-s.invariant.comparisons b lt) in
-    omega (arith, c.hearers-heard.ensures.comparisons b lt, ended)
-
-pub returns-clause-tests : goal.returns-clause-tests
-returns-clause-tests c = omega (arith, c.hearers-heard.ensures.tests, c.loop-s.invariant.tests)
+returns-clause-comparisons c = λ b within.
+    all_takers c.loop-listener.counts.comparisons
+    c.args.counts.now.comparisons c.loop-listener.listener-index
+    _ b (c.loop-listener.invariant.comparisons b within) (omega arith)
 
 pub returns-clause-look_ups : goal.returns-clause-look_ups
 returns-clause-look_ups c =
-    omega (
-      arith,
-      c.hearers-heard.ensures.look_ups,
-      c.loop-s.invariant.look_ups,
-      c.slots-s-end.ensures.count,
-    )
+    let few = few_noted (telegram_model c.args.telegram.now) c.args.globals.now c.args.store.now
+    c.args.noted.now c.sound.ensures.sound
+    (asks_unasked (telegram_model c.args.telegram.now) c.requires.asks) c.requires.noted in
+    omega (arith, c.loop-listener.invariant.look_ups, few, slots_length c.args.store.now)
+
+pub returns-clause-count : goal.returns-clause-count
+returns-clause-count c =
+    let end = asks_end _ _ _ c.args.noted.now c.loop-listener.listener-index
+    c.loop-listener-test.false c.loop-listener.invariant.goes in
+    reached_count (λ slot. requested slot c.args.globals.now (telegram_model c.args.telegram.now))
+    c.args.store.now c.loop-listener.store end.0
+
+pub returns-clause-parts : goal.returns-clause-parts
+returns-clause-parts c =
+    let end = asks_end _ _ _ c.args.noted.now c.loop-listener.listener-index
+    c.loop-listener-test.false c.loop-listener.invariant.goes in
+    reached_parts (λ slot. requested slot c.args.globals.now (telegram_model c.args.telegram.now))
+    (slots_of c.args.store.now) (slots_of c.loop-listener.store) c.args.out.now.records
+    c.loop-listener.out.records end.0 end.1
+
+pub returns-clause-appends : goal.returns-clause-appends
+returns-clause-appends c =
+    let end = asks_end _ _ _ c.args.noted.now c.loop-listener.listener-index
+    c.loop-listener-test.false c.loop-listener.invariant.goes in
+    reached_appends (λ slot. requested slot c.args.globals.now (telegram_model c.args.telegram.now))
+    (slots_of c.args.store.now) c.args.out.now.records c.loop-listener.out.records end.1
