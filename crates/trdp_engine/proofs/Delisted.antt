@@ -16,9 +16,13 @@ use Rattle.trdp_index.specs.Ranks.{is_same}
 use Rattle.trdp_index.specs.Rows.{without}
 use Rattle.trdp_index.specs.ComRows.{com_number, com_rank, com_row_rank}
 use Rattle.trdp_engine.proofs.Counted.{AreAs, are_as}
-use Rattle.trdp_engine.specs.Indexed.{com_of, is_com, is_listed, listed_as}
+use Rattle.trdp_engine.specs.Indexed.{com_of, com_found, is_com, is_listed, listed_as}
 use Rattle.trdp_engine.specs.Indexed.{rows_in, rows_from, run_without}
 use Rattle.trdp_engine.proofs.Indexed.{same_com, same_self, other_slot, other_handle}
+
+-- the comId, or any, under which telegrams look for a slot's object of a handle
+abbrev pub com_in : ℕ → ℕ → TableState → Option (Option ℕ)
+com_in s handle table = com_found (by_handle handle (slot_in s table).objects)
 
 -- those of a handle are looked for so
 abbrev pub AreOf : ℕ → Option (Option ℕ) → List Keyed → Type 0

@@ -20,7 +20,7 @@ use Rattle.trdp_index.specs.Rows.{row_of, has_row}
 use Rattle.trdp_index.specs.ComRows.{com_number, com_rank, com_row_rank}
 use Rattle.trdp_index.specs.ComRows.{is_same_com, run_of, has_com_row}
 use Rattle.trdp_index.specs.ComIndexes.{ComIndexState, empty_com_index}
-use Rattle.trdp_engine.specs.Indexed.{com_of, com_found, com_in, is_com, is_listed}
+use Rattle.trdp_engine.specs.Indexed.{com_of, com_found, is_com, is_listed}
 use Rattle.trdp_engine.specs.Indexed.{rows_in, rows_from, listed_in, IsIndexed}
 use Rattle.trdp_engine.specs.Indexed.{run_with, run_without, one_if_some}
 use Rattle.trdp_engine.proofs.Tables.{ExchangesAlone, IsReached}
@@ -29,7 +29,7 @@ use Rattle.trdp_engine.proofs.Counted.{counted-push, counted-without, counted-ot
 use Rattle.trdp_engine.proofs.Counted.{counted-set, counted_few, counted_none}
 use Rattle.trdp_engine.proofs.Found.{found_last}
 use Rattle.trdp_engine.proofs.Indexed.{runs_added}
-use Rattle.trdp_engine.proofs.Delisted.{AreOf, are_of, runs_removed}
+use Rattle.trdp_engine.proofs.Delisted.{AreOf, are_of, com_in, runs_removed}
 use Rattle.trdp_engine.proofs.Indexed.{same_com-self, same_number}
 use Rattle.trdp_engine.proofs.Delisted.{runs_exchanged}
 use Rattle.trdp_engine.proofs.Indexed.{same_first, same_self, other_slot, other_handle}

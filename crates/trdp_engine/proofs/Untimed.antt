@@ -8,7 +8,7 @@ use Rattle.trdp_table.specs.Tables.{Keyed, SlotTable, TableState, opened_slot, s
 use Rattle.trdp_table.specs.Tables.{by_handle, without as without_keyed, changed_at}
 use Rattle.trdp_table.specs.TableLaws.{IsTable}
 use Rattle.trdp_timers.specs.declared.order.Order.{Order}
-use Rattle.trdp_engine.specs.Timed.{ScheduleState, without_order, IsTimed, IsOwned, IsScheduled}
+use Rattle.trdp_engine.specs.Timed.{ScheduleState, IsTimed, IsOwned, IsScheduled}
 use Rattle.trdp_engine.proofs.Tables.{KeysGive, handle_found}
 use Rattle.trdp_engine.proofs.Counted.{room-set}
 use Rattle.trdp_engine.proofs.Found.{at_each, found_without, none_without, are_alone}
@@ -16,6 +16,11 @@ use Rattle.trdp_engine.proofs.Apart.{own_keys, slots_apart}
 use Rattle.trdp_engine.proofs.Timed.{at_key}
 
 -- An object goes.
+
+-- without the order of a key, if one is given
+abbrev pub without_order : List (Option Order) → Option ℕ → List (Option Order)
+without_order orders None = orders
+without_order orders (Some key) = set orders key None
 
 -- the key of the object that a handle may have
 abbrev pub key_found : Option Keyed → Option ℕ

@@ -4,7 +4,7 @@ use Rattle.std.specs.Prelude.{Option, Some, None, Bool, false, is_some, if◌the
 use Rattle.trdp_table.specs.declared.any_object.AnyObject.{AnyObject}
 use Rattle.trdp_table.specs.declared.any_object.AnyObject.TheVariants.{Publisher, Subscription}
 use Rattle.trdp_table.specs.declared.any_object.AnyObject.TheVariants.{Listener}
-use Rattle.trdp_table.specs.Tables.{Keyed, TableState, slot_in, by_handle, room_of}
+use Rattle.trdp_table.specs.Tables.{Keyed, TableState, room_of}
 use Rattle.trdp_index.specs.declared.com_row.ComRow.{ComRow}
 use Rattle.trdp_index.specs.Rows.{with_row, without}
 use Rattle.trdp_index.specs.ComRows.{com_rank, com_row_rank, is_same_com, run_of}
@@ -21,10 +21,6 @@ com_of object = None
 abbrev pub com_found : Option Keyed → Option (Option ℕ)
 com_found None = None
 com_found (Some keyed) = com_of keyed.object
-
--- the same of a slot's object of a handle
-abbrev pub com_in : ℕ → ℕ → TableState → Option (Option ℕ)
-com_in s handle table = com_found (by_handle handle (slot_in s table).objects)
 
 -- it is that comId
 abbrev pub is_com : Option ℕ → Option (Option ℕ) → Bool

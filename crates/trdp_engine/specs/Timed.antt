@@ -1,7 +1,7 @@
 -- The timer heap is the image of the slots' objects, and knows the room that each may need.
 use Rattle.std.specs.Prelude.{◌≡◌, ℕ, ◌*◌, ◌≤◌, ◌⊎◌, ◌==◌, List, [], ◌∷◌, length, replicate}
 use Rattle.std.specs.Prelude.{Bool, true, false}
-use Rattle.std.specs.Prelude.{slice_index, slice_index_or, slice_set, Option, Some, None}
+use Rattle.std.specs.Prelude.{slice_index, slice_index_or, Option, Some, None}
 use Rattle.trdp_timers.specs.declared.order.Order.{Order}
 use Rattle.trdp_timers.specs.Orders.{is_due_by}
 use Rattle.trdp_timers.specs.Contents.{IsFirst}
@@ -74,11 +74,6 @@ is_same_due (Some before) (Some due) = before == due
 -- the due moment of an object that is over is as it was, or it has none
 abbrev pub IsOver : Option ℕ → Option ℕ → Type 0
 IsOver before due = (due ≡ before) ⊎ (due ≡ None)
-
--- without the order of a key, if one is given
-abbrev pub without_order : List (Option Order) → Option ℕ → List (Option Order)
-without_order orders None = orders
-without_order orders (Some key) = slice_set orders key None
 
 -- an object of slot s has its order, and its room, under its key
 pub record IsTimed (s : ℕ) (schedule : ScheduleState) (keyed : Keyed) : Type 0 where

@@ -1,13 +1,13 @@
 //! When the objects of all slots act, in one heap, and the room that each may need then.
 
 ghost use Rattle.std.specs.Prelude.{◌≡◌, ◌<◌, ◌≤◌, ◌+◌, ◌-◌, ◌*◌, ◌^◌, ◌++◌, ℕ, length, None};
-ghost use Rattle.std.specs.Prelude.{IfOk, OnOk, is_ok, IfSome, if◌then◌else◌};
+ghost use Rattle.std.specs.Prelude.{IfOk, OnOk, is_ok, if◌then◌else◌};
 ghost use Rattle.std.specs.Prelude.{MatchOption, slice_index_or, slice_set, sum, replicate};
 ghost use Rattle.std.specs.Prelude.{count_by, is_some};
 ghost use Rattle.trdp_table.specs.TableLaws.{object_limit};
 ghost use Rattle.trdp_timers.specs.Orders.{is_due_by};
 ghost use Rattle.trdp_timers.specs.Contents.{due_sizes, IsUnset};
-ghost use Rattle.trdp_engine.specs.Timed.{empty_schedule, order_at, without_order, is_same_due};
+ghost use Rattle.trdp_engine.specs.Timed.{empty_schedule, order_at, is_same_due};
 ghost use Rattle.trdp_engine.specs.Timed.{IsKeptSchedule, IsNoneDue, IsFirstDue, IsSoonest};
 ghost use Rattle.trdp_engine.specs.Rooms.{room_rows_limit, room_bytes_limit};
 
@@ -175,23 +175,17 @@ impl Schedule {
         self.set(key, slot, handle, due)
     }
 
-    /// The object of that key, if there is one, acts no more. It answers how often it compared two
-    /// orders: never where the key had none.
-    pub fn dismiss(&mut self, key: Option<usize>) -> u64
-        ensures orders { self.new.orders ≡ without_order self.old.orders key }
+    /// The object of a key acts no more. It answers how often it compared two orders: never where
+    /// the key had none.
+    pub fn dismiss(&mut self, key: usize) -> u64
+        ensures orders { self.new.orders ≡ slice_set self.old.orders key None }
         ensures rows { self.new.rows ≡ self.old.rows }
         ensures bytes { self.new.bytes ≡ self.old.bytes }
         ensures cost { (b : ℕ) → count_by is_some self.old.orders < 2 ^ b → result ≤ 2 * b + 2 }
-        ensures idle { IfSome key
-            (λ key. slice_index_or self.old.orders key None ≡ None → result ≡ 0) }
+        ensures idle { slice_index_or self.old.orders key None ≡ None → result ≡ 0 }
     {
-        match key {
-            None => 0,
-            Some(key) => {
-                self.timers.clear(key);
-                self.timers.probes()
-            }
-        }
+        self.timers.clear(key);
+        self.timers.probes()
     }
 
     /// The first order of those that are due by `t`, in microseconds: the least by due moment,

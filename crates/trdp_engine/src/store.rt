@@ -3,13 +3,13 @@
 
 ghost use Rattle.std.specs.Prelude.{◌≡◌, ℕ, ◌<◌, ◌≤◌, length, map, Some, None, IfOk, IfErr, OnOk};
 ghost use Rattle.std.specs.Prelude.{OnErr, IfNone, IfSome, MatchOption, slice_get};
-ghost use Rattle.std.specs.Prelude.{◌+◌, ◌*◌, ◌^◌, Option, true, is_some};
+ghost use Rattle.std.specs.Prelude.{◌+◌, ◌*◌, ◌^◌, Option, true, is_some, option_map};
 ghost use Rattle.trdp_table.specs.declared.any_object.AnyObject.{AnyObject};
 ghost use Rattle.trdp_table.specs.Kinds.{kind_of};
 ghost use Rattle.trdp_table.specs.Objects.{due_of};
 ghost use Rattle.trdp_table.specs.Tables.{Keyed, slot_limit, opened_slot, slot_in};
 ghost use Rattle.trdp_table.specs.Tables.{by_handle, Adds, changed_at, without};
-ghost use Rattle.trdp_table.specs.Tables.{room_of};
+ghost use Rattle.trdp_table.specs.Tables.{all_objects, by_key, room_of};
 ghost use Rattle.trdp_table.specs.TableLaws.{object_limit};
 ghost use Rattle.trdp_engine.specs.Slots.{entry_of};
 ghost use Rattle.trdp_engine.specs.Openings.{opening_refusal, table_refusal};
@@ -19,12 +19,12 @@ ghost use Rattle.trdp_engine.specs.Firing.{ComesNext};
 ghost use Rattle.trdp_engine.specs.NodeStates.{due_in};
 ghost use Rattle.trdp_engine.specs.Rooms.{moment_room};
 ghost use Rattle.trdp_engine.specs.Acting.{slot_at, Becomes};
-ghost use Rattle.trdp_engine.specs.Indexed.{com_of, com_in, rows_from};
+ghost use Rattle.trdp_engine.specs.Indexed.{com_found, rows_from};
 ghost use Rattle.trdp_base.specs.declared.session.SessionId.{SessionId};
 ghost use Rattle.trdp_index.specs.declared.session_row.Role.{Role};
 ghost use Rattle.trdp_engine.specs.Requests.{has_session};
-ghost use Rattle.trdp_engine.specs.InSession.{session_of, session_in, kind_as, IsNewInSession};
-ghost use Rattle.trdp_engine.specs.InSession.{HasPart};
+ghost use Rattle.trdp_engine.specs.InSession.{session_of, session_in, session_found, kind_as};
+ghost use Rattle.trdp_engine.specs.InSession.{IsNewInSession, HasPart};
 
 use crate::by_com::{com_of, delist, enlist};
 use crate::by_session::{enter, leave, session_of};
@@ -182,30 +182,26 @@ impl Store {
         }
     }
 
-    /// The comId, or any, under which telegrams look for a slot's object of that handle.
-    fn com_at(&self, slot: u16, handle: u32) -> Option<Option<u32>>
-        requires { slot < length self.now }
-        ensures { result ≡ com_in slot handle self.now }
+    /// The comId, or any, under which telegrams look for the object of a key.
+    fn com_at(&self, key: usize) -> Option<Option<u32>>
+        ensures { result ≡ com_found (by_key key (all_objects self.now)) }
     {
-        self.table.sound();
-        let key = self.table.find(slot, handle)?;
         com_of(self.table.get(key)?)
     }
 
-    /// The session of a slot's object of that handle, and what it is there.
-    fn session_at(&self, slot: u16, handle: u32) -> Option<(SessionId, Role)>
-        requires { slot < length self.now }
-        ensures { result ≡ session_in slot handle self.now }
+    /// The session of the object of a key, and what it is there.
+    fn session_at(&self, key: usize) -> Option<(SessionId, Role)>
+        ensures { result ≡ session_found (by_key key (all_objects self.now)) }
     {
-        self.table.sound();
-        let key = self.table.find(slot, handle)?;
         session_of(self.table.get(key)?)
     }
 
-    /// Takes a slot's object of that handle, if it has one, out of the store; all other objects
+    /// Takes a slot's object of that handle, whose key this is, out of the store; all other objects
     /// keep their keys. It answers how often it compared two orders.
-    fn remove(&mut self, slot: u16, handle: u32) -> u64
-        requires { slot < length self.old }
+    fn remove(&mut self, slot: u16, handle: u32, key: usize) -> u64
+        requires slot { slot < length self.old }
+        requires key { option_map (λ keyed. keyed.key)
+            (by_handle handle (slot_in slot self.old).objects) ≡ Some key }
         ensures table { self.new ≡ changed_at slot (without handle) self.old }
         ensures cost { (b : ℕ) → room_of self.old < 2 ^ b → result ≤ 2 * b + 2 }
         ensures idle { (keyed : Keyed)
@@ -213,11 +209,10 @@ impl Store {
             → due_of keyed.object ≡ None → result ≡ 0 }
     {
         self.table.sound();
-        let sought = self.com_at(slot, handle);
-        let own = self.session_at(slot, handle);
+        let sought = self.com_at(key);
+        let own = self.session_at(key);
         delist(&mut self.coms, sought, slot, handle);
         leave(&mut self.sessions, own, slot);
-        let key = self.table.find(slot, handle);
         let comparisons = self.schedule.dismiss(key);
         self.table.remove(slot, handle);
         comparisons
@@ -281,7 +276,7 @@ impl Store {
         let changed = self.schedule.change(key, s, handle, before, due);
         match left {
             Left::Stays => Some((left, changed)),
-            Left::Ended => Some((left, changed.saturating_add(self.remove(s, handle)))),
+            Left::Ended => Some((left, changed.saturating_add(self.remove(s, handle, key)))),
         }
     }
 }

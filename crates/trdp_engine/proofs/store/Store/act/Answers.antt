@@ -1,6 +1,7 @@
-use Rattle.std.proofs.Common.{◌∙◌, ap, sym, refl, arith, ◌<◌, ◌^◌}
+use Rattle.std.proofs.Common.{◌∙◌, ap, sym, refl, arith, ℕ, ◌<◌, ◌^◌, Option, Some}
+use Rattle.std.specs.Prelude.{option_map}
 use Rattle.trdp_table.specs.Objects.{due_of}
-use Rattle.trdp_table.specs.Tables.{room_of, exchanged}
+use Rattle.trdp_table.specs.Tables.{Keyed, room_of, exchanged}
 use Rattle.trdp_engine.specs.Timed.{order_at}
 use Rattle.trdp_engine.proofs.Tables.{reached, reached_entry, none_found}
 use Rattle.trdp_engine.proofs.Stored.{indexed_reached}
@@ -70,6 +71,17 @@ invariant_of-self-in-Stays g c =
           c.in_ok-object.object.now c.on-left.new.object c.self.invariant.kinds
           c.sound.ensures.sound slot c.sound.ensures.exchanged r c.on-left.ensures.kind;
     }
+
+pub remove-requires-clause-key : goal.remove-requires-clause-key
+remove-requires-clause-key g c =
+    let r = reached c.self.inside.table c.args.s c.args.handle c.in_ok-key.key
+    c.in_ok-object.object.now c.sound.ensures.found c.in_ok-key.ensures
+    c.in_ok-object.ensures.value in
+    ap (option_map (λ (k : Keyed). k.key))
+    (reached_then c.self.inside.table c.args.s c.args.handle c.in_ok-key.key
+    c.in_ok-object.object.now c.on-left.new.object (rw (← c.self.view_is) at c.requires.slot)
+    c.sound.ensures.exchanged r)
+    ∙ ap (λ (n : ℕ). let some : Option ℕ = Some n in some) (sym r.key_is)
 
 pub invariant_of-self-in-Ended : goal.invariant_of-self-in-Ended
 invariant_of-self-in-Ended g c =
