@@ -10,6 +10,8 @@ use Rattle.trdp_table.specs.declared.any_object.AnyObject.TheVariants.{Publisher
 use Rattle.trdp_table.specs.declared.any_object.AnyObject.TheVariants.{Listener}
 use Rattle.trdp_table.specs.Tables.{all_quotas}
 use Rattle.trdp_engine.specs.declared.counts.Counts.{Counts}
+use Rattle.trdp_engine.specs.declared.deed.Left.{Left}
+use Rattle.trdp_engine.specs.declared.deed.Left.TheVariants.{Stays, Ended}
 use Rattle.trdp_engine.specs.Slots.{Entry, SlotState}
 use Rattle.trdp_engine.specs.Requests.{is_of_session}
 use Rattle.trdp_engine.specs.Events.{EventModel, MomentIs, TopologyIs, RoleIs, DatagramIs, CallIs}
@@ -68,6 +70,21 @@ meant_of telegram slots = sum_by (λ slot. meant_in telegram slot.objects) slots
 -- how many objects the quotas of the slots allow together
 abbrev pub quota_total : List SlotState → ℕ
 quota_total slots = sum_by (λ slot. all_quotas slot.quotas) slots
+
+-- how often two orders were compared as something was done to an object, if there was one
+abbrev pub compared_for : Option (Left × ℕ) → ℕ
+compared_for None = 0
+compared_for (Some did) = did.1
+
+-- the look-ups of it: one where the object ended
+abbrev pub looked_up_as : Left → ℕ
+looked_up_as Stays = 0
+looked_up_as Ended = 1
+
+-- the same, if there was one
+abbrev pub looked_up_for : Option (Left × ℕ) → ℕ
+looked_up_for None = 0
+looked_up_for (Some did) = looked_up_as did.0
 
 -- the most that a telegram costs which may be for m objects, with n slots
 abbrev pub telegram_bounds : ℕ → ℕ → ℕ → Counts

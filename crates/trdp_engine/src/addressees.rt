@@ -1,17 +1,14 @@
 //! The objects that act at a telegram: each that it is for, but of the listeners of a slot the
 //! first alone.
 
-ghost use Rattle.std.specs.Prelude.{◌≡◌, ◌+◌, ◌*◌, ◌<◌, ◌≤◌, ◌++◌, ◌∷◌, [], length, IfSome};
-ghost use Rattle.std.specs.Prelude.{slice_get, filter, ◌&&◌, vec_len, vec_capacity, Some, true};
+ghost use Rattle.std.specs.Prelude.{◌≡◌, ◌+◌, ◌*◌, ◌<◌, ◌≤◌, ◌++◌, length};
+ghost use Rattle.std.specs.Prelude.{vec_len, vec_capacity, Some, true};
 ghost use Rattle.std.specs.Prelude.{ℕ, ◌^◌};
 ghost use Rattle.std.specs.List.{flat_map};
 ghost use Rattle.trdp_filter.specs.Telegrams.{telegram_model};
-ghost use Rattle.trdp_table.specs.declared.kind.Kind.TheVariants.{Listener as Listening};
-ghost use Rattle.trdp_table.specs.Kinds.{kind_of, is_same_kind};
 ghost use Rattle.trdp_table.specs.TableLaws.{object_limit};
 ghost use Rattle.trdp_table.specs.Tables.{room_of};
 ghost use Rattle.trdp_engine.specs.Slots.{slots_of};
-ghost use Rattle.trdp_engine.specs.Datagrams.{is_for_entry, is_listening, hearing, acts_where};
 ghost use Rattle.trdp_engine.specs.Datagrams.{acting};
 ghost use Rattle.trdp_engine.specs.Rooms.{entries_room, room_rows_limit, room_bytes_limit};
 ghost use Rattle.trdp_engine.specs.Acting.{slot_at};

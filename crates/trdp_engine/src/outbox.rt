@@ -1,6 +1,6 @@
 //! What a node gives its slots, in order.
 
-ghost use Rattle.std.specs.Prelude.{◌≡◌, ℕ, ◌+◌, ◌<◌, ◌≤◌, ◌↔◌, ◌++◌, ◌∷◌, length, List, []};
+ghost use Rattle.std.specs.Prelude.{◌≡◌, ℕ, ◌+◌, ◌<◌, ◌≤◌, ◌↔◌, ◌++◌, ◌∷◌, length, []};
 ghost use Rattle.std.specs.Prelude.{OnOk, OnErr, IsTrue, ◌⊎◌, slice_get, option_map};
 ghost use Rattle.std.specs.Prelude.{option_copied, take, drop, vec_len, vec_capacity};
 ghost use Rattle.trdp_head.specs.PdBytes.{pd_bytes, pd_length_of};
@@ -8,7 +8,7 @@ ghost use Rattle.trdp_head.specs.MdBytes.{md_bytes, md_length_of};
 ghost use Rattle.trdp_engine.specs.declared.record.Protocol.TheVariants.{Pd, Md};
 ghost use Rattle.trdp_pd.specs.Peeks.{peek_model};
 ghost use Rattle.trdp_engine.specs.Records.{Answers, ValueIs, Indicates, NotifiedIs, AskedIs};
-ghost use Rattle.trdp_engine.specs.Records.{RepliedIs, Sends, RecordModel, message_model};
+ghost use Rattle.trdp_engine.specs.Records.{RepliedIs, Sends, message_model};
 ghost use Rattle.trdp_engine.specs.Records.{reply_model, record_model};
 ghost use Rattle.trdp_engine.specs.Outboxes.{plain_answer_model, row_content, headed};
 

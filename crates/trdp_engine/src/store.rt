@@ -2,8 +2,8 @@
 //! the heap by which a moment finds those that are due.
 
 ghost use Rattle.std.specs.Prelude.{◌≡◌, ℕ, ◌<◌, ◌≤◌, length, map, Some, None, IfOk, IfErr, OnOk};
-ghost use Rattle.std.specs.Prelude.{OnErr, IfNone, IfSome, MatchOption, slice_get};
-ghost use Rattle.std.specs.Prelude.{◌+◌, ◌*◌, ◌^◌, Option, true, is_some, option_map};
+ghost use Rattle.std.specs.Prelude.{OnErr, IfNone, IfSome, slice_get};
+ghost use Rattle.std.specs.Prelude.{◌+◌, ◌-◌, ◌*◌, ◌^◌, Option, is_some, option_map};
 ghost use Rattle.trdp_table.specs.declared.any_object.AnyObject.{AnyObject};
 ghost use Rattle.trdp_table.specs.Kinds.{kind_of};
 ghost use Rattle.trdp_table.specs.Objects.{due_of};
@@ -25,6 +25,7 @@ ghost use Rattle.trdp_index.specs.declared.session_row.Role.{Role};
 ghost use Rattle.trdp_engine.specs.Requests.{has_session};
 ghost use Rattle.trdp_engine.specs.InSession.{session_of, session_in, session_found, kind_as};
 ghost use Rattle.trdp_engine.specs.InSession.{IsNewInSession, HasPart};
+ghost use Rattle.trdp_engine.specs.Costs.{compared_for, looked_up_for};
 
 use crate::by_com::{com_of, delist, enlist};
 use crate::by_session::{enter, leave, session_of};
@@ -283,11 +284,13 @@ impl Store {
 
 /// Counts what a deed cost: its comparisons, and a look-up where the object ended.
 pub fn count_act(did: Option<(Left, u64)>, counts: &mut Counts)
-    ensures comparisons { MatchOption did
-        (counts.new.comparisons ≡ counts.old.comparisons)
-        (λ d. counts.new.comparisons ≤ counts.old.comparisons + d.1) }
+    ensures comparisons { counts.new.comparisons ≤ counts.old.comparisons + compared_for did }
+    ensures all_comparisons { counts.new.comparisons < 2 ^ 64 - 1
+        → counts.new.comparisons ≡ counts.old.comparisons + compared_for did }
     ensures tests { counts.new.tests ≡ counts.old.tests }
-    ensures look_ups { counts.new.look_ups ≤ counts.old.look_ups + 1 }
+    ensures look_ups { counts.new.look_ups ≤ counts.old.look_ups + looked_up_for did }
+    ensures all_look_ups { counts.new.look_ups < 2 ^ 64 - 1
+        → counts.new.look_ups ≡ counts.old.look_ups + looked_up_for did }
 {
     let Some((left, comparisons)) = did else {
         return;
