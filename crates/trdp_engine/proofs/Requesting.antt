@@ -147,11 +147,15 @@ pub asked_opens : (table table_then : TableState) (s listener handle : ℕ) (glo
     → replier ≡ asked_by src telegram.head globals.now → handle ≡ (slot_in s table).next
     → Adds s (Replier replier) table table_then → out_then.records ≡ out.records ++ labelled s
     (Indicates (AskedIs listener handle telegram.head.session (message_of src telegram)) ∷ [])
-    → Becomes s (asked (slot_at s table) listener globals src telegram) table table_then out out_then
+    → Becomes s (asked (slot_at s table) listener globals src telegram) table table_then
+    out out_then
 asked_opens table table_then s listener handle globals src telegram replier out out_then new takes
     made numbered adds told =
     rw (new, takes, ← made)
-    (record { slots = added table table_then s (Replier replier) adds; records = rw numbered at told })
+    (record {
+      slots = added table table_then s (Replier replier) adds;
+      records = rw numbered at told;
+    })
 
 -- it takes none
 pub asked_overruns : (table table_then : TableState) (s listener : ℕ) (globals : Globals)
@@ -160,7 +164,8 @@ pub asked_overruns : (table table_then : TableState) (s listener : ℕ) (globals
     → has_session kind.Replier telegram.head.session (slot_at s table).objects ≡ false
     → opening_refusal (slot_at s table) kind.Replier ≡ Some refusal → table_then ≡ table
     → out_then.records ≡ out.records ++ labelled s (Indicates (OverrunIs listener) ∷ [])
-    → Becomes s (asked (slot_at s table) listener globals src telegram) table table_then out out_then
+    → Becomes s (asked (slot_at s table) listener globals src telegram) table table_then
+    out out_then
 asked_overruns table table_then s listener globals src telegram refusal out out_then lt new
     refuses kept told =
     rw (new, refuses)

@@ -19,6 +19,7 @@ use Rattle.trdp_pd.specs.declared.object.Reason.TheVariants.{Done}
 use Rattle.trdp_table.specs.declared.kind.Kind.TheVariants.{Listener as Listening}
 use Rattle.trdp_table.specs.Kinds.{kind_of, is_same_kind}
 use Rattle.trdp_table.specs.Objects.{dataset_of, is_addressed, after_taking, taken}
+use Rattle.trdp_engine.specs.declared.reception.Datagram.{Datagram}
 use Rattle.trdp_engine.specs.declared.record.Protocol.{Protocol}
 use Rattle.trdp_engine.specs.declared.record.Protocol.TheVariants.{Pd, Md}
 use Rattle.trdp_engine.specs.Configs.{NodeSetup, is_fitting}
@@ -36,6 +37,10 @@ telegram_of Pd src dst bytes =
     option_map (λ telegram. PdIs src dst telegram) (pd_telegram_of bytes)
 telegram_of Md src dst bytes =
     option_map (λ telegram. MdIs src dst telegram) (md_telegram_of bytes)
+
+-- the telegram of what came in, if it is one of its protocol
+abbrev pub came_in : Datagram → Option TelegramModel
+came_in datagram = telegram_of datagram.protocol datagram.src datagram.dst datagram.bytes.now
 
 -- the topology counts of a telegram
 abbrev pub counts_of : TelegramModel → Topo

@@ -7,12 +7,11 @@ ghost use Rattle.trdp_base.specs.Moments.{last_moment};
 ghost use Rattle.trdp_filter.specs.Telegrams.{telegram_model, IsWithinLimit};
 ghost use Rattle.trdp_table.specs.Kinds.{kind_of};
 ghost use Rattle.trdp_table.specs.Tables.{room_of};
-ghost use Rattle.trdp_table.specs.Objects.{due_of, is_addressed, after_taking, taken};
+ghost use Rattle.trdp_table.specs.Objects.{due_of, is_addressed};
 ghost use Rattle.trdp_engine.specs.Configs.{setup_of};
-ghost use Rattle.trdp_engine.specs.Slots.{SlotState, entry_of, slots_of};
+ghost use Rattle.trdp_engine.specs.Slots.{SlotState, entry_at, entry_of, slots_of};
 ghost use Rattle.trdp_engine.specs.Records.{labelled};
 ghost use Rattle.trdp_engine.specs.Datagrams.{is_valid_at, fits_object};
-ghost use Rattle.trdp_engine.specs.Datagrams.{taken_records, left_taking};
 ghost use Rattle.trdp_engine.specs.Datagrams.{acting, handed, is_for_entry, taking_act};
 ghost use Rattle.trdp_engine.specs.Timed.{IsOver};
 ghost use Rattle.trdp_engine.specs.Asked.{left_of};
@@ -31,6 +30,7 @@ use crate::notices::push_heard;
 use crate::outbox::Outbox;
 use crate::pull::{answer_place, push_answer};
 use crate::row::Form;
+use crate::setting::Setting;
 use crate::store::{Store, count_act};
 use trdp_dataset::NodeConfig;
 use trdp_filter::{Globals, Telegram, topo_valid};
@@ -61,45 +61,57 @@ fn fits_object(config: &NodeConfig, telegram: &Telegram<'_>, object: &AnyObject)
     }
 }
 
+/// That a telegram is handed to an object which it is for.
+#[derive(Clone, Copy)]
+pub struct Handing<'a, 'b> {
+    /// The telegram.
+    pub telegram: &'a Telegram<'b>,
+    /// The datasets, the time, the topology counts and the groups that are led.
+    pub setting: Setting<'a>,
+}
+
 /// Hands the telegram to an object of that handle, which it is for, and records what it gives.
 fn take_object(
     object: &mut AnyObject,
     handle: u32,
-    config: &NodeConfig,
-    telegram: &Telegram<'_>,
-    globals: &Globals,
+    handing: &Handing<'_, '_>,
     s: u16,
     out: &mut Outbox,
 ) -> Left
-    requires now { globals.now.now ≤ last_moment }
-    requires limit { IsWithinLimit (telegram_model telegram.now) }
-    requires addressed { is_addressed object.old (telegram_model telegram.now) globals.now
-        ≡ true }
+    requires now { handing.now.setting.globals.now.now ≤ last_moment }
+    requires limit { IsWithinLimit (telegram_model handing.now.telegram.now) }
+    requires addressed { is_addressed object.old (telegram_model handing.now.telegram.now)
+        handing.now.setting.globals.now ≡ true }
     requires room { HasRoom out.old (kind_room (kind_of object.old)) }
     ensures left { left_of result object.new
-        ≡ left_taking
-        (taken object.old (telegram_model telegram.now) globals.entry.now
-        (fits_object (setup_of config.now) (telegram_model telegram.now) object.old))
-        (after_taking object.old (telegram_model telegram.now) globals.entry.now
-        (fits_object (setup_of config.now) (telegram_model telegram.now) object.old)) }
+        ≡ (taking_act (setup_of handing.now.setting.config.now)
+        (telegram_model handing.now.telegram.now) handing.now.setting.globals.now
+        (entry_at handle object.old)).left }
     ensures records { out.new.records
         ≡ out.old.records
         ++ labelled s
-        (taken_records (setup_of config.now) (telegram_model telegram.now) handle object.old
-        (taken object.old (telegram_model telegram.now) globals.entry.now
-        (fits_object (setup_of config.now) (telegram_model telegram.now) object.old))) }
+        (taking_act (setup_of handing.now.setting.config.now)
+        (telegram_model handing.now.telegram.now) handing.now.setting.globals.now
+        (entry_at handle object.old)).records }
     ensures within { TookWithin out.old out.new (kind_room (kind_of object.old)) }
     ensures kind { kind_of object.new ≡ kind_of object.old }
     ensures over { result ≡ Left.Ended → IsOver (due_of object.old) (due_of object.new) }
     ensures sought { com_of object.new ≡ com_of object.old }
     ensures session { session_of object.new ≡ session_of object.old }
 {
-    let fits = fits_object(config, telegram, object);
-    match object.take(telegram, globals, fits) {
+    let Handing { telegram, setting } = *handing;
+    let fits = fits_object(setting.config, telegram, object);
+    match object.take(telegram, setting.globals, fits) {
         Taken::Nothing | Taken::Stored => {}
         Taken::Alive => out.push(s, Form::Alive(handle)),
         Taken::Pulled(head) => {
-            push_answer(object, answer_place(config, telegram), &head, s, out);
+            push_answer(
+                object,
+                answer_place(setting.config, telegram),
+                &head,
+                s,
+                out,
+            );
         }
         Taken::Heard => push_heard(telegram, handle, s, out),
         Taken::Replied => push_replied(telegram, handle, s, out),
@@ -116,17 +128,6 @@ fn take_object(
     Left::Stays
 }
 
-/// That a telegram is handed to an object which it is for.
-#[derive(Clone, Copy)]
-pub struct Handing<'a, 'b> {
-    /// The telegram.
-    pub telegram: &'a Telegram<'b>,
-    /// The datasets, and the port of a pull request's answer.
-    pub config: &'a NodeConfig,
-    /// The time, the topology counts and the groups that are led.
-    pub globals: &'a Globals,
-}
-
 impl Deed for Handing<'_, '_> {
     ghost use Rattle.std.specs.Prelude.{◌≡◌, ◌≤◌, true};
     ghost use Rattle.trdp_base.specs.Moments.{last_moment};
@@ -140,12 +141,12 @@ impl Deed for Handing<'_, '_> {
     ghost use Rattle.trdp_engine.specs.Acting.{TookWithin};
 
     ghost act = { λ d handle object.
-        taking_act (setup_of d.config.now) (telegram_model d.telegram.now) d.globals.now
-        (entry_at handle object) };
+        taking_act (setup_of d.setting.config.now) (telegram_model d.telegram.now)
+        d.setting.globals.now (entry_at handle object) };
 
     ghost may = { λ d _ object out.
-        (d.globals.now.now ≤ last_moment) × IsWithinLimit (telegram_model d.telegram.now)
-        × (is_addressed object (telegram_model d.telegram.now) d.globals.now ≡ true)
+        (d.setting.globals.now.now ≤ last_moment) × IsWithinLimit (telegram_model d.telegram.now)
+        × (is_addressed object (telegram_model d.telegram.now) d.setting.globals.now ≡ true)
         × HasRoom out (kind_room (kind_of object)) };
 
     ghost spends = { λ _ object out out_then. TookWithin out out_then (kind_room (kind_of object)) };
@@ -153,15 +154,7 @@ impl Deed for Handing<'_, '_> {
     ghost ends_still = { λ _. Unit {0} };
 
     fn on(&self, object: &mut AnyObject, handle: u32, s: u16, out: &mut Outbox) -> Left {
-        take_object(
-            object,
-            handle,
-            self.config,
-            self.telegram,
-            self.globals,
-            s,
-            out,
-        )
+        take_object(object, handle, self, s, out)
     }
 }
 
@@ -179,12 +172,12 @@ fn hand(
     requires may { MayAct (slot_at s store.old) handle out.old }
     requires addressed { IfSome (entry_of handle (slot_at s store.old).objects)
         (λ entry. is_for_entry (telegram_model handing.now.telegram.now)
-        handing.now.globals.now entry ≡ true) }
-    requires now { handing.now.globals.now.now ≤ last_moment }
+        handing.now.setting.globals.now entry ≡ true) }
+    requires now { handing.now.setting.globals.now.now ≤ last_moment }
     requires limit { IsWithinLimit (telegram_model handing.now.telegram.now) }
     ensures acts { ActsAt s handle
-        (taking_act (setup_of handing.now.config.now) (telegram_model handing.now.telegram.now)
-        handing.now.globals.now)
+        (taking_act (setup_of handing.now.setting.config.now)
+        (telegram_model handing.now.telegram.now) handing.now.setting.globals.now)
         store.old store.new out.old out.new }
     ensures comparisons { (b : ℕ) → room_of store.old < 2 ^ b
         → counts.new.comparisons ≤ counts.old.comparisons + (2 * b + 2) }
@@ -199,23 +192,24 @@ fn hand(
 pub fn take_all(
     store: &mut Store,
     noted: &[Addressee],
-    config: &NodeConfig,
     telegram: &Telegram<'_>,
-    globals: &Globals,
+    setting: &Setting<'_>,
     out: &mut Outbox,
     counts: &mut Counts,
 )
     requires noted { noted.now
-        ≡ noted_from 0 (telegram_model telegram.now) globals.now (slots_of store.old) }
-    requires now { globals.now.now ≤ last_moment }
+        ≡ noted_from 0 (telegram_model telegram.now) setting.now.globals.now (slots_of store.old) }
+    requires now { setting.now.globals.now.now ≤ last_moment }
     requires limit { IsWithinLimit (telegram_model telegram.now) }
     requires room { HasRoom out.old (entries_room
-        (flat_map (λ slot. acting (telegram_model telegram.now) globals.now slot.objects)
+        (flat_map (λ slot.
+        acting (telegram_model telegram.now) setting.now.globals.now slot.objects)
         (slots_of store.old))) }
     ensures count { length store.new ≡ length store.old }
     ensures parts { (s : ℕ) (slot : SlotState) → slice_get (slots_of store.old) s ≡ Some slot
         → HasOutcome (slots_of store.new) out.old.records out.new.records s
-        (handed (setup_of config.now) slot globals.entry.now (telegram_model telegram.now)) }
+        (handed (setup_of setting.now.config.now) slot setting.now.globals.now
+        (telegram_model telegram.now)) }
     ensures appends { Appends (slots_of store.old) out.old.records out.new.records }
     ensures comparisons { (b : ℕ) → room_of store.old < 2 ^ b
         → counts.new.comparisons ≤ counts.old.comparisons + length noted.now * (2 * b + 2) }
@@ -225,8 +219,7 @@ pub fn take_all(
     store.sound();
     let handing = Handing {
         telegram,
-        config,
-        globals,
+        setting: *setting,
     };
     for addressee in noted {
         counts.tested();

@@ -47,6 +47,7 @@ mod row;
 mod run;
 mod schedule;
 mod sessions;
+mod setting;
 mod shown;
 mod start;
 mod store;

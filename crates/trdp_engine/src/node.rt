@@ -16,8 +16,9 @@ use crate::event::{Call, Event};
 use crate::fault::NodeFault;
 use crate::moment::fire_all;
 use crate::outbox::Outbox;
-use crate::reception::hear;
+use crate::reception::{Datagram, hear};
 use crate::record::Protocol;
+use crate::setting::Setting;
 use crate::start::parts;
 use crate::store::Store;
 use std::alloc::Global;
@@ -234,15 +235,22 @@ impl Node {
             (DatagramIs protocol src dst bytes.now) self.new.counts) }
     {
         let mut counts = Counts::none();
-        hear(
-            &mut self.store,
-            &mut self.noted,
-            &self.config,
+        let datagram = Datagram {
             protocol,
             src,
             dst,
             bytes,
-            &self.globals,
+        };
+        let setting = Setting {
+            alloc: self.alloc,
+            config: &self.config,
+            globals: &self.globals,
+        };
+        hear(
+            &mut self.store,
+            &mut self.noted,
+            &datagram,
+            &setting,
             out,
             &mut counts,
         )?;

@@ -8,7 +8,7 @@ ghost use Rattle.trdp_filter.specs.Telegrams.{telegram_model, IsWithinLimit};
 ghost use Rattle.trdp_table.specs.TableLaws.{object_limit};
 ghost use Rattle.trdp_engine.specs.Configs.{setup_of};
 ghost use Rattle.trdp_engine.specs.Slots.{SlotState, slots_of};
-ghost use Rattle.trdp_engine.specs.Datagrams.{telegram_of, received_if, concerns};
+ghost use Rattle.trdp_engine.specs.Datagrams.{came_in, received_if, concerns};
 ghost use Rattle.trdp_engine.specs.NodeStates.{HasOutcome, Appends};
 ghost use Rattle.trdp_engine.specs.Rooms.{LacksRoom, datagram_room};
 ghost use Rattle.trdp_engine.specs.Costs.{quota_total, datagram_bounds, CostsAtMost};
@@ -19,12 +19,25 @@ use crate::datagram::{is_valid_at, take_all};
 use crate::outbox::Outbox;
 use crate::record::Protocol;
 use crate::requests::{ask_all, is_request};
+use crate::setting::Setting;
 use crate::store::Store;
 use std::alloc::AllocError;
 use trdp_base::Place;
-use trdp_dataset::NodeConfig;
-use trdp_filter::{Globals, Telegram};
+use trdp_filter::Telegram;
 use trdp_head::{read_md, read_pd};
+
+/// What came in.
+#[derive(Clone, Copy)]
+pub struct Datagram<'a> {
+    /// The protocol whose port it came to.
+    pub protocol: Protocol,
+    /// Where it came from.
+    pub src: Place,
+    /// Where it was sent.
+    pub dst: Place,
+    /// Its bytes.
+    pub bytes: &'a [u8],
+}
 
 /// Takes a telegram. One whose topology counts don't match the node's changes nothing. Room for
 /// the records of all slots comes first.
@@ -34,47 +47,46 @@ use trdp_head::{read_md, read_pd};
 fn receive(
     store: &mut Store,
     noted: &mut Vec<Addressee>,
-    config: &NodeConfig,
     telegram: &Telegram<'_>,
-    globals: &Globals,
+    setting: &Setting<'_>,
     out: &mut Outbox,
     counts: &mut Counts,
 ) -> Result<(), AllocError>
     requires capacity { 16 * object_limit ≤ vec_capacity noted.old }
-    requires now { globals.now.now ≤ last_moment }
+    requires now { setting.now.globals.now.now ≤ last_moment }
     requires limit { IsWithinLimit (telegram_model telegram.now) }
     ensures count { length store.new ≡ length store.old }
     ensures capacity { vec_capacity noted.new ≡ vec_capacity noted.old }
     ensures parts { OnOk result ((s : ℕ) (slot : SlotState)
         → slice_get (slots_of store.old) s ≡ Some slot
         → HasOutcome (slots_of store.new) out.old.records out.new.records s
-        (received_if (setup_of config.now) slot globals.entry.now
+        (received_if (setup_of setting.now.config.now) slot setting.now.globals.now
         (Some (telegram_model telegram.now)))) }
     ensures appends { Appends (slots_of store.old) out.old.records out.new.records }
     ensures kept { OnErr result (store.new ≡ store.old) }
     ensures unrecorded { OnErr result (out.new.records ≡ out.old.records) }
     ensures memory { OnErr result
-        (list_any (concerns globals.entry.now (Some (telegram_model telegram.now)))
+        (list_any (concerns setting.now.globals.now (Some (telegram_model telegram.now)))
         (slots_of store.old) ≡ true) }
     ensures full { OnErr result (LacksRoom out.old
-        (datagram_room globals.entry.now (slots_of store.old)
+        (datagram_room setting.now.globals.now (slots_of store.old)
         (Some (telegram_model telegram.now)))) }
     ensures still { OnErr result (LacksRoom out.new
-        (datagram_room globals.entry.now (slots_of store.old)
+        (datagram_room setting.now.globals.now (slots_of store.old)
         (Some (telegram_model telegram.now)))) }
     ensures cost { (b : ℕ) → quota_total (slots_of store.old) < 2 ^ b
         → CostsAtMost counts.old counts.new
         (datagram_bounds b (slots_of store.old) (Some (telegram_model telegram.now))) }
 {
-    if !is_valid_at(telegram, globals) {
+    if !is_valid_at(telegram, setting.globals) {
         return Ok(());
     }
-    let room = note_all(store, telegram, globals, noted, counts);
+    let room = note_all(store, telegram, setting.globals, noted, counts);
     out.reserve(room.rows, room.bytes)?;
     if is_request(telegram) {
-        ask_all(store, noted, telegram, globals, out, counts);
+        ask_all(store, noted, telegram, setting.globals, out, counts);
     } else {
-        take_all(store, noted, config, telegram, globals, out, counts);
+        take_all(store, noted, telegram, setting, out, counts);
     }
     Ok(())
 }
@@ -86,53 +98,55 @@ fn receive(
 pub fn hear(
     store: &mut Store,
     noted: &mut Vec<Addressee>,
-    config: &NodeConfig,
-    protocol: Protocol,
-    src: Place,
-    dst: Place,
-    bytes: &[u8],
-    globals: &Globals,
+    datagram: &Datagram<'_>,
+    setting: &Setting<'_>,
     out: &mut Outbox,
     counts: &mut Counts,
 ) -> Result<(), AllocError>
     requires capacity { 16 * object_limit ≤ vec_capacity noted.old }
-    requires now { globals.now.now ≤ last_moment }
+    requires now { setting.now.globals.now.now ≤ last_moment }
     ensures count { length store.new ≡ length store.old }
     ensures capacity { vec_capacity noted.new ≡ vec_capacity noted.old }
     ensures parts { OnOk result ((s : ℕ) (slot : SlotState)
         → slice_get (slots_of store.old) s ≡ Some slot
         → HasOutcome (slots_of store.new) out.old.records out.new.records s
-        (received_if (setup_of config.now) slot globals.entry.now
-        (telegram_of protocol src dst bytes.now))) }
+        (received_if (setup_of setting.now.config.now) slot setting.now.globals.now
+        (came_in datagram.now))) }
     ensures appends { Appends (slots_of store.old) out.old.records out.new.records }
     ensures kept { OnErr result (store.new ≡ store.old) }
     ensures unrecorded { OnErr result (out.new.records ≡ out.old.records) }
     ensures memory { OnErr result
-        (list_any (concerns globals.entry.now (telegram_of protocol src dst bytes.now))
+        (list_any (concerns setting.now.globals.now (came_in datagram.now))
         (slots_of store.old) ≡ true) }
     ensures full { OnErr result (LacksRoom out.old
-        (datagram_room globals.entry.now (slots_of store.old)
-        (telegram_of protocol src dst bytes.now))) }
+        (datagram_room setting.now.globals.now (slots_of store.old)
+        (came_in datagram.now))) }
     ensures still { OnErr result (LacksRoom out.new
-        (datagram_room globals.entry.now (slots_of store.old)
-        (telegram_of protocol src dst bytes.now))) }
+        (datagram_room setting.now.globals.now (slots_of store.old)
+        (came_in datagram.now))) }
     ensures cost { (b : ℕ) → quota_total (slots_of store.old) < 2 ^ b
         → CostsAtMost counts.old counts.new
-        (datagram_bounds b (slots_of store.old) (telegram_of protocol src dst bytes.now)) }
+        (datagram_bounds b (slots_of store.old) (came_in datagram.now)) }
 {
+    let Datagram {
+        protocol,
+        src,
+        dst,
+        bytes,
+    } = *datagram;
     match protocol {
         Protocol::Pd => match read_pd(bytes) {
             Err(_) => Ok(()),
             Ok(view) => {
                 let telegram = Telegram::Pd { src, dst, view };
-                receive(store, noted, config, &telegram, globals, out, counts)
+                receive(store, noted, &telegram, setting, out, counts)
             }
         },
         Protocol::Md => match read_md(bytes) {
             Err(_) => Ok(()),
             Ok(view) => {
                 let telegram = Telegram::Md { src, dst, view };
-                receive(store, noted, config, &telegram, globals, out, counts)
+                receive(store, noted, &telegram, setting, out, counts)
             }
         },
     }

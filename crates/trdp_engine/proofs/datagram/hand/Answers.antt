@@ -7,7 +7,7 @@ use Rattle.trdp_engine.proofs.datagram.hand.Goals as goal
 pub returns-clause-acts : goal.returns-clause-acts
 returns-clause-acts c =
     deed_acts c.args.s c.args.handle
-    (taking_act (setup_of c.args.handing.now.config.now)
-    (telegram_model c.args.handing.now.telegram.now) c.args.handing.now.globals.now)
+    (taking_act (setup_of c.args.handing.now.setting.config.now)
+    (telegram_model c.args.handing.now.telegram.now) c.args.handing.now.setting.globals.now)
     c.args.store.now c.act.new.self c.args.out.now c.act.new.out c.act.result c.requires.may
     c.act.ensures.found c.act.ensures.done c.act.ensures.spends

@@ -11,8 +11,8 @@ use Rattle.trdp_engine.proofs.datagram.take_all.Goals as goal
 
 pub loop-addressee-init : goal.loop-addressee-init
 loop-addressee-init c = record {
-  goes = goes_first (setup_of c.args.config.now)
-      (telegram_model c.args.telegram.now) c.args.globals.now c.args.store.now
+  goes = goes_first (setup_of c.args.setting.now.config.now)
+      (telegram_model c.args.telegram.now) c.args.setting.now.globals.now c.args.store.now
       c.args.out.now c.args.noted.now c.sound.ensures.sound c.requires.noted c.requires.room;
   room_is = refl;
   comparisons = λ b within. omega arith;
@@ -46,9 +46,10 @@ loop-addressee-preserved c =
     let lt = goes_within _ _ _ _ _ next in
     record {
       goes = goes_on _ _ _ _ _ _ _ next c.hand.ensures.acts;
-      room_is = room_stays (taking_act (setup_of c.args.config.now)
-          (telegram_model c.args.telegram.now) c.args.globals.now) _ _ c.loop-addressee.store
-          c.hand.new.store c.loop-addressee.out c.hand.new.out lt c.hand.ensures.acts
+      room_is = room_stays (taking_act (setup_of c.args.setting.now.config.now)
+          (telegram_model c.args.telegram.now) c.args.setting.now.globals.now) _ _
+          c.loop-addressee.store c.hand.new.store c.loop-addressee.out c.hand.new.out lt
+          c.hand.ensures.acts
           ∙ c.loop-addressee.invariant.room_is;
       comparisons = λ b within.
           one_taker c.hand.new.counts.comparisons
@@ -88,15 +89,16 @@ pub returns-clause-count : goal.returns-clause-count
 returns-clause-count c =
     let end = goes_end _ _ _ c.args.noted.now c.loop-addressee.addressee-index
     c.loop-addressee-test.false c.loop-addressee.invariant.goes in
-    reached_count (λ slot. handed (setup_of c.args.config.now) slot c.args.globals.now
-    (telegram_model c.args.telegram.now)) c.args.store.now c.loop-addressee.store end.0
+    reached_count (λ slot. handed (setup_of c.args.setting.now.config.now) slot
+    c.args.setting.now.globals.now (telegram_model c.args.telegram.now)) c.args.store.now
+    c.loop-addressee.store end.0
 
 pub returns-clause-parts : goal.returns-clause-parts
 returns-clause-parts c =
     let end = goes_end _ _ _ c.args.noted.now c.loop-addressee.addressee-index
     c.loop-addressee-test.false c.loop-addressee.invariant.goes in
-    reached_parts (λ slot. handed (setup_of c.args.config.now) slot c.args.globals.now
-    (telegram_model c.args.telegram.now)) (slots_of c.args.store.now)
+    reached_parts (λ slot. handed (setup_of c.args.setting.now.config.now) slot
+    c.args.setting.now.globals.now (telegram_model c.args.telegram.now)) (slots_of c.args.store.now)
     (slots_of c.loop-addressee.store) c.args.out.now.records c.loop-addressee.out.records
     end.0 end.1
 
@@ -104,6 +106,6 @@ pub returns-clause-appends : goal.returns-clause-appends
 returns-clause-appends c =
     let end = goes_end _ _ _ c.args.noted.now c.loop-addressee.addressee-index
     c.loop-addressee-test.false c.loop-addressee.invariant.goes in
-    reached_appends (λ slot. handed (setup_of c.args.config.now) slot c.args.globals.now
-    (telegram_model c.args.telegram.now)) (slots_of c.args.store.now)
+    reached_appends (λ slot. handed (setup_of c.args.setting.now.config.now) slot
+    c.args.setting.now.globals.now (telegram_model c.args.telegram.now)) (slots_of c.args.store.now)
     c.args.out.now.records c.loop-addressee.out.records end.1

@@ -10,8 +10,9 @@ use Rattle.trdp_engine.proofs.datagram.take_all.Given as goal
 -- those that were noted and haven't had the telegram lead to what it makes of the slots
 abbrev pub invariant-loop-addressee : goal.invariant-loop-addressee
 invariant-loop-addressee l = record {
-  goes : Goes (aim_of (setup_of l.config) (telegram_model l.telegram) l.globals
-      (slots_of l.fn.store) l.fn.out.records) l.store l.out (drop l.addressee-index l.noted);
+  goes : Goes (aim_of (setup_of l.setting.config.now) (telegram_model l.telegram)
+      l.setting.globals.now (slots_of l.fn.store) l.fn.out.records) l.store l.out
+      (drop l.addressee-index l.noted);
   room_is : room_of l.store ≡ room_of l.fn.store;
   comparisons : (b : ℕ) → room_of l.fn.store < 2 ^ b
       → l.counts.comparisons ≤ l.fn.counts.comparisons + l.addressee-index * (2 * b + 2);
