@@ -85,7 +85,8 @@ pub sends_request : (table table_then : TableState)
     → out_between.records ≡ out.records ++ labelled s (Answers answer ∷ []) → out_then.records
     ≡ out_between.records ++ labelled s (Sends Md terms.to (md_bytes head payload) ∷ [])
     → Becomes s (opened_with (request_refusal (slot_at s table) globals terms payload)
-    (slot_at s table) (Caller (new_caller terms payload globals.now)) (request_sent terms payload ∷ []))
+    (slot_at s table) (Caller (new_caller terms payload globals.now))
+    (request_sent terms payload ∷ []))
     table table_then out out_then
 sends_request table table_then s globals terms
     payload caller answer head out out_between out_then none made same is others told sent =

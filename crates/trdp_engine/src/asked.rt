@@ -17,13 +17,12 @@ use crate::deed::{Deed, Left};
 use crate::fault::Refusal;
 use crate::outbox::Outbox;
 use crate::publishers::put;
-use crate::repliers::{query, reply, reply_error};
+use crate::repliers::{Inquiry, query, reply, reply_error};
 use crate::requesters::pull;
 use crate::row::PlainAnswer;
+use crate::setting::Setting;
 use crate::subscriptions::show;
 use trdp_base::Place;
-use trdp_dataset::NodeConfig;
-use trdp_filter::Globals;
 use trdp_table::{AnyObject, Kind};
 
 /// What a call asks of one object.
@@ -69,10 +68,8 @@ pub enum Asked<'a> {
 pub struct Asking<'a, 'b> {
     /// What is asked.
     pub asked: &'a Asked<'b>,
-    /// The datasets.
-    pub config: &'a NodeConfig,
-    /// The time and the topology counts.
-    pub globals: &'a Globals,
+    /// The datasets, the time and the topology counts.
+    pub setting: Setting<'a>,
 }
 
 /// Records whether an object ends: one of another kind refuses.
@@ -113,27 +110,28 @@ fn abort(object: &AnyObject, s: u16, out: &mut Outbox) -> Left
 fn ask(
     object: &mut AnyObject,
     handle: u32,
-    asked: &Asked<'_>,
-    config: &NodeConfig,
-    globals: &Globals,
+    asking: &Asking<'_, '_>,
     s: u16,
     out: &mut Outbox,
 ) -> Left
-    requires now { globals.now.now ≤ last_moment }
-    requires room { HasRoom out.old (asked_room asked.now) }
+    requires now { asking.now.setting.globals.now.now ≤ last_moment }
+    requires room { HasRoom out.old (asked_room asking.now.asked.now) }
     ensures left { left_of result object.new
-        ≡ (asked_act (setup_of config.now) globals.entry.now handle asked.now object.old).left }
+        ≡ (asked_act (setup_of asking.now.setting.config.now) asking.now.setting.globals.now
+        handle asking.now.asked.now object.old).left }
     ensures records { out.new.records
         ≡ out.old.records
         ++ labelled s
-        (asked_act (setup_of config.now) globals.entry.now handle asked.now object.old).records }
+        (asked_act (setup_of asking.now.setting.config.now) asking.now.setting.globals.now
+        handle asking.now.asked.now object.old).records }
     ensures kind { kind_of object.new ≡ kind_of object.old }
     ensures sought { com_of object.new ≡ com_of object.old }
     ensures session { session_of object.new ≡ session_of object.old }
 {
-    match *asked {
+    let globals = asking.setting.globals;
+    match *asking.asked {
         Asked::Put(bytes) => {
-            let answer = put(object, config, bytes);
+            let answer = put(object, asking.setting.config, bytes);
             out.push_plain_answer(s, answer);
         }
         Asked::Get => show(object, s, out),
@@ -149,7 +147,15 @@ fn ask(
             status,
             timeout,
             payload,
-        } => query(object, com_id, status, timeout, payload, globals, s, out),
+        } => {
+            let inquiry = Inquiry {
+                com_id,
+                status,
+                timeout,
+                payload,
+            };
+            query(object, &inquiry, globals, s, out);
+        }
         Asked::ReplyError { com_id, status } => {
             return reply_error(object, com_id, status, s, out);
         }
@@ -169,24 +175,16 @@ impl Deed for Asking<'_, '_> {
     ghost use Rattle.trdp_engine.specs.Rooms.{HasRoom, asked_room};
 
     ghost act = { λ d handle object.
-        asked_act (setup_of d.config.now) d.globals.now handle d.asked.now object };
+        asked_act (setup_of d.setting.config.now) d.setting.globals.now handle d.asked.now object };
 
     ghost may = { λ d _ _ out.
-        (d.globals.now.now ≤ last_moment) × HasRoom out (asked_room d.asked.now) };
+        (d.setting.globals.now.now ≤ last_moment) × HasRoom out (asked_room d.asked.now) };
 
     ghost spends = { λ _ _ _ _. Unit {0} };
 
     ghost ends_still = { λ _. ⊥ };
 
     fn on(&self, object: &mut AnyObject, handle: u32, s: u16, out: &mut Outbox) -> Left {
-        ask(
-            object,
-            handle,
-            self.asked,
-            self.config,
-            self.globals,
-            s,
-            out,
-        )
+        ask(object, handle, self, s, out)
     }
 }

@@ -27,8 +27,9 @@ use crate::outbox::Outbox;
 use crate::record::Reply;
 use crate::row::{Form, PlainAnswer};
 use crate::sessions::has_session;
+use crate::setting::Setting;
 use crate::store::Store;
-use std::alloc::{AllocError, Global};
+use std::alloc::AllocError;
 use trdp_base::Place;
 use trdp_filter::{Globals, Telegram, topo_valid};
 use trdp_head::{MD_PAYLOAD_MAX, MdView};
@@ -89,29 +90,29 @@ fn request_refusal(
 pub fn request(
     store: &mut Store,
     s: u16,
-    alloc: Global,
     terms: &CallerTerms,
     payload: &[u8],
-    globals: &Globals,
+    setting: &Setting<'_>,
     out: &mut Outbox,
 ) -> Result<(), AllocError>
     requires slot { s < length store.old }
-    requires now { globals.now.now ≤ last_moment }
+    requires now { setting.now.globals.now.now ≤ last_moment }
     requires room { HasRoom out.old (message_room (length payload.now)) }
     ensures becomes { OnOk result (Becomes s
         (opened_with
-        (request_refusal (slot_at s store.old) globals.entry.now terms.now payload.now)
-        (slot_at s store.old) (Asking (new_caller terms.now payload.now globals.entry.now.now))
+        (request_refusal (slot_at s store.old) setting.now.globals.now terms.now payload.now)
+        (slot_at s store.old)
+        (Asking (new_caller terms.now payload.now setting.now.globals.now.now))
         (request_sent terms.now payload.now ∷ [])) store.old store.new out.old out.new) }
     ensures kept { OnErr result (store.new ≡ store.old) }
     ensures same { OnErr result (out.new ≡ out.old) }
     ensures makes { OnErr result (makes_buffer (RequestCall terms.now payload.now) ≡ true) }
 {
-    if let Some(refusal) = request_refusal(store, s, terms, payload, globals) {
+    if let Some(refusal) = request_refusal(store, s, terms, payload, setting.globals) {
         out.push_plain_answer(s, PlainAnswer::Refused(refusal));
         return Ok(());
     }
-    let caller = Caller::new(alloc, terms, payload, globals.now)?;
+    let caller = Caller::new(setting.alloc, terms, payload, setting.globals.now)?;
     let answer = open(store, s, AnyObject::Caller(caller), &mut Counts::none());
     out.push_plain_answer(s, answer);
     out.push_md(s, terms.to, &request_head(terms, 0), payload);

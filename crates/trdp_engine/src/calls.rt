@@ -26,12 +26,11 @@ use crate::publishers::publish;
 use crate::requesters::open_pull;
 use crate::room::Room;
 use crate::row::PlainAnswer;
+use crate::setting::Setting;
 use crate::store::Store;
 use crate::subscriptions::subscribe;
 use crate::value::{SpellFault, spell};
-use std::alloc::{AllocError, Global};
-use trdp_dataset::NodeConfig;
-use trdp_filter::Globals;
+use std::alloc::AllocError;
 use trdp_head::PD_PAYLOAD_MAX;
 use trdp_marshal::Item;
 use trdp_table::Kind;
@@ -100,23 +99,26 @@ fn asked_of<'a>(call: &Call<'a>) -> Option<(u32, Asked<'a>)>
 fn serve_slot(
     store: &mut Store,
     s: u16,
-    alloc: Global,
-    config: &NodeConfig,
     call: &Call<'_>,
-    globals: &Globals,
+    setting: &Setting<'_>,
     out: &mut Outbox,
 ) -> Result<(), AllocError>
     requires slot { s < length store.old }
-    requires now { globals.now.now ≤ last_moment }
+    requires now { setting.now.globals.now.now ≤ last_moment }
     requires none { concerns_no_object (call_model call.now) ≡ true }
     requires room { HasRoom out.old (call_room (call_model call.now)) }
     ensures becomes { OnOk result (Becomes s
-        (called (setup_of config.now) (slot_at s store.old) globals.entry.now
+        (called (setup_of setting.now.config.now) (slot_at s store.old) setting.now.globals.now
         (call_model call.now)) store.old store.new out.old out.new) }
     ensures kept { OnErr result (store.new ≡ store.old) }
     ensures same { OnErr result (out.new ≡ out.old) }
     ensures makes { OnErr result (makes_buffer (call_model call.now) ≡ true) }
 {
+    let Setting {
+        alloc,
+        config,
+        globals,
+    } = *setting;
     let answer = match *call {
         Call::Publish(terms) => publish(store, s, alloc, config, &terms, globals)?,
         Call::Subscribe(terms) => subscribe(store, s, alloc, config, &terms, globals)?,
@@ -127,7 +129,7 @@ fn serve_slot(
             return Ok(());
         }
         Call::Request { terms, payload } => {
-            request(store, s, alloc, &terms, payload, globals, out)?;
+            request(store, s, &terms, payload, setting, out)?;
             return Ok(());
         }
         _ => return Ok(()),
@@ -140,11 +142,11 @@ fn serve_slot(
 /// there is none, the call is refused.
 fn ask(store: &mut Store, s: u16, handle: u32, asking: &Asking<'_, '_>, out: &mut Outbox)
     requires slot { s < length store.old }
-    requires now { asking.now.globals.now.now ≤ last_moment }
+    requires now { asking.now.setting.globals.now.now ≤ last_moment }
     requires room { HasRoom out.old (asked_room asking.now.asked.now) }
     ensures { Becomes s
         (at_object (slot_at s store.old) handle
-        (asked_act (setup_of asking.now.config.now) asking.now.globals.now handle
+        (asked_act (setup_of asking.now.setting.config.now) asking.now.setting.globals.now handle
         asking.now.asked.now)) store.old store.new out.old out.new }
 {
     if store.act(s, handle, asking, out).is_none() {
@@ -159,16 +161,14 @@ fn ask(store: &mut Store, s: u16, handle: u32, asking: &Asking<'_, '_>, out: &mu
 pub fn serve(
     store: &mut Store,
     s: u16,
-    alloc: Global,
-    config: &NodeConfig,
     call: &Call<'_>,
-    globals: &Globals,
+    setting: &Setting<'_>,
     out: &mut Outbox,
 ) -> Result<(), AllocError>
     requires slot { s < length store.old }
-    requires now { globals.now.now ≤ last_moment }
+    requires now { setting.now.globals.now.now ≤ last_moment }
     ensures becomes { OnOk result (Becomes s
-        (called (setup_of config.now) (slot_at s store.old) globals.entry.now
+        (called (setup_of setting.now.config.now) (slot_at s store.old) setting.now.globals.now
         (call_model call.now)) store.old store.new out.old out.new) }
     ensures kept { OnErr result (store.new ≡ store.old) }
     ensures unrecorded { OnErr result (out.new.records ≡ out.old.records) }
@@ -180,13 +180,12 @@ pub fn serve(
     if let Some((handle, asked)) = asked_of(call) {
         let asking = Asking {
             asked: &asked,
-            config,
-            globals,
+            setting: *setting,
         };
         ask(store, s, handle, &asking, out);
         return Ok(());
     }
-    serve_slot(store, s, alloc, config, call, globals, out)
+    serve_slot(store, s, call, setting, out)
 }
 
 /// The bytes of an item as a value of the object of that handle in slot `s`.
@@ -197,27 +196,26 @@ pub fn serve(
 fn spelled(
     store: &Store,
     s: u16,
-    alloc: Global,
-    config: &NodeConfig,
     handle: u32,
     item: &Item,
+    setting: &Setting<'_>,
 ) -> Result<Vec<u8>, SpellFault>
     requires { s < length store.now }
     ensures bytes { IfOk result
-        (λ bytes. bytes.items ≡ item_bytes (setup_of config.now) (model_of item.now)
+        (λ bytes. bytes.items ≡ item_bytes (setup_of setting.now.config.now) (model_of item.now)
         (entry_of handle (slot_at s store.now).objects)) }
     ensures spelled { IfOk result
         (λ bytes.
-        item_refusal (setup_of config.now) (model_of item.now)
+        item_refusal (setup_of setting.now.config.now) (model_of item.now)
         (entry_of handle (slot_at s store.now).objects) ≡ None) }
     ensures refused { IfErr result
         (IsRefusedAs
-        (item_refusal (setup_of config.now) (model_of item.now)
+        (item_refusal (setup_of setting.now.config.now) (model_of item.now)
         (entry_of handle (slot_at s store.now).objects))) }
 {
     match object_of(store, s, handle) {
         None => Err(SpellFault::Refused(Refusal::NoHandle)),
-        Some(object) => spell(alloc, config, object, item),
+        Some(object) => spell(setting.alloc, setting.config, object, item),
     }
 }
 
@@ -229,24 +227,22 @@ fn spelled(
 pub fn put_value(
     store: &mut Store,
     s: u16,
-    alloc: Global,
-    config: &NodeConfig,
     handle: u32,
     item: &Item,
-    globals: &Globals,
+    setting: &Setting<'_>,
     out: &mut Outbox,
 ) -> Result<(), AllocError>
     requires slot { s < length store.old }
-    requires now { globals.now.now ≤ last_moment }
+    requires now { setting.now.globals.now.now ≤ last_moment }
     ensures becomes { OnOk result (Becomes s
-        (valued (setup_of config.now) (slot_at s store.old) handle (model_of item.now)) store.old
-        store.new out.old out.new) }
+        (valued (setup_of setting.now.config.now) (slot_at s store.old) handle
+        (model_of item.now)) store.old store.new out.old out.new) }
     ensures kept { OnErr result (store.new ≡ store.old) }
     ensures unrecorded { OnErr result (out.new.records ≡ out.old.records) }
 {
     store.sound();
     out.reserve(2, PD_PAYLOAD_MAX)?;
-    match spelled(store, s, alloc, config, handle, item) {
+    match spelled(store, s, handle, item, setting) {
         Err(SpellFault::NoMemory) => Err(AllocError),
         Err(SpellFault::Refused(refusal)) => {
             out.push_plain_answer(s, PlainAnswer::Refused(refusal));
@@ -256,8 +252,7 @@ pub fn put_value(
             let asked = Asked::Put(&bytes);
             let asking = Asking {
                 asked: &asked,
-                config,
-                globals,
+                setting: *setting,
             };
             ask(store, s, handle, &asking, out);
             Ok(())

@@ -288,15 +288,12 @@ impl Node {
         if usize::from(s) >= self.store.slots() {
             return Err(NodeFault::NoSlot);
         }
-        serve(
-            &mut self.store,
-            s,
-            self.alloc,
-            &self.config,
-            call,
-            &self.globals,
-            out,
-        )?;
+        let setting = Setting {
+            alloc: self.alloc,
+            config: &self.config,
+            globals: &self.globals,
+        };
+        serve(&mut self.store, s, call, &setting, out)?;
         self.counts = Counts::none();
         Ok(())
     }
@@ -382,16 +379,12 @@ impl Node {
         if usize::from(slot) >= self.store.slots() {
             return Err(NodeFault::NoSlot);
         }
-        put_value(
-            &mut self.store,
-            slot,
+        let setting = Setting {
             alloc,
-            &self.config,
-            handle,
-            item,
-            &self.globals,
-            out,
-        )?;
+            config: &self.config,
+            globals: &self.globals,
+        };
+        put_value(&mut self.store, slot, handle, item, &setting, out)?;
         self.counts = Counts::none();
         Ok(())
     }

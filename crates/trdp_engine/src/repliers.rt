@@ -23,6 +23,19 @@ use trdp_head::{MD_PAYLOAD_MAX, MdHead};
 use trdp_md::{Replier, Stage};
 use trdp_table::AnyObject;
 
+/// A query as a call asks for it; one that can't be sent is refused.
+#[derive(Clone, Copy)]
+pub struct Inquiry<'a> {
+    /// The comId that it goes under.
+    pub com_id: u32,
+    /// Its status; none below 0 is sent.
+    pub status: i32,
+    /// Within how many microseconds it is to be confirmed; none below 1,000 is sent.
+    pub timeout: u32,
+    /// What it carries; no more than 65,388 bytes are sent.
+    pub payload: &'a [u8],
+}
+
 /// Why a replier doesn't reply.
 fn reply_refusal(replier: &Replier, status: i32, payload: &[u8]) -> Option<Refusal>
     ensures { result ≡ reply_refusal replier.now status payload.now }
@@ -117,26 +130,31 @@ pub fn reply(
 /// Lets the object reply by a query, and records what it gives.
 pub fn query(
     object: &mut AnyObject,
-    com_id: u32,
-    status: i32,
-    timeout: u32,
-    payload: &[u8],
+    inquiry: &Inquiry<'_>,
     globals: &Globals,
     s: u16,
     out: &mut Outbox,
 )
     requires now { globals.now.now ≤ last_moment }
-    requires room { HasRoom out.old (message_room (length payload.now)) }
+    requires room { HasRoom out.old (message_room (length inquiry.now.payload.now)) }
     ensures left { Some object.new
-        ≡ (queries globals.entry.now.now com_id status timeout payload.now object.old).left }
+        ≡ (queries globals.entry.now.now inquiry.now.com_id inquiry.now.status
+        inquiry.now.timeout inquiry.now.payload.now object.old).left }
     ensures records { out.new.records
         ≡ out.old.records
         ++ labelled s
-        (queries globals.entry.now.now com_id status timeout payload.now object.old).records }
+        (queries globals.entry.now.now inquiry.now.com_id inquiry.now.status
+        inquiry.now.timeout inquiry.now.payload.now object.old).records }
     ensures kind { kind_of object.new ≡ kind_of object.old }
     ensures sought { com_of object.new ≡ com_of object.old }
     ensures session { session_of object.new ≡ session_of object.old }
 {
+    let Inquiry {
+        com_id,
+        status,
+        timeout,
+        payload,
+    } = *inquiry;
     let AnyObject::Replier(replier) = object else {
         out.push_plain_answer(s, PlainAnswer::Refused(Refusal::WrongKind));
         return;

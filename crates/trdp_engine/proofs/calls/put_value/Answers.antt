@@ -6,7 +6,7 @@ use Rattle.trdp_engine.proofs.calls.put_value.Goals as goal
 
 pub returns-in-Err-Refused-clause-becomes : goal.returns-in-Err-Refused-clause-becomes
 returns-in-Err-Refused-clause-becomes c =
-    asked_refused (setup_of c.args.config.now)
+    asked_refused (setup_of c.args.setting.now.config.now)
     (model_of c.args.item.now) c.args.store.now c.args.s c.args.handle
     c.in-Err-Refused.refusal c.args.out.now c.push_plain_answer.new.self c.requires.slot
     (rising c.args.store.now c.args.s c.sound.ensures.sound)
