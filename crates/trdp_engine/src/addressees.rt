@@ -58,36 +58,55 @@ fn part_of(telegram: &Telegram<'_>) -> Option<(SessionId, Role)>
     }
 }
 
-/// Notes the object of slot `s` that is in the telegram's session in that role, if the telegram is
-/// for it, behind what is noted, and answers the room for what it may give.
+/// A message that an object awaits.
+#[derive(Clone, Copy)]
+struct Awaited<'a, 'b> {
+    /// The session of the object.
+    session: SessionId,
+    /// What it is there.
+    role: Role,
+    /// The message.
+    telegram: &'a Telegram<'b>,
+    /// The time, the topology counts and the groups that are led.
+    globals: &'a Globals,
+}
+
+/// Notes the object of slot `s` that awaits the message, if it is for it, behind what is noted, and
+/// answers the room for what it may give.
 fn note_part(
     store: &Store,
     s: u16,
-    session: SessionId,
-    role: Role,
-    telegram: &Telegram<'_>,
-    globals: &Globals,
+    awaited: &Awaited<'_, '_>,
     noted: &mut Vec<Addressee>,
     counts: &mut Counts,
 ) -> Room
     requires slot { s < length store.now }
-    requires part { part_of (telegram_model telegram.now) ≡ Some (session, role) }
+    requires part { part_of (telegram_model awaited.now.telegram.now)
+        ≡ Some (awaited.now.session, awaited.now.role) }
     requires capacity { vec_len noted.old < vec_capacity noted.old }
     ensures noted { noted.new.items ≡ noted.old.items ++ noted_as s
-        (acting (telegram_model telegram.now) globals.entry.now (slot_at s store.now).objects) }
+        (acting (telegram_model awaited.now.telegram.now) awaited.now.globals.now
+        (slot_at s store.now).objects) }
     ensures room { result ≡ entries_room
-        (acting (telegram_model telegram.now) globals.entry.now (slot_at s store.now).objects) }
+        (acting (telegram_model awaited.now.telegram.now) awaited.now.globals.now
+        (slot_at s store.now).objects) }
     ensures rows { result.rows ≤ room_rows_limit }
     ensures bytes { result.bytes ≤ room_bytes_limit }
     ensures capacity { vec_capacity noted.new ≡ vec_capacity noted.old }
     ensures length { vec_len noted.new ≤ vec_len noted.old + 1 }
     ensures few { vec_len noted.new ≤ vec_len noted.old
-        + meant_in (telegram_model telegram.now) (slot_at s store.now).objects }
+        + meant_in (telegram_model awaited.now.telegram.now) (slot_at s store.now).objects }
     ensures comparisons { counts.new.comparisons ≡ counts.old.comparisons }
     ensures tests { counts.new.tests ≤ counts.old.tests
-        + meant_in (telegram_model telegram.now) (slot_at s store.now).objects }
+        + meant_in (telegram_model awaited.now.telegram.now) (slot_at s store.now).objects }
     ensures look_ups { counts.new.look_ups ≤ counts.old.look_ups + 1 }
 {
+    let Awaited {
+        session,
+        role,
+        telegram,
+        globals,
+    } = *awaited;
     store.sound();
     counts.looked_up();
     let Some(handle) = store.handle_in(s, session, role) else {
@@ -190,37 +209,37 @@ fn note_run(
     room
 }
 
-/// Notes in each slot the object that is in the telegram's session in that role, if the telegram
-/// is for it, and answers the room for what they may give.
+/// Notes in each slot the object that awaits the message, if it is for it, and answers the room for
+/// what they may give.
 fn note_parts(
     store: &Store,
-    session: SessionId,
-    role: Role,
-    telegram: &Telegram<'_>,
-    globals: &Globals,
+    awaited: &Awaited<'_, '_>,
     noted: &mut Vec<Addressee>,
     counts: &mut Counts,
 ) -> Room
     requires capacity { 16 * object_limit ≤ vec_capacity noted.old }
-    requires part { part_of (telegram_model telegram.now) ≡ Some (session, role) }
+    requires part { part_of (telegram_model awaited.now.telegram.now)
+        ≡ Some (awaited.now.session, awaited.now.role) }
     ensures noted { noted.new.items
-        ≡ noted_from 0 (telegram_model telegram.now) globals.entry.now (slots_of store.now) }
+        ≡ noted_from 0 (telegram_model awaited.now.telegram.now) awaited.now.globals.now
+        (slots_of store.now) }
     ensures room { result ≡ entries_room
-        (flat_map (λ slot. acting (telegram_model telegram.now) globals.entry.now slot.objects)
+        (flat_map (λ slot.
+        acting (telegram_model awaited.now.telegram.now) awaited.now.globals.now slot.objects)
         (slots_of store.now)) }
     ensures capacity { vec_capacity noted.new ≡ vec_capacity noted.old }
     ensures few { vec_len noted.new
-        ≤ meant_of (telegram_model telegram.now) (slots_of store.now) }
+        ≤ meant_of (telegram_model awaited.now.telegram.now) (slots_of store.now) }
     ensures comparisons { counts.new.comparisons ≡ counts.old.comparisons }
     ensures tests { counts.new.tests
-        ≤ counts.old.tests + meant_of (telegram_model telegram.now) (slots_of store.now) }
+        ≤ counts.old.tests
+        + meant_of (telegram_model awaited.now.telegram.now) (slots_of store.now) }
     ensures look_ups { counts.new.look_ups ≤ counts.old.look_ups + length store.now }
 {
     noted.clear();
     let mut room = Room::none();
     for s in 0..store.slots() {
-        let slot = s as u16;
-        let own = note_part(store, slot, session, role, telegram, globals, noted, counts);
+        let own = note_part(store, s as u16, awaited, noted, counts);
         room = room.plus(own);
     }
     room
@@ -321,7 +340,13 @@ pub fn note_all(
         Telegram::Md { .. } => match part_of(telegram) {
             None => note_hearers(store, telegram, globals, noted, counts),
             Some((session, role)) => {
-                note_parts(store, session, role, telegram, globals, noted, counts)
+                let awaited = Awaited {
+                    session,
+                    role,
+                    telegram,
+                    globals,
+                };
+                note_parts(store, &awaited, noted, counts)
             }
         },
     }

@@ -14,29 +14,36 @@ returns-in_default-clause-noted c =
     sym (append-nil c.args.noted.now.items)
     ∙ ap (λ (es : List Entry). c.args.noted.now.items ++ noted_as c.args.s es)
     (sym
-    (acts_none c.args.store.now c.args.s (telegram_model c.args.telegram.now) c.args.globals.now
-    (c.args.session, c.args.role) c.requires.part c.in_default.ensures.alone))
+    (acts_none c.args.store.now c.args.s (telegram_model c.args.awaited.now.telegram.now)
+    c.args.awaited.now.globals.now
+    (c.args.awaited.now.session, c.args.awaited.now.role) c.requires.part
+    c.in_default.ensures.alone))
 
 pub returns-in_default-clause-room : goal.returns-in_default-clause-room
 returns-in_default-clause-room c =
     c.none.ensures
     ∙ ap entries_room (sym
-    (acts_none c.args.store.now c.args.s (telegram_model c.args.telegram.now) c.args.globals.now
-    (c.args.session, c.args.role) c.requires.part c.in_default.ensures.alone))
+    (acts_none c.args.store.now c.args.s (telegram_model c.args.awaited.now.telegram.now)
+    c.args.awaited.now.globals.now
+    (c.args.awaited.now.session, c.args.awaited.now.role) c.requires.part
+    c.in_default.ensures.alone))
 
 pub returns-in_default-object_of-clause-noted : goal.returns-in_default-object_of-clause-noted
 returns-in_default-object_of-clause-noted c =
     sym (append-nil c.args.noted.now.items)
     ∙ ap (λ (es : List Entry). c.args.noted.now.items ++ noted_as c.args.s es)
-    (sym (acts_gone c.args.store.now c.args.s c.in-Some.handle (telegram_model c.args.telegram.now)
-    c.args.globals.now (c.args.session, c.args.role) c.sound.ensures.sound
+    (sym (acts_gone c.args.store.now c.args.s c.in-Some.handle
+    (telegram_model c.args.awaited.now.telegram.now)
+    c.args.awaited.now.globals.now (c.args.awaited.now.session, c.args.awaited.now.role)
+    c.sound.ensures.sound
     c.requires.part c.in-Some.ensures.alone c.in_default-object_of.ensures))
 
 pub returns-in_default-object_of-clause-room : goal.returns-in_default-object_of-clause-room
 returns-in_default-object_of-clause-room c =
     c.none-in_default-object_of.ensures
-    ∙ ap entries_room (sym (acts_gone c.args.store.now c.args.s c.in-Some.handle (telegram_model
-    c.args.telegram.now) c.args.globals.now (c.args.session, c.args.role) c.sound.ensures.sound
+    ∙ ap entries_room (sym (acts_gone c.args.store.now c.args.s c.in-Some.handle
+    (telegram_model c.args.awaited.now.telegram.now) c.args.awaited.now.globals.now
+    (c.args.awaited.now.session, c.args.awaited.now.role) c.sound.ensures.sound
     c.requires.part c.in-Some.ensures.alone c.in_default-object_of.ensures))
 
 pub returns-then-not-is_for-clause-noted : goal.returns-then-not-is_for-clause-noted
@@ -44,7 +51,8 @@ returns-then-not-is_for-clause-noted c =
     sym (append-nil c.args.noted.now.items)
     ∙ ap (λ (es : List Entry). c.args.noted.now.items ++ noted_as c.args.s es)
     (sym (acts_not c.args.store.now c.args.s c.in-Some.handle
-    (telegram_model c.args.telegram.now) c.args.globals.now (c.args.session, c.args.role)
+    (telegram_model c.args.awaited.now.telegram.now) c.args.awaited.now.globals.now
+    (c.args.awaited.now.session, c.args.awaited.now.role)
     c.in-Some-object_of.object.now c.sound.ensures.sound c.requires.part c.in-Some.ensures.alone
     c.in-Some-object_of.ensures (sym c.is_for.ensures.answer ∙ c.if-not-is_for.true)))
 
@@ -52,7 +60,8 @@ pub returns-then-not-is_for-clause-room : goal.returns-then-not-is_for-clause-ro
 returns-then-not-is_for-clause-room c =
     c.none-then-not-is_for.ensures
     ∙ ap entries_room (sym (acts_not c.args.store.now c.args.s c.in-Some.handle
-    (telegram_model c.args.telegram.now) c.args.globals.now (c.args.session, c.args.role)
+    (telegram_model c.args.awaited.now.telegram.now) c.args.awaited.now.globals.now
+    (c.args.awaited.now.session, c.args.awaited.now.role)
     c.in-Some-object_of.object.now c.sound.ensures.sound c.requires.part c.in-Some.ensures.alone
     c.in-Some-object_of.ensures (sym c.is_for.ensures.answer ∙ c.if-not-is_for.true)))
 
@@ -61,7 +70,8 @@ returns-clause-noted c =
     c.push_reserved.ensures.items
     ∙ ap (λ (xs : List Addressee). c.args.noted.now.items ++ xs)
     (sym (acts_it c.args.store.now c.args.s c.in-Some.handle
-    (telegram_model c.args.telegram.now) c.args.globals.now (c.args.session, c.args.role)
+    (telegram_model c.args.awaited.now.telegram.now) c.args.awaited.now.globals.now
+    (c.args.awaited.now.session, c.args.awaited.now.role)
     c.in-Some-object_of.object.now c.sound.ensures.sound c.requires.part c.in-Some.ensures.alone
     c.in-Some-object_of.ensures (sym c.is_for.ensures.answer ∙ c.if-not-is_for.false)).noted)
 
@@ -69,29 +79,33 @@ pub returns-clause-room : goal.returns-clause-room
 returns-clause-room c =
     c.of.ensures
     ∙ sym (acts_it c.args.store.now c.args.s c.in-Some.handle
-    (telegram_model c.args.telegram.now) c.args.globals.now (c.args.session, c.args.role)
+    (telegram_model c.args.awaited.now.telegram.now) c.args.awaited.now.globals.now
+    (c.args.awaited.now.session, c.args.awaited.now.role)
     c.in-Some-object_of.object.now c.sound.ensures.sound c.requires.part c.in-Some.ensures.alone
     c.in-Some-object_of.ensures (sym c.is_for.ensures.answer ∙ c.if-not-is_for.false)).room
 
 pub returns-then-not-is_for-clause-tests : goal.returns-then-not-is_for-clause-tests
 returns-then-not-is_for-clause-tests c =
     let one =
-    part_counted c.args.store.now c.args.s c.in-Some.handle (telegram_model c.args.telegram.now)
-    (c.args.session, c.args.role) c.requires.part c.in-Some.ensures.found in
+    part_counted c.args.store.now c.args.s c.in-Some.handle
+    (telegram_model c.args.awaited.now.telegram.now)
+    (c.args.awaited.now.session, c.args.awaited.now.role) c.requires.part c.in-Some.ensures.found in
     omega (arith, one, c.is_for.ensures.tests, c.looked_up.ensures.tests)
 
 pub returns-clause-tests : goal.returns-clause-tests
 returns-clause-tests c =
     let one =
-    part_counted c.args.store.now c.args.s c.in-Some.handle (telegram_model c.args.telegram.now)
-    (c.args.session, c.args.role) c.requires.part c.in-Some.ensures.found in
+    part_counted c.args.store.now c.args.s c.in-Some.handle
+    (telegram_model c.args.awaited.now.telegram.now)
+    (c.args.awaited.now.session, c.args.awaited.now.role) c.requires.part c.in-Some.ensures.found in
     omega (arith, one, c.is_for.ensures.tests, c.looked_up.ensures.tests)
 
 pub returns-clause-few : goal.returns-clause-few
 returns-clause-few c =
     let one =
-    part_counted c.args.store.now c.args.s c.in-Some.handle (telegram_model c.args.telegram.now)
-    (c.args.session, c.args.role) c.requires.part c.in-Some.ensures.found in
+    part_counted c.args.store.now c.args.s c.in-Some.handle
+    (telegram_model c.args.awaited.now.telegram.now)
+    (c.args.awaited.now.session, c.args.awaited.now.role) c.requires.part c.in-Some.ensures.found in
     let pushed = ap length c.push_reserved.ensures.items in
     let last : Addressee = record { slot = c.args.s; handle = c.in-Some.handle } in
     omega (arith, one, pushed, length-append c.args.noted.now.items (last ∷ []))

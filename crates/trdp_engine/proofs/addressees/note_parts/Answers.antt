@@ -13,12 +13,14 @@ loop-s-preserved c =
     omega (arith, c.loop-s-test.true, c.slots-s-end.ensures.count) in
     let lt : c.loop-s.s < length (slots_of c.args.store.now) =
     omega (arith, there, slots_length c.args.store.now) in
-    let left = meant_of-drop (telegram_model c.args.telegram.now)
+    let left = meant_of-drop (telegram_model c.args.awaited.now.telegram.now)
     (slots_of c.args.store.now) (slot_at c.loop-s.s c.args.store.now)
     c.loop-s.s lt (slot_there c.args.store.now c.loop-s.s there) in
     record {
-      notes = rw c.plus-room.ensures (notes_all_next (telegram_model c.args.telegram.now)
-          c.args.globals.now (slots_of c.args.store.now) (slot_at c.loop-s.s c.args.store.now)
+      notes = rw c.plus-room.ensures
+          (notes_all_next (telegram_model c.args.awaited.now.telegram.now)
+          c.args.awaited.now.globals.now (slots_of c.args.store.now)
+          (slot_at c.loop-s.s c.args.store.now)
           c.loop-s.noted.items c.note_part-own.new.noted.items c.loop-s.room
           c.note_part-own.result c.loop-s.s lt (slot_there c.args.store.now c.loop-s.s there)
           c.loop-s.invariant.notes c.note_part-own.ensures.noted c.note_part-own.ensures.room);
@@ -36,8 +38,8 @@ loop-s-preserved c =
 
 pub returns-clause-noted : goal.returns-clause-noted
 returns-clause-noted c =
-    notes_all_end_items (telegram_model c.args.telegram.now)
-    c.args.globals.now (slots_of c.args.store.now)
+    notes_all_end_items (telegram_model c.args.awaited.now.telegram.now)
+    c.args.awaited.now.globals.now (slots_of c.args.store.now)
     c.loop-s.noted.items c.loop-s.room c.loop-s.s (omega (
       arith,
       c.loop-s-test.false,
@@ -47,8 +49,8 @@ returns-clause-noted c =
 
 pub returns-clause-room : goal.returns-clause-room
 returns-clause-room c =
-    notes_all_end_room (telegram_model c.args.telegram.now)
-    c.args.globals.now (slots_of c.args.store.now)
+    notes_all_end_room (telegram_model c.args.awaited.now.telegram.now)
+    c.args.awaited.now.globals.now (slots_of c.args.store.now)
     c.loop-s.noted.items c.loop-s.room c.loop-s.s (omega (
       arith,
       c.loop-s-test.false,

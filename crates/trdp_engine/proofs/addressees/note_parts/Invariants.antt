@@ -11,15 +11,18 @@ use Rattle.trdp_engine.proofs.addressees.note_parts.Given as goal
 abbrev pub invariant-loop-s : goal.invariant-loop-s
 invariant-loop-s l = record {
   notes :
-      NotesAll (telegram_model l.telegram) l.globals (slots_of l.store) l.noted.items l.room l.s;
+      NotesAll (telegram_model l.awaited.telegram.now) l.awaited.globals.now (slots_of l.store)
+      l.noted.items l.room l.s;
   rows : l.room.rows ≤ room_rows_limit * l.s;
   bytes : l.room.bytes ≤ room_bytes_limit * l.s;
   capacity : vec_capacity l.noted ≡ vec_capacity l.fn.noted;
   length : vec_len l.noted ≤ l.s;
   comparisons : l.counts.comparisons ≡ l.fn.counts.comparisons;
-  tests : l.counts.tests + meant_of (telegram_model l.telegram) (drop l.s (slots_of l.store))
-      ≤ l.fn.counts.tests + meant_of (telegram_model l.telegram) (slots_of l.store);
+  tests : l.counts.tests + meant_of (telegram_model l.awaited.telegram.now)
+      (drop l.s (slots_of l.store))
+      ≤ l.fn.counts.tests + meant_of (telegram_model l.awaited.telegram.now) (slots_of l.store);
   look_ups : l.counts.look_ups ≤ l.fn.counts.look_ups + l.s;
-  few : vec_len l.noted + meant_of (telegram_model l.telegram) (drop l.s (slots_of l.store))
-      ≤ meant_of (telegram_model l.telegram) (slots_of l.store);
+  few : vec_len l.noted + meant_of (telegram_model l.awaited.telegram.now)
+      (drop l.s (slots_of l.store))
+      ≤ meant_of (telegram_model l.awaited.telegram.now) (slots_of l.store);
 }
