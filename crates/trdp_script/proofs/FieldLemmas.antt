@@ -28,6 +28,7 @@ use Rattle.trdp_base.specs.NumberText.{text_of_number}
 use Rattle.trdp_base.specs.Uris.{IsUri, IsUriText}
 use Rattle.trdp_base.specs.declared.place.Ip.{Ip}
 use Rattle.trdp_base.specs.declared.place.Place.{Place}
+use Rattle.trdp_script.specs.Pieces.{Lacks}
 use Rattle.trdp_script.specs.Words.{if_written, first_word, other_words, number_of_word, ip_shown}
 use Rattle.trdp_script.specs.Words.{ip_of_word, place_shown, place_of_word, bytes_shown}
 use Rattle.trdp_script.specs.Words.{bytes_of_word, IsBytesFault, are_bytes, is_uri, uri_of_word}
@@ -84,14 +85,9 @@ err_not_ok {A} {E} value fault e =
 pub ok_same : {A E : Type 0} (a b : A) → Path (Result A E) (Ok a) (Ok b) → a ≡ b
 ok_same a b e = cc
 
--- no byte of the list is that one
-unfoldable pub Lacks : ℕ → List ℕ → Type 0
-Lacks byte bytes = All (λ other. (other == byte) ≡ false) bytes
-
 -- no digit of a number is a dot or a colon
 pub number_lacks_byte : (byte number : ℕ) → number < 2 ^ 64
     → (byte < 48) ⊎ (57 < byte) → Lacks byte (text_of_number number)
-unfolding Lacks
 number_lacks_byte byte number small outside =
     All-from_get_or (λ other. (other == byte) ≡ false) (text_of_number number) 0 (λ k inside.
     let digit = digit_at (text_of_number number) k (decimal_is_IsNumeral number small).0.1 inside in
@@ -104,7 +100,6 @@ number_lacks_byte byte number small outside =
 dotted : (a b c d : List ℕ) → Lacks 46 a → Lacks 46 b → Lacks 46 c → Lacks 46 d
     → slice_split (λ byte. byte == 46) (a ++ 46 ∷ [] ++ b ++ 46 ∷ [] ++ c ++ 46 ∷ [] ++ d)
     ≡ a ∷ b ∷ c ∷ d ∷ []
-unfolding Lacks
 dotted a b c d no_a no_b no_c no_d =
     let dot : ℕ → Bool = λ byte. byte == 46 in
     let joined : a ++ 46 ∷ [] ++ b ++ 46 ∷ [] ++ c ++ 46 ∷ [] ++ d
@@ -159,7 +154,6 @@ ip_lacks word never =
 
 -- no byte of an address is a colon
 address_lacks_colon : (ip : Ip) → Lacks 58 (text_of_ip ip)
-unfolding Lacks
 address_lacks_colon ip =
     let number : (n : ℕ) → n < 256 → Lacks 58 (text_of_number n) =
     λ n low. number_lacks_byte 58 n (omega (arith, low)) (inr (omega arith)) in
@@ -173,7 +167,7 @@ address_lacks_colon ip =
 -- a written place shows it
 place_is_shown : (place : Place) → place.ip.0 < 2 ^ 32
     → place.port < 2 ^ 16 → place_shown (text_of_place place) ≡ place
-unfolding place_shown first_word other_words Lacks
+unfolding place_shown first_word other_words
 place_is_shown place small port =
     let colon : ℕ → Bool = λ byte. byte == 58 in
     let no_colon = number_lacks_byte 58 place.port (omega (arith, port)) (inr (omega arith)) in

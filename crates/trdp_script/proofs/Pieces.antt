@@ -28,7 +28,7 @@ midst_starts s w piece sound = record {
 -- one more line is taken
 pub midst_more : {old here : Script} (there : Script) {u v : Option (List ℕ)}
     (w : Option (List ℕ)) {piece rest : List ℕ} (before behind : List ℕ)
-    → Midst old here u v piece rest → IsSplit rest before behind
+    → Midst old here u v piece rest → IsSplit 10 rest before behind
     → Plays here there v w (before ++ 10 ∷ [])
     → IsSound there → there.number ≡ here.number + 1 → Midst old there u w piece behind
 midst_more {old} {here} there {u} {v} w {piece} {rest} before behind midst split plays sound next =
@@ -52,7 +52,7 @@ midst_more {old} {here} there {u} {v} w {piece} {rest} before behind midst split
 -- a line of the piece stops the script
 pub midst_stops : {old here : Script} (there : Script) {u v : Option (List ℕ)}
     (w : Option (List ℕ)) {piece rest : List ℕ} (before behind : List ℕ) (fault : ScriptFault)
-    → Midst old here u v piece rest → IsSplit rest before behind
+    → Midst old here u v piece rest → IsSplit 10 rest before behind
     → ((later : List ℕ) → Stops here there v w (before ++ 10 ∷ later) fault)
     → (later : List ℕ) → Stops old there u w (piece ++ later) fault
 midst_stops {old} {here} there {u} {v} w {piece} {rest} before

@@ -1,7 +1,7 @@
 -- Facts on lines at the control port of a slot and at the operator's port.
 use Rattle.std.proofs.Common.{◌≡◌, ℕ, ◌+◌, ◌^◌, ◌<◌, ◌≤◌, ◌==◌, nat_lt, Bool, true, false, List, []}
 use Rattle.std.proofs.Common.{◌∷◌, ◌++◌, length, Ok, Err, refl, sym, ap, ◌∙◌, inl, arith}
-use Rattle.std.proofs.Common.{length-append}
+use Rattle.std.proofs.Common.{length-append, take, Bor}
 use Rattle.std.proofs.Common.{Option, Some, None, Result, IfErr, if◌then◌else◌}
 use Rattle.std.specs.Option.{option_and_then}
 use Rattle.std.proofs.lemmas.Bool.Decides.{nat_tests}
@@ -14,18 +14,19 @@ use Rattle.trdp_engine.specs.Events.{CallIs, AddSlotIs}
 use Rattle.trdp_script.specs.Forms.{call_word, event_in, event_of_words, forms, has_keywords}
 use Rattle.trdp_script.specs.Forms.{role_form, topology_form, add_slot_form}
 use Rattle.trdp_script.specs.Words.{words_of, first_word, other_words, number_of_word}
+use Rattle.trdp_script.specs.WordsLeft.{words_at}
 use Rattle.trdp_script.specs.Lines.{Reads, event_or_fault, form_among, is_skipped, line_among}
 use Rattle.trdp_script.specs.Lines.{may_have, words_say}
 use Rattle.trdp_script.specs.PortLines.{call_line, control_line_of, operator_line_of, without_end}
 use Rattle.trdp_script.specs.declared.line.Line.{Line}
 use Rattle.trdp_script.specs.declared.fault.LineFault.{LineFault}
 use Rattle.trdp_script.specs.declared.fault.LineFault.TheVariants.{TooLong, Count, OutOfMemory}
-use Rattle.trdp_script.proofs.FieldLemmas.{Lacks, number_lacks_byte}
+use Rattle.trdp_script.proofs.FieldLemmas.{number_lacks_byte}
 
 -- the words of the line of a call
 call_words : (slot : ℕ) (text : List ℕ) → slot < 2 ^ 16
     → words_of (call_line slot text) ≡ call_word ∷ text_of_number slot ∷ words_of text
-unfolding words_of call_line Lacks
+unfolding words_of call_line
 call_words slot text small =
     let space : ℕ → Bool = λ byte. byte == 32 in
     let bare = λ (byte : ℕ). (byte == 32) ≡ false in
@@ -66,6 +67,16 @@ control_says slot digits text bytes shown small is some short =
     let tells : nat_lt 140000 (length (call_line slot text)) ≡ false =
     grind (arith, nat_tests, call_length slot text, ap length shown, short) in
     rw (sym is, some, tells, call_begins slot text, call_words slot text small, shown) refl
+
+-- the words that are cut behind `call` and the slot
+pub call_cut : (none one two all : List (Bor (List ℕ))) (call slot : Bor (List ℕ)) (text : List ℕ)
+    → none ≡ [] → one ≡ none ++ call ∷ [] → two ≡ one ++ slot ∷ []
+    → words_at all ≡ take 15 (words_at two ++ words_of text)
+    → words_at all ≡ take 15 (call.now ∷ slot.now ∷ words_of text)
+call_cut none one two all call slot text at_first then_one then_two cut =
+    cut ∙ ap (λ items. take 15 (words_at items ++ words_of text))
+    (then_two ∙ ap (λ items. items ++ slot ∷ [])
+    (then_one ∙ ap (λ items. items ++ call ∷ []) at_first))
 
 -- what a line can mean at the operator's port: topology counts, a role, a slot that is opened,
 -- nothing, or a fault

@@ -5,13 +5,10 @@ use Rattle.std.proofs.Common.{◌∙◌, ap, arith, append_assoc, append-nil, su
 use Rattle.std.specs.Prelude.{slice_get, slice_index, ◌==◌}
 use Rattle.std.specs.List.{flat_map}
 use Rattle.std.proofs.Math.Seq.{drop-cons, take-suc}
-use Rattle.std.proofs.lemmas.Bool.Decides.{nat_tests}
 use Rattle.std.proofs.lemmas.List.Concat.{flat_map-cons}
-use Rattle.std.proofs.lemmas.List.Elements.{All-push}
 use Rattle.std.proofs.lemmas.List.{drop_all}
 use Rattle.std.proofs.lemmas.Option.{slice_get_within, get_or_from_slice_get, slice_get-get_or}
 use Rattle.trdp_engine.specs.Records.{RecordModel}
-use Rattle.trdp_script.specs.Pieces.{IsBare}
 use Rattle.trdp_script.specs.SlotOrder.{IsRising}
 
 -- an element and those behind it
@@ -70,12 +67,3 @@ pub rising_all : (xs : List RecordModel) (i n s end : ℕ)
 rising_all xs i n s end past len =
     let within : length xs ≤ i = omega (arith, past, len) in
     rw (drop_all i xs within) tt
-
--- one more byte that is no newline
-pub bare_more : (bytes : List ℕ) (i : ℕ) → IsBare (take i bytes)
-    → i < length bytes → (slice_index bytes i ≡ 10 → ⊥) → IsBare (take (i + 1) bytes)
-bare_more bytes i bare within other =
-    let next : suc i ≡ i + 1 = omega arith in
-    let differs : (slice_index bytes i == 10) ≡ false = grind (arith, nat_tests) in
-    rw (← next, take-suc bytes i 0 within)
-    (All-push (λ b. (b == 10) ≡ false) (take i bytes) (slice_index bytes i) bare differs)

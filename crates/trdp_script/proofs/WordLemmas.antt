@@ -1,37 +1,62 @@
 -- Facts on the words of a line.
-use Rattle.std.proofs.Common.{◌≡◌, ◌≢◌, ℕ, ◌+◌, ◌==◌, false, List, [], ◌∷◌, ◌++◌, length, refl}
-use Rattle.std.proofs.Common.{arith}
-use Rattle.std.specs.Prelude.{All, count_by}
-use Rattle.std.proofs.lemmas.Bool.{ne_eqb}
-use Rattle.std.proofs.lemmas.List.Splits.{slice_split_at, slice_split_none, length-slice_split}
+use Rattle.std.proofs.Common.{◌≡◌, ℕ, ◌+◌, ◌<◌, ◌≤◌, ◌==◌, false, List, [], ◌∷◌, ◌++◌, length, refl}
+use Rattle.std.proofs.Common.{arith, take, map, ap, ◌∙◌, sym, append_assoc, Bor, length-append}
+use Rattle.std.proofs.lemmas.List.{take_all, length-map, map-append}
+use Rattle.std.proofs.Math.Seq.{take-append_seam}
+use Rattle.std.proofs.lemmas.Bool.Decides.{nat_tests}
+use Rattle.std.proofs.lemmas.List.Splits.{slice_split_at, slice_split_none}
+use Rattle.trdp_script.specs.Pieces.{Lacks, IsSplit}
 use Rattle.trdp_script.specs.Words.{words_of, first_word, other_words}
-
--- bytes that are no space fail the test for a space
-no_space : (word : List ℕ) → All (λ byte. byte ≢ 32) word → All (λ byte. (byte == 32) ≡ false) word
-no_space word none = λ k d inside. ne_eqb _ 32 (none k d inside)
+use Rattle.trdp_script.specs.WordsLeft.{words_at}
 
 -- what stands before the first space is the first word
-pub split_word : (text word behind : List ℕ) → text ≡ word ++ 32 ∷ behind
-    → All (λ byte. byte ≢ 32) word → words_of text ≡ word ∷ words_of behind
+split_word : (text word behind : List ℕ) → IsSplit 32 text word behind
+    → words_of text ≡ word ∷ words_of behind
 unfolding words_of
-split_word text word behind parts none =
-    rw parts (slice_split_at (λ byte. byte == 32) word 32 behind (no_space word none) refl)
+split_word text word behind split =
+    rw split.whole (slice_split_at (λ byte. byte == 32) word 32 behind split.bare refl)
 
 -- a text without a space is one word
-pub last_word : (text : List ℕ) → All (λ byte. byte ≢ 32) text → words_of text ≡ text ∷ []
+last_word : (text : List ℕ) → Lacks 32 text → words_of text ≡ text ∷ []
 unfolding words_of
-last_word text none = slice_split_none (λ byte. byte == 32) text (no_space text none)
+last_word text none = slice_split_none (λ byte. byte == 32) text none
 
-some_first : (words : List (List ℕ)) (n : ℕ) → length words ≡ n + 1
-    → words ≡ first_word words ∷ other_words words
-unfolding first_word other_words
-some_first [] n is = absurd (omega (arith, is))
-some_first (word ∷ words) n is = refl
+-- one more word
+words_more : (words words_then : List (Bor (List ℕ))) (word : Bor (List ℕ))
+    → words_then ≡ words ++ word ∷ [] → words_at words_then ≡ words_at words ++ word.now ∷ []
+words_more words words_then word more = ap words_at more ∙ map-append _ words (word ∷ [])
 
--- a text has a word
-pub some_word : (text : List ℕ)
-    → words_of text ≡ first_word (words_of text) ∷ other_words (words_of text)
-unfolding words_of
-some_word text =
-    some_first (words_of text) (count_by (λ byte. byte == 32) text)
-    (length-slice_split (λ byte. byte == 32) text)
+-- the word before a space is cut
+pub more_cut : (n : ℕ) (words words_then : List (Bor (List ℕ))) (word : Bor (List ℕ))
+    (rest behind : List ℕ) (all : List (List ℕ)) → words_then ≡ words ++ word ∷ []
+    → IsSplit 32 rest word.now behind → take n (words_at words ++ words_of rest) ≡ all
+    → take n (words_at words_then ++ words_of behind) ≡ all
+more_cut n words words_then word rest behind all more split before =
+    ap (take n) (ap (λ l. l ++ words_of behind) (words_more words words_then word more)
+    ∙ append_assoc (words_at words) (word.now ∷ []) (words_of behind)
+    ∙ ap (λ l. words_at words ++ l) (sym (split_word rest word.now behind split)))
+    ∙ before
+
+-- the word before the end is cut
+pub last_cut : (n : ℕ) (words words_then : List (Bor (List ℕ))) (rest : Bor (List ℕ))
+    (all : List (List ℕ)) → words_then ≡ words ++ rest ∷ [] → Lacks 32 rest.now
+    → length words ≤ n → (length words == n) ≡ false
+    → take n (words_at words ++ words_of rest.now) ≡ all → words_at words_then ≡ all
+last_cut n words words_then rest all more none within other before =
+    let below : length words < n = grind (arith, nat_tests, within, other) in
+    let one : length words_then ≡ length words + 1 =
+    ap length more ∙ length-append words (rest ∷ []) in
+    let len : length (words_at words_then) ≤ n =
+    omega (arith, length-map words_then (λ (w : Bor (List ℕ)). w.now), one, below) in
+    sym (take_all n (words_at words_then) len)
+    ∙ ap (take n) (words_more words words_then rest more
+    ∙ ap (λ l. words_at words ++ l) (sym (last_word rest.now none)))
+    ∙ before
+
+-- there is no room for more words
+pub full_cut : (n : ℕ) (words : List (Bor (List ℕ))) (rest : List ℕ) (all : List (List ℕ))
+    → length words ≡ n → take n (words_at words ++ words_of rest) ≡ all → words_at words ≡ all
+full_cut n words rest all full before =
+    sym (take-append_seam (words_at words) (words_of rest))
+    ∙ ap (λ k. take k (words_at words ++ words_of rest)) (length-map words (λ (w : Bor (List ℕ)). w.now) ∙ full)
+    ∙ before

@@ -50,3 +50,8 @@ is_told true word words =
     bytes_eq (first_word words) call_word
     && bytes_eq (first_word (other_words (other_words words))) word
 is_told false word words = bytes_eq (first_word words) word
+
+-- the word that tells the form: the third in a line that begins with `call`, the first in any other
+abbrev pub own_word : Bool → List (List ℕ) → List ℕ
+own_word true words = first_word (other_words (other_words words))
+own_word false words = first_word words

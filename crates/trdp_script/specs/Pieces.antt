@@ -1,15 +1,19 @@
--- Bytes between newlines.
+-- Bytes between newlines, or between others.
 use Rattle.std.specs.Prelude.{◌≡◌, ℕ, List, ◌∷◌, ◌++◌, ◌==◌, false, count_by}
 use Rattle.std.specs.List.{All}
 
+-- that byte isn't among the bytes
+abbrev pub Lacks : ℕ → List ℕ → Type 0
+Lacks it bytes = All (λ byte. (byte == it) ≡ false) bytes
+
 -- no newline is among the bytes
 abbrev pub IsBare : List ℕ → Type 0
-IsBare bytes = All (λ byte. (byte == 10) ≡ false) bytes
+IsBare bytes = Lacks 10 bytes
 
--- the bytes are these before their first newline, the newline, and those behind it
-pub record IsSplit (bytes before behind : List ℕ) : Type 0 where
-  pub whole : bytes ≡ before ++ 10 ∷ behind
-  pub bare : IsBare before
+-- the bytes are those before the first that is that byte, the byte, and those behind it
+pub record IsSplit (it : ℕ) (bytes before behind : List ℕ) : Type 0 where
+  pub whole : bytes ≡ before ++ it ∷ behind
+  pub bare : Lacks it before
 
 -- how many lines have their end among the bytes
 abbrev pub ended_lines : List ℕ → ℕ

@@ -28,7 +28,7 @@ use trdp_base::{
 /// The word for a number of any value.
 const ANY: &[u8] = b"any";
 
-impl Words<'_> {
+impl Words<'_, '_> {
     /// The number of 8 bits that the next word is.
     pub(crate) fn next_u8(&mut self) -> Option<u8>
         ensures value { result ≡ number_of_word (2 ^ 8 - 1) (first_word (words_left self.old)) }

@@ -2,10 +2,10 @@
 
 ghost use Rattle.std.specs.Prelude.{◌≡◌, ◌<◌, ◌+◌, List, ℕ, true, false, length, map, option_map};
 ghost use Rattle.std.specs.Str.{bytes_eq};
-ghost use Rattle.trdp_script.specs.Words.{first_word, other_words};
+ghost use Rattle.trdp_script.specs.Words.{first_word};
 ghost use Rattle.trdp_script.specs.WordsLeft.{words_left};
-ghost use Rattle.trdp_script.specs.Forms.{has_keywords};
-ghost use Rattle.trdp_script.specs.FormNames.{line_form, is_told};
+ghost use Rattle.trdp_script.specs.Forms.{call_word, has_keywords};
+ghost use Rattle.trdp_script.specs.FormNames.{line_form, is_told, own_word};
 ghost use Rattle.trdp_script.specs.Lines.{form_among, least_words, may_have};
 
 use crate::words::{CALL, Words};
@@ -86,15 +86,17 @@ pub(crate) struct Row {
 impl Form {
     /// The form among these that the first word tells, and after `call` the third; None where they
     /// tell none.
-    pub(crate) fn among(forms: &[Form], mut words: Words<'_>) -> Option<Form>
+    pub(crate) fn among(forms: &[Form], mut words: Words<'_, '_>) -> Option<Form>
         ensures { option_map line_form result
             ≡ form_among (map line_form forms.now) (words_left words.entry) }
     {
         let first = words.next_word();
         words.next_word();
         let third = words.next_word();
+        let is_call = is_word(first, CALL);
+        let own = if is_call { third } else { first };
         for form in forms {
-            if form.row().is_told_by(first, third) {
+            if form.row().is_told_by(is_call, own) {
                 return Some(*form);
             }
         }
@@ -117,6 +119,7 @@ impl Form {
         ensures told { (words : List (List ℕ))
             → is_told result.is_call result.word.now words
             ≡ has_keywords (line_form self).parts words }
+        ensures other { result.is_call ≡ false → bytes_eq call_word result.word.now ≡ false }
     {
         match self {
             Form::Moment => Row::line(b"moment", 2),
@@ -194,17 +197,14 @@ impl Row {
         }
     }
 
-    /// Whether this first and this third word tell the form. A missing word is empty.
-    fn is_told_by(self, first: &[u8], third: &[u8]) -> bool
-        ensures { (words : List (List ℕ)) → first.now ≡ first_word words
-            → third.now ≡ first_word (other_words (other_words words))
+    /// Whether the form is told by this word, the first of a line, or of a call the third.
+    fn is_told_by(self, is_call: bool, own: &[u8]) -> bool
+        ensures { (words : List (List ℕ))
+            → (self.is_call ≡ false → bytes_eq call_word self.word.now ≡ false)
+            → is_call ≡ bytes_eq (first_word words) call_word → own.now ≡ own_word is_call words
             → result ≡ is_told self.is_call self.word.now words }
     {
-        if self.is_call {
-            is_word(first, CALL) && is_word(third, self.word)
-        } else {
-            is_word(first, self.word)
-        }
+        self.is_call == is_call && is_word(own, self.word)
     }
 }
 

@@ -28,6 +28,7 @@ mod read;
 mod read_message;
 mod read_session;
 mod script;
+mod split;
 mod words;
 
 pub use calls::{BytesCall, PlainCall};

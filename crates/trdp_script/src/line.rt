@@ -11,7 +11,7 @@ ghost use Rattle.trdp_script.specs.WordsLeft.{words_left};
 use crate::calls::{BytesCall, PlainCall};
 use crate::fault::LineFault;
 use crate::form::{FORMS, Form};
-use crate::words::Words;
+use crate::words::{CutWords, Words, cut_words};
 use std::alloc::Global;
 use trdp_base::{Place, Quotas, Topo};
 use trdp_engine::{Event, Protocol};
@@ -117,7 +117,9 @@ pub(crate) fn read_among(alloc: Global, forms: &[Form], text: &[u8]) -> Result<L
     if is_skipped(text) {
         return Ok(Line::Skipped);
     }
-    read_words(alloc, forms, Words::of(text))
+    let mut words = CutWords::new();
+    cut_words(&mut words, text);
+    read_words(alloc, forms, Words::of(&words))
 }
 
 /// Whether a line is empty or begins with `#`.
@@ -129,7 +131,11 @@ pub(crate) fn is_skipped(text: &[u8]) -> bool
 
 /// Reads the words of a line, which can have these forms.
 #[tactic(auto, unfolding(crate::specs::Lines::words_say))]
-pub(crate) fn read_words(alloc: Global, forms: &[Form], words: Words<'_>) -> Result<Line, LineFault>
+pub(crate) fn read_words(
+    alloc: Global,
+    forms: &[Form],
+    words: Words<'_, '_>,
+) -> Result<Line, LineFault>
     ensures { Reads
         (words_say (form_among (map line_form forms.now) (words_left words.entry))
         (words_left words.entry)) result }

@@ -10,7 +10,7 @@ use crate::fault::LineFault;
 use crate::form::{FORMS, OPERATOR_FORMS};
 use crate::input::without_return;
 use crate::line::{LINE_MAX, Line, is_skipped, read_among, read_words};
-use crate::words::{CALL, Words};
+use crate::words::{CALL, CutWords, Words, cut_words};
 use itoa::Buffer;
 use std::alloc::Global;
 
@@ -37,7 +37,11 @@ pub fn read_control(alloc: Global, slot: u16, bytes: &[u8]) -> Result<Line, Line
     if CALL.len() + 1 + slot.len() + 1 + text.len() > LINE_MAX {
         return Err(LineFault::TooLong);
     }
-    read_words(alloc, &FORMS, Words::of_call(slot, text))
+    let mut words = CutWords::new();
+    words.push(CALL);
+    words.push(slot);
+    cut_words(&mut words, text);
+    read_words(alloc, &FORMS, Words::of(&words))
 }
 
 /// Reads a datagram that came to the operator's port: a line that begins with `topology`, `role` or

@@ -32,7 +32,7 @@ impl Form {
     /// # Errors
     /// `BadWord` where a word isn't the written form of a value in its range; `OutOfMemory` where
     /// all are good and there is no memory for the bytes of one.
-    pub(crate) fn read(self, alloc: Global, words: Words<'_>) -> Result<Line, LineFault>
+    pub(crate) fn read(self, alloc: Global, words: Words<'_, '_>) -> Result<Line, LineFault>
         ensures { Reads
             (event_or_fault (event_in (line_form self) (words_left words.entry))) result }
     {
@@ -78,7 +78,7 @@ fn plain(line: Option<Line>) -> Result<Line, LineFault>
 
 /// `moment T`
 #[tactic(auto, unfolding(crate::specs::Forms::event_of_words))]
-fn read_moment(mut words: Words<'_>) -> Option<Line>
+fn read_moment(mut words: Words<'_, '_>) -> Option<Line>
     ensures { option_map event_of result
         ≡ option_map Some (event_in moment_form (words_left words.entry)) }
 {
@@ -88,7 +88,7 @@ fn read_moment(mut words: Words<'_>) -> Option<Line>
 
 /// `topology ETB OPTRN`
 #[tactic(auto, unfolding(crate::specs::Forms::event_of_words))]
-fn read_topology(mut words: Words<'_>) -> Option<Line>
+fn read_topology(mut words: Words<'_, '_>) -> Option<Line>
     ensures { option_map event_of result
         ≡ option_map Some (event_in topology_form (words_left words.entry)) }
 {
@@ -100,7 +100,7 @@ fn read_topology(mut words: Words<'_>) -> Option<Line>
 
 /// `role GROUP leader|follower`
 #[tactic(auto, unfolding(crate::specs::Forms::event_of_words))]
-fn read_role(mut words: Words<'_>) -> Option<Line>
+fn read_role(mut words: Words<'_, '_>) -> Option<Line>
     ensures { option_map event_of result
         ≡ option_map Some (event_in role_form (words_left words.entry)) }
 {
@@ -112,7 +112,7 @@ fn read_role(mut words: Words<'_>) -> Option<Line>
 
 /// `addslot PUBLISHERS SUBSCRIPTIONS REQUESTERS LISTENERS CALLERS REPLIERS`
 #[tactic(auto, unfolding(crate::specs::Forms::event_of_words))]
-fn read_add_slot(mut words: Words<'_>) -> Option<Line>
+fn read_add_slot(mut words: Words<'_, '_>) -> Option<Line>
     ensures { option_map event_of result
         ≡ option_map Some (event_in add_slot_form (words_left words.entry)) }
 {
@@ -136,7 +136,7 @@ fn read_add_slot(mut words: Words<'_>) -> Option<Line>
 
 /// `call SLOT publish COMID DATASET CYCLE GROUP ETB OPTRN TO`
 #[tactic(auto, unfolding(crate::specs::Forms::event_of_words))]
-fn read_publish(mut words: Words<'_>) -> Option<Line>
+fn read_publish(mut words: Words<'_, '_>) -> Option<Line>
     ensures { option_map event_of result
         ≡ option_map Some (event_in publish_form (words_left words.entry)) }
 {
@@ -166,7 +166,7 @@ fn read_publish(mut words: Words<'_>) -> Option<Line>
 
 /// `call SLOT subscribe COMID DATASET LOW HIGH DEST ETB OPTRN TIME zero|keep`
 #[tactic(auto, unfolding(crate::specs::Forms::event_of_words))]
-fn read_subscribe(mut words: Words<'_>) -> Option<Line>
+fn read_subscribe(mut words: Words<'_, '_>) -> Option<Line>
     ensures { option_map event_of result
         ≡ option_map Some (event_in subscribe_form (words_left words.entry)) }
 {
@@ -214,7 +214,7 @@ fn behaviour(zero: bool) -> Behaviour
 
 /// `call SLOT openpull COMID REPLYCOMID REPLYIP ETB OPTRN TO`
 #[tactic(auto, unfolding(crate::specs::Forms::event_of_words))]
-fn read_open_pull(mut words: Words<'_>) -> Option<Line>
+fn read_open_pull(mut words: Words<'_, '_>) -> Option<Line>
     ensures { option_map event_of result
         ≡ option_map Some (event_in open_pull_form (words_left words.entry)) }
 {
@@ -241,7 +241,7 @@ fn read_open_pull(mut words: Words<'_>) -> Option<Line>
 }
 
 /// `call SLOT unpublish HANDLE`
-fn read_unpublish(words: Words<'_>) -> Option<Line>
+fn read_unpublish(words: Words<'_, '_>) -> Option<Line>
     ensures { option_map event_of result
         ≡ option_map Some (event_in unpublish_form (words_left words.entry)) }
 {
@@ -251,7 +251,7 @@ fn read_unpublish(words: Words<'_>) -> Option<Line>
 }
 
 /// `call SLOT get HANDLE`
-fn read_get(words: Words<'_>) -> Option<Line>
+fn read_get(words: Words<'_, '_>) -> Option<Line>
     ensures { option_map event_of result
         ≡ option_map Some (event_in get_form (words_left words.entry)) }
 {
@@ -261,7 +261,7 @@ fn read_get(words: Words<'_>) -> Option<Line>
 }
 
 /// `call SLOT unsubscribe HANDLE`
-fn read_unsubscribe(words: Words<'_>) -> Option<Line>
+fn read_unsubscribe(words: Words<'_, '_>) -> Option<Line>
     ensures { option_map event_of result
         ≡ option_map Some (event_in unsubscribe_form (words_left words.entry)) }
 {
@@ -271,7 +271,7 @@ fn read_unsubscribe(words: Words<'_>) -> Option<Line>
 }
 
 /// `call SLOT pull HANDLE`
-fn read_pull(words: Words<'_>) -> Option<Line>
+fn read_pull(words: Words<'_, '_>) -> Option<Line>
     ensures { option_map event_of result
         ≡ option_map Some (event_in pull_form (words_left words.entry)) }
 {
@@ -281,7 +281,7 @@ fn read_pull(words: Words<'_>) -> Option<Line>
 }
 
 /// `call SLOT closepull HANDLE`
-fn read_close_pull(words: Words<'_>) -> Option<Line>
+fn read_close_pull(words: Words<'_, '_>) -> Option<Line>
     ensures { option_map event_of result
         ≡ option_map Some (event_in close_pull_form (words_left words.entry)) }
 {
@@ -292,7 +292,7 @@ fn read_close_pull(words: Words<'_>) -> Option<Line>
 
 /// The slot and the handle in `call SLOT WORD HANDLE`.
 #[tactic(auto, unfolding(crate::specs::Forms::event_of_words))]
-pub(crate) fn slot_and_handle(mut words: Words<'_>) -> Option<(u16, u32)>
+pub(crate) fn slot_and_handle(mut words: Words<'_, '_>) -> Option<(u16, u32)>
     ensures { (word : List ℕ) (call : ℕ → CallModel)
         → event_in (handle_form word call) (words_left words.entry)
         ≡ option_map (λ found. CallIs found.0 (call found.1)) result }
@@ -306,7 +306,7 @@ pub(crate) fn slot_and_handle(mut words: Words<'_>) -> Option<(u16, u32)>
 
 /// `call SLOT put HANDLE HEX`
 #[tactic(auto, unfolding(crate::specs::Forms::event_of_words))]
-fn read_put(alloc: Global, mut words: Words<'_>) -> Result<Line, LineFault>
+fn read_put(alloc: Global, mut words: Words<'_, '_>) -> Result<Line, LineFault>
     ensures { Reads (event_or_fault (event_in put_form (words_left words.entry))) result }
 {
     words.next_word();
@@ -322,7 +322,11 @@ fn read_put(alloc: Global, mut words: Words<'_>) -> Result<Line, LineFault>
 
 /// `pd SRC DST HEX` or `md SRC DST HEX`
 #[tactic(auto, unfolding(crate::specs::Forms::event_of_words))]
-fn read_datagram(alloc: Global, protocol: Protocol, mut words: Words<'_>) -> Result<Line, LineFault>
+fn read_datagram(
+    alloc: Global,
+    protocol: Protocol,
+    mut words: Words<'_, '_>,
+) -> Result<Line, LineFault>
     ensures { (word : List ℕ) → Reads
         (event_or_fault (event_in (datagram_form word protocol) (words_left words.entry))) result }
 {

@@ -17,7 +17,7 @@ use trdp_md::NotifyTerms;
 
 /// `call SLOT listen COMID|any LOW HIGH DEST URI ETB OPTRN`
 #[tactic(auto, unfolding(crate::specs::Forms::event_of_words))]
-pub(crate) fn read_listen(mut words: Words<'_>) -> Option<Line>
+pub(crate) fn read_listen(mut words: Words<'_, '_>) -> Option<Line>
     ensures { option_map event_of result
         ≡ option_map Some (event_in listen_form (words_left words.entry)) }
 {
@@ -46,7 +46,7 @@ pub(crate) fn read_listen(mut words: Words<'_>) -> Option<Line>
 }
 
 /// `call SLOT unlisten HANDLE`
-pub(crate) fn read_unlisten(words: Words<'_>) -> Option<Line>
+pub(crate) fn read_unlisten(words: Words<'_, '_>) -> Option<Line>
     ensures { option_map event_of result
         ≡ option_map Some (event_in unlisten_form (words_left words.entry)) }
 {
@@ -57,7 +57,7 @@ pub(crate) fn read_unlisten(words: Words<'_>) -> Option<Line>
 
 /// `call SLOT notify COMID SOURCEURI DESTURI ETB OPTRN TO HEX`
 #[tactic(auto, unfolding(crate::specs::Forms::event_of_words))]
-pub(crate) fn read_notify(alloc: Global, mut words: Words<'_>) -> Result<Line, LineFault>
+pub(crate) fn read_notify(alloc: Global, mut words: Words<'_, '_>) -> Result<Line, LineFault>
     ensures { Reads (event_or_fault (event_in notify_form (words_left words.entry))) result }
 {
     words.next_word();

@@ -19,7 +19,7 @@ use trdp_md::CallerTerms;
 /// `call SLOT request COMID SESSION EXPECTED TIME SOURCEURI DESTURI ETB OPTRN TO HEX
 /// [RETRIES]`: the number at the end is read before memory is taken for the bytes.
 #[tactic(auto, unfolding(crate::specs::Forms::event_of_words))]
-pub(crate) fn read_request(alloc: Global, mut words: Words<'_>) -> Result<Line, LineFault>
+pub(crate) fn read_request(alloc: Global, mut words: Words<'_, '_>) -> Result<Line, LineFault>
     ensures { Reads (event_or_fault (event_in request_form (words_left words.entry))) result }
 {
     words.next_word();
@@ -56,7 +56,7 @@ pub(crate) fn read_request(alloc: Global, mut words: Words<'_>) -> Result<Line, 
 
 /// `call SLOT reply HANDLE COMID STATUS HEX`
 #[tactic(auto, unfolding(crate::specs::Forms::event_of_words))]
-pub(crate) fn read_reply(alloc: Global, mut words: Words<'_>) -> Result<Line, LineFault>
+pub(crate) fn read_reply(alloc: Global, mut words: Words<'_, '_>) -> Result<Line, LineFault>
     ensures { Reads (event_or_fault (event_in reply_form (words_left words.entry))) result }
 {
     words.next_word();
@@ -77,7 +77,7 @@ pub(crate) fn read_reply(alloc: Global, mut words: Words<'_>) -> Result<Line, Li
 
 /// `call SLOT query HANDLE COMID STATUS TIME HEX`
 #[tactic(auto, unfolding(crate::specs::Forms::event_of_words))]
-pub(crate) fn read_query(alloc: Global, mut words: Words<'_>) -> Result<Line, LineFault>
+pub(crate) fn read_query(alloc: Global, mut words: Words<'_, '_>) -> Result<Line, LineFault>
     ensures { Reads (event_or_fault (event_in query_form (words_left words.entry))) result }
 {
     words.next_word();
@@ -100,7 +100,7 @@ pub(crate) fn read_query(alloc: Global, mut words: Words<'_>) -> Result<Line, Li
 
 /// `call SLOT replyerror HANDLE COMID STATUS`
 #[tactic(auto, unfolding(crate::specs::Forms::event_of_words))]
-pub(crate) fn read_reply_error(mut words: Words<'_>) -> Option<Line>
+pub(crate) fn read_reply_error(mut words: Words<'_, '_>) -> Option<Line>
     ensures { option_map event_of result
         ≡ option_map Some (event_in reply_error_form (words_left words.entry)) }
 {
@@ -120,7 +120,7 @@ pub(crate) fn read_reply_error(mut words: Words<'_>) -> Option<Line>
 
 /// `call SLOT confirm HANDLE PLACE STATUS`
 #[tactic(auto, unfolding(crate::specs::Forms::event_of_words))]
-pub(crate) fn read_confirm(mut words: Words<'_>) -> Option<Line>
+pub(crate) fn read_confirm(mut words: Words<'_, '_>) -> Option<Line>
     ensures { option_map event_of result
         ≡ option_map Some (event_in confirm_form (words_left words.entry)) }
 {
@@ -139,7 +139,7 @@ pub(crate) fn read_confirm(mut words: Words<'_>) -> Option<Line>
 }
 
 /// `call SLOT abort HANDLE`
-pub(crate) fn read_abort(words: Words<'_>) -> Option<Line>
+pub(crate) fn read_abort(words: Words<'_, '_>) -> Option<Line>
     ensures { option_map event_of result
         ≡ option_map Some (event_in abort_form (words_left words.entry)) }
 {

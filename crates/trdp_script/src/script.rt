@@ -15,10 +15,11 @@ ghost use Rattle.trdp_dataset.specs.Configs.{ConfigModel};
 ghost use Rattle.trdp_script.specs.declared.script.TheConstants.{PIECE_ROOM};
 
 use crate::fault::LineFault;
-use crate::input::{read_piece, split_at_newline, without_return};
+use crate::input::{read_piece, without_return};
 use crate::line::{LINE_MAX, read_line};
 use crate::output::{flush, output_buffer, put};
 use crate::play::play;
+use crate::split::split_at_byte;
 use std::alloc::{AllocError, Global};
 use std::io::{Read, Write};
 use thiserror::Error;
@@ -224,7 +225,7 @@ impl Script {
             (W.contents writer.old) (W.contents writer.new) (piece.now ++ later) fault) }
     {
         let mut rest = piece;
-        while let Some((before, behind)) = split_at_newline(rest) {
+        while let Some((before, behind)) = split_at_byte(b'\n', rest) {
             match self.take_to_newline(alloc, before, writer) {
                 Ok(()) => rest = behind,
                 Err(fault) => return Err(fault),

@@ -1,7 +1,8 @@
-use Rattle.std.proofs.Common.{refl, ◌∙◌, subst}
+use Rattle.std.proofs.Common.{refl, ◌∙◌}
 use Rattle.trdp_script.specs.Forms.{forms}
-use Rattle.trdp_script.specs.Lines.{form_among, Reads, words_say}
-use Rattle.trdp_script.proofs.PortLemmas.{control_too_long, control_says}
+use Rattle.trdp_script.specs.declared.form.TheConstants.{FORMS}
+use Rattle.trdp_script.proofs.FormLemmas.{words_read}
+use Rattle.trdp_script.proofs.PortLemmas.{call_cut, control_too_long, control_says}
 use Rattle.trdp_script.proofs.port.read_control.Goals as goal
 
 pub returns-then-slot-text-gt-LINE_MAX : goal.returns-then-slot-text-gt-LINE_MAX
@@ -19,7 +20,6 @@ returns c =
     let some = rw c.is_skipped.ensures at c.if-is_skipped.false in
     let is = control_says c.args.slot _ _ c.args.bytes.now
     shown c.ranges.slot.fits c.without_end-text.ensures some c.if-slot-text-gt-LINE_MAX.false in
-    record {
-      meaning = rw is (subst (λ words. Reads (words_say (form_among forms words) words)
-          c.read_words.result) c.of_call.ensures c.read_words.ensures);
-    }
+    let cut = c.of.ensures ∙ call_cut _ _ _ _ _ _ c.without_end-text.result.now
+    c.new-words.ensures c.push.ensures.items c.push-2.ensures.items c.cut_words.ensures in
+    record { meaning = rw is (words_read FORMS _ _ c.read_words.result cut c.read_words.ensures) }
