@@ -1,7 +1,7 @@
 //! An event's way through the node, and the text of what the node gives.
 
-ghost use Rattle.std.specs.Prelude.{◌≡◌, ◌≢◌, ◌≤◌, ◌++◌, ◌==◌, [], length, filter};
-ghost use Rattle.std.specs.Prelude.{OnOk, OnErr};
+ghost use Rattle.std.specs.Prelude.{◌≡◌, ◌≢◌, ◌≤◌, ◌++◌, ◌==◌, [], length, filter, take, true};
+ghost use Rattle.std.specs.Prelude.{IfOk, OnOk, OnErr, vec_len};
 ghost use Rattle.std.specs.List.{flat_map};
 ghost use Rattle.trdp_engine.specs.Events.{event_model};
 ghost use Rattle.trdp_engine.specs.NodeStates.{uncounted};
@@ -11,7 +11,7 @@ ghost use Rattle.trdp_engine.specs.Records.{record_model};
 ghost use Rattle.trdp_script.specs.SlotOrder.{by_slot, slot_text};
 ghost use Rattle.trdp_script.specs.Wants.{EventMayWant};
 
-use crate::order::{SLOTS_MAX, is_rising};
+use crate::order::SLOTS_MAX;
 use crate::print::{print_fault, print_record};
 use std::alloc::AllocError;
 use trdp_engine::{Event, Node, NodeFault, Outbox, Record};
@@ -53,26 +53,35 @@ fn push_records(text: &mut Vec<u8>, records: &Outbox) -> Result<(), AllocError>
         ≡ text.old.items ++ flat_map text_of_record (by_slot 16 records.now.records)) }
     ensures err { OnErr result (flat_map text_of_record (by_slot 16 records.now.records) ≢ []) }
 {
-    if is_rising(records) {
-        push_all(text, records)
-    } else {
-        push_by_slot(text, records)
+    let start = text.len();
+    let rising = push_rising(text, records)?;
+    if rising {
+        return Ok(());
     }
+    text.truncate(start);
+    push_by_slot(text, records)
 }
 
-/// Appends the lines of all records in their order.
-fn push_all(text: &mut Vec<u8>, records: &Outbox) -> Result<(), AllocError>
-    ensures ok { OnOk result (text.new.items
-        ≡ text.old.items ++ flat_map text_of_record records.now.records) }
-    ensures err { OnErr result (flat_map text_of_record records.now.records ≢ []) }
+/// Appends the lines of all records in their order, and answers true, if that is one of rising
+/// slots; else the lines of some.
+fn push_rising(text: &mut Vec<u8>, records: &Outbox) -> Result<bool, AllocError>
+    ensures ok { IfOk result (λ rising. rising ≡ true → text.new.items
+        ≡ text.old.items ++ flat_map text_of_record (by_slot 16 records.now.records)) }
+    ensures kept { OnOk result (take (vec_len text.old) text.new.items ≡ text.old.items) }
+    ensures err { OnErr result (flat_map text_of_record (by_slot 16 records.now.records) ≢ []) }
 {
+    let mut slot = 0;
     for i in 0..records.len() {
-        match records.get(i) {
-            Some(record) => print_record(text, &record)?,
-            None => {}
+        let Some(record) = records.get(i) else {
+            return Ok(false);
+        };
+        if record.slot < slot || record.slot >= SLOTS_MAX {
+            return Ok(false);
         }
+        print_record(text, &record)?;
+        slot = record.slot;
     }
-    Ok(())
+    Ok(true)
 }
 
 /// Appends the lines of all records slot by slot, slots rising, each slot's in their order.
