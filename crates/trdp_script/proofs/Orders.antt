@@ -196,11 +196,6 @@ some_told f (y ∷ xs) (suc i) x here some none =
     some_told f xs i x here some
     (back_empty (f y) (flat_map f xs) (sym (flat_map-cons f y xs) ∙ none))
 
-pub record_among : (records : List RecordModel) (i : ℕ) (r : RecordModel)
-    → slice_get records i ≡ Some r → flat_map text_of_record records ≡ [] → ⊥
-record_among records i r here none =
-    some_told text_of_record records i r here (record_told r) none
-
 pub own_among : (n : ℕ) (records : List RecordModel) (i : ℕ) (r : RecordModel)
     → slice_get records i ≡ Some r → (slot_text n r ≡ [] → ⊥)
     → flat_map text_of_record (slots_own n records) ≡ [] → ⊥

@@ -359,13 +359,14 @@ impl Player {
             (W.contents writer.old) (W.contents writer.new)
             number (line_of line.now) result }
     {
-        match read_line(alloc, line) {
+        let read = read_line(alloc, line);
+        match &read {
             Ok(line) => match line.event() {
                 None => Ok(()),
                 Some(event) => self.take_event(&event, writer),
             },
             Err(LineFault::OutOfMemory) => Err(ScriptFault::OutOfMemory),
-            Err(fault) => Err(ScriptFault::Line(number, fault)),
+            Err(fault) => Err(ScriptFault::Line(number, *fault)),
         }
     }
 
