@@ -1,14 +1,15 @@
 -- A script on its way: one line.
 use Rattle.std.proofs.Common.{inl, ◌≡◌, suc, ◌+◌, ◌<◌, ℕ, Bool, true, false, List, []}
 use Rattle.std.proofs.Common.{◌∷◌, ◌++◌, length, Some, None, Ok, Err, Option}
-use Rattle.std.proofs.Common.{Result, refl, sym, ◌∙◌, ap, arith, append-nil, subst}
+use Rattle.std.proofs.Common.{Result, refl, sym, ◌∙◌, ap, arith, append-nil, append_assoc, subst}
 use Rattle.std.specs.Prelude.{nat_lt, if◌then◌else◌, IfErr, OnOk}
 use Rattle.std.specs.Str.Lines.{lines, strip_carriage_return}
+use Rattle.std.proofs.lemmas.List.{nil_from_length}
 use Rattle.trdp_engine.specs.Events.{EventModel}
 use Rattle.trdp_script.specs.declared.fault.LineFault.{LineFault}
 use Rattle.trdp_script.specs.declared.fault.LineFault.TheVariants.{TooLong, Count}
 use Rattle.trdp_script.specs.declared.fault.LineFault.TheVariants.{OutOfMemory as NoMemory}
-use Rattle.trdp_script.specs.declared.script.Player.{Player}
+use Rattle.trdp_script.specs.declared.player.Player.{Player}
 use Rattle.trdp_script.specs.declared.script.Script.{Script}
 use Rattle.trdp_script.specs.declared.script.ScriptFault.{ScriptFault}
 use Rattle.trdp_script.specs.declared.script.ScriptFault.TheVariants.{Line, Read, Write}
@@ -27,7 +28,7 @@ use Rattle.trdp_script.specs.Wants.{LineMayWant, NextMayWant}
 use Rattle.trdp_script.specs.Writes.{PassesOn, PassesSome}
 use Rattle.trdp_script.proofs.LineLists.{lines_first, lines_last}
 use Rattle.trdp_script.proofs.Writing.{passes_some_of}
-use Rattle.trdp_script.proofs.LineFronts.{text_append}
+use Rattle.trdp_script.proofs.LineFronts.{ended_append, none_ended, text_append}
 use Rattle.trdp_script.proofs.Steps.{first_here, passes_nothing}
 
 -- events of a line without a fault come first
@@ -57,6 +58,31 @@ line_plays old new v w event bare is played empty next =
         lines_are = λ later. lines_first old.line.items later bare
             ∙ ap (λ l. line ∷ lines (l ++ later)) (sym empty);
         count = refl;
+        number = omega (arith, next);
+        no_fault = ap (λ m. fault_or old.number m None) is;
+        node_is = played.node_is ∙ ap (nodes_after (node_of old.player)) (sym events);
+        text_is = ap (events_text (node_of old.player)) (sym events);
+      };
+    }
+
+-- a line without a fault that stands whole before its newline
+whole_plays : (old new : Script) (v w : Option (List ℕ)) (event : Option EventModel)
+    (bytes : List ℕ) → old.line.items ≡ [] → IsBare bytes
+    → line_of (strip_carriage_return bytes) ≡ Ok event
+    → PlaysLine old.player new.player v w (line_events (Ok event))
+    → new.line.items ≡ [] → new.number ≡ old.number + 1 → Plays old new v w (bytes ++ 10 ∷ [])
+whole_plays old new v w event bytes begun bare is played empty next =
+    let line = strip_carriage_return bytes in
+    let events = events_one line event is in
+    record {
+      text = events_text (node_of old.player) (line_events (Ok event));
+      passed = played.passed;
+      taken = record {
+        ended = line ∷ [];
+        lines_are = λ later. ap (λ l. lines (l ++ ((bytes ++ 10 ∷ []) ++ later))) begun
+            ∙ ap lines (append_assoc bytes (10 ∷ []) later) ∙ lines_first bytes later bare
+            ∙ ap (λ l. line ∷ lines (l ++ later)) (sym empty);
+        count = sym (ended_append bytes (10 ∷ []) ∙ ap (λ n. n + 1) (none_ended bytes bare));
         number = omega (arith, next);
         no_fault = ap (λ m. fault_or old.number m None) is;
         node_is = played.node_is ∙ ap (nodes_after (node_of old.player)) (sym events);
@@ -167,6 +193,31 @@ pub line_bad : (old new : Script) (v w : Option (List ℕ)) (text : List ℕ) (f
 line_bad old new v w text fault is bare came later =
     line_stops old new v w (strip_carriage_return old.line.items)
     (10 ∷ later) (lines later) (Err fault) (lines_first old.line.items later bare)
+    (subst (λ (l : List ℕ).
+    LineComesTo old.player new.player v w old.number (line_of l) (Err fault)) is came)
+
+-- a line that stands whole before its newline was played
+pub whole_came : (old new : Script) (v w : Option (List ℕ)) (text bytes : List ℕ)
+    → text ≡ strip_carriage_return bytes → length old.line.items ≡ 0 → IsBare bytes
+    → LineComesTo old.player new.player v w old.number (line_of text) (Ok tt)
+    → new.line.items ≡ old.line.items → new.number ≡ old.number + 1
+    → Plays old new v w (bytes ++ 10 ∷ [])
+whole_came old new v w text bytes is none bare came same next =
+    let good = came_good old new v w old.number (line_of text) came in
+    let begun = nil_from_length old.line.items none in
+    whole_plays old new v w good.0 bytes begun bare (ap line_of (sym is) ∙ good.1) good.2
+    (same ∙ begun) next
+
+-- a line that stands whole before its newline stops the script
+pub whole_bad : (old new : Script) (v w : Option (List ℕ)) (text bytes : List ℕ)
+    (fault : ScriptFault) → text ≡ strip_carriage_return bytes → length old.line.items ≡ 0
+    → IsBare bytes → LineComesTo old.player new.player v w old.number (line_of text) (Err fault)
+    → (later : List ℕ) → Stops old new v w (bytes ++ 10 ∷ later) fault
+whole_bad old new v w text bytes fault is none bare came later =
+    line_stops old new v w (strip_carriage_return bytes)
+    (bytes ++ 10 ∷ later) (lines later) (Err fault)
+    (ap (λ l. lines (l ++ (bytes ++ 10 ∷ later))) (nil_from_length old.line.items none)
+    ∙ lines_first bytes later bare)
     (subst (λ (l : List ℕ).
     LineComesTo old.player new.player v w old.number (line_of l) (Err fault)) is came)
 

@@ -6,7 +6,7 @@ use Rattle.trdp_dataset.specs.Configs.{ConfigModel}
 use Rattle.trdp_engine.specs.Events.{EventModel}
 use Rattle.trdp_engine.specs.NodeStates.{NodeState, opened_node, uncounted}
 use Rattle.trdp_script.specs.declared.fault.LineFault.{LineFault}
-use Rattle.trdp_script.specs.declared.script.Player.{Player}
+use Rattle.trdp_script.specs.declared.player.Player.{Player}
 use Rattle.trdp_script.specs.declared.script.Script.{Script}
 use Rattle.trdp_script.specs.declared.script.ScriptFault.{ScriptFault}
 use Rattle.trdp_script.specs.declared.script.ScriptFault.TheVariants.{Line, Read, Write}

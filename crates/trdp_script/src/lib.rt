@@ -20,6 +20,7 @@ mod names;
 mod order;
 mod output;
 mod play;
+mod player;
 mod port;
 mod print;
 mod print_message;

@@ -3,28 +3,24 @@
 ghost use Rattle.std.specs.Prelude.{◌≡◌, ◌<◌, ◌≤◌, ◌+◌, ◌^◌, ◌++◌, ◌∷◌, ℕ, List, [], length};
 ghost use Rattle.std.specs.Prelude.{Option, Some, Ok, Err, true, false, vec_capacity, vec_len};
 ghost use Rattle.std.specs.Prelude.{IfOk, OnOk, OnErr, IfErr};
-ghost use Rattle.trdp_engine.specs.NodeStates.{opened_node};
-ghost use Rattle.trdp_engine.specs.Events.{event_model};
-ghost use Rattle.trdp_script.specs.Lines.{line_of};
 ghost use Rattle.trdp_script.specs.Pieces.{IsBare};
 ghost use Rattle.trdp_script.specs.Writes.{PassesOn, PassesSome};
 ghost use Rattle.trdp_script.specs.ScriptRuns.{RunsScript};
-ghost use Rattle.trdp_script.specs.ScriptSteps.{ComesTo, Ends, IsSound, LineComesTo, Plays};
+ghost use Rattle.trdp_script.specs.ScriptSteps.{ComesTo, Ends, IsSound, Plays};
 ghost use Rattle.trdp_script.specs.ScriptSteps.{Starts, Stops};
 ghost use Rattle.trdp_dataset.specs.Configs.{ConfigModel};
 ghost use Rattle.trdp_script.specs.declared.script.TheConstants.{PIECE_ROOM};
 
 use crate::fault::LineFault;
 use crate::input::{read_piece, without_return};
-use crate::line::{LINE_MAX, read_line};
-use crate::output::{flush, output_buffer, put};
-use crate::play::play;
+use crate::line::LINE_MAX;
+use crate::output::flush;
+use crate::player::Player;
 use crate::split::split_at_byte;
 use std::alloc::{AllocError, Global};
 use std::io::{Read, Write};
 use thiserror::Error;
 use trdp_dataset::NodeConfig;
-use trdp_engine::{Event, Node, Outbox};
 
 /// How many bytes are read at once.
 const PIECE_ROOM: usize = 65_536;
@@ -98,18 +94,6 @@ struct Script {
     line: Vec<u8>,
     /// The number of the line that these begin, from 1.
     number: u64,
-}
-
-/// The node of a script, with the lists that are used again from event to event.
-#[derive(Drop)]
-struct Player {
-    node: Node,
-    /// The records of one event.
-    records: Outbox,
-    /// The text of one event.
-    text: Vec<u8>,
-    /// The text that is to be written.
-    output: Vec<u8>,
 }
 
 impl Script {
@@ -251,8 +235,39 @@ impl Script {
         ensures err { IfErr result (λ fault. (later : List ℕ) → Stops self.old self.new
             (W.contents writer.old) (W.contents writer.new) (before.now ++ 10 ∷ later) fault) }
     {
+        if self.line.is_empty() {
+            return self.take_whole(alloc, before, writer);
+        }
         match self.gather(before) {
             Ok(()) => self.end_line(alloc, writer),
+            Err(fault) => Err(fault),
+        }
+    }
+
+    /// Plays the line that is these bytes, of which none was kept, and a newline.
+    fn take_whole<W: Write>(
+        &mut self,
+        alloc: Global,
+        bytes: &[u8],
+        writer: &mut W,
+    ) -> Result<(), ScriptFault>
+        requires sound { IsSound self.old }
+        requires begun { vec_len self.old.line ≡ 0 }
+        requires bare { IsBare bytes.now }
+        requires number { self.old.number + 1 < 2 ^ 64 }
+        ensures sound { OnOk result (IsSound self.new) }
+        ensures number { OnOk result (self.new.number ≡ self.old.number + 1) }
+        ensures ok { OnOk result (Plays self.old self.new
+            (W.contents writer.old) (W.contents writer.new) (bytes.now ++ 10 ∷ [])) }
+        ensures err { IfErr result (λ fault. (later : List ℕ) → Stops self.old self.new
+            (W.contents writer.old) (W.contents writer.new) (bytes.now ++ 10 ∷ later) fault) }
+    {
+        let line = without_return(bytes);
+        match self.player.take_line(alloc, line, self.number, writer) {
+            Ok(()) => {
+                self.number += 1;
+                Ok(())
+            }
             Err(fault) => Err(fault),
         }
     }
@@ -322,67 +337,6 @@ impl Script {
     {
         self.player
             .take_line(alloc, &self.line, self.number, writer)
-    }
-}
-
-impl Player {
-    /// A node of the configuration that was just opened.
-    fn new(alloc: Global, config: NodeConfig) -> Result<Player, AllocError>
-        ensures node { IfOk result (λ player. player.node ≡ opened_node config) }
-        ensures slots { IfOk result (λ player. length player.node.slots ≤ 16) }
-        ensures output { IfOk result (λ player. player.output.items ≡ []) }
-    {
-        let output = output_buffer(alloc)?;
-        match Node::new(alloc, config) {
-            Ok(node) => Ok(Player {
-                node,
-                records: Outbox::new(alloc),
-                text: Vec::new(alloc),
-                output,
-            }),
-            Err(_) => Err(AllocError),
-        }
-    }
-
-    /// Plays the line of that number, which comes without its end.
-    #[tactic(auto, unfolding(crate::specs::ScriptSteps::LineComesTo))]
-    fn take_line<W: Write>(
-        &mut self,
-        alloc: Global,
-        line: &[u8],
-        number: u64,
-        writer: &mut W,
-    ) -> Result<(), ScriptFault>
-        requires slots { length self.old.node.slots ≤ 16 }
-        ensures few { length self.new.node.slots ≤ 16 }
-        ensures line { LineComesTo self.old self.new
-            (W.contents writer.old) (W.contents writer.new)
-            number (line_of line.now) result }
-    {
-        let read = read_line(alloc, line);
-        match &read {
-            Ok(line) => match line.event() {
-                None => Ok(()),
-                Some(event) => self.take_event(&event, writer),
-            },
-            Err(LineFault::OutOfMemory) => Err(ScriptFault::OutOfMemory),
-            Err(fault) => Err(ScriptFault::Line(number, *fault)),
-        }
-    }
-
-    /// Plays an event.
-    #[tactic(auto, unfolding(crate::specs::ScriptSteps::LineComesTo))]
-    fn take_event<W: Write>(&mut self, event: &Event<'_>, writer: &mut W) -> Result<(), ScriptFault>
-        requires slots { length self.old.node.slots ≤ 16 }
-        ensures few { length self.new.node.slots ≤ 16 }
-        ensures line { LineComesTo self.old self.new
-            (W.contents writer.old) (W.contents writer.new)
-            0 (Ok (Some (event_model event.now))) result }
-    {
-        match play(&mut self.node, event, &mut self.records, &mut self.text) {
-            Ok(()) => put(&mut self.output, &self.text, writer),
-            Err(_) => Err(ScriptFault::OutOfMemory),
-        }
     }
 }
 

@@ -1,0 +1,7 @@
+use Rattle.trdp_script.proofs.LineSteps.{memory_came}
+use Rattle.trdp_script.proofs.player.Player.take_line.Goals as goal
+
+pub returns-in-Err-OutOfMemory-clause-line : goal.returns-in-Err-OutOfMemory-clause-line
+returns-in-Err-OutOfMemory-clause-line g c =
+    memory_came c.args.self.now _ c.args.number c.args.line.now c.in-Err-OutOfMemory.field-0
+    c.in-Err-OutOfMemory.field-0-is c.in-Err-OutOfMemory.ensures.meaning

@@ -1,0 +1,89 @@
+//! The player of a script's lines, one by one.
+
+ghost use Rattle.std.specs.Prelude.{◌≡◌, ◌≤◌, [], length, Some, Ok, IfOk};
+ghost use Rattle.trdp_engine.specs.NodeStates.{opened_node};
+ghost use Rattle.trdp_engine.specs.Events.{event_model};
+ghost use Rattle.trdp_script.specs.Lines.{line_of};
+ghost use Rattle.trdp_script.specs.ScriptSteps.{LineComesTo};
+
+use crate::fault::LineFault;
+use crate::line::read_line;
+use crate::output::{output_buffer, put};
+use crate::play::play;
+use crate::script::ScriptFault;
+use std::alloc::{AllocError, Global};
+use std::io::Write;
+use trdp_dataset::NodeConfig;
+use trdp_engine::{Event, Node, Outbox};
+
+/// The node of a script, with the lists that are used again from event to event.
+#[derive(Drop)]
+pub(crate) struct Player {
+    pub(crate) node: Node,
+    /// The records of one event.
+    records: Outbox,
+    /// The text of one event.
+    text: Vec<u8>,
+    /// The text that is to be written.
+    pub(crate) output: Vec<u8>,
+}
+
+impl Player {
+    /// A node of the configuration that was just opened.
+    pub(crate) fn new(alloc: Global, config: NodeConfig) -> Result<Player, AllocError>
+        ensures node { IfOk result (λ player. player.node ≡ opened_node config) }
+        ensures slots { IfOk result (λ player. length player.node.slots ≤ 16) }
+        ensures output { IfOk result (λ player. player.output.items ≡ []) }
+    {
+        let output = output_buffer(alloc)?;
+        match Node::new(alloc, config) {
+            Ok(node) => Ok(Player {
+                node,
+                records: Outbox::new(alloc),
+                text: Vec::new(alloc),
+                output,
+            }),
+            Err(_) => Err(AllocError),
+        }
+    }
+
+    /// Plays the line of that number, which comes without its end.
+    #[tactic(auto, unfolding(crate::specs::ScriptSteps::LineComesTo))]
+    pub(crate) fn take_line<W: Write>(
+        &mut self,
+        alloc: Global,
+        line: &[u8],
+        number: u64,
+        writer: &mut W,
+    ) -> Result<(), ScriptFault>
+        requires slots { length self.old.node.slots ≤ 16 }
+        ensures few { length self.new.node.slots ≤ 16 }
+        ensures line { LineComesTo self.old self.new
+            (W.contents writer.old) (W.contents writer.new)
+            number (line_of line.now) result }
+    {
+        match read_line(alloc, line) {
+            Ok(line) => match line.event() {
+                None => Ok(()),
+                Some(event) => self.take_event(&event, writer),
+            },
+            Err(LineFault::OutOfMemory) => Err(ScriptFault::OutOfMemory),
+            Err(fault) => Err(ScriptFault::Line(number, fault)),
+        }
+    }
+
+    /// Plays an event.
+    #[tactic(auto, unfolding(crate::specs::ScriptSteps::LineComesTo))]
+    fn take_event<W: Write>(&mut self, event: &Event<'_>, writer: &mut W) -> Result<(), ScriptFault>
+        requires slots { length self.old.node.slots ≤ 16 }
+        ensures few { length self.new.node.slots ≤ 16 }
+        ensures line { LineComesTo self.old self.new
+            (W.contents writer.old) (W.contents writer.new)
+            0 (Ok (Some (event_model event.now))) result }
+    {
+        match play(&mut self.node, event, &mut self.records, &mut self.text) {
+            Ok(()) => put(&mut self.output, &self.text, writer),
+            Err(_) => Err(ScriptFault::OutOfMemory),
+        }
+    }
+}
