@@ -1,12 +1,12 @@
 -- Facts on the words of a line.
 use Rattle.std.proofs.Common.{◌≡◌, ℕ, ◌+◌, ◌<◌, ◌≤◌, ◌==◌, false, List, [], ◌∷◌, ◌++◌, length, refl}
-use Rattle.std.proofs.Common.{arith, take, map, ap, ◌∙◌, sym, append_assoc, Bor, length-append}
+use Rattle.std.proofs.Common.{arith, take, ap, ◌∙◌, sym, append_assoc, Bor, length-append}
 use Rattle.std.proofs.lemmas.List.{take_all, length-map, map-append}
 use Rattle.std.proofs.Math.Seq.{take-append_seam}
 use Rattle.std.proofs.lemmas.Bool.Decides.{nat_tests}
 use Rattle.std.proofs.lemmas.List.Splits.{slice_split_at, slice_split_none}
 use Rattle.trdp_script.specs.Pieces.{Lacks, IsSplit}
-use Rattle.trdp_script.specs.Words.{words_of, first_word, other_words}
+use Rattle.trdp_script.specs.Words.{words_of}
 use Rattle.trdp_script.specs.WordsLeft.{words_at}
 
 -- what stands before the first space is the first word

@@ -1,4 +1,4 @@
-use Rattle.std.proofs.Common.{ap, sym, ◌∙◌, rules, take, ◌++◌}
+use Rattle.std.proofs.Common.{ap, ◌∙◌, rules, take, ◌++◌}
 use Rattle.trdp_script.specs.Words.{words_of}
 use Rattle.trdp_script.specs.WordsLeft.{words_at}
 use Rattle.trdp_script.proofs.FormLemmas.{line_read}

@@ -1,4 +1,4 @@
-use Rattle.std.proofs.Common.{rules, arith}
+use Rattle.std.proofs.Common.{rules}
 use Rattle.std.proofs.lemmas.Bool.{eqb-true}
 use Rattle.trdp_script.proofs.WordLemmas.{more_cut, last_cut, full_cut}
 use Rattle.trdp_script.proofs.words.cut_words.Goals as goal

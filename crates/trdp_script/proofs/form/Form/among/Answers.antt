@@ -1,9 +1,7 @@
-use Rattle.std.proofs.Common.{◌∙◌, ap, sym, refl, rules, ◌≡◌}
-use Rattle.trdp_script.specs.FormNames.{own_word}
+use Rattle.std.proofs.Common.{◌∙◌, sym, refl}
 use Rattle.trdp_script.specs.Lines.{form_among}
 use Rattle.trdp_script.specs.WordsLeft.{words_left}
-use Rattle.trdp_script.specs.Words.{first_word, other_words}
-use Rattle.trdp_script.proofs.FormLemmas.{found_here, passed_here, none_left}
+use Rattle.trdp_script.proofs.FormLemmas.{none_left}
 use Rattle.trdp_script.proofs.form.Form.among.Goals as goal
 
 pub loop-form-init : goal.loop-form-init
