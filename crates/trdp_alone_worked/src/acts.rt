@@ -9,8 +9,8 @@ use trdp_engine::Refusal;
 use trdp_filter::{Globals, Telegram};
 use trdp_head::{MdHead, PD_PAYLOAD_MAX, PdHead};
 use trdp_md::{Caller, Replier, Stage};
+use trdp_model::AnyObject;
 use trdp_pd::{Fired, Object, Publisher, Reason, Taken};
-use trdp_table::AnyObject;
 
 /// Sends the value of a publisher.
 fn send_value(

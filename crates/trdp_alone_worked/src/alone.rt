@@ -13,8 +13,8 @@ use trdp_engine::{Call, Event, Protocol, Refusal};
 use trdp_filter::{Globals, Groups, Telegram};
 use trdp_head::{MD_PAYLOAD_MAX, MdKind, MdView, read_md, read_pd};
 use trdp_md::{Caller, CallerTerms, Listener, NotifyTerms, Replier, notification, request_head};
+use trdp_model::{AnyObject, Kind};
 use trdp_pd::{Object, Publisher, Requester, Subscription};
-use trdp_table::{AnyObject, Kind};
 
 /// An object with its handle.
 #[derive(Drop)]

@@ -6,8 +6,8 @@ use std::test::Fail;
 use trdp_engine::{Call, Refusal};
 use trdp_filter::Globals;
 use trdp_md::{Caller, Replier};
+use trdp_model::AnyObject;
 use trdp_pd::{Publisher, Requester, Subscription};
-use trdp_table::AnyObject;
 
 /// The handle of the object that a call concerns; None where it concerns none that there is.
 pub fn handle_of(call: &Call<'_>) -> Option<u32> {

@@ -6,8 +6,8 @@ use trdp_base::{Ip, Place, Quotas, SessionId, Topo, Uri};
 use trdp_engine::{Call, Event, Protocol};
 use trdp_filter::{MdFilter, PdFilter};
 use trdp_md::{CallerTerms, NotifyTerms};
+use trdp_model::Kind;
 use trdp_pd::{Behaviour, PublisherTerms, RequesterTerms, SubscriptionTerms};
-use trdp_table::Kind;
 
 /// Numbers by Knuth's linear generator (MMIX), of which the high half is used.
 #[derive(Clone, Copy)]

@@ -7,8 +7,8 @@ use Rattle.std.proofs.lemmas.Bool.Decides.{nat_tests}
 use Rattle.std.proofs.lemmas.List.{length-map}
 use Rattle.std.proofs.lemmas.List.Elements.{All-cons, All-nil}
 use Rattle.trdp_dataset.specs.Configs.{ConfigModel}
-use Rattle.trdp_engine.specs.NodeStates.{NodeState}
-use Rattle.trdp_engine.specs.Slots.{opened_slot}
+use Rattle.trdp_model.specs.NodeModels.{NodeModel}
+use Rattle.trdp_model.specs.Slots.{opened_slot}
 use Rattle.trdp_daemon.specs.declared.port.Port.{Port}
 use Rattle.trdp_daemon.specs.declared.port.Port.TheVariants.{Pd, Md, Operator, Control}
 use Rattle.trdp_daemon.specs.Effects.{ServiceState, event_effect}
@@ -20,25 +20,25 @@ use Rattle.trdp_daemon.proofs.ControlPorts.{numbers_count}
 use Rattle.trdp_daemon.proofs.OpenSlots.{visit_keeps, moment_keeps, turn_keeps}
 
 -- each of these ports is there
-abbrev AllThere : NodeState → List Port → Type 0
+abbrev AllThere : NodeModel → List Port → Type 0
 AllThere node [] = Unit {0}
 AllThere node (port ∷ ports) = (is_there node port ≡ true) × AllThere node ports
 
 -- a node with more slots has the same ports
-there_kept : (old new : NodeState) (port : Port) → length old.slots ≤ length new.slots
+there_kept : (old new : NodeModel) (port : Port) → length old.slots ≤ length new.slots
     → is_there old port ≡ true → is_there new port ≡ true
 there_kept old new Pd same there = refl
 there_kept old new Md same there = refl
 there_kept old new Operator same there = refl
 there_kept old new (Control slot) more there = grind (arith, nat_tests)
 
-all_kept : (old new : NodeState) (ports : List Port) → length old.slots ≤ length new.slots
+all_kept : (old new : NodeModel) (ports : List Port) → length old.slots ≤ length new.slots
     → AllThere old ports → AllThere new ports
 all_kept old new [] same there = tt
 all_kept old new (port ∷ ports) same (here, there) =
     (there_kept old new port same here, all_kept old new ports same there)
 
-both_there : (node : NodeState) (ps qs : List Port) → AllThere node ps → AllThere node qs
+both_there : (node : NodeModel) (ps qs : List Port) → AllThere node ps → AllThere node qs
     → AllThere node (ps ++ qs)
 both_there node [] qs first others = others
 both_there node (p ∷ ps) qs (here, first) others = (here, both_there node ps qs first others)
@@ -62,7 +62,7 @@ takes_each (port ∷ ports) s visits (here, there) takes = takes_next port ports
     (λ t later same rest. takes_each ports t later (all_kept s.node t.node ports same there) rest)
     (subst (λ (is : Bool). TakesFirst is port (TakesAt ports) s visits) here takes)
 
-unless_there : (node : NodeState) (number : ℕ) (port : Port) → is_there node port ≡ true
+unless_there : (node : NodeModel) (number : ℕ) (port : Port) → is_there node port ≡ true
     → AllThere node (port_unless_0 number port)
 unfolding port_unless_0
 unless_there node number port there = by_test (number == 0)
@@ -72,7 +72,7 @@ unless_there node number port there = by_test (number == 0)
     by_test false = (there, tt)
 
 -- below the number of slots each control port is there
-controls_there : (node : NodeState) (s : ℕ) (numbers : List ℕ)
+controls_there : (node : NodeModel) (s : ℕ) (numbers : List ℕ)
     → s + length numbers ≤ length node.slots → AllThere node (control_ports s numbers)
 unfolding control_ports
 controls_there node s [] within = tt
@@ -83,7 +83,7 @@ controls_there node s (number ∷ numbers) within =
     (unless_there node number (Control s) (lt-ltb s (length node.slots) below))
     (controls_there node (suc s) numbers fewer)
 
-ports_there : (config : ConfigModel) (node : NodeState)
+ports_there : (config : ConfigModel) (node : NodeModel)
     → length (control_numbers config) ≤ length node.slots → AllThere node (ports_of config)
 unfolding ports_of
 ports_there config node enough =

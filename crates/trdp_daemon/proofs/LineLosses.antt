@@ -7,19 +7,20 @@ use Rattle.std.specs.Prelude.{◌==◌}
 use Rattle.trdp_base.specs.declared.place.Place.{Place}
 use Rattle.trdp_base.specs.declared.topo.Topo.{Topo}
 use Rattle.trdp_filter.specs.declared.globals.Globals.{Globals}
-use Rattle.trdp_engine.specs.declared.fault.NodeFault.TheVariants.{NoGroup}
-use Rattle.trdp_engine.specs.Configs.{NodeSetup, setup_of}
-use Rattle.trdp_engine.specs.Events.{EventModel, MomentIs, TopologyIs, RoleIs, DatagramIs, CallIs}
-use Rattle.trdp_engine.specs.Events.{AddSlotIs}
-use Rattle.trdp_engine.specs.Alone.{opened_by}
-use Rattle.trdp_engine.specs.NodeStates.{NodeState, MayTakeMemory}
-use Rattle.trdp_engine.specs.Records.{Content, labelled}
-use Rattle.trdp_engine.specs.Slots.{SlotState}
+use Rattle.trdp_model.specs.declared.fault.NodeFault.TheVariants.{NoGroup}
+use Rattle.trdp_model.specs.Configs.{NodeSetup, setup_of}
+use Rattle.trdp_model.specs.Events.{EventModel, MomentIs, TopologyIs, RoleIs, DatagramIs, CallIs}
+use Rattle.trdp_model.specs.Events.{AddSlotIs}
+use Rattle.trdp_model.specs.Alone.{opened_by}
+use Rattle.trdp_model.specs.NodeModels.{NodeModel}
+use Rattle.trdp_model.specs.NodeModels.{MayTakeMemory}
+use Rattle.trdp_model.specs.Records.{Content, labelled}
+use Rattle.trdp_model.specs.Slots.{SlotState}
 use Rattle.trdp_script.specs.declared.fault.LineFault.{LineFault}
 use Rattle.trdp_script.specs.EventBytes.{carries_bytes}
 use Rattle.trdp_script.specs.PortLines.{control_line_of, operator_line_of}
 use Rattle.trdp_script.proofs.PortLemmas.{IsOperators, operators_line}
-use Rattle.trdp_script.specs.ScriptText.{node_after}
+use Rattle.trdp_model.specs.NodeModels.{node_after}
 use Rattle.trdp_daemon.specs.declared.port.Port.TheVariants.{Operator, Control}
 use Rattle.trdp_daemon.specs.Effects.{ServiceState, Loss, LineLost, EventLost, TextsLost}
 use Rattle.trdp_daemon.specs.Effects.{event_effect, event_records, event_taken, missing}
@@ -49,7 +50,7 @@ role_untold setup g group leader s (slot ∷ slots) =
     either false = refl
 
 -- what the operator says gives no record
-operators_untold : (node : NodeState) (event : EventModel) → IsOperators (Ok (Some event))
+operators_untold : (node : NodeModel) (event : EventModel) → IsOperators (Ok (Some event))
     → opened_by event ≡ [] → event_records node event ≡ []
 operators_untold node (MomentIs t) of none = absurd of
 operators_untold node (TopologyIs topo) of none =
@@ -68,7 +69,7 @@ operators_untold node (CallIs s call) of none = absurd of
 operators_untold node (AddSlotIs quotas) of none = absurd (cc)
 
 -- and wants no memory
-operators_take_none : (node : NodeState) (event : EventModel)
+operators_take_none : (node : NodeModel) (event : EventModel)
     → IsOperators (Ok (Some event)) → opened_by event ≡ [] → MayTakeMemory node event → ⊥
 operators_take_none node (MomentIs t) of none may = absurd of
 operators_take_none node (TopologyIs topo) of none may = absurd may

@@ -2,8 +2,8 @@
 use Rattle.std.proofs.Common.{◌≡◌, ℕ, Bool, true, false, List, [], ◌∷◌, Option, Some, None}
 use Rattle.std.proofs.Common.{Result, Ok, Err, refl, ◌∙◌, ap, arith, map, if◌then◌else◌}
 use Rattle.trdp_base.specs.declared.place.Place.{Place}
-use Rattle.trdp_engine.specs.Events.{EventModel}
-use Rattle.trdp_engine.specs.Records.{RecordModel, Content, Answers, Indicates, Sends}
+use Rattle.trdp_model.specs.Events.{EventModel}
+use Rattle.trdp_model.specs.Records.{RecordModel, Content, Answers, Indicates, Sends}
 use Rattle.trdp_script.specs.EventBytes.{carries_bytes}
 use Rattle.trdp_script.specs.declared.fault.LineFault.{LineFault}
 use Rattle.trdp_script.specs.PortLines.{control_line_of, operator_line_of}

@@ -4,15 +4,15 @@ use Rattle.std.proofs.Common.{Option, Some, None, Result, Ok, Err, refl, ap, len
 use Rattle.std.proofs.Common.{◌≤◌, arith}
 use Rattle.trdp_base.specs.declared.place.Place.{Place}
 use Rattle.trdp_filter.specs.declared.globals.Globals.{Globals}
-use Rattle.trdp_engine.specs.declared.fault.NodeFault.{NodeFault}
-use Rattle.trdp_engine.specs.Alone.{refused_as, opened_by}
-use Rattle.trdp_engine.specs.Configs.{NodeSetup, setup_of}
-use Rattle.trdp_engine.specs.Events.{EventModel}
-use Rattle.trdp_engine.specs.NodeStates.{NodeState}
-use Rattle.trdp_engine.specs.Slots.{SlotState}
+use Rattle.trdp_model.specs.declared.fault.NodeFault.{NodeFault}
+use Rattle.trdp_model.specs.Alone.{refused_as, opened_by}
+use Rattle.trdp_model.specs.Configs.{NodeSetup, setup_of}
+use Rattle.trdp_model.specs.Events.{EventModel}
+use Rattle.trdp_model.specs.NodeModels.{NodeModel}
+use Rattle.trdp_model.specs.Slots.{SlotState}
 use Rattle.trdp_script.specs.EventBytes.{carries_bytes}
 use Rattle.trdp_script.specs.PortLines.{control_line_of, operator_line_of}
-use Rattle.trdp_script.specs.ScriptText.{node_unless, slots_after}
+use Rattle.trdp_model.specs.NodeModels.{node_unless, slots_after}
 use Rattle.trdp_script.specs.declared.fault.LineFault.{LineFault}
 use Rattle.trdp_daemon.specs.declared.port.Port.{Port}
 use Rattle.trdp_daemon.specs.declared.port.Port.TheVariants.{Pd, Md, Operator, Control}
@@ -32,7 +32,7 @@ slots_kept setup g event s [] = refl
 slots_kept setup g event s (slot ∷ slots) =
     let rest = slots_kept setup g event (suc s) slots in ap suc rest
 
-node_kept : (fault : Option NodeFault) (node : NodeState) (event : EventModel)
+node_kept : (fault : Option NodeFault) (node : NodeModel) (event : EventModel)
     → length node.slots ≤ length (node_unless fault node event).slots
 node_kept (Some fault) node event = omega arith
 node_kept None node event =

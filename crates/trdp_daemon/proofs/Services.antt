@@ -2,16 +2,17 @@
 use Rattle.std.proofs.Common.{◌≡◌, ℕ, List, [], Option, refl, sym, ◌∙◌, ap, subst}
 use Rattle.std.proofs.Common.{Bool, true, false, if◌then◌else◌, length, suc, zero, append-nil}
 use Rattle.trdp_base.specs.declared.place.Place.{Place}
-use Rattle.trdp_engine.specs.Events.{EventModel, MomentIs, TopologyIs, RoleIs, DatagramIs, CallIs}
-use Rattle.trdp_engine.specs.Events.{AddSlotIs}
-use Rattle.trdp_engine.specs.NodeStates.{NodeState, MayTakeMemory, due_in, uncounted}
+use Rattle.trdp_model.specs.Events.{EventModel, MomentIs, TopologyIs, RoleIs, DatagramIs, CallIs}
+use Rattle.trdp_model.specs.Events.{AddSlotIs}
+use Rattle.trdp_model.specs.NodeModels.{NodeModel}
+use Rattle.trdp_engine.specs.NodeStates.{uncounted}
+use Rattle.trdp_model.specs.NodeModels.{MayTakeMemory, due_in}
 use Rattle.std.proofs.lemmas.Bool.{lt-ltb, ltb-true}
-use Rattle.trdp_engine.specs.Records.{RecordModel}
-use Rattle.trdp_engine.specs.Alone.{refused_as}
-use Rattle.trdp_script.specs.ScriptText.{node_after}
+use Rattle.trdp_model.specs.Records.{RecordModel}
+use Rattle.trdp_model.specs.Alone.{refused_as}
+use Rattle.trdp_model.specs.NodeModels.{node_after}
 use Rattle.trdp_script.specs.SlotOrder.{by_slot}
 use Rattle.trdp_script.proofs.Orders.{by_slot_suc, by_slot_zero}
-use Rattle.trdp_script.proofs.Playing.{may_uncounted}
 use Rattle.trdp_daemon.specs.declared.link.Link.{Link}
 use Rattle.trdp_daemon.specs.declared.service.Service.{Service}
 use Rattle.trdp_daemon.specs.Told.{Taking, Give}
@@ -69,7 +70,7 @@ comes_told old new event places records node kept same all told =
     }
 
 -- memory may be wanting for an event
-pub wanting : (node : NodeState) (event : EventModel)
+pub wanting : (node : NodeModel) (event : EventModel)
     → MayTakeMemory node event → may_take_memory node event ≡ true
 unfolding may_take_memory
 wanting node (MomentIs t) may = lt-ltb 0 (due_in t node.slots) may
@@ -79,7 +80,7 @@ wanting node (DatagramIs protocol src dst bytes) may = may
 wanting node (CallIs s call) may = refl
 wanting node (AddSlotIs quotas) may = refl
 
-pub is_wanting : (node : NodeState) (event : EventModel)
+pub is_wanting : (node : NodeModel) (event : EventModel)
     → may_take_memory node event ≡ true → MayTakeMemory node event
 unfolding may_take_memory
 is_wanting node (MomentIs t) may = ltb-true 0 (due_in t node.slots) may
@@ -133,14 +134,14 @@ missed old new node kept carried = record {
 pub comes_lost : {W : Type 0} {takings_in : W → Option (List Taking)}
     {gives_in : W → Option (List Give)} {a b : Link W} (old new : Service) (event : EventModel)
     → new.node ≡ old.node → new.places.items ≡ old.places.items
-    → MayTakeMemory old.node event → Carries takings_in gives_in a b [] missing
+    → MayTakeMemory (uncounted old.node) event → Carries takings_in gives_in a b [] missing
     → ComesWith takings_in gives_in old new a b (event_effect (service_state old) event)
 unfolding event_effect
 comes_lost {W} {takings_in} {gives_in} {a} {b} old new event node kept may carried = record {
   loss = EventLost;
   comes = subst (λ (e : Effect). Comes takings_in gives_in old new a b [] e)
       (lost_there (service_state old) event (event_taken (service_state old) event [])
-      (may_uncounted old.node event may)) (missed old new node kept carried);
+      may) (missed old new node kept carried);
 }
 
 -- an event of the operator was taken, or refused, its records were told and it was answered
@@ -172,7 +173,7 @@ pub comes_unanswered :
     {W : Type 0} {takings_in : W → Option (List Taking)} {gives_in : W → Option (List Give)}
     {a b : Link W} (old new : Service) (event : EventModel) (from : Place)
     → new.node ≡ old.node → new.places.items ≡ old.places.items
-    → MayTakeMemory old.node event → Carries takings_in gives_in a b [] missing
+    → MayTakeMemory (uncounted old.node) event → Carries takings_in gives_in a b [] missing
     → ComesWith takings_in gives_in old new a b (operator_event (service_state old) from event)
 unfolding operator_event
 comes_unanswered {W} {takings_in} {gives_in} {a} {b} old new event from node kept may carried =
@@ -180,5 +181,5 @@ comes_unanswered {W} {takings_in} {gives_in} {a} {b} old new event from node kep
       loss = EventLost;
       comes = subst (λ (e : Effect). Comes takings_in gives_in old new a b [] e)
           (lost_there (service_state old) event (operator_taken (service_state old) from event [])
-          (may_uncounted old.node event may)) (missed old new node kept carried);
+          may) (missed old new node kept carried);
     }

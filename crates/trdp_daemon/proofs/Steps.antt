@@ -2,17 +2,18 @@
 use Rattle.std.proofs.Common.{◌≡◌, suc, ◌+◌, ◌-◌, ◌≤◌, ℕ, List, [], ◌∷◌, ◌++◌, length, Some, None}
 use Rattle.std.proofs.Common.{Ok, Err, Option, refl, sym, ◌∙◌, ap, arith, append_assoc, append-nil}
 use Rattle.std.specs.Prelude.{slice_get}
-use Rattle.trdp_engine.specs.Configs.{NodeSetup, setup_of}
+use Rattle.trdp_model.specs.Configs.{NodeSetup, setup_of}
 use Rattle.trdp_filter.specs.declared.globals.Globals.{Globals}
-use Rattle.trdp_engine.specs.declared.fault.NodeFault.{NodeFault}
-use Rattle.trdp_engine.specs.declared.fault.NodeFault.TheVariants.{OutOfMemory}
-use Rattle.trdp_engine.specs.Events.{EventModel}
-use Rattle.trdp_engine.specs.Records.{RecordModel, labelled, records_of}
-use Rattle.trdp_engine.specs.Slots.{SlotState}
-use Rattle.trdp_engine.specs.Alone.{FaultIs, refused_as, records_after}
-use Rattle.trdp_engine.specs.Alone.{slots_then, told_opening}
-use Rattle.trdp_engine.specs.NodeStates.{NodeState, StepsAsAlone, Appends, uncounted}
-use Rattle.trdp_engine.proofs.Steps.{open_outcome}
+use Rattle.trdp_model.specs.declared.fault.NodeFault.{NodeFault}
+use Rattle.trdp_model.specs.declared.fault.NodeFault.TheVariants.{OutOfMemory}
+use Rattle.trdp_model.specs.Events.{EventModel}
+use Rattle.trdp_model.specs.Records.{RecordModel, labelled, records_of}
+use Rattle.trdp_model.specs.Slots.{SlotState}
+use Rattle.trdp_model.specs.Alone.{FaultIs, refused_as, records_after}
+use Rattle.trdp_model.specs.Alone.{slots_then, told_opening}
+use Rattle.trdp_model.specs.NodeModels.{NodeModel}
+use Rattle.trdp_model.specs.NodeModels.{StepsAsAlone, Appends}
+use Rattle.trdp_model.proofs.Steps.{open_outcome}
 use Rattle.trdp_script.specs.SlotOrder.{by_slot}
 use Rattle.trdp_script.proofs.Orders.{slots_own, by_slot_suc, by_slot_zero}
 use Rattle.trdp_script.proofs.Playing.{own_labelled, by_slot_past, no_fault}
@@ -41,12 +42,12 @@ slots_records_after setup g event records (slot ∷ slots) n m is each =
     let next : s ≡ n + suc i = omega (arith, is) in each (suc i) s other next there)
 
 -- the records of an event that the node took
-pub records_played : (n : ℕ) (old new : NodeState) (records records_then : List RecordModel)
+pub records_played : (n : ℕ) (old new : NodeModel) (records records_then : List RecordModel)
     (event : EventModel) → FaultIs (refused_as (length old.slots) old.globals event) (Ok tt)
     → length new.slots ≤ n → length new.slots ≡ slots_then (length old.slots) event
     → records ≡ [] → ((s : ℕ) → StepsAsAlone old new records records_then event s)
     → Appends new.slots records records_then
-    → by_slot n records_then ≡ event_records (uncounted old) event
+    → by_slot n records_then ≡ event_records old event
 records_played n old new records records_then event taken fits count empty steps appends =
     let admitted = no_fault (refused_as (length old.slots) old.globals event) taken in
     let room : n ≡ length new.slots + (n - length new.slots) = omega (arith, fits) in
@@ -67,18 +68,18 @@ records_played n old new records records_then event taken fits count empty steps
     (sym (by_slot_zero records_then))
     ∙ slots_records_after (setup_of old.config)
     old.globals event records_then old.slots 0 (length old.slots) (sym whole) each))
-    ∙ ap (λ fault. records_unless fault (uncounted old) event) (sym admitted)
+    ∙ ap (λ fault. records_unless fault old event) (sym admitted)
 
 -- an event that the node takes no notice of has no records
 unless_refused :
-    (fault : Option NodeFault) (refused : NodeFault) (node : NodeState) (event : EventModel)
+    (fault : Option NodeFault) (refused : NodeFault) (node : NodeModel) (event : EventModel)
     → FaultIs fault (Err refused) → (refused ≡ OutOfMemory → ⊥)
     → records_unless fault node event ≡ []
 unless_refused None refused node event is own = absurd (own is)
 unless_refused (Some fault) refused node event is own = refl
 
-pub records_refused : (refused : NodeFault) (node : NodeState) (event : EventModel)
+pub records_refused : (refused : NodeFault) (node : NodeModel) (event : EventModel)
     → FaultIs (refused_as (length node.slots) node.globals event) (Err refused)
-    → (refused ≡ OutOfMemory → ⊥) → event_records (uncounted node) event ≡ []
+    → (refused ≡ OutOfMemory → ⊥) → event_records node event ≡ []
 records_refused refused node event is own = unless_refused
-    (refused_as (length node.slots) node.globals event) refused (uncounted node) event is own
+    (refused_as (length node.slots) node.globals event) refused node event is own

@@ -8,9 +8,9 @@ use Rattle.std.proofs.lemmas.List.Elements.{filter-append}
 use Rattle.std.proofs.Math.Seq.{take-suc}
 use Rattle.trdp_base.specs.declared.place.Place.{Place}
 use Rattle.std.proofs.lemmas.Option.{slice_get_within, get_or_from_slice_get}
-use Rattle.trdp_engine.specs.declared.record.Protocol.{Protocol}
-use Rattle.trdp_engine.specs.Records.{RecordModel, Content, Answers, Indicates}
-use Rattle.trdp_engine.specs.Records.{Sends, AnswerModel, IndicationModel}
+use Rattle.trdp_model.specs.declared.record.Protocol.{Protocol}
+use Rattle.trdp_model.specs.Records.{RecordModel, Content, Answers, Indicates}
+use Rattle.trdp_model.specs.Records.{Sends, AnswerModel, IndicationModel}
 use Rattle.trdp_script.specs.RecordText.{text_of_record}
 use Rattle.trdp_daemon.specs.declared.port.Port.TheVariants.{Control}
 use Rattle.trdp_daemon.specs.declared.link.Link.{Link}

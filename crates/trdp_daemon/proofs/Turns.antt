@@ -2,6 +2,7 @@
 use Rattle.std.proofs.Common.{◌≡◌, ◌+◌, ℕ, Bool, true, false, List, [], ◌∷◌, ◌++◌, Option}
 use Rattle.std.proofs.Common.{refl, sym, ◌∙◌, ap, subst, map, take}
 use Rattle.std.proofs.lemmas.List.{map-append}
+use Rattle.trdp_engine.specs.NodeStates.{uncounted}
 use Rattle.trdp_daemon.specs.declared.link.Link.{Link}
 use Rattle.trdp_daemon.specs.declared.port.Port.{Port}
 use Rattle.trdp_daemon.specs.declared.service.Service.{Service}
@@ -150,7 +151,7 @@ pub turn_taken :
     {W : Type 0} {takings_in : W → Option (List Taking)} {gives_in : W → Option (List Give)}
     {r s t : Service} {a b c : Link W} (ports : List Port) (reading : ℕ)
     → ComesWith takings_in
-    gives_in r s a b (event_effect (service_state r) (moment_of r.node reading))
+    gives_in r s a b (event_effect (service_state r) (moment_of (uncounted r.node) reading))
     → TakesAtPorts takings_in gives_in s t b c ports
     → TakesTurn takings_in gives_in r t a c ports reading
 turn_taken {W} {takings_in} {gives_in} {r} {s} {t} {a} {b} {c} ports reading p q =
@@ -160,6 +161,6 @@ turn_taken {W} {takings_in} {gives_in} {r} {s} {t} {a} {b} {c} ports reading p q
       reading_is = refl;
       takes_at =
           subst (λ (x : ServiceState). TakesAt ports x q.visits) p.comes.service_is q.takes_at;
-      comes = comes_both {e = event_effect (service_state r) (moment_of r.node reading) p.loss}
+      comes = comes_both {e = event_effect (service_state r) (moment_of (uncounted r.node) reading) p.loss}
           (λ after. visits_effect after q.visits) p.comes q.comes;
     }

@@ -3,9 +3,9 @@ use Rattle.std.proofs.Common.{◌≡◌, ℕ, true, List, [], ◌∷◌, Option,
 use Rattle.std.proofs.Common.{Result, Ok, Err, refl, sym, ◌∙◌, ap, subst, length, take}
 use Rattle.std.specs.Prelude.{slice_set}
 use Rattle.trdp_base.specs.declared.place.Place.{Place}
-use Rattle.trdp_engine.specs.Events.{EventModel, DatagramIs}
+use Rattle.trdp_model.specs.Events.{EventModel, DatagramIs}
 use Rattle.trdp_engine.specs.NodeStates.{uncounted}
-use Rattle.trdp_engine.specs.declared.record.Protocol.TheVariants.{Pd as PdData, Md as MdData}
+use Rattle.trdp_model.specs.declared.record.Protocol.TheVariants.{Pd as PdData, Md as MdData}
 use Rattle.trdp_script.specs.declared.fault.LineFault.{LineFault}
 use Rattle.trdp_script.specs.declared.fault.LineFault.TheVariants.{OutOfMemory}
 use Rattle.trdp_script.specs.declared.line.Line.{Line}

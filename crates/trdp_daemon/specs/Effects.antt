@@ -5,19 +5,20 @@ use Rattle.std.specs.Prelude.{Option, Some, None, slice_index_or, nat_lt, if◌t
 use Rattle.std.specs.List.{list_any}
 use Rattle.trdp_base.specs.declared.place.Place.{Place}
 use Rattle.trdp_filter.specs.declared.globals.Globals.{Globals}
-use Rattle.trdp_engine.specs.declared.fault.NodeFault.{NodeFault}
-use Rattle.trdp_engine.specs.declared.record.Protocol.{Protocol}
-use Rattle.trdp_engine.specs.declared.record.Protocol.TheVariants.{Pd as PdData, Md as MdData}
-use Rattle.trdp_engine.specs.Alone.{refused_as, records_after, told_opening}
-use Rattle.trdp_engine.specs.Configs.{NodeSetup, setup_of}
-use Rattle.trdp_engine.specs.Datagrams.{concerns, telegram_of}
-use Rattle.trdp_engine.specs.Events.{EventModel, MomentIs, TopologyIs, RoleIs, DatagramIs, CallIs}
-use Rattle.trdp_engine.specs.Events.{AddSlotIs}
-use Rattle.trdp_engine.specs.NodeStates.{NodeState, due_in}
-use Rattle.trdp_engine.specs.Records.{Content, Answers, Indicates, Sends, RecordModel, labelled}
-use Rattle.trdp_engine.specs.Slots.{SlotState}
+use Rattle.trdp_model.specs.declared.fault.NodeFault.{NodeFault}
+use Rattle.trdp_model.specs.declared.record.Protocol.{Protocol}
+use Rattle.trdp_model.specs.declared.record.Protocol.TheVariants.{Pd as PdData, Md as MdData}
+use Rattle.trdp_model.specs.Alone.{refused_as, records_after, told_opening}
+use Rattle.trdp_model.specs.Configs.{NodeSetup, setup_of}
+use Rattle.trdp_model.specs.Datagrams.{concerns, telegram_of}
+use Rattle.trdp_model.specs.Events.{EventModel, MomentIs, TopologyIs, RoleIs, DatagramIs, CallIs}
+use Rattle.trdp_model.specs.Events.{AddSlotIs}
+use Rattle.trdp_model.specs.NodeModels.{NodeModel}
+use Rattle.trdp_model.specs.NodeModels.{due_in}
+use Rattle.trdp_model.specs.Records.{Content, Answers, Indicates, Sends, RecordModel, labelled}
+use Rattle.trdp_model.specs.Slots.{SlotState}
 use Rattle.trdp_script.specs.RecordText.{text_of_record}
-use Rattle.trdp_script.specs.ScriptText.{node_after}
+use Rattle.trdp_model.specs.NodeModels.{node_after}
 use Rattle.trdp_daemon.specs.declared.port.Port.{Port}
 use Rattle.trdp_daemon.specs.declared.port.Port.TheVariants.{Pd, Md, Control}
 use Rattle.trdp_daemon.specs.Told.{Offer, offer_to}
@@ -98,21 +99,21 @@ slots_records setup g event s (slot ∷ slots) =
     ++ slots_records setup g event (suc s) slots
 
 -- the records of an event with this fault, which the node takes no notice of, or with none
-abbrev pub records_unless : Option NodeFault → NodeState → EventModel → List RecordModel
+abbrev pub records_unless : Option NodeFault → NodeModel → EventModel → List RecordModel
 records_unless (Some fault) node event = []
 records_unless None node event =
     slots_records (setup_of node.config) node.globals event 0 node.slots
     ++ labelled (length node.slots) (told_opening event)
 
 -- the records of an event
-abbrev pub event_records : NodeState → EventModel → List RecordModel
+abbrev pub event_records : NodeModel → EventModel → List RecordModel
 event_records node event =
     records_unless (refused_as (length node.slots) node.globals event) node event
 
 -- a node, and the control place of each of the 16 slots that it has at most: where the latest
 -- datagram came from that read as a line of the slot; none before the first
 pub record ServiceState : Type 0 where
-  pub node : NodeState
+  pub node : NodeModel
   pub places : List (Option Place)
 
 -- what was lost for want of memory of a reading of the clock or of a datagram
@@ -149,7 +150,7 @@ then_effect first next = record {
 
 -- whether memory may be wanting for an event: a call, a moment by which something is due, a
 -- datagram that concerns a slot, the opening of a slot
-unfoldable pub may_take_memory : NodeState → EventModel → Bool
+unfoldable pub may_take_memory : NodeModel → EventModel → Bool
 may_take_memory node (MomentIs t) = nat_lt 0 (due_in t node.slots)
 may_take_memory node (TopologyIs topo) = false
 may_take_memory node (RoleIs group leader) = false

@@ -2,8 +2,8 @@
 use Rattle.std.specs.Prelude.{◌≡◌, ◌⊎◌, ℕ, ◌≤◌, ◌^◌, ◌-◌, List, [], ◌∷◌, Option, Some, None, false}
 use Rattle.std.specs.Prelude.{map, min, nat_le}
 use Rattle.std.specs.List.{list_any}
-use Rattle.trdp_engine.specs.NodeStates.{IsNextDue}
-use Rattle.trdp_engine.specs.Slots.{SlotState}
+use Rattle.trdp_model.specs.NodeModels.{IsNextDue}
+use Rattle.trdp_model.specs.Slots.{SlotState}
 use Rattle.trdp_daemon.specs.Told.{Taking, Give}
 use Rattle.trdp_daemon.specs.Daemons.{DaemonState, TakesTurns}
 

@@ -1,7 +1,7 @@
 -- What was offered for the records of an event.
 use Rattle.std.specs.Prelude.{◌≡◌, ◌==◌, if◌then◌else◌, ℕ, List, [], ◌∷◌, length, Bool, Option}
 use Rattle.trdp_base.specs.declared.place.Place.{Place}
-use Rattle.trdp_engine.specs.Records.{RecordModel}
+use Rattle.trdp_model.specs.Records.{RecordModel}
 use Rattle.trdp_daemon.specs.declared.link.Link.{Link}
 use Rattle.trdp_daemon.specs.Told.{Taking, Give}
 use Rattle.trdp_daemon.specs.Effects.{text_telling, record_telling, records_telling}

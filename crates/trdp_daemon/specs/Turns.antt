@@ -4,8 +4,8 @@ use Rattle.std.specs.Prelude.{Option, None, min, max, replicate}
 use Rattle.trdp_base.specs.declared.place.Place.{Place}
 use Rattle.trdp_base.specs.Moments.{last_moment}
 use Rattle.trdp_dataset.specs.Configs.{ConfigModel}
-use Rattle.trdp_engine.specs.Events.{EventModel, MomentIs}
-use Rattle.trdp_engine.specs.NodeStates.{NodeState, opened_node}
+use Rattle.trdp_model.specs.Events.{EventModel, MomentIs}
+use Rattle.trdp_model.specs.NodeModels.{NodeModel, opened_model}
 use Rattle.trdp_daemon.specs.declared.port.Port.{Port}
 use Rattle.trdp_daemon.specs.declared.port.Port.TheVariants.{Pd, Md, Operator, Control}
 use Rattle.trdp_daemon.specs.Told.{Taking, Offer}
@@ -25,7 +25,7 @@ pub record Turn : Type 0 where
   pub visits : List Visit
 
 -- the moment of a reading: never before the node's, nor past the last one
-abbrev pub moment_of : NodeState → ℕ → EventModel
+abbrev pub moment_of : NodeModel → ℕ → EventModel
 moment_of node reading = MomentIs (max node.globals.now (min reading last_moment))
 
 abbrev pub visit_effect : ServiceState → Visit → Effect
@@ -67,7 +67,7 @@ abbrev pub with_room : Port → Port × ℕ
 with_room port = (port, datagram_room)
 
 -- whether a node has a port: a control port has to be that of an open slot
-abbrev pub is_there : NodeState → Port → Bool
+abbrev pub is_there : NodeModel → Port → Bool
 is_there node Pd = true
 is_there node Md = true
 is_there node Operator = true
@@ -110,7 +110,7 @@ no_places = replicate 16 None
 
 -- a node that was just opened, no slot of which has a control place
 abbrev pub opened_service : ConfigModel → ServiceState
-opened_service config = record { node = opened_node config; places = no_places }
+opened_service config = record { node = opened_model config; places = no_places }
 
 -- all that a daemon of a configuration offers in these turns, its first
 abbrev pub offers_of : ConfigModel → List Turn → List Offer

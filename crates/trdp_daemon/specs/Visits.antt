@@ -3,10 +3,10 @@ use Rattle.std.specs.Prelude.{ℕ, List, [], ◌++◌, length, codes, slice_set,
 use Rattle.std.specs.Prelude.{Option, Some, None, Result, Ok, Err, if◌then◌else◌}
 use Rattle.trdp_base.specs.declared.place.Place.{Place}
 use Rattle.trdp_dataset.specs.Configs.{ConfigModel}
-use Rattle.trdp_engine.specs.declared.fault.NodeFault.{NodeFault}
-use Rattle.trdp_engine.specs.declared.record.Protocol.TheVariants.{Pd as PdData, Md as MdData}
-use Rattle.trdp_engine.specs.Alone.{refused_as}
-use Rattle.trdp_engine.specs.Events.{EventModel, DatagramIs}
+use Rattle.trdp_model.specs.declared.fault.NodeFault.{NodeFault}
+use Rattle.trdp_model.specs.declared.record.Protocol.TheVariants.{Pd as PdData, Md as MdData}
+use Rattle.trdp_model.specs.Alone.{refused_as}
+use Rattle.trdp_model.specs.Events.{EventModel, DatagramIs}
 use Rattle.trdp_script.specs.EventBytes.{carries_bytes}
 use Rattle.trdp_script.specs.declared.fault.LineFault.{LineFault}
 use Rattle.trdp_script.specs.declared.fault.LineFault.TheVariants.{TooLong, Unknown, Count}

@@ -4,11 +4,12 @@ ghost use Rattle.std.specs.Prelude.{◌≡◌, ◌≤◌, ◌↔◌, ℕ, List, 
 ghost use Rattle.std.specs.Prelude.{IfOk, IfSome};
 ghost use Rattle.trdp_base.specs.declared.place.Place.{Place};
 ghost use Rattle.trdp_dataset.specs.Configs.{ConfigModel};
-ghost use Rattle.trdp_engine.specs.Events.{EventModel};
-ghost use Rattle.trdp_engine.specs.NodeStates.{NodeState, MayTakeMemory};
+ghost use Rattle.trdp_model.specs.Events.{EventModel};
+ghost use Rattle.trdp_model.specs.NodeModels.{NodeModel};
+ghost use Rattle.trdp_model.specs.NodeModels.{MayTakeMemory};
 ghost use Rattle.trdp_script.specs.EventBytes.{carries_bytes};
 ghost use Rattle.trdp_script.specs.PortLines.{control_line_of, operator_line_of};
-ghost use Rattle.trdp_engine.specs.Alone.{opened_by};
+ghost use Rattle.trdp_model.specs.Alone.{opened_by};
 ghost use Rattle.trdp_daemon.specs.declared.port.Port.TheVariants.{Control, Operator};
 ghost use Rattle.trdp_daemon.specs.Effects.{EventLost, LineLost, Loss, ServiceState, TextsLost};
 ghost use Rattle.trdp_daemon.specs.Effects.{event_effect};
@@ -33,7 +34,7 @@ pub fn nothing_missed()
 /// So no skipped line is lost, and of what comes to the operator's port nothing but the opening of
 /// a slot, which takes memory.
 pub fn lost_only_where_memory_is_taken()
-    ensures tested { (node : NodeState) (event : EventModel)
+    ensures tested { (node : NodeModel) (event : EventModel)
         → (may_take_memory node event ≡ true) ↔ MayTakeMemory node event }
     ensures event { (service : ServiceState) (event : EventModel) (loss : Loss)
         → ¬ MayTakeMemory service.node event

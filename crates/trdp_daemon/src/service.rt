@@ -3,10 +3,11 @@
 ghost use Rattle.std.specs.Prelude.{◌≡◌, ◌≢◌, ◌≤◌, length, slice_set, IfSome, IfNone, IfOk};
 ghost use Rattle.std.specs.Prelude.{IfErr};
 ghost use Rattle.std.specs.Prelude.{OnOk, OnErr, Some};
-ghost use Rattle.trdp_engine.specs.Alone.{refused_as};
-ghost use Rattle.trdp_engine.specs.Events.{event_model};
-ghost use Rattle.trdp_engine.specs.NodeStates.{MayTakeMemory, uncounted};
-ghost use Rattle.trdp_script.specs.ScriptText.{node_after};
+ghost use Rattle.trdp_model.specs.Alone.{refused_as};
+ghost use Rattle.trdp_model.specs.Events.{event_model};
+ghost use Rattle.trdp_model.specs.NodeModels.{MayTakeMemory};
+ghost use Rattle.trdp_engine.specs.NodeStates.{uncounted};
+ghost use Rattle.trdp_model.specs.NodeModels.{node_after};
 ghost use Rattle.trdp_script.specs.SlotOrder.{by_slot};
 ghost use Rattle.trdp_daemon.specs.Effects.{event_records, event_effect};
 ghost use Rattle.trdp_daemon.specs.Resting.{IsIdleTime};
@@ -174,7 +175,7 @@ fn step(
     ensures records { OnOk result (by_slot 16 records.new.records
         ≡ event_records (uncounted node.old) (event_model event.now)) }
     ensures kept { OnErr result (node.new ≡ node.old) }
-    ensures memory { OnErr result (MayTakeMemory node.old (event_model event.now)) }
+    ensures memory { OnErr result (MayTakeMemory (uncounted node.old) (event_model event.now)) }
     ensures few { length node.new.slots ≤ 16 }
     ensures config { node.new.config ≡ node.old.config }
 {

@@ -1,7 +1,7 @@
 //! What the records of an event send.
 
 ghost use Rattle.std.specs.Prelude.{◌≡◌, ◌==◌, filter};
-ghost use Rattle.trdp_engine.specs.Records.{record_model};
+ghost use Rattle.trdp_model.specs.Records.{record_model};
 ghost use Rattle.trdp_script.specs.RecordText.{text_of_record};
 ghost use Rattle.trdp_script.specs.SlotOrder.{by_slot};
 ghost use Rattle.trdp_daemon.specs.Effects.{place_of, port_of};

@@ -1,7 +1,7 @@
 //! What a datagram at one of the ports comes to.
 
 ghost use Rattle.std.specs.Prelude.{◌≡◌, length};
-ghost use Rattle.trdp_engine.specs.Events.{DatagramIs};
+ghost use Rattle.trdp_model.specs.Events.{DatagramIs};
 ghost use Rattle.trdp_script.specs.PortLines.{control_line_of, operator_line_of};
 ghost use Rattle.trdp_daemon.specs.Services.{ComesWith, IsHome, IsSound, TakesOnce};
 ghost use Rattle.trdp_daemon.specs.Services.{service_state};

@@ -11,23 +11,24 @@ use Rattle.trdp_filter.specs.Telegrams.{TelegramModel, PdIs, MdIs}
 use Rattle.trdp_table.specs.Tables.{TableState}
 use Rattle.trdp_table.specs.TableLaws.{IsTable}
 use Rattle.trdp_engine.specs.declared.addressees.Addressee.{Addressee}
-use Rattle.trdp_engine.specs.declared.room.Room.{Room}
-use Rattle.trdp_engine.specs.Records.{RecordModel, labelled}
-use Rattle.trdp_engine.specs.Slots.{SlotState, Outcome, unchanged, slots_of}
-use Rattle.trdp_engine.specs.Outboxes.{OutboxState}
-use Rattle.trdp_engine.specs.Rooms.{HasRoom, entries_room}
-use Rattle.trdp_engine.specs.Requests.{asked_by_hearing}
-use Rattle.trdp_engine.specs.Acting.{slot_at, Becomes}
-use Rattle.trdp_engine.specs.Datagrams.{acting, hearing, requested}
+use Rattle.trdp_outbox.specs.declared.room.Room.{Room}
+use Rattle.trdp_model.specs.Records.{RecordModel, labelled}
+use Rattle.trdp_model.specs.Slots.{SlotState, Outcome, unchanged}
+use Rattle.trdp_store.specs.TableSlots.{slots_of}
+use Rattle.trdp_outbox.specs.Outboxes.{OutboxState}
+use Rattle.trdp_outbox.specs.Rooms.{HasRoom, entries_room}
+use Rattle.trdp_model.specs.Requests.{asked_by_hearing}
+use Rattle.trdp_store.specs.Acting.{slot_at, Becomes}
+use Rattle.trdp_model.specs.Datagrams.{acting, hearing, requested}
 use Rattle.trdp_engine.specs.Noted.{noted_as, noted_from}
 use Rattle.trdp_engine.specs.Sought.{comes_unasked, noted_listener, listener_room}
-use Rattle.trdp_engine.proofs.Handles.{IsRising}
-use Rattle.trdp_engine.proofs.Rooms.{entry_rows, entry_bytes}
-use Rattle.trdp_engine.proofs.Tables.{slot_within, slot_is, rising as table_rising}
+use Rattle.trdp_model.proofs.Handles.{IsRising}
+use Rattle.trdp_outbox.proofs.Rooms.{entry_rows, entry_bytes}
+use Rattle.trdp_store.proofs.Tables.{slot_within, slot_is, rising as table_rising}
 use Rattle.trdp_engine.proofs.ListenersAlone.{noted_heard, room_heard}
 use Rattle.trdp_engine.proofs.Noting.{same_room, acting_in}
 use Rattle.trdp_engine.proofs.Noted.{AreRising, slot_of_front, set_front}
-use Rattle.trdp_engine.proofs.Sweeps.{all_records}
+use Rattle.trdp_model.proofs.Sweeps.{all_records}
 
 -- a request, and the slots and the records that it is to lead to
 pub record Request : Type 0 where

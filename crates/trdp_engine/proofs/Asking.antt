@@ -6,24 +6,23 @@ use Rattle.std.proofs.lemmas.Bool.Decides.{nat_tests}
 use Rattle.std.proofs.lemmas.Option.{same_Some}
 use Rattle.std.proofs.lemmas.List.Concat.{flat_map-cons}
 use Rattle.trdp_marshal.specs.Items.{ItemModel}
-use Rattle.trdp_table.specs.declared.any_object.AnyObject.{AnyObject}
-use Rattle.trdp_table.specs.Tables.{TableState, without, changed_at, exchanged}
-use Rattle.trdp_engine.specs.declared.fault.Refusal.{Refusal}
-use Rattle.trdp_engine.specs.declared.fault.Refusal.TheVariants.{NoHandle}
-use Rattle.trdp_engine.specs.Records.{Content, RefusedIs, Answers, labelled}
-use Rattle.trdp_engine.specs.Slots.{Entry, SlotState, entry_of}
-use Rattle.trdp_engine.specs.declared.deed.Left.{Left}
-use Rattle.trdp_engine.specs.declared.deed.Left.TheVariants.{Stays, Ended}
-use Rattle.trdp_engine.specs.Acts.{Act, left_at, acted}
-use Rattle.trdp_engine.specs.Calls.{at_object, at_entry, told_unless}
-use Rattle.trdp_engine.specs.Openings.{refused}
-use Rattle.trdp_engine.specs.Configs.{NodeSetup}
-use Rattle.trdp_engine.proofs.Handles.{AllAbove, IsRising}
-use Rattle.trdp_engine.specs.Values.{item_refusal, takes_item, valued}
-use Rattle.trdp_engine.specs.Outboxes.{OutboxState}
-use Rattle.trdp_engine.specs.Acting.{slot_at, Becomes}
-use Rattle.trdp_engine.proofs.Tables.{ExchangesAlone, IsReached, slots_kept}
-use Rattle.trdp_engine.proofs.Tables.{reached_entry, reached_touched, reached_removed}
+use Rattle.trdp_model.specs.declared.any_object.AnyObject.{AnyObject}
+use Rattle.trdp_table.specs.Tables.{TableState}
+use Rattle.trdp_model.specs.declared.fault.Refusal.{Refusal}
+use Rattle.trdp_model.specs.declared.fault.Refusal.TheVariants.{NoHandle}
+use Rattle.trdp_model.specs.Records.{Content, RefusedIs, Answers, labelled}
+use Rattle.trdp_model.specs.Slots.{Entry, SlotState, entry_of}
+use Rattle.trdp_store.specs.declared.deed.Left.{Left}
+use Rattle.trdp_store.specs.declared.deed.Left.TheVariants.{Stays, Ended}
+use Rattle.trdp_model.specs.Acts.{Act, left_at, acted}
+use Rattle.trdp_model.specs.Calls.{at_object, at_entry, told_unless}
+use Rattle.trdp_model.specs.Openings.{refused}
+use Rattle.trdp_model.specs.Configs.{NodeSetup}
+use Rattle.trdp_model.proofs.Handles.{AllAbove, IsRising}
+use Rattle.trdp_model.specs.Values.{item_refusal, takes_item, valued}
+use Rattle.trdp_outbox.specs.Outboxes.{OutboxState}
+use Rattle.trdp_store.specs.Acting.{slot_at, Becomes}
+use Rattle.trdp_store.proofs.Tables.{slots_kept}
 
 -- what didn't end stays
 pub stayed : (left : Left) → (left ≡ Ended → ⊥) → left ≡ Stays
@@ -38,27 +37,6 @@ pub asked_nobody :
     → Becomes s (at_object (slot_at s table) h act) table table out out_then
 asked_nobody table s h act out out_then lt none records =
     rw none (record { slots = sym (slots_kept table s lt); records = records })
-
--- the object of the handle stays, as another one
-pub asked_stays : (table : TableState) (s h key : ℕ)
-    (object object_then : AnyObject) (act : AnyObject → Act) (out out_then : OutboxState)
-    → ExchangesAlone table → IsReached table s h key object → Some object_then ≡ (act object).left
-    → out_then.records ≡ out.records ++ labelled s (act object).records → Becomes s
-    (at_object (slot_at s table) h act) table (exchanged key table object_then) out out_then
-asked_stays table s h key object object_then act out out_then alone r left records =
-    rw (reached_entry table s h key object r, ← r.object_is, ← left)
-    (record { slots = reached_touched table s h key object object_then alone r; records = records })
-
--- the object of the handle ended
-pub asked_ended : (table : TableState) (s h key : ℕ) (object object_then : AnyObject)
-    (act : AnyObject → Act) (out out_then : OutboxState) → s < length table → ExchangesAlone table
-    → IsReached table s h key object → None ≡ (act object).left → out_then.records
-    ≡ out.records ++ labelled s (act object).records → Becomes s (at_object (slot_at s table) h act)
-    table (changed_at s (without h) (exchanged key table object_then)) out out_then
-asked_ended table s h key object object_then act out out_then lt alone r left records =
-    rw (reached_entry table s h key object r, ← r.object_is, ← left)
-    (record
-    { slots = reached_removed table s h key object object_then lt alone r; records = records })
 
 -- An object that is left as it is.
 

@@ -16,23 +16,24 @@ use Rattle.trdp_head.specs.declared.md.MdKind.{MdKind}
 use Rattle.trdp_head.specs.declared.md.MdKind.TheVariants as message
 use Rattle.trdp_filter.specs.declared.globals.Globals.{Globals}
 use Rattle.trdp_filter.specs.Telegrams.{TelegramModel, PdIs, MdIs}
-use Rattle.trdp_table.specs.declared.any_object.AnyObject.{AnyObject}
-use Rattle.trdp_table.specs.declared.any_object.AnyObject.TheVariants.{Publisher, Subscription}
-use Rattle.trdp_table.specs.declared.any_object.AnyObject.TheVariants.{Requester, Listener}
-use Rattle.trdp_table.specs.declared.any_object.AnyObject.TheVariants.{Caller, Replier}
-use Rattle.trdp_table.specs.Objects.{is_addressed}
+use Rattle.trdp_model.specs.declared.any_object.AnyObject.{AnyObject}
+use Rattle.trdp_model.specs.declared.any_object.AnyObject.TheVariants.{Publisher, Subscription}
+use Rattle.trdp_model.specs.declared.any_object.AnyObject.TheVariants.{Requester, Listener}
+use Rattle.trdp_model.specs.declared.any_object.AnyObject.TheVariants.{Caller, Replier}
+use Rattle.trdp_model.specs.Objects.{is_addressed}
 use Rattle.trdp_table.specs.Tables.{Keyed, SlotTable, TableState, slot_in}
 use Rattle.trdp_table.specs.Tables.{by_handle, all_quotas, room_of}
 use Rattle.trdp_index.specs.declared.session_row.Role.{Role}
 use Rattle.trdp_index.specs.declared.session_row.Role.TheVariants.{Caller as AsCaller}
 use Rattle.trdp_index.specs.declared.session_row.Role.TheVariants.{Replier as AsReplier}
 use Rattle.trdp_index.specs.ComRows.{is_same_com}
-use Rattle.trdp_engine.specs.Slots.{Entry, SlotState, entry_of_keyed, slot_of, slots_of}
-use Rattle.trdp_engine.specs.Acting.{slot_at}
-use Rattle.trdp_engine.specs.Datagrams.{is_request, is_request_kind, is_listening, hearing}
-use Rattle.trdp_engine.specs.Requests.{is_of_session}
-use Rattle.trdp_engine.specs.Indexed.{is_listed, rows_in, rows_from}
-use Rattle.trdp_engine.specs.InSession.{session_of, session_found, session_in}
+use Rattle.trdp_model.specs.Slots.{Entry, SlotState}
+use Rattle.trdp_store.specs.TableSlots.{entry_of_keyed, slot_of, slots_of}
+use Rattle.trdp_store.specs.Acting.{slot_at}
+use Rattle.trdp_model.specs.Datagrams.{is_request, is_request_kind, is_listening, hearing}
+use Rattle.trdp_model.specs.Requests.{is_of_session}
+use Rattle.trdp_store.specs.Indexed.{is_listed, rows_in, rows_from}
+use Rattle.trdp_store.specs.InSession.{session_of, session_found, session_in}
 use Rattle.trdp_engine.specs.Sought.{sought_by, part_as, part_of, is_unasked}
 use Rattle.trdp_engine.specs.Sought.{comes_unasked, rows_heard, noted_listener}
 use Rattle.trdp_engine.specs.Costs.{is_that, is_of_com, is_any, is_of_any, is_meant_as}

@@ -7,15 +7,16 @@ use Rattle.std.proofs.lemmas.List.Sums.{sum_by-cons}
 use Rattle.std.proofs.lemmas.Nat.{mul-add-lt, mul-le}
 use Rattle.trdp_filter.specs.declared.globals.Globals.{Globals}
 use Rattle.trdp_table.specs.Tables.{TableState, all_quotas, room_of}
-use Rattle.trdp_engine.specs.declared.counts.Counts.{Counts}
-use Rattle.trdp_engine.specs.Slots.{Entry, SlotState, slots_of}
-use Rattle.trdp_engine.specs.Acts.{Act}
-use Rattle.trdp_engine.specs.Acting.{slot_at, ActsAt, act_of}
-use Rattle.trdp_engine.specs.Moments.{is_due, is_before, inserted, in_order}
-use Rattle.trdp_engine.specs.NodeStates.{due_in}
-use Rattle.trdp_engine.specs.Outboxes.{OutboxState}
+use Rattle.trdp_store.specs.declared.counts.Counts.{Counts}
+use Rattle.trdp_model.specs.Slots.{Entry, SlotState}
+use Rattle.trdp_store.specs.TableSlots.{slots_of}
+use Rattle.trdp_model.specs.Acts.{Act}
+use Rattle.trdp_store.specs.Acting.{slot_at, ActsAt, act_of}
+use Rattle.trdp_model.specs.Moments.{is_due, is_before, inserted, in_order}
+use Rattle.trdp_model.specs.NodeModels.{due_in}
+use Rattle.trdp_outbox.specs.Outboxes.{OutboxState}
 use Rattle.trdp_engine.specs.Costs.{quota_total, moment_bounds, IsWithin}
-use Rattle.trdp_engine.proofs.Tables.{slot_there}
+use Rattle.trdp_store.proofs.Tables.{slot_there}
 use Rattle.trdp_engine.proofs.Costs.{total_room}
 use Rattle.trdp_engine.proofs.Moving.{due_left, count_set}
 

@@ -1,17 +1,17 @@
 -- What a deed of an object of the store comes to for those that have it done.
 use Rattle.std.proofs.Common.{◌≡◌, ℕ, ◌<◌, [], ◌∷◌, ◌++◌, length, Option, Some, None}
 use Rattle.std.proofs.Common.{false, refl, sym, subst, is_some, IfSome, IfNone}
-use Rattle.trdp_table.specs.declared.any_object.AnyObject.{AnyObject}
-use Rattle.trdp_table.specs.Kinds.{kind_of}
+use Rattle.trdp_model.specs.declared.any_object.AnyObject.{AnyObject}
+use Rattle.trdp_model.specs.Kinds.{kind_of}
 use Rattle.trdp_table.specs.Tables.{TableState}
-use Rattle.trdp_engine.specs.declared.fault.Refusal.TheVariants.{NoHandle}
-use Rattle.trdp_engine.specs.Acts.{Act, acted}
-use Rattle.trdp_engine.specs.Acting.{slot_at, MayAct, TookWithin, Becomes, ActsAt}
-use Rattle.trdp_engine.specs.Calls.{at_object}
-use Rattle.trdp_engine.specs.Outboxes.{OutboxState}
-use Rattle.trdp_engine.specs.Records.{RefusedIs, Answers, labelled}
-use Rattle.trdp_engine.specs.Rooms.{kind_room}
-use Rattle.trdp_engine.specs.Slots.{Entry, entry_at, entry_of}
+use Rattle.trdp_model.specs.declared.fault.Refusal.TheVariants.{NoHandle}
+use Rattle.trdp_model.specs.Acts.{Act, acted}
+use Rattle.trdp_store.specs.Acting.{slot_at, MayAct, TookWithin, Becomes, ActsAt}
+use Rattle.trdp_model.specs.Calls.{at_object}
+use Rattle.trdp_outbox.specs.Outboxes.{OutboxState}
+use Rattle.trdp_model.specs.Records.{RefusedIs, Answers, labelled}
+use Rattle.trdp_outbox.specs.Rooms.{kind_room}
+use Rattle.trdp_model.specs.Slots.{Entry, entry_at, entry_of}
 use Rattle.trdp_engine.proofs.Asking.{asked_nobody}
 use Rattle.trdp_engine.proofs.Meant.{handle_is}
 

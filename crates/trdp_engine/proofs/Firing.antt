@@ -8,27 +8,27 @@ use Rattle.std.proofs.lemmas.List.Elements.{filter-append, filter_passes}
 use Rattle.std.proofs.lemmas.List.Sums.{sum_by-cons}
 use Rattle.std.proofs.lemmas.Option.{same_Some}
 use Rattle.trdp_filter.specs.declared.globals.Globals.{Globals}
-use Rattle.trdp_table.specs.declared.any_object.AnyObject.{AnyObject}
+use Rattle.trdp_model.specs.declared.any_object.AnyObject.{AnyObject}
 use Rattle.trdp_pd.specs.declared.object.Fired.{Fired}
 use Rattle.trdp_pd.specs.declared.object.Fired.TheVariants.{Nothing, Data, Again, Silent}
 use Rattle.trdp_pd.specs.declared.object.Fired.TheVariants.{Closed}
 use Rattle.trdp_pd.specs.Due.{is_due_by}
-use Rattle.trdp_table.specs.Objects.{due_of, is_sound, after_firing, fired}
-use Rattle.trdp_table.specs.ObjectLaws.{due-firing, is_sound-firing}
-use Rattle.trdp_engine.specs.Slots.{Entry, SlotState, entry_of}
-use Rattle.trdp_engine.specs.Acts.{entry_left, left_at, acted}
-use Rattle.trdp_engine.specs.Acting.{act_of}
-use Rattle.trdp_engine.proofs.Handles.{IsRising}
-use Rattle.trdp_engine.specs.Moments.{is_due, is_before, inserted, in_order, left_firing}
-use Rattle.trdp_engine.specs.Moments.{firing_act, after_moment, moved_to}
-use Rattle.trdp_engine.specs.Firing.{IsNext}
-use Rattle.trdp_engine.specs.Fitting.{AllSound}
-use Rattle.trdp_engine.proofs.AllObjects.{AllObjects-found, IsLeft, AllObjects-acted}
-use Rattle.trdp_engine.proofs.Orders.{in_order-filter, sum-in_order}
+use Rattle.trdp_model.specs.Objects.{due_of, is_sound, after_firing, fired}
+use Rattle.trdp_model.specs.ObjectLaws.{due-firing, is_sound-firing}
+use Rattle.trdp_model.specs.Slots.{Entry, SlotState, entry_of}
+use Rattle.trdp_model.specs.Acts.{entry_left, left_at, acted}
+use Rattle.trdp_store.specs.Acting.{act_of}
+use Rattle.trdp_model.proofs.Handles.{IsRising}
+use Rattle.trdp_model.specs.Moments.{is_due, is_before, inserted, in_order, left_firing}
+use Rattle.trdp_model.specs.Moments.{firing_act, after_moment, moved_to}
+use Rattle.trdp_store.specs.Firing.{IsNext}
+use Rattle.trdp_model.specs.Fitting.{AllSound}
+use Rattle.trdp_model.proofs.AllObjects.{AllObjects-found, IsLeft, AllObjects-acted}
+use Rattle.trdp_store.proofs.Orders.{in_order-filter, sum-in_order}
 use Rattle.trdp_engine.proofs.Turns.{followed_by, has_handle, AllFound, AreApart}
 use Rattle.trdp_engine.proofs.Turns.{AllOnly, AllSame, AreThose, those-filter}
 use Rattle.trdp_engine.proofs.Turns.{only_found, flat_map-same, flat_map-flat_map}
-use Rattle.trdp_engine.proofs.Turns.{same_number, differ_either_way, or_left, or_right}
+use Rattle.trdp_model.proofs.Tests.{same_number, differ_either_way, or_left, or_right}
 
 -- What fired isn't due by now.
 

@@ -14,20 +14,21 @@ use Rattle.trdp_filter.specs.Telegrams.{TelegramModel, MdIs}
 use Rattle.trdp_filter.specs.MdFilters.{md_passes, is_com_id}
 use Rattle.trdp_md.specs.declared.listener.Listener.{Listener as ListenerState}
 use Rattle.trdp_md.specs.Listeners.{is_for}
-use Rattle.trdp_table.specs.declared.any_object.AnyObject.{AnyObject}
-use Rattle.trdp_table.specs.declared.any_object.AnyObject.TheVariants.{Publisher, Subscription}
-use Rattle.trdp_table.specs.declared.any_object.AnyObject.TheVariants.{Requester, Listener}
-use Rattle.trdp_table.specs.declared.any_object.AnyObject.TheVariants.{Caller, Replier}
-use Rattle.trdp_table.specs.Objects.{is_addressed}
+use Rattle.trdp_model.specs.declared.any_object.AnyObject.{AnyObject}
+use Rattle.trdp_model.specs.declared.any_object.AnyObject.TheVariants.{Publisher, Subscription}
+use Rattle.trdp_model.specs.declared.any_object.AnyObject.TheVariants.{Requester, Listener}
+use Rattle.trdp_model.specs.declared.any_object.AnyObject.TheVariants.{Caller, Replier}
+use Rattle.trdp_model.specs.Objects.{is_addressed}
 use Rattle.trdp_table.specs.Tables.{Keyed, TableState, slot_in, all_objects, by_key}
 use Rattle.trdp_table.specs.TableLaws.{AllAbove}
 use Rattle.trdp_index.specs.declared.com_row.ComRow.{ComRow}
 use Rattle.trdp_index.specs.ComRows.{is_same_com}
-use Rattle.trdp_engine.specs.Slots.{entry_of_keyed}
-use Rattle.trdp_engine.specs.Datagrams.{is_listening}
-use Rattle.trdp_engine.specs.Indexed.{com_of, is_com, is_listed, rows_in, rows_from}
+use Rattle.trdp_store.specs.TableSlots.{entry_of_keyed}
+use Rattle.trdp_model.specs.Datagrams.{is_listening}
+use Rattle.trdp_store.specs.Indexed.{com_of, is_com, is_listed, rows_in, rows_from}
 use Rattle.trdp_engine.specs.Sought.{earlier, hit_in, first_in}
-use Rattle.trdp_engine.proofs.Seeking.{AllKeyed, and_left, and_right}
+use Rattle.trdp_engine.proofs.Seeking.{AllKeyed, and_left}
+use Rattle.trdp_model.proofs.Tests.{and_right}
 
 -- The lesser of two handles.
 

@@ -11,17 +11,18 @@ use Rattle.trdp_base.specs.declared.place.Place.{Place}
 use Rattle.trdp_head.specs.MdTelegrams.{MdTelegram}
 use Rattle.trdp_filter.specs.declared.globals.Globals.{Globals}
 use Rattle.trdp_filter.specs.Telegrams.{TelegramModel, MdIs}
-use Rattle.trdp_table.specs.Objects.{is_addressed}
+use Rattle.trdp_model.specs.Objects.{is_addressed}
 use Rattle.trdp_table.specs.Tables.{Keyed, TableState, slot_in}
 use Rattle.trdp_table.specs.TableLaws.{IsRising}
 use Rattle.trdp_index.specs.declared.com_row.ComRow.{ComRow}
-use Rattle.trdp_engine.specs.Slots.{entry_of_keyed}
-use Rattle.trdp_engine.specs.Acting.{slot_at}
-use Rattle.trdp_engine.specs.Datagrams.{is_listening, hearing}
-use Rattle.trdp_engine.specs.Indexed.{is_listed, rows_in, rows_from}
+use Rattle.trdp_store.specs.TableSlots.{entry_of_keyed}
+use Rattle.trdp_store.specs.Acting.{slot_at}
+use Rattle.trdp_model.specs.Datagrams.{is_listening, hearing}
+use Rattle.trdp_store.specs.Indexed.{is_listed, rows_in, rows_from}
 use Rattle.trdp_engine.specs.Sought.{hit, earlier, first_handle, hit_in, first_in}
 use Rattle.trdp_engine.proofs.Noting.{split}
-use Rattle.trdp_engine.proofs.Seeking.{AllKeyed, KeysTell, all_keyed}
+use Rattle.trdp_engine.proofs.Seeking.{AllKeyed, all_keyed}
+use Rattle.trdp_store.proofs.Keys.{KeysTell}
 use Rattle.trdp_engine.proofs.Firsts.{IsAbove, Hears, InOwn, InAny, Unlisted, Passes}
 use Rattle.trdp_engine.proofs.Firsts.{earlier-none, earlier-assoc, earlier-comm}
 use Rattle.trdp_engine.proofs.Firsts.{earlier-least, earlier-above, first_of_slot, hears}

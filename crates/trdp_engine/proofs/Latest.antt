@@ -3,16 +3,16 @@ use Rattle.std.proofs.Common.{◌≡◌, ℕ, List, [], ◌∷◌, ◌++◌, len
 use Rattle.std.proofs.Common.{is_some, refl, sym, ◌∙◌, ap, subst, append_assoc}
 use Rattle.std.proofs.Common.{Option, Some, None, Result, Ok, Err, OnOk, OnErr}
 use Rattle.trdp_filter.specs.declared.globals.Globals.{Globals}
-use Rattle.trdp_engine.specs.declared.fault.NodeFault.{NodeFault}
-use Rattle.trdp_engine.specs.declared.fault.NodeFault.TheVariants.{OutOfMemory}
-use Rattle.trdp_engine.specs.Records.{RecordModel}
-use Rattle.trdp_engine.specs.Events.{EventModel}
-use Rattle.trdp_engine.specs.Alone.{FaultIs, refused_as, globals_after, slots_then}
+use Rattle.trdp_model.specs.declared.fault.NodeFault.{NodeFault}
+use Rattle.trdp_model.specs.declared.fault.NodeFault.TheVariants.{OutOfMemory}
+use Rattle.trdp_model.specs.Records.{RecordModel}
+use Rattle.trdp_model.specs.Events.{EventModel}
+use Rattle.trdp_model.specs.Alone.{FaultIs, refused_as, globals_after, slots_then}
 use Rattle.trdp_engine.specs.NodeStates.{NodeState}
 use Rattle.trdp_engine.specs.NodeRuns.{HasCome, AreRefused, globals_through, slots_through}
 use Rattle.trdp_engine.specs.NodeRuns.{CountsLatest, NoneTaken, Latest}
 use Rattle.trdp_engine.specs.Costs.{IsBounded}
-use Rattle.trdp_engine.proofs.Views.{refused_opens_none}
+use Rattle.trdp_model.proofs.Views.{refused_opens_none}
 use Rattle.trdp_engine.proofs.Runs.{RunsAsAloneSoFar, so_far}
 
 -- the slots that the events led to

@@ -16,20 +16,21 @@ use Rattle.trdp_md.specs.declared.caller.Caller.{Caller as AnyCaller}
 use Rattle.trdp_md.specs.declared.replier.Replier.{Replier as AnyReplier}
 use Rattle.trdp_md.specs.Callers.{is_answer, is_for_caller}
 use Rattle.trdp_md.specs.Repliers.{is_confirm, is_for_replier}
-use Rattle.trdp_table.specs.Kinds.{kind_of}
-use Rattle.trdp_table.specs.declared.any_object.AnyObject.{AnyObject}
-use Rattle.trdp_table.specs.declared.any_object.AnyObject.TheVariants.{Publisher, Subscription}
-use Rattle.trdp_table.specs.declared.any_object.AnyObject.TheVariants.{Requester, Listener}
-use Rattle.trdp_table.specs.declared.any_object.AnyObject.TheVariants.{Caller, Replier}
-use Rattle.trdp_table.specs.Objects.{is_addressed}
-use Rattle.trdp_engine.specs.Slots.{Entry}
+use Rattle.trdp_model.specs.Kinds.{kind_of}
+use Rattle.trdp_model.specs.declared.any_object.AnyObject.{AnyObject}
+use Rattle.trdp_model.specs.declared.any_object.AnyObject.TheVariants.{Publisher, Subscription}
+use Rattle.trdp_model.specs.declared.any_object.AnyObject.TheVariants.{Requester, Listener}
+use Rattle.trdp_model.specs.declared.any_object.AnyObject.TheVariants.{Caller, Replier}
+use Rattle.trdp_model.specs.Objects.{is_addressed}
+use Rattle.trdp_model.specs.Slots.{Entry}
 use Rattle.trdp_engine.specs.Noted.{noted_as}
-use Rattle.trdp_engine.specs.Rooms.{kind_room, entries_room}
-use Rattle.trdp_engine.specs.Datagrams.{is_for_entry, is_listening, hearing, acts_where, acting}
+use Rattle.trdp_outbox.specs.Rooms.{kind_room, entries_room}
+use Rattle.trdp_model.specs.Datagrams.{is_for_entry, is_listening, hearing, acts_where, acting}
 use Rattle.trdp_engine.specs.Sought.{comes_unasked, part_as, part_of, noted_listener}
 use Rattle.trdp_engine.specs.Sought.{listener_room, is_unasked as is_unasked_kind}
-use Rattle.trdp_engine.proofs.Handles.{AllAbove as AllEntriesAbove, IsRising as AreEntriesRising}
-use Rattle.trdp_engine.proofs.Seeking.{and_left, and_right}
+use Rattle.trdp_model.proofs.Handles.{AllAbove as AllEntriesAbove, IsRising as AreEntriesRising}
+use Rattle.trdp_engine.proofs.Seeking.{and_left}
+use Rattle.trdp_model.proofs.Tests.{and_right}
 
 -- it is in no session that an object awaits
 pub unasked_part : (telegram : TelegramModel) (src dst : Place) (t : MdTelegram)

@@ -19,33 +19,30 @@ use Rattle.trdp_md.specs.declared.listener.Listener.{Listener as AnyListener}
 use Rattle.trdp_md.specs.Callers.{is_answer, is_for_caller}
 use Rattle.trdp_md.specs.Repliers.{is_confirm, is_for_replier}
 use Rattle.trdp_md.specs.Listeners.{is_unasked, is_for}
-use Rattle.trdp_table.specs.declared.any_object.AnyObject.{AnyObject}
-use Rattle.trdp_table.specs.declared.any_object.AnyObject.TheVariants.{Publisher, Subscription}
-use Rattle.trdp_table.specs.declared.any_object.AnyObject.TheVariants.{Requester, Listener}
-use Rattle.trdp_table.specs.declared.any_object.AnyObject.TheVariants.{Caller, Replier}
-use Rattle.trdp_table.specs.Kinds.{kind_of}
-use Rattle.trdp_table.specs.Objects.{is_addressed}
-use Rattle.trdp_table.specs.Tables.{Keyed, TableState, slot_in, all_objects, by_handle, by_key}
+use Rattle.trdp_model.specs.declared.any_object.AnyObject.{AnyObject}
+use Rattle.trdp_model.specs.declared.any_object.AnyObject.TheVariants.{Publisher, Subscription}
+use Rattle.trdp_model.specs.declared.any_object.AnyObject.TheVariants.{Requester, Listener}
+use Rattle.trdp_model.specs.declared.any_object.AnyObject.TheVariants.{Caller, Replier}
+use Rattle.trdp_model.specs.Kinds.{kind_of}
+use Rattle.trdp_model.specs.Objects.{is_addressed}
+use Rattle.trdp_table.specs.Tables.{Keyed, TableState, slot_in}
 use Rattle.trdp_table.specs.TableLaws.{AllAbove, IsRising, IsTable}
 use Rattle.trdp_index.specs.declared.session_row.Role.{Role}
 use Rattle.trdp_index.specs.declared.session_row.Role.TheVariants.{Caller as AsCaller}
 use Rattle.trdp_index.specs.declared.session_row.Role.TheVariants.{Replier as AsReplier}
-use Rattle.trdp_index.specs.SessionRows.{session_key}
-use Rattle.trdp_index.specs.SessionIndexes.{SessionIndexState}
-use Rattle.trdp_engine.specs.Slots.{Entry, entry_of, entry_of_keyed}
-use Rattle.trdp_engine.specs.Acting.{slot_at}
-use Rattle.trdp_engine.specs.Datagrams.{is_for_entry, is_listening, acting}
+use Rattle.trdp_model.specs.Slots.{Entry, entry_of}
+use Rattle.trdp_store.specs.TableSlots.{entry_of_keyed}
+use Rattle.trdp_store.specs.Acting.{slot_at}
+use Rattle.trdp_model.specs.Datagrams.{is_for_entry, is_listening, acting}
 use Rattle.trdp_engine.specs.declared.addressees.Addressee.{Addressee}
 use Rattle.trdp_engine.specs.Noted.{noted_as}
-use Rattle.trdp_engine.specs.Rooms.{kind_room, entries_room}
-use Rattle.trdp_engine.specs.InSession.{session_of, session_found, session_in, IsInSession}
+use Rattle.trdp_outbox.specs.Rooms.{kind_room, entries_room}
+use Rattle.trdp_store.specs.InSession.{session_of}
 use Rattle.trdp_engine.specs.Sought.{part_as, part_of}
-use Rattle.trdp_engine.proofs.Tables.{KeysGive, handle_found}
-use Rattle.trdp_engine.proofs.SessionKeys.{same_session}
-use Rattle.trdp_engine.proofs.HasSession.{AreListed}
+use Rattle.trdp_store.proofs.SessionKeys.{same_session}
 use Rattle.trdp_engine.proofs.Noting.{same_room}
-use Rattle.trdp_engine.proofs.Rooms.{entry_rows, entry_bytes}
-use Rattle.trdp_engine.proofs.Unheard.{acting_all}
+use Rattle.trdp_outbox.proofs.Rooms.{entry_rows, entry_bytes}
+use Rattle.trdp_model.proofs.Unheard.{acting_all}
 
 -- Which object a message of a session is for.
 
@@ -203,55 +200,6 @@ abbrev pub HandleTells : TableState → ℕ → SessionId × Role → Option ℕ
 HandleTells table s own found =
     (index : ℕ) (keyed : Keyed) → slice_get (slot_in s table).objects index ≡ Some keyed
     → session_of keyed.object ≡ Some own → found ≡ Some keyed.handle
-
--- the key of an object in the session is that of the index
-pub key_told : (table : TableState) (index : SessionIndexState)
-    (s i : ℕ) (own : SessionId × Role) (keyed : Keyed)
-    → IsInSession table index → AreListed table → slice_get (slot_in s table).objects i ≡ Some keyed
-    → session_of keyed.object ≡ Some own → session_key own.0 s own.1 index.rows ≡ Some keyed.key
-key_told table index s i own keyed is listed at of =
-    (is.slots s).held keyed.handle keyed own (listed s i keyed at) of
-
-pub owner_told : (table : TableState) (index : SessionIndexState)
-    (s i t h key : ℕ) (own : SessionId × Role) (keyed : Keyed) → IsInSession table index
-    → AreListed table → KeysGive table → session_key own.0 s own.1 index.rows ≡ Some key
-    → by_handle h (slot_in t table).objects ≡ by_key key (all_objects table)
-    → slice_get (slot_in s table).objects i ≡ Some keyed
-    → session_of keyed.object ≡ Some own → h ≡ keyed.handle
-owner_told table index s i t h key own keyed is listed gives got owner at of =
-    let same : key ≡ keyed.key =
-    same_Some key keyed.key (sym got ∙ key_told table index s i own keyed is listed at of) in
-    sym (handle_found h (slot_in t table).objects keyed
-    (owner ∙ (ap (λ (k : ℕ). by_key k (all_objects table)) same
-    ∙ gives s keyed.handle keyed (listed s i keyed at))))
-
--- the owner of the key is in the session
-pub owner_there :
-    (table : TableState) (index : SessionIndexState) (s t h key : ℕ) (own : SessionId × Role)
-    → IsInSession table index → KeysGive table → session_key own.0 s own.1 index.rows ≡ Some key
-    → by_handle h (slot_in t table).objects ≡ by_key key (all_objects table)
-    → session_in s h table ≡ Some own
-owner_there table index s t h key own is gives got owner =
-    let part = (is.slots s).there key own got in
-    let there : by_handle h (slot_in t table).objects ≡ Some part.keyed =
-    owner ∙ (ap (λ (k : ℕ). by_key k (all_objects table)) (sym part.key_is)
-    ∙ gives s part.handle part.keyed part.found) in
-    let number : part.handle ≡ h =
-    sym (handle_found part.handle (slot_in s table).objects part.keyed part.found)
-    ∙ handle_found h (slot_in t table).objects part.keyed there in
-    ap (λ (n : ℕ). session_in s n table) (sym number) ∙ (ap session_found part.found ∙ part.session)
-
-pub nobody_told : (table : TableState) (index : SessionIndexState)
-    (s i key : ℕ) (own : SessionId × Role) (keyed : Keyed) → IsInSession table index
-    → AreListed table → KeysGive table → session_key own.0 s own.1 index.rows ≡ Some key
-    → is_some (by_key key (all_objects table)) ≡ false
-    → slice_get (slot_in s table).objects i ≡ Some keyed → session_of keyed.object ≢ Some own
-nobody_told table index s i key own keyed is listed gives got none at of =
-    let same : key ≡ keyed.key =
-    same_Some key keyed.key (sym got ∙ key_told table index s i own keyed is listed at of) in
-    let there = ap (λ (k : ℕ). by_key k (all_objects table)) same
-    ∙ gives s keyed.handle keyed (listed s i keyed at) in
-    false≢true (sym none ∙ ap is_some there)
 
 -- Which objects of the slot act.
 

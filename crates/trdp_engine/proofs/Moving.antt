@@ -12,21 +12,22 @@ use Rattle.trdp_filter.specs.declared.globals.Globals.{Globals}
 use Rattle.trdp_table.specs.Tables.{TableState}
 use Rattle.trdp_table.specs.TableLaws.{IsTable}
 use Rattle.trdp_timers.specs.declared.order.Order.{Order}
-use Rattle.trdp_engine.specs.Records.{Content, RecordModel, labelled, records_of}
-use Rattle.trdp_engine.specs.Slots.{Entry, SlotState, Outcome, unchanged, entry_of, slots_of}
-use Rattle.trdp_engine.specs.Acting.{slot_at, MayAct, ActsAt, act_of}
-use Rattle.trdp_engine.specs.NodeStates.{HasOutcome, Appends}
-use Rattle.trdp_engine.specs.Moments.{is_due, in_order, firing_act, moved_to}
-use Rattle.trdp_engine.specs.Firing.{ComesNext}
-use Rattle.trdp_engine.specs.Fitting.{AllSound, EachSound}
-use Rattle.trdp_engine.specs.Outboxes.{OutboxState}
-use Rattle.trdp_engine.specs.Rooms.{HasRoom, entries_room, moment_room}
-use Rattle.trdp_engine.proofs.Handles.{IsRising}
-use Rattle.trdp_engine.proofs.Rooms.{entry_rows, entry_bytes}
-use Rattle.trdp_engine.proofs.Tables.{slots_length, slot_there, slot_within, slot_is, rising}
-use Rattle.trdp_engine.proofs.Found.{at_each}
-use Rattle.trdp_engine.proofs.Sweeps.{get-set_other, appends_next, records_of-append}
-use Rattle.trdp_engine.proofs.Sweeps.{records_of-labelled, records_of-other}
+use Rattle.trdp_model.specs.Records.{Content, RecordModel, labelled, records_of}
+use Rattle.trdp_model.specs.Slots.{Entry, SlotState, Outcome, unchanged, entry_of}
+use Rattle.trdp_store.specs.TableSlots.{slots_of}
+use Rattle.trdp_store.specs.Acting.{slot_at, MayAct, ActsAt, act_of}
+use Rattle.trdp_model.specs.NodeModels.{HasOutcome, Appends}
+use Rattle.trdp_model.specs.Moments.{is_due, in_order, firing_act, moved_to}
+use Rattle.trdp_store.specs.Firing.{ComesNext}
+use Rattle.trdp_model.specs.Fitting.{AllSound, EachSound}
+use Rattle.trdp_outbox.specs.Outboxes.{OutboxState}
+use Rattle.trdp_outbox.specs.Rooms.{HasRoom, entries_room, moment_room}
+use Rattle.trdp_model.proofs.Handles.{IsRising}
+use Rattle.trdp_outbox.proofs.Rooms.{entry_rows, entry_bytes}
+use Rattle.trdp_store.proofs.Tables.{slots_length, slot_there, slot_within, slot_is, rising}
+use Rattle.trdp_store.proofs.Found.{at_each}
+use Rattle.trdp_model.proofs.Sweeps.{get-set_other, appends_next, records_of-append}
+use Rattle.trdp_model.proofs.Sweeps.{records_of-labelled, records_of-other}
 use Rattle.trdp_engine.proofs.Turns.{IsRising-acted, is_acted}
 use Rattle.trdp_engine.proofs.Firing.{HasNext, next_is, none_fires, rest_left, sound_then}
 use Rattle.trdp_engine.proofs.Firing.{fires_then, sum_then}

@@ -10,22 +10,22 @@ use Rattle.std.proofs.lemmas.List.Sums.{sum_by-cons, sum_by-append}
 use Rattle.std.proofs.lemmas.Bool.Decides.{nat_tests}
 use Rattle.trdp_filter.specs.declared.globals.Globals.{Globals}
 use Rattle.trdp_filter.specs.Telegrams.{TelegramModel}
-use Rattle.trdp_table.specs.declared.any_object.AnyObject.{AnyObject}
-use Rattle.trdp_table.specs.Kinds.{kind_of}
-use Rattle.trdp_engine.specs.Configs.{NodeSetup}
+use Rattle.trdp_model.specs.declared.any_object.AnyObject.{AnyObject}
+use Rattle.trdp_model.specs.Kinds.{kind_of}
+use Rattle.trdp_model.specs.Configs.{NodeSetup}
 use Rattle.trdp_engine.specs.declared.addressees.Addressee.{Addressee}
-use Rattle.trdp_engine.specs.declared.room.Room.{Room}
-use Rattle.trdp_engine.specs.Records.{Content, RecordModel, labelled}
-use Rattle.trdp_engine.specs.Slots.{Entry, SlotState, Outcome, entry_of}
-use Rattle.trdp_engine.specs.Acts.{Act, entry_left, left_at, acted}
-use Rattle.trdp_engine.proofs.Handles.{AllAbove, IsRising}
-use Rattle.trdp_engine.specs.Rooms.{kind_room, entries_room}
-use Rattle.trdp_engine.specs.Acting.{act_of}
-use Rattle.trdp_engine.specs.Datagrams.{is_for_entry, is_acting, taking_act}
-use Rattle.trdp_engine.specs.Datagrams.{acting, after_telegram, handed}
+use Rattle.trdp_outbox.specs.declared.room.Room.{Room}
+use Rattle.trdp_model.specs.Records.{Content, RecordModel, labelled}
+use Rattle.trdp_model.specs.Slots.{Entry, SlotState, Outcome, entry_of}
+use Rattle.trdp_model.specs.Acts.{Act, entry_left, left_at, acted}
+use Rattle.trdp_model.proofs.Handles.{AllAbove, IsRising}
+use Rattle.trdp_outbox.specs.Rooms.{kind_room, entries_room}
+use Rattle.trdp_store.specs.Acting.{act_of}
+use Rattle.trdp_model.specs.Datagrams.{is_for_entry, is_acting, taking_act}
+use Rattle.trdp_model.specs.Datagrams.{acting, after_telegram, handed}
 use Rattle.trdp_engine.specs.Noted.{noted_as, noted_from}
 use Rattle.trdp_engine.proofs.Noting.{same_room}
-use Rattle.trdp_engine.proofs.Sweeps.{all_records}
+use Rattle.trdp_model.proofs.Sweeps.{all_records}
 
 -- The object of a handle among others whose handles rise.
 

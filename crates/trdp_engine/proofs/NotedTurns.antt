@@ -10,20 +10,21 @@ use Rattle.trdp_filter.specs.declared.globals.Globals.{Globals}
 use Rattle.trdp_filter.specs.Telegrams.{TelegramModel}
 use Rattle.trdp_table.specs.Tables.{TableState}
 use Rattle.trdp_table.specs.TableLaws.{IsTable}
-use Rattle.trdp_engine.specs.Configs.{NodeSetup}
+use Rattle.trdp_model.specs.Configs.{NodeSetup}
 use Rattle.trdp_engine.specs.declared.addressees.Addressee.{Addressee}
-use Rattle.trdp_engine.specs.declared.room.Room.{Room}
-use Rattle.trdp_engine.specs.Records.{RecordModel}
-use Rattle.trdp_engine.specs.Slots.{SlotState, Outcome, entry_of, slots_of}
-use Rattle.trdp_engine.proofs.Handles.{IsRising}
-use Rattle.trdp_engine.specs.Outboxes.{OutboxState}
-use Rattle.trdp_engine.specs.Rooms.{HasRoom, entries_room}
-use Rattle.trdp_engine.specs.Acting.{slot_at, MayAct, ActsAt, act_of}
-use Rattle.trdp_engine.specs.Datagrams.{is_for_entry, acting}
-use Rattle.trdp_engine.specs.NodeStates.{HasOutcome, Appends}
+use Rattle.trdp_outbox.specs.declared.room.Room.{Room}
+use Rattle.trdp_model.specs.Records.{RecordModel}
+use Rattle.trdp_model.specs.Slots.{SlotState, Outcome, entry_of}
+use Rattle.trdp_store.specs.TableSlots.{slots_of}
+use Rattle.trdp_model.proofs.Handles.{IsRising}
+use Rattle.trdp_outbox.specs.Outboxes.{OutboxState}
+use Rattle.trdp_outbox.specs.Rooms.{HasRoom, entries_room}
+use Rattle.trdp_store.specs.Acting.{slot_at, MayAct, ActsAt, act_of}
+use Rattle.trdp_model.specs.Datagrams.{is_for_entry, acting}
+use Rattle.trdp_model.specs.NodeModels.{HasOutcome, Appends}
 use Rattle.trdp_engine.specs.Noted.{noted_from}
-use Rattle.trdp_engine.proofs.Tables.{slots_length, slot_within, slot_is, rising as table_rising}
-use Rattle.trdp_engine.proofs.Sweeps.{all_records, each_part, each_appends}
+use Rattle.trdp_store.proofs.Tables.{slots_length, slot_within, slot_is, rising as table_rising}
+use Rattle.trdp_model.proofs.Sweeps.{all_records, each_part, each_appends}
 use Rattle.trdp_engine.proofs.Noted.{Aim, act_in, Leads, aim_of, all_led}
 
 -- what is left to do reaches the aim, within the outbox's room

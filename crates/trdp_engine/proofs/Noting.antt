@@ -8,12 +8,12 @@ use Rattle.std.proofs.lemmas.List.Sums.{sum_by-append}
 use Rattle.std.proofs.lemmas.Option.{same_Some}
 use Rattle.trdp_filter.specs.declared.globals.Globals.{Globals}
 use Rattle.trdp_filter.specs.Telegrams.{TelegramModel}
-use Rattle.trdp_table.specs.Kinds.{kind_of}
+use Rattle.trdp_model.specs.Kinds.{kind_of}
 use Rattle.trdp_engine.specs.declared.addressees.Addressee.{Addressee}
-use Rattle.trdp_engine.specs.declared.room.Room.{Room}
-use Rattle.trdp_engine.specs.Slots.{Entry, SlotState}
-use Rattle.trdp_engine.specs.Rooms.{kind_room, entries_room}
-use Rattle.trdp_engine.specs.Datagrams.{acting}
+use Rattle.trdp_outbox.specs.declared.room.Room.{Room}
+use Rattle.trdp_model.specs.Slots.{Entry, SlotState}
+use Rattle.trdp_outbox.specs.Rooms.{kind_room, entries_room}
+use Rattle.trdp_model.specs.Datagrams.{acting}
 use Rattle.trdp_engine.specs.Noted.{noted_as, noted_from}
 
 -- the item at an index, and what follows it

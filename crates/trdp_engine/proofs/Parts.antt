@@ -7,14 +7,15 @@ use Rattle.std.proofs.lemmas.List.{length-set}
 use Rattle.std.proofs.lemmas.List.Concat.{length-flat_map}
 use Rattle.trdp_dataset.specs.Configs.{SlotModel}
 use Rattle.trdp_table.specs.Tables.{TableState, opened_slot as opened_slot_table}
-use Rattle.trdp_engine.specs.Slots.{Entry, SlotState, Outcome, unchanged, opened_slot, slots_of}
-use Rattle.trdp_engine.specs.Outboxes.{OutboxState}
-use Rattle.trdp_engine.specs.NodeStates.{HasOutcome, Appends, due_in}
-use Rattle.trdp_engine.specs.Moments.{is_due}
-use Rattle.trdp_engine.specs.Rooms.{LacksRoom, entries_room, moment_room}
-use Rattle.trdp_engine.specs.Acting.{slot_at, Becomes}
-use Rattle.trdp_engine.proofs.Tables.{slots_length, slot_there}
-use Rattle.trdp_engine.proofs.Sweeps.{one_part, one_appends}
+use Rattle.trdp_model.specs.Slots.{Entry, SlotState, Outcome, unchanged, opened_slot}
+use Rattle.trdp_store.specs.TableSlots.{slots_of}
+use Rattle.trdp_outbox.specs.Outboxes.{OutboxState}
+use Rattle.trdp_model.specs.NodeModels.{HasOutcome, Appends, due_in}
+use Rattle.trdp_model.specs.Moments.{is_due}
+use Rattle.trdp_outbox.specs.Rooms.{LacksRoom, entries_room, moment_room}
+use Rattle.trdp_store.specs.Acting.{slot_at, Becomes}
+use Rattle.trdp_store.proofs.Tables.{slots_length, slot_there}
+use Rattle.trdp_model.proofs.Sweeps.{one_part, one_appends}
 
 -- as many slots as before
 pub became_count :

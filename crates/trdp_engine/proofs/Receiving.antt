@@ -4,6 +4,8 @@ use Rattle.std.proofs.Common.{None, Result, Ok, Err, OnErr, refl, ◌∙◌, ap,
 use Rattle.std.specs.Prelude.{◌&&◌, ◌||◌}
 use Rattle.std.specs.List.{flat_map, list_any}
 use Rattle.std.proofs.lemmas.List.Concat.{flat_map-cons}
+use Rattle.trdp_model.proofs.Tests.{or_left, or_right}
+use Rattle.trdp_model.proofs.Unconcerned.{none_acts}
 use Rattle.trdp_filter.specs.declared.globals.Globals.{Globals}
 use Rattle.trdp_filter.specs.Telegrams.{TelegramModel, PdIs, MdIs}
 use Rattle.trdp_head.specs.PdTelegrams.{PdTelegram}
@@ -16,16 +18,16 @@ use Rattle.trdp_pd.specs.Subscriptions.{taken_in, subscription_taking}
 use Rattle.trdp_pd.specs.declared.object.Taken.{Taken}
 use Rattle.trdp_pd.specs.declared.object.Taken.TheVariants.{Nothing, Stored, Alive, Pulled, Heard}
 use Rattle.trdp_pd.specs.declared.object.Taken.TheVariants.{Replied, RepliedLast, Confirmed}
-use Rattle.trdp_table.specs.declared.any_object.AnyObject.{AnyObject}
-use Rattle.trdp_table.specs.declared.any_object.AnyObject.TheVariants.{Publisher, Subscription}
-use Rattle.trdp_table.specs.declared.any_object.AnyObject.TheVariants.{Requester, Listener}
-use Rattle.trdp_table.specs.declared.any_object.AnyObject.TheVariants.{Caller, Replier}
-use Rattle.trdp_table.specs.declared.kind.Kind.{Kind}
-use Rattle.trdp_table.specs.declared.kind.Kind.TheVariants.{Publisher as Publishing}
-use Rattle.trdp_table.specs.declared.kind.Kind.TheVariants.{Subscription as Subscribing}
-use Rattle.trdp_table.specs.declared.kind.Kind.TheVariants.{Listener as Listening}
-use Rattle.trdp_table.specs.declared.kind.Kind.TheVariants.{Caller as Calling, Replier as Replying}
-use Rattle.trdp_table.specs.Kinds.{kind_of}
+use Rattle.trdp_model.specs.declared.any_object.AnyObject.{AnyObject}
+use Rattle.trdp_model.specs.declared.any_object.AnyObject.TheVariants.{Publisher, Subscription}
+use Rattle.trdp_model.specs.declared.any_object.AnyObject.TheVariants.{Requester, Listener}
+use Rattle.trdp_model.specs.declared.any_object.AnyObject.TheVariants.{Caller, Replier}
+use Rattle.trdp_model.specs.declared.kind.Kind.{Kind}
+use Rattle.trdp_model.specs.declared.kind.Kind.TheVariants.{Publisher as Publishing}
+use Rattle.trdp_model.specs.declared.kind.Kind.TheVariants.{Subscription as Subscribing}
+use Rattle.trdp_model.specs.declared.kind.Kind.TheVariants.{Listener as Listening}
+use Rattle.trdp_model.specs.declared.kind.Kind.TheVariants.{Caller as Calling, Replier as Replying}
+use Rattle.trdp_model.specs.Kinds.{kind_of}
 use Rattle.trdp_md.specs.declared.listener.Listener.{Listener as AnyListener}
 use Rattle.trdp_md.specs.Listeners.{listener_addressed, listener_taking}
 use Rattle.trdp_md.specs.declared.caller.Caller.{Caller as AnyCaller}
@@ -34,128 +36,18 @@ use Rattle.trdp_md.specs.Callers.{is_accepted as is_taken, is_complete, answerin
 use Rattle.trdp_md.specs.Callers.{replied as replied_as, caller_taking}
 use Rattle.trdp_md.specs.Repliers.{is_for_replier, replier_taking}
 use Rattle.trdp_head.specs.MdTelegrams.{MdTelegram}
-use Rattle.trdp_engine.specs.Requests.{asked_by_hearing}
-use Rattle.trdp_table.specs.Objects.{taken}
-use Rattle.trdp_engine.specs.Configs.{NodeSetup}
-use Rattle.trdp_engine.specs.Slots.{Entry, SlotState, Outcome, unchanged}
-use Rattle.trdp_engine.specs.Datagrams.{is_listening, hearing, is_valid_at, handed, is_request}
-use Rattle.trdp_engine.specs.Datagrams.{requested, received, received_if, concerns}
-use Rattle.trdp_engine.specs.Datagrams.{is_for_entry, is_acting, acting, after_telegram}
-use Rattle.trdp_engine.specs.Datagrams.{taking_act}
-use Rattle.trdp_engine.specs.Outboxes.{OutboxState}
-use Rattle.trdp_engine.specs.Rooms.{LacksRoom, entries_room}
-
-or_left : (a b : Bool) → (a || b) ≡ false → a ≡ false
-or_left true b is = absurd (cc)
-or_left false b is = refl
-
-or_right : (a b : Bool) → (a || b) ≡ false → b ≡ false
-or_right true b is = absurd (cc)
-or_right false b is = is
-
--- a telegram that is for none of these objects leaves them all
-unconcerned_objects :
-    (setup : NodeSetup) (telegram : TelegramModel) (globals : Globals) (all objects : List Entry)
-    → list_any (is_for_entry telegram globals) objects ≡ false
-    → flat_map (after_telegram setup telegram globals all) objects ≡ objects
-unconcerned_objects setup telegram globals all [] none = refl
-unconcerned_objects setup telegram globals all (e ∷ objects) none =
-    let head : is_for_entry telegram globals e ≡ false = or_left (is_for_entry telegram globals e)
-    (list_any (is_for_entry telegram globals) objects) none in
-    let rest : list_any (is_for_entry telegram globals) objects ≡ false = or_right
-    (is_for_entry telegram globals e) (list_any (is_for_entry telegram globals) objects) none in
-    flat_map-cons (after_telegram setup telegram globals all) e objects
-    ∙ rw head (ap (λ (es : List Entry). e ∷ es)
-    (unconcerned_objects setup telegram globals all objects rest))
-
--- and none of them acts
-none_acts : (telegram : TelegramModel) (globals : Globals) (all objects : List Entry)
-    → list_any (is_for_entry telegram globals) objects ≡ false
-    → filter (is_acting telegram globals all) objects ≡ []
-none_acts telegram globals all [] none = refl
-none_acts telegram globals all (e ∷ objects) none =
-    let head : is_for_entry telegram globals e ≡ false = or_left (is_for_entry telegram globals e)
-    (list_any (is_for_entry telegram globals) objects) none in
-    let rest : list_any (is_for_entry telegram globals) objects ≡ false = or_right
-    (is_for_entry telegram globals e) (list_any (is_for_entry telegram globals) objects) none in
-    rw head (none_acts telegram globals all objects rest)
+use Rattle.trdp_model.specs.Objects.{taken}
+use Rattle.trdp_model.specs.Slots.{Entry, SlotState}
+use Rattle.trdp_model.specs.Datagrams.{is_listening, hearing, is_valid_at}
+use Rattle.trdp_model.specs.Datagrams.{concerns}
+use Rattle.trdp_model.specs.Datagrams.{is_for_entry, acting}
+use Rattle.trdp_outbox.specs.Outboxes.{OutboxState}
+use Rattle.trdp_outbox.specs.Rooms.{LacksRoom, entries_room}
 
 -- what is true is true of an error
 pub of_an_error : {T E : Type 0} (result : Result T E) (P : Type 0) → P → OnErr result P
 of_an_error (Ok x) P holds = tt
 of_an_error (Err e) P holds = holds
-
--- a telegram that is for none of a slot's objects does nothing to them
-nobody_acts : (setup : NodeSetup) (slot : SlotState) (globals : Globals) (telegram : TelegramModel)
-    → list_any (is_for_entry telegram globals) slot.objects ≡ false
-    → handed setup slot globals telegram ≡ unchanged slot
-nobody_acts setup slot globals telegram none =
-    ap (λ (es : List Entry). let o : Outcome = record {
-      slot = record slot { objects = es };
-      records = flat_map (λ entry. (taking_act setup telegram globals entry).records)
-          (acting telegram globals slot.objects);
-    } in o)
-    (unconcerned_objects setup telegram globals slot.objects slot.objects none)
-    ∙ ap (λ (es : List Entry). let o : Outcome = record {
-      slot = slot;
-      records = flat_map (λ entry. (taking_act setup telegram globals entry).records) es;
-    } in o)
-    (none_acts telegram globals slot.objects slot.objects none)
-
-and_false : (a : Bool) → (a && false) ≡ false
-and_false true = refl
-and_false false = refl
-
--- and no listener hears it
-nobody_hears : (telegram : TelegramModel) (globals : Globals) (objects : List Entry)
-    → list_any (is_for_entry telegram globals) objects ≡ false
-    → hearing telegram globals objects ≡ None
-nobody_hears telegram globals [] none = refl
-nobody_hears telegram globals (e ∷ objects) none =
-    let head : is_for_entry telegram globals e ≡ false = or_left (is_for_entry telegram globals e)
-    (list_any (is_for_entry telegram globals) objects) none in
-    let rest : list_any (is_for_entry telegram globals) objects ≡ false = or_right
-    (is_for_entry telegram globals e) (list_any (is_for_entry telegram globals) objects) none in
-    let not : (is_listening e && is_for_entry telegram globals e) ≡ false =
-    ap (λ (b : Bool). is_listening e && b) head ∙ and_false (is_listening e) in
-    rw not (nobody_hears telegram globals objects rest)
-
-nobody_asked : (slot : SlotState) (globals : Globals) (telegram : TelegramModel)
-    → list_any (is_for_entry telegram globals) slot.objects ≡ false
-    → requested slot globals telegram ≡ unchanged slot
-nobody_asked slot globals (PdIs src dst telegram) none = refl
-nobody_asked slot globals (MdIs src dst telegram) none =
-    ap (λ (listener : Option ℕ). asked_by_hearing listener slot globals src telegram)
-    (nobody_hears (MdIs src dst telegram) globals slot.objects none)
-
--- so it does nothing to the slot
-nobody : (setup : NodeSetup) (slot : SlotState) (globals : Globals) (telegram : TelegramModel)
-    → list_any (is_for_entry telegram globals) slot.objects ≡ false
-    → received setup slot globals telegram ≡ unchanged slot
-nobody setup slot globals telegram none = either (is_request telegram) refl
-  where
-    either : (b : Bool) → is_request telegram ≡ b
-        → received setup slot globals telegram ≡ unchanged slot
-    either true is = rw is (nobody_asked slot globals telegram none)
-    either false is = rw is (nobody_acts setup slot globals telegram none)
-
--- a datagram that doesn't concern a slot changes nothing
-pub unconcerned :
-    (setup : NodeSetup) (slot : SlotState) (globals : Globals) (telegram : Option TelegramModel)
-    → concerns globals telegram slot ≡ false
-    → received_if setup slot globals telegram ≡ unchanged slot
-unconcerned setup slot globals None none = refl
-unconcerned setup slot globals (Some telegram) none =
-    either setup slot globals telegram (is_valid_at globals telegram) refl none
-  where
-    either : (setup : NodeSetup) (slot : SlotState) (globals : Globals) (telegram : TelegramModel)
-        (b : Bool) → is_valid_at globals telegram ≡ b → concerns globals (Some telegram) slot
-        ≡ false → received_if setup slot globals (Some telegram) ≡ unchanged slot
-    either setup slot globals telegram true is none =
-        let none_of : list_any (is_for_entry telegram globals) slot.objects
-        ≡ false = rw is at none in
-        rw is (nobody setup slot globals telegram none_of)
-    either setup slot globals telegram false is none = rw is refl
 
 -- where a telegram of matching counts concerns no slot, no object acts at it
 unconcerned_all : (telegram : TelegramModel) (globals : Globals) (slots : List SlotState)

@@ -18,26 +18,27 @@ use Rattle.trdp_md.specs.declared.caller.Caller.{Caller as AnyCaller}
 use Rattle.trdp_md.specs.Callers.{called as new_caller, request_of}
 use Rattle.trdp_md.specs.declared.replier.Replier.{Replier as AnyReplier}
 use Rattle.trdp_md.specs.Repliers.{asked_by}
-use Rattle.trdp_table.specs.declared.any_object.AnyObject.{AnyObject}
-use Rattle.trdp_table.specs.declared.any_object.AnyObject.TheVariants.{Caller, Replier}
-use Rattle.trdp_table.specs.declared.kind.Kind.TheVariants as kind
+use Rattle.trdp_model.specs.declared.any_object.AnyObject.{AnyObject}
+use Rattle.trdp_model.specs.declared.any_object.AnyObject.TheVariants.{Caller, Replier}
+use Rattle.trdp_model.specs.declared.kind.Kind.TheVariants as kind
 use Rattle.trdp_table.specs.Tables.{TableState, slot_in, Adds}
-use Rattle.trdp_engine.specs.declared.fault.Refusal.{Refusal}
-use Rattle.trdp_engine.specs.declared.fault.Refusal.TheVariants.{State, Timeout, Expected}
-use Rattle.trdp_engine.specs.declared.fault.Refusal.TheVariants.{TooLong, SessionOpen}
-use Rattle.trdp_engine.specs.declared.record.Protocol.TheVariants.{Md}
-use Rattle.trdp_engine.specs.Records.{RecordModel, AnswerModel, HandleIs, Answers, Sends, labelled}
-use Rattle.trdp_engine.specs.Records.{Indicates, AskedIs, OverrunIs}
-use Rattle.trdp_engine.specs.Notices.{message_of}
-use Rattle.trdp_engine.specs.Slots.{SlotState, Outcome, unchanged, with_object, slots_of}
-use Rattle.trdp_engine.specs.Openings.{answered, opening_refusal, opened_unless, opened_with}
-use Rattle.trdp_engine.specs.Requests.{has_session, request_refusal, request_sent, asked}
-use Rattle.trdp_engine.specs.Requests.{retries_refusal, asked_by_hearing}
-use Rattle.trdp_engine.specs.Datagrams.{hearing}
-use Rattle.trdp_engine.specs.Datagrams.{requested}
-use Rattle.trdp_engine.specs.Outboxes.{OutboxState}
-use Rattle.trdp_engine.specs.Acting.{slot_at, Becomes}
-use Rattle.trdp_engine.proofs.Tables.{slots_kept, added}
+use Rattle.trdp_model.specs.declared.fault.Refusal.{Refusal}
+use Rattle.trdp_model.specs.declared.fault.Refusal.TheVariants.{State, Timeout, Expected}
+use Rattle.trdp_model.specs.declared.fault.Refusal.TheVariants.{TooLong, SessionOpen}
+use Rattle.trdp_model.specs.declared.record.Protocol.TheVariants.{Md}
+use Rattle.trdp_model.specs.Records.{RecordModel, AnswerModel, HandleIs, Answers, Sends, labelled}
+use Rattle.trdp_model.specs.Records.{Indicates, AskedIs, OverrunIs}
+use Rattle.trdp_model.specs.Notices.{message_of}
+use Rattle.trdp_model.specs.Slots.{SlotState, Outcome, unchanged, with_object}
+use Rattle.trdp_store.specs.TableSlots.{slots_of}
+use Rattle.trdp_model.specs.Openings.{answered, opening_refusal, opened_unless, opened_with}
+use Rattle.trdp_model.specs.Requests.{has_session, request_refusal, request_sent, asked}
+use Rattle.trdp_model.specs.Requests.{retries_refusal, asked_by_hearing}
+use Rattle.trdp_model.specs.Datagrams.{hearing}
+use Rattle.trdp_model.specs.Datagrams.{requested}
+use Rattle.trdp_outbox.specs.Outboxes.{OutboxState}
+use Rattle.trdp_store.specs.Acting.{slot_at, Becomes}
+use Rattle.trdp_store.proofs.Tables.{slots_kept, added}
 
 -- A new object and its answer.
 

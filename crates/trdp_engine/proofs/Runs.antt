@@ -2,20 +2,24 @@
 use Rattle.std.proofs.Common.{◌≡◌, ℕ, ◌+◌, ◌<◌, List, [], ◌∷◌, ◌++◌, length}
 use Rattle.std.proofs.Common.{get_or, take, map, refl, ◌∙◌, ap, sym, append_assoc}
 use Rattle.std.proofs.Common.{IfSome, Some, None, Result, Ok, Err, OnOk, OnErr, Option}
-use Rattle.std.specs.Prelude.{slice_get}
+use Rattle.std.specs.Prelude.{slice_get, ◌≤◌}
+use Rattle.std.proofs.Common.{arith}
+use Rattle.trdp_engine.specs.NodeStates.{uncounted}
+use Rattle.trdp_model.proofs.AddedSlots.{slots_grow}
 use Rattle.std.proofs.lemmas.List.{append-nil, map-append, take_more}
 use Rattle.std.proofs.lemmas.Option.{slice_get_within}
-use Rattle.trdp_engine.specs.declared.event.Event.{Event}
-use Rattle.trdp_engine.specs.declared.fault.NodeFault.{NodeFault}
-use Rattle.trdp_engine.specs.declared.fault.NodeFault.TheVariants.{OutOfMemory}
-use Rattle.trdp_engine.specs.Configs.{setup_of}
-use Rattle.trdp_engine.specs.Records.{RecordModel, records_of}
-use Rattle.trdp_engine.specs.Events.{EventModel, event_model}
-use Rattle.trdp_engine.specs.Slots.{SlotState}
-use Rattle.trdp_engine.specs.Alone.{refused_as, FaultIs, globals_after, Run, prepend}
-use Rattle.trdp_engine.specs.Alone.{alone_in_view, standing_after, slots_then}
-use Rattle.trdp_engine.specs.NodeStates.{NodeState, StepsAsAlone, RunsAsAlone}
-use Rattle.trdp_engine.proofs.Views.{admitted_first, refused_first, prepend-prepend}
+use Rattle.trdp_model.specs.declared.event.Event.{Event}
+use Rattle.trdp_model.specs.declared.fault.NodeFault.{NodeFault}
+use Rattle.trdp_model.specs.declared.fault.NodeFault.TheVariants.{OutOfMemory}
+use Rattle.trdp_model.specs.Configs.{setup_of}
+use Rattle.trdp_model.specs.Records.{RecordModel, records_of}
+use Rattle.trdp_model.specs.Events.{EventModel, event_model}
+use Rattle.trdp_model.specs.Slots.{SlotState}
+use Rattle.trdp_model.specs.Alone.{refused_as, FaultIs, globals_after, Run, prepend}
+use Rattle.trdp_model.specs.Alone.{alone_in_view, standing_after, slots_then}
+use Rattle.trdp_engine.specs.NodeStates.{NodeState}
+use Rattle.trdp_model.specs.NodeModels.{StepsAsAlone, RunsAsAlone}
+use Rattle.trdp_model.proofs.Views.{admitted_first, refused_first, prepend-prepend}
 
 -- whatever comes later: the records so far and the run from here on are the run from the start
 abbrev pub RunsAsAloneSoFar : NodeState → NodeState → List RecordModel → List RecordModel
@@ -35,7 +39,7 @@ one_admitted : (old now next : NodeState) (records records_now records_next : Li
     → refused_as (length now.slots) now.globals event ≡ None
     → next.globals ≡ globals_after now.globals event
     → length next.slots ≡ slots_then (length now.slots) event
-    → StepsAsAlone now next records_now records_next event s
+    → StepsAsAlone (uncounted now) (uncounted next) records_now records_next event s
     → RunsAsAloneSoFar old next records records_next (events ++ event ∷ []) s
 one_admitted old now next records records_now
     records_next events event s same r admitted globals count stepped = λ later.
@@ -79,7 +83,7 @@ pub one_event : (old now next : NodeState) (records records_now records_next : L
     → OnErr result (next ≡ now) → OnErr result (records_next ≡ records_now)
     → OnOk result (next.globals ≡ globals_after now.globals event)
     → OnOk result (length next.slots ≡ slots_then (length now.slots) event)
-    → OnOk result ((s : ℕ) → StepsAsAlone now next records_now records_next event s)
+    → OnOk result ((s : ℕ) → StepsAsAlone (uncounted now) (uncounted next) records_now records_next event s)
     → RunsAsAloneSoFar old now records records_now events s
     → RunsAsAloneSoFar old next records records_next (events ++ event ∷ []) s
 one_event old now next records records_now records_next events event
@@ -97,7 +101,7 @@ one_event old now next records records_now records_next events
 pub so_far : (old now : NodeState) (records records_now : List RecordModel)
     (events : List EventModel) (s : ℕ)
     → RunsAsAloneSoFar old now records records_now events s
-    → RunsAsAlone old now records records_now events s
+    → RunsAsAlone (uncounted old) (uncounted now) records records_now events s
 so_far old now records records_now events s r =
     let end = rw (append-nil events) at (r []) in
     record {
@@ -112,3 +116,11 @@ pub one_more : (events : List Event) (i : ℕ) (none : Event)
     ≡ map event_model (take i events) ++ event_model (get_or events i none) ∷ []
 one_more events i none lt = ap (map event_model) (take_more events i none lt)
     ∙ map-append event_model (take i events) (get_or events i none ∷ [])
+
+pub node_grows : (now next : NodeState) (event : EventModel) (result : Result (Unit {0}) NodeFault)
+    → OnErr result (next ≡ now)
+    → OnOk result (length next.slots ≡ slots_then (length now.slots) event)
+    → length now.slots ≤ length next.slots
+node_grows now next event (Ok done) kept count =
+    omega (arith, count, slots_grow (length now.slots) event)
+node_grows now next event (Err fault) kept count = rw kept (omega arith)

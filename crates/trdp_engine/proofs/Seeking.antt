@@ -1,4 +1,6 @@
 -- The objects that process data is for stand in the run of one comId.
+use Rattle.trdp_store.proofs.Keys.{KeysTell}
+use Rattle.trdp_model.proofs.Tests.{and_right}
 use Rattle.std.proofs.Common.{◌≡◌, ℕ, suc, ◌+◌, ◌<◌, ◌≤◌, List, [], ◌∷◌, ◌++◌, length}
 use Rattle.std.proofs.Common.{map, drop, filter, not, Some, Bool, true, false, refl}
 use Rattle.std.proofs.Common.{◌∙◌, sym, ap, arith, append_assoc, append-nil, None}
@@ -21,23 +23,24 @@ use Rattle.trdp_filter.specs.Telegrams.{TelegramModel, PdIs}
 use Rattle.trdp_filter.specs.PdFilters.{pd_passes}
 use Rattle.trdp_pd.specs.Publishers.{PublisherState, is_asked, asks_for_value, asked_com_id}
 use Rattle.trdp_pd.specs.Subscriptions.{SubscriptionState, is_for, carries_value}
-use Rattle.trdp_table.specs.declared.any_object.AnyObject.{AnyObject}
-use Rattle.trdp_table.specs.declared.any_object.AnyObject.TheVariants.{Publisher, Subscription}
-use Rattle.trdp_table.specs.declared.any_object.AnyObject.TheVariants.{Requester, Listener}
-use Rattle.trdp_table.specs.declared.any_object.AnyObject.TheVariants.{Caller, Replier}
-use Rattle.trdp_table.specs.Objects.{is_addressed}
-use Rattle.trdp_table.specs.Kinds.{kind_of}
-use Rattle.trdp_table.specs.Tables.{Keyed, TableState, slot_in, all_objects, by_handle, by_key}
+use Rattle.trdp_model.specs.declared.any_object.AnyObject.{AnyObject}
+use Rattle.trdp_model.specs.declared.any_object.AnyObject.TheVariants.{Publisher, Subscription}
+use Rattle.trdp_model.specs.declared.any_object.AnyObject.TheVariants.{Requester, Listener}
+use Rattle.trdp_model.specs.declared.any_object.AnyObject.TheVariants.{Caller, Replier}
+use Rattle.trdp_model.specs.Objects.{is_addressed}
+use Rattle.trdp_model.specs.Kinds.{kind_of}
+use Rattle.trdp_table.specs.Tables.{Keyed, TableState, slot_in, all_objects, by_key}
 use Rattle.trdp_index.specs.declared.com_row.ComRow.{ComRow}
 use Rattle.trdp_engine.specs.declared.addressees.Addressee.{Addressee}
-use Rattle.trdp_engine.specs.declared.room.Room.{Room}
-use Rattle.trdp_engine.specs.Slots.{Entry, entry_of_keyed, slot_of, slots_of}
-use Rattle.trdp_engine.specs.Rooms.{kind_room, entries_room}
-use Rattle.trdp_engine.specs.Datagrams.{is_for_entry, is_listening, acting, hearing}
+use Rattle.trdp_outbox.specs.declared.room.Room.{Room}
+use Rattle.trdp_model.specs.Slots.{Entry}
+use Rattle.trdp_store.specs.TableSlots.{entry_of_keyed, slot_of, slots_of}
+use Rattle.trdp_outbox.specs.Rooms.{kind_room, entries_room}
+use Rattle.trdp_model.specs.Datagrams.{is_for_entry, is_listening, acting, hearing}
 use Rattle.trdp_engine.specs.Noted.{noted_as, noted_from}
-use Rattle.trdp_engine.specs.Indexed.{com_of, is_com, is_listed, listed_as, rows_in, rows_from}
+use Rattle.trdp_store.specs.Indexed.{com_of, is_com, is_listed, listed_as, rows_in, rows_from}
 use Rattle.trdp_engine.specs.Sought.{sought_as, sought_by, hit, hits, noted_rows}
-use Rattle.trdp_engine.proofs.Unheard.{acting_all}
+use Rattle.trdp_model.proofs.Unheard.{acting_all}
 use Rattle.trdp_engine.proofs.Noting.{split, Notes, both_rooms, same_room, acting_in}
 
 -- Which objects process data is for.
@@ -45,10 +48,6 @@ use Rattle.trdp_engine.proofs.Noting.{split, Notes, both_rooms, same_room, actin
 pub and_left : (a b : Bool) → (a && b) ≡ true → a ≡ true
 and_left true b both = refl
 and_left false b both = absurd (false≢true both)
-
-pub and_right : (a b : Bool) → (a && b) ≡ true → b ≡ true
-and_right true b both = both
-and_right false b both = absurd (false≢true both)
 
 asked_first : (p : PublisherState) (head : PdHead)
     → is_asked p head ≡ true → asks_for_value head.kind ≡ true
@@ -262,13 +261,6 @@ all_noted table b src dst t globals (x ∷ xs) keyed =
     ∙ slot_hits table b src dst t globals x.objects keyed.0)))
     ∙ ap (λ (ys : List Addressee). noted_as b (acting (PdIs src dst t) globals (slot_of x).objects)
     ++ ys) (all_noted table (b + 1) src dst t globals xs keyed.1))
-
--- what a store's law says of its keys
-pub record KeysTell (table : TableState) : Type 0 where
-  pub found : (s handle : ℕ) (keyed : Keyed) → by_handle handle (slot_in s table).objects
-      ≡ Some keyed → by_key keyed.key (all_objects table) ≡ Some keyed
-  pub listed : (s index : ℕ) (keyed : Keyed) → slice_get (slot_in s table).objects index
-      ≡ Some keyed → by_handle keyed.handle (slot_in s table).objects ≡ Some keyed
 
 keyed_slots : (table : TableState) → KeysTell table → AllSlotsKeyed table table
 keyed_slots table tell =

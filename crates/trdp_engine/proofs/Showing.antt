@@ -1,7 +1,7 @@
 -- What decoding answers for a subscription that shows a value of its dataset.
 use Rattle.std.proofs.Common.{◌≡◌, ℕ, List, Some, None, Option, Bool, true, false, Ok, Err, refl}
 use Rattle.std.specs.Prelude.{◌==◌, ◌&&◌, ◌||◌, not, is_some, if◌then◌else◌}
-use Rattle.trdp_engine.specs.Configs.{NodeSetup}
+use Rattle.trdp_model.specs.Configs.{NodeSetup}
 use Rattle.trdp_dataset.specs.Datasets.{DatasetModel, is_known}
 use Rattle.trdp_marshal.specs.declared.fault.MarshalFault.{MarshalFault}
 use Rattle.trdp_marshal.specs.declared.fault.MarshalFault.TheVariants.{NoDataset as UnknownDataset}
@@ -12,9 +12,9 @@ use Rattle.trdp_marshal.specs.Faults.{decode_fault}
 use Rattle.trdp_marshal.specs.Reading.{reading}
 use Rattle.trdp_marshal.specs.Spells.{Spells}
 use Rattle.trdp_pd.specs.Subscriptions.{SubscriptionState}
-use Rattle.trdp_engine.specs.declared.shown.ValueFault.TheVariants.{NoDataset, OutOfMemory}
-use Rattle.trdp_engine.specs.Fitting.{ShowsFitting}
-use Rattle.trdp_engine.specs.ShownItems.{showing, ShowsItem}
+use Rattle.trdp_model.specs.declared.look.ValueFault.TheVariants.{NoDataset, OutOfMemory}
+use Rattle.trdp_model.specs.Fitting.{ShowsFitting}
+use Rattle.trdp_model.specs.ShownItems.{showing, ShowsItem}
 
 -- the fault of decoding by whether the dataset is 0, whether it is known, and whether some item
 -- spells the bytes

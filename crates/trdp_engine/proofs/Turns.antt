@@ -1,4 +1,5 @@
 -- Objects of a slot act one after the other, by their handles, in any order.
+use Rattle.trdp_model.proofs.Tests.{same_number}
 use Rattle.std.proofs.Common.{◌≡◌, ℕ, ◌<◌, List, [], ◌∷◌, ◌++◌, length, filter, Option, Some}
 use Rattle.std.proofs.Common.{None, Bool, true, false, refl, ◌∙◌, ap, sym, subst, arith}
 use Rattle.std.specs.Prelude.{◌==◌, ◌||◌, slice_get, slice_set}
@@ -7,18 +8,19 @@ use Rattle.std.proofs.lemmas.Bool.Decides.{nat_tests}
 use Rattle.std.proofs.lemmas.List.{length-set}
 use Rattle.std.proofs.lemmas.Option.{same_Some}
 use Rattle.std.proofs.lemmas.Grind.{flat_map-append}
-use Rattle.trdp_table.specs.declared.any_object.AnyObject.{AnyObject}
-use Rattle.trdp_engine.specs.Acts.{Act, entry_left, acted}
-use Rattle.trdp_table.specs.Kinds.{kind_of}
+use Rattle.trdp_model.specs.declared.any_object.AnyObject.{AnyObject}
+use Rattle.trdp_model.specs.Acts.{Act, entry_left, acted}
+use Rattle.trdp_model.specs.Kinds.{kind_of}
 use Rattle.trdp_table.specs.Tables.{TableState}
-use Rattle.trdp_engine.specs.Records.{labelled}
-use Rattle.trdp_engine.specs.Acting.{slot_at, TookWithin, ActsAt, act_of}
-use Rattle.trdp_engine.specs.Outboxes.{OutboxState}
-use Rattle.trdp_engine.specs.Rooms.{kind_room}
-use Rattle.trdp_engine.proofs.Tables.{slots_length, slot_there, slot_within, slot_is}
-use Rattle.trdp_engine.proofs.Sweeps.{get-set}
-use Rattle.trdp_engine.proofs.Handles.{AllAbove, IsRising}
-use Rattle.trdp_engine.specs.Slots.{Entry, SlotState, Outcome, entry_of, slots_of}
+use Rattle.trdp_model.specs.Records.{labelled}
+use Rattle.trdp_store.specs.Acting.{slot_at, TookWithin, ActsAt, act_of}
+use Rattle.trdp_outbox.specs.Outboxes.{OutboxState}
+use Rattle.trdp_outbox.specs.Rooms.{kind_room}
+use Rattle.trdp_store.proofs.Tables.{slots_length, slot_there, slot_within, slot_is}
+use Rattle.trdp_model.proofs.Sweeps.{get-set}
+use Rattle.trdp_model.proofs.Handles.{AllAbove, IsRising}
+use Rattle.trdp_model.specs.Slots.{Entry, SlotState, Outcome, entry_of}
+use Rattle.trdp_store.specs.TableSlots.{slots_of}
 
 -- one outcome, and then the next
 abbrev pub followed_by : Outcome → (SlotState → Outcome) → Outcome
@@ -72,20 +74,6 @@ flat_map-flat_map f g (x ∷ xs) = flat_map-append f (g x) (flat_map g xs)
 
 pub equal : (h k : ℕ) → (h == k) ≡ true → h ≡ k
 equal h k is = grind (arith, nat_tests)
-
-pub same_number : (h : ℕ) → (h == h) ≡ true
-same_number h = grind (arith, nat_tests)
-
-pub differ_either_way : (h k : ℕ) → (h == k) ≡ false → (k == h) ≡ false
-differ_either_way h k is = grind (arith, nat_tests)
-
-pub or_left : (a b : Bool) → (a || b) ≡ false → a ≡ false
-or_left true b is = absurd (cc)
-or_left false b is = refl
-
-pub or_right : (a b : Bool) → (a || b) ≡ false → b ≡ false
-or_right true b is = absurd (cc)
-or_right false b is = is
 
 -- Objects by handle.
 

@@ -3,12 +3,12 @@ use Rattle.std.proofs.Common.{◌≡◌, ℕ, ◌+◌, ◌*◌, ◌≤◌, List,
 use Rattle.std.proofs.Common.{Some, ap, arith, Result, Ok, Err, OnOk}
 use Rattle.std.proofs.lemmas.Nat.{mul-le}
 use Rattle.trdp_filter.specs.Telegrams.{TelegramModel}
-use Rattle.trdp_engine.specs.declared.counts.Counts.{Counts}
-use Rattle.trdp_engine.specs.declared.fault.NodeFault.{NodeFault}
-use Rattle.trdp_engine.specs.Slots.{SlotState}
-use Rattle.trdp_engine.specs.Events.{EventModel, MomentIs, TopologyIs, RoleIs, DatagramIs, CallIs}
-use Rattle.trdp_engine.specs.Events.{AddSlotIs}
-use Rattle.trdp_engine.specs.NodeStates.{no_counts}
+use Rattle.trdp_store.specs.declared.counts.Counts.{Counts}
+use Rattle.trdp_model.specs.declared.fault.NodeFault.{NodeFault}
+use Rattle.trdp_model.specs.Slots.{SlotState}
+use Rattle.trdp_model.specs.Events.{EventModel, MomentIs, TopologyIs, RoleIs, DatagramIs, CallIs}
+use Rattle.trdp_model.specs.Events.{AddSlotIs}
+use Rattle.trdp_store.specs.Counting.{no_counts}
 use Rattle.trdp_engine.specs.Costs.{meant_of, datagram_bounds, IsWithin, IsBounded, CostsAtMost}
 
 more : (new old x r : ℕ) → new ≤ old + (x + r) → new ≤ old + (x + 8 + r)

@@ -1,21 +1,21 @@
 -- What a call asks of one object.
 use Rattle.std.specs.Prelude.{◌≡◌, ℕ, Option, Some, None, Bool, true, false}
 use Rattle.trdp_filter.specs.declared.globals.Globals.{Globals}
-use Rattle.trdp_table.specs.declared.any_object.AnyObject.{AnyObject}
+use Rattle.trdp_model.specs.declared.any_object.AnyObject.{AnyObject}
 use Rattle.trdp_engine.specs.declared.asked.Asked.{Asked}
 use Rattle.trdp_engine.specs.declared.asked.Asked.TheVariants.{Put, Get, Pull, End, Reply, Query}
 use Rattle.trdp_engine.specs.declared.asked.Asked.TheVariants.{ReplyError, Confirm, Abort}
-use Rattle.trdp_engine.specs.declared.deed.Left.{Left}
-use Rattle.trdp_engine.specs.declared.deed.Left.TheVariants.{Stays, Ended}
-use Rattle.trdp_engine.specs.Configs.{NodeSetup}
-use Rattle.trdp_engine.specs.Acts.{Act}
-use Rattle.trdp_engine.specs.Pulls.{pulls}
-use Rattle.trdp_engine.specs.Calls.{puts, shows, ends, at_object, called}
-use Rattle.trdp_engine.specs.Events.{CallModel, PublishCall, SubscribeCall, OpenPullCall}
-use Rattle.trdp_engine.specs.Events.{ListenCall, NotifyCall, RequestCall}
-use Rattle.trdp_engine.specs.Slots.{SlotState}
-use Rattle.trdp_engine.specs.Rooms.{call_room, asked_room}
-use Rattle.trdp_engine.specs.Replies.{replies, queries, reply_errors, confirms, aborts}
+use Rattle.trdp_model.specs.Configs.{NodeSetup}
+use Rattle.trdp_model.specs.Acts.{Act}
+use Rattle.trdp_model.specs.Pulls.{pulls}
+use Rattle.trdp_model.specs.Calls.{puts, shows, ends, at_object, called}
+use Rattle.trdp_model.specs.Events.{CallModel, PublishCall, SubscribeCall, OpenPullCall}
+use Rattle.trdp_model.specs.Events.{ListenCall, NotifyCall, RequestCall}
+use Rattle.trdp_model.specs.Slots.{SlotState}
+use Rattle.trdp_outbox.specs.Rooms.{call_room, message_room, confirm_room, answer_room}
+use Rattle.trdp_outbox.specs.declared.room.Room.{Room}
+use Rattle.std.specs.Prelude.{length}
+use Rattle.trdp_model.specs.Replies.{replies, queries, reply_errors, confirms, aborts}
 
 -- the act of the object of a handle of which that is asked
 abbrev pub asked_act : NodeSetup → Globals → ℕ → Asked → AnyObject → Act
@@ -43,14 +43,17 @@ concerns_no_object (NotifyCall terms payload) = true
 concerns_no_object (RequestCall terms payload) = true
 concerns_no_object _ = false
 
+-- room for the records of what is asked of an object
+abbrev pub asked_room : Asked → Room
+asked_room (Reply com_id status payload) = message_room (length payload.now)
+asked_room (Query com_id status timeout payload) = message_room (length payload.now)
+asked_room (ReplyError com_id status) = message_room 0
+asked_room (Confirm place status) = confirm_room
+asked_room _ = answer_room
+
 -- the call asks this of the object of that handle
 pub record IsAskedBy (call : CallModel) (handle : ℕ) (asked : Asked) : Type 0 where
   pub effect : (setup : NodeSetup) (slot : SlotState) (globals : Globals)
       → called setup slot globals call
       ≡ at_object slot handle (asked_act setup globals handle asked)
   pub room : call_room call ≡ asked_room asked
-
--- what is left of an object that stays or ended
-abbrev pub left_of : Left → AnyObject → Option AnyObject
-left_of Stays object = Some object
-left_of Ended object = None

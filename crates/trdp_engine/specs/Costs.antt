@@ -5,20 +5,19 @@ use Rattle.trdp_head.specs.declared.md.MdHead.{MdHead}
 use Rattle.trdp_head.specs.declared.md.MdKind.{MdKind}
 use Rattle.trdp_head.specs.declared.md.MdKind.TheVariants as message
 use Rattle.trdp_filter.specs.Telegrams.{TelegramModel, PdIs, MdIs}
-use Rattle.trdp_table.specs.declared.any_object.AnyObject.{AnyObject}
-use Rattle.trdp_table.specs.declared.any_object.AnyObject.TheVariants.{Publisher, Subscription}
-use Rattle.trdp_table.specs.declared.any_object.AnyObject.TheVariants.{Listener}
+use Rattle.trdp_model.specs.declared.any_object.AnyObject.{AnyObject}
+use Rattle.trdp_model.specs.declared.any_object.AnyObject.TheVariants.{Publisher, Subscription}
+use Rattle.trdp_model.specs.declared.any_object.AnyObject.TheVariants.{Listener}
 use Rattle.trdp_table.specs.Tables.{all_quotas}
-use Rattle.trdp_engine.specs.declared.counts.Counts.{Counts}
-use Rattle.trdp_engine.specs.declared.deed.Left.{Left}
-use Rattle.trdp_engine.specs.declared.deed.Left.TheVariants.{Stays, Ended}
-use Rattle.trdp_engine.specs.Slots.{Entry, SlotState}
-use Rattle.trdp_engine.specs.Requests.{is_of_session}
-use Rattle.trdp_engine.specs.Events.{EventModel, MomentIs, TopologyIs, RoleIs, DatagramIs, CallIs}
-use Rattle.trdp_engine.specs.Events.{AddSlotIs}
-use Rattle.trdp_engine.specs.Datagrams.{telegram_of}
+use Rattle.trdp_store.specs.declared.counts.Counts.{Counts}
+use Rattle.trdp_model.specs.Slots.{Entry, SlotState}
+use Rattle.trdp_model.specs.Requests.{is_of_session}
+use Rattle.trdp_model.specs.Events.{EventModel, MomentIs, TopologyIs, RoleIs, DatagramIs, CallIs}
+use Rattle.trdp_model.specs.Events.{AddSlotIs}
+use Rattle.trdp_model.specs.Datagrams.{telegram_of}
 use Rattle.trdp_engine.specs.Sought.{sought_by}
-use Rattle.trdp_engine.specs.NodeStates.{due_in, no_counts}
+use Rattle.trdp_model.specs.NodeModels.{due_in}
+use Rattle.trdp_store.specs.Counting.{no_counts}
 
 -- there is a comId, and it is that one
 abbrev pub is_that : ℕ → Option ℕ → Bool
@@ -70,21 +69,6 @@ meant_of telegram slots = sum_by (λ slot. meant_in telegram slot.objects) slots
 -- how many objects the quotas of the slots allow together
 abbrev pub quota_total : List SlotState → ℕ
 quota_total slots = sum_by (λ slot. all_quotas slot.quotas) slots
-
--- how often two orders were compared as something was done to an object, if there was one
-abbrev pub compared_for : Option (Left × ℕ) → ℕ
-compared_for None = 0
-compared_for (Some did) = did.1
-
--- the look-ups of it: one where the object ended
-abbrev pub looked_up_as : Left → ℕ
-looked_up_as Stays = 0
-looked_up_as Ended = 1
-
--- the same, if there was one
-abbrev pub looked_up_for : Option (Left × ℕ) → ℕ
-looked_up_for None = 0
-looked_up_for (Some did) = looked_up_as did.0
 
 -- the most that a telegram costs which may be for m objects, with n slots
 abbrev pub telegram_bounds : ℕ → ℕ → ℕ → Counts

@@ -1,16 +1,18 @@
 -- All that a run says of a node.
+use Rattle.trdp_engine.specs.NodeStates.{uncounted}
 use Rattle.std.specs.Prelude.{◌≡◌, ℕ, ◌≤◌, List, [], ◌∷◌, ◌++◌, length, slice_get, map, take}
 use Rattle.std.specs.Prelude.{None, IfSome, is_some, true, if◌then◌else◌}
 use Rattle.trdp_filter.specs.declared.globals.Globals.{Globals}
-use Rattle.trdp_engine.specs.declared.event.Event.{Event}
-use Rattle.trdp_engine.specs.Configs.{setup_of}
-use Rattle.trdp_engine.specs.Events.{EventModel, event_model}
-use Rattle.trdp_engine.specs.Slots.{SlotState}
-use Rattle.trdp_engine.specs.Outboxes.{OutboxState}
-use Rattle.trdp_engine.specs.Alone.{refused_as, globals_after, slots_then}
-use Rattle.trdp_engine.specs.Alone.{alone_in_view}
-use Rattle.trdp_engine.specs.NodeStates.{NodeState, RunsAsAlone, Appends, MayTakeMemory}
-use Rattle.trdp_engine.specs.Rooms.{MayLackMemory}
+use Rattle.trdp_model.specs.declared.event.Event.{Event}
+use Rattle.trdp_model.specs.Configs.{setup_of}
+use Rattle.trdp_model.specs.Events.{EventModel, event_model}
+use Rattle.trdp_model.specs.Slots.{SlotState}
+use Rattle.trdp_outbox.specs.Outboxes.{OutboxState}
+use Rattle.trdp_model.specs.Alone.{refused_as, globals_after, slots_then}
+use Rattle.trdp_model.specs.Alone.{alone_in_view}
+use Rattle.trdp_engine.specs.NodeStates.{NodeState}
+use Rattle.trdp_model.specs.NodeModels.{RunsAsAlone, Appends, MayTakeMemory}
+use Rattle.trdp_outbox.specs.Rooms.{MayLackMemory}
 use Rattle.trdp_engine.specs.Costs.{IsBounded}
 
 -- these are a node's slots after the events
@@ -57,13 +59,13 @@ pub data CountsLatest (old new : NodeState) (events : List EventModel) : Type 0 
 pub record HasRun (old new : NodeState) (out out_then : OutboxState) (events : List Event)
     (taken : ℕ) : Type 0 where
   pub within : taken ≤ length events
-  pub stops : IfSome (slice_get events taken) (λ event. MayTakeMemory new (event_model event))
+  pub stops : IfSome (slice_get events taken) (λ event. MayTakeMemory (uncounted new) (event_model event))
   pub lacks : IfSome (slice_get events taken)
-      (λ event. MayLackMemory new out_then (event_model event))
+      (λ event. MayLackMemory (uncounted new) out_then (event_model event))
   pub config_is : new.config ≡ old.config
   pub count : length new.slots
       ≡ slots_through (length old.slots) (map event_model (take taken events))
-  pub runs : (s : ℕ) → RunsAsAlone old new out.records out_then.records
+  pub runs : (s : ℕ) → RunsAsAlone (uncounted old) (uncounted new) out.records out_then.records
       (map event_model (take taken events)) s
   pub appends : Appends new.slots out.records out_then.records
   pub counted : CountsLatest old new (map event_model (take taken events))

@@ -3,8 +3,8 @@ use Rattle.std.specs.Prelude.{ℕ, ◌+◌, List, [], ◌∷◌, ◌++◌, map}
 use Rattle.trdp_filter.specs.declared.globals.Globals.{Globals}
 use Rattle.trdp_filter.specs.Telegrams.{TelegramModel}
 use Rattle.trdp_engine.specs.declared.addressees.Addressee.{Addressee}
-use Rattle.trdp_engine.specs.Slots.{Entry, SlotState}
-use Rattle.trdp_engine.specs.Datagrams.{acting}
+use Rattle.trdp_model.specs.Slots.{Entry, SlotState}
+use Rattle.trdp_model.specs.Datagrams.{acting}
 
 -- these objects of slot s
 abbrev pub noted_as : ℕ → List Entry → List Addressee

@@ -11,15 +11,15 @@ use Rattle.trdp_head.specs.declared.pd.PdKind.{PdKind}
 use Rattle.trdp_head.specs.declared.pd.PdKind.TheVariants.{PullRequest}
 use Rattle.trdp_filter.specs.declared.globals.Globals.{Globals}
 use Rattle.trdp_filter.specs.Telegrams.{TelegramModel, PdIs, MdIs}
-use Rattle.trdp_table.specs.Objects.{is_addressed}
+use Rattle.trdp_model.specs.Objects.{is_addressed}
 use Rattle.trdp_table.specs.Tables.{Keyed, TableState, all_objects, by_key}
 use Rattle.trdp_index.specs.declared.com_row.ComRow.{ComRow}
 use Rattle.trdp_index.specs.declared.session_row.Role.{Role}
 use Rattle.trdp_index.specs.declared.session_row.Role.TheVariants.{Caller, Replier}
 use Rattle.trdp_engine.specs.declared.addressees.Addressee.{Addressee}
-use Rattle.trdp_engine.specs.declared.room.Room.{Room}
-use Rattle.trdp_engine.specs.Slots.{Entry}
-use Rattle.trdp_engine.specs.Indexed.{rows_from}
+use Rattle.trdp_outbox.specs.declared.room.Room.{Room}
+use Rattle.trdp_model.specs.Slots.{Entry}
+use Rattle.trdp_store.specs.Indexed.{rows_from}
 use Rattle.trdp_engine.specs.Noted.{noted_as}
 
 -- the comId of the objects that a header of this type may be for

@@ -8,12 +8,12 @@ ghost use Rattle.std.specs.List.{flat_map};
 ghost use Rattle.trdp_filter.specs.Telegrams.{telegram_model};
 ghost use Rattle.trdp_table.specs.TableLaws.{object_limit};
 ghost use Rattle.trdp_table.specs.Tables.{room_of};
-ghost use Rattle.trdp_engine.specs.Slots.{slots_of};
-ghost use Rattle.trdp_engine.specs.Datagrams.{acting};
-ghost use Rattle.trdp_engine.specs.Rooms.{entries_room, room_rows_limit, room_bytes_limit};
-ghost use Rattle.trdp_engine.specs.Acting.{slot_at};
+ghost use Rattle.trdp_store.specs.TableSlots.{slots_of};
+ghost use Rattle.trdp_model.specs.Datagrams.{acting};
+ghost use Rattle.trdp_outbox.specs.Rooms.{entries_room, room_rows_limit, room_bytes_limit};
+ghost use Rattle.trdp_store.specs.Acting.{slot_at};
 ghost use Rattle.trdp_engine.specs.Noted.{noted_as, noted_from};
-ghost use Rattle.trdp_engine.specs.Indexed.{rows_from};
+ghost use Rattle.trdp_store.specs.Indexed.{rows_from};
 ghost use Rattle.trdp_base.specs.declared.session.SessionId.{SessionId};
 ghost use Rattle.trdp_index.specs.declared.session_row.Role.{Role};
 ghost use Rattle.trdp_engine.specs.Sought.{sought_by, hit, hits, noted_rows, part_of};
@@ -21,16 +21,14 @@ ghost use Rattle.trdp_engine.specs.Sought.{comes_unasked, noted_listener, listen
 ghost use Rattle.trdp_engine.specs.Sought.{rows_heard};
 ghost use Rattle.trdp_engine.specs.Costs.{meant_in, meant_of};
 
-use crate::counts::Counts;
 use crate::filter_test::is_for;
 use crate::first_listeners::hearers;
-use crate::objects::object_of;
-use crate::room::Room;
-use crate::store::Store;
 use trdp_base::SessionId;
 use trdp_filter::{Globals, Telegram};
 use trdp_head::{MD_PAYLOAD_MAX, MdKind, PdHead, PdKind};
 use trdp_index::{ComRow, Role};
+use trdp_outbox::Room;
+use trdp_store::{Counts, Store, object_of};
 
 /// An object that is to act.
 #[derive(Clone, Copy)]

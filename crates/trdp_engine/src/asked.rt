@@ -1,29 +1,29 @@
 //! Calls at one object: it does what is asked, and stays or ends.
 
 ghost use Rattle.std.specs.Prelude.{◌≡◌, ◌<◌, ◌≤◌, ◌++◌};
-ghost use Rattle.trdp_table.specs.Kinds.{kind_of};
-ghost use Rattle.trdp_engine.specs.Configs.{setup_of};
-ghost use Rattle.trdp_engine.specs.Records.{labelled};
+ghost use Rattle.trdp_model.specs.Kinds.{kind_of};
+ghost use Rattle.trdp_model.specs.Configs.{setup_of};
+ghost use Rattle.trdp_model.specs.Records.{labelled};
 ghost use Rattle.trdp_base.specs.Moments.{last_moment};
-ghost use Rattle.trdp_engine.specs.Calls.{ends};
-ghost use Rattle.trdp_engine.specs.Replies.{aborts};
-ghost use Rattle.trdp_engine.specs.Rooms.{HasRoom, answer_room, asked_room};
-ghost use Rattle.trdp_engine.specs.Asked.{asked_act, left_of};
-ghost use Rattle.trdp_engine.specs.Indexed.{com_of};
-ghost use Rattle.trdp_engine.specs.InSession.{session_of};
+ghost use Rattle.trdp_model.specs.Calls.{ends};
+ghost use Rattle.trdp_model.specs.Replies.{aborts};
+ghost use Rattle.trdp_outbox.specs.Rooms.{HasRoom, answer_room};
+ghost use Rattle.trdp_engine.specs.Asked.{asked_room};
+ghost use Rattle.trdp_engine.specs.Asked.{asked_act};
+ghost use Rattle.trdp_store.specs.Deeds.{left_of};
+ghost use Rattle.trdp_store.specs.Indexed.{com_of};
+ghost use Rattle.trdp_store.specs.InSession.{session_of};
 
 use crate::callers::confirm;
-use crate::deed::{Deed, Left};
-use crate::fault::Refusal;
-use crate::outbox::Outbox;
 use crate::publishers::put;
 use crate::repliers::{Inquiry, query, reply, reply_error};
 use crate::requesters::pull;
-use crate::row::PlainAnswer;
 use crate::setting::Setting;
 use crate::subscriptions::show;
 use trdp_base::Place;
-use trdp_table::{AnyObject, Kind};
+use trdp_model::{AnyObject, Kind, Refusal};
+use trdp_outbox::{Outbox, PlainAnswer};
+use trdp_store::{Deed, Left};
 
 /// What a call asks of one object.
 #[derive(Clone, Copy)]
@@ -170,9 +170,10 @@ fn ask(
 impl Deed for Asking<'_, '_> {
     ghost use Rattle.std.specs.Prelude.{◌≤◌};
     ghost use Rattle.trdp_base.specs.Moments.{last_moment};
-    ghost use Rattle.trdp_engine.specs.Configs.{setup_of};
+    ghost use Rattle.trdp_model.specs.Configs.{setup_of};
     ghost use Rattle.trdp_engine.specs.Asked.{asked_act};
-    ghost use Rattle.trdp_engine.specs.Rooms.{HasRoom, asked_room};
+    ghost use Rattle.trdp_outbox.specs.Rooms.{HasRoom};
+    ghost use Rattle.trdp_engine.specs.Asked.{asked_room};
 
     ghost act = { λ d handle object.
         asked_act (setup_of d.setting.config.now) d.setting.globals.now handle d.asked.now object };

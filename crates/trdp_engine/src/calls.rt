@@ -4,36 +4,33 @@ ghost use Rattle.std.specs.Prelude.{◌≡◌, ◌<◌, ◌≤◌, length, OnOk,
 ghost use Rattle.std.specs.Prelude.{None, true, IfSome, IfNone};
 ghost use Rattle.trdp_base.specs.Moments.{last_moment};
 ghost use Rattle.trdp_marshal.specs.Items.{model_of};
-ghost use Rattle.trdp_engine.specs.Configs.{setup_of};
-ghost use Rattle.trdp_engine.specs.Events.{call_model};
-ghost use Rattle.trdp_engine.specs.Calls.{called, at_object};
-ghost use Rattle.trdp_engine.specs.Values.{item_bytes, item_refusal, IsRefusedAs, valued};
-ghost use Rattle.trdp_engine.specs.Slots.{entry_of};
-ghost use Rattle.trdp_engine.specs.Rooms.{HasRoom, asked_room, call_room, makes_buffer};
-ghost use Rattle.trdp_engine.specs.Rooms.{CallMayLack};
+ghost use Rattle.trdp_model.specs.Configs.{setup_of};
+ghost use Rattle.trdp_model.specs.Events.{call_model};
+ghost use Rattle.trdp_model.specs.Calls.{called, at_object};
+ghost use Rattle.trdp_model.specs.Values.{item_bytes, item_refusal, valued};
+ghost use Rattle.trdp_engine.specs.Spelled.{IsRefusedAs};
+ghost use Rattle.trdp_model.specs.Slots.{entry_of};
+ghost use Rattle.trdp_outbox.specs.Rooms.{HasRoom, call_room, makes_buffer};
+ghost use Rattle.trdp_engine.specs.Asked.{asked_room};
+ghost use Rattle.trdp_outbox.specs.Rooms.{CallMayLack};
 ghost use Rattle.trdp_engine.specs.Asked.{asked_act, concerns_no_object, IsAskedBy};
-ghost use Rattle.trdp_engine.specs.Acting.{slot_at, Becomes};
+ghost use Rattle.trdp_store.specs.Acting.{slot_at, Becomes};
 
 use crate::asked::{Asked, Asking};
 use crate::callers::request;
-use crate::event::Call;
-use crate::fault::Refusal;
 use crate::listeners::listen;
 use crate::notices::notify;
-use crate::objects::object_of;
-use crate::outbox::Outbox;
 use crate::publishers::publish;
 use crate::requesters::open_pull;
-use crate::room::Room;
-use crate::row::PlainAnswer;
 use crate::setting::Setting;
-use crate::store::Store;
 use crate::subscriptions::subscribe;
 use crate::value::{SpellFault, spell};
 use std::alloc::AllocError;
 use trdp_head::PD_PAYLOAD_MAX;
 use trdp_marshal::Item;
-use trdp_table::Kind;
+use trdp_model::{Call, Kind, Refusal};
+use trdp_outbox::{Outbox, PlainAnswer, Room};
+use trdp_store::{Store, object_of};
 
 /// Which object a call concerns, by its handle, and what it asks of it; None where it concerns none
 /// that there is.

@@ -5,38 +5,36 @@ ghost use Rattle.std.specs.Prelude.{Some, true, slice_get, IfSome};
 ghost use Rattle.std.specs.List.{flat_map};
 ghost use Rattle.trdp_base.specs.Moments.{last_moment};
 ghost use Rattle.trdp_filter.specs.Telegrams.{telegram_model, IsWithinLimit};
-ghost use Rattle.trdp_table.specs.Kinds.{kind_of};
+ghost use Rattle.trdp_model.specs.Kinds.{kind_of};
 ghost use Rattle.trdp_table.specs.Tables.{room_of};
-ghost use Rattle.trdp_table.specs.Objects.{due_of, is_addressed};
-ghost use Rattle.trdp_engine.specs.Configs.{setup_of};
-ghost use Rattle.trdp_engine.specs.Slots.{SlotState, entry_at, entry_of, slots_of};
-ghost use Rattle.trdp_engine.specs.Records.{labelled};
-ghost use Rattle.trdp_engine.specs.Datagrams.{is_valid_at, fits_object};
-ghost use Rattle.trdp_engine.specs.Datagrams.{acting, handed, is_for_entry, taking_act};
-ghost use Rattle.trdp_engine.specs.Timed.{IsOver};
-ghost use Rattle.trdp_engine.specs.Asked.{left_of};
-ghost use Rattle.trdp_engine.specs.NodeStates.{HasOutcome, Appends};
-ghost use Rattle.trdp_engine.specs.Rooms.{HasRoom, kind_room, entries_room};
-ghost use Rattle.trdp_engine.specs.Acting.{TookWithin, slot_at, MayAct, ActsAt};
+ghost use Rattle.trdp_model.specs.Objects.{due_of, is_addressed};
+ghost use Rattle.trdp_model.specs.Configs.{setup_of};
+ghost use Rattle.trdp_model.specs.Slots.{SlotState, entry_at, entry_of};
+ghost use Rattle.trdp_store.specs.TableSlots.{slots_of};
+ghost use Rattle.trdp_model.specs.Records.{labelled};
+ghost use Rattle.trdp_model.specs.Datagrams.{is_valid_at, fits_object};
+ghost use Rattle.trdp_model.specs.Datagrams.{acting, handed, is_for_entry, taking_act};
+ghost use Rattle.trdp_store.specs.Timed.{IsOver};
+ghost use Rattle.trdp_store.specs.Deeds.{left_of};
+ghost use Rattle.trdp_model.specs.NodeModels.{HasOutcome, Appends};
+ghost use Rattle.trdp_outbox.specs.Rooms.{HasRoom, kind_room, entries_room};
+ghost use Rattle.trdp_store.specs.Acting.{TookWithin, slot_at, MayAct, ActsAt};
 ghost use Rattle.trdp_engine.specs.Noted.{noted_from};
-ghost use Rattle.trdp_engine.specs.Indexed.{com_of};
-ghost use Rattle.trdp_engine.specs.InSession.{session_of};
+ghost use Rattle.trdp_store.specs.Indexed.{com_of};
+ghost use Rattle.trdp_store.specs.InSession.{session_of};
 
 use crate::addressees::Addressee;
 use crate::callers::push_replied;
-use crate::counts::Counts;
-use crate::deed::{Deed, Left};
 use crate::notices::push_heard;
-use crate::outbox::Outbox;
 use crate::pull::{answer_place, push_answer};
-use crate::row::Form;
 use crate::setting::Setting;
-use crate::store::{Store, count_act};
 use trdp_dataset::NodeConfig;
 use trdp_filter::{Globals, Telegram, topo_valid};
 use trdp_marshal::fits;
+use trdp_model::AnyObject;
+use trdp_outbox::{Form, Outbox};
 use trdp_pd::{Object, Reason, Taken};
-use trdp_table::AnyObject;
+use trdp_store::{Counts, Deed, Left, Store, count_act};
 
 /// Whether the telegram's topology counts match the node's.
 pub fn is_valid_at(telegram: &Telegram<'_>, globals: &Globals) -> bool
@@ -132,13 +130,13 @@ impl Deed for Handing<'_, '_> {
     ghost use Rattle.std.specs.Prelude.{◌≡◌, ◌≤◌, true};
     ghost use Rattle.trdp_base.specs.Moments.{last_moment};
     ghost use Rattle.trdp_filter.specs.Telegrams.{telegram_model, IsWithinLimit};
-    ghost use Rattle.trdp_table.specs.Kinds.{kind_of};
-    ghost use Rattle.trdp_table.specs.Objects.{is_addressed};
-    ghost use Rattle.trdp_engine.specs.Configs.{setup_of};
-    ghost use Rattle.trdp_engine.specs.Datagrams.{taking_act};
-    ghost use Rattle.trdp_engine.specs.Slots.{entry_at};
-    ghost use Rattle.trdp_engine.specs.Rooms.{HasRoom, kind_room};
-    ghost use Rattle.trdp_engine.specs.Acting.{TookWithin};
+    ghost use Rattle.trdp_model.specs.Kinds.{kind_of};
+    ghost use Rattle.trdp_model.specs.Objects.{is_addressed};
+    ghost use Rattle.trdp_model.specs.Configs.{setup_of};
+    ghost use Rattle.trdp_model.specs.Datagrams.{taking_act};
+    ghost use Rattle.trdp_model.specs.Slots.{entry_at};
+    ghost use Rattle.trdp_outbox.specs.Rooms.{HasRoom, kind_room};
+    ghost use Rattle.trdp_store.specs.Acting.{TookWithin};
 
     ghost act = { λ d handle object.
         taking_act (setup_of d.setting.config.now) (telegram_model d.telegram.now)

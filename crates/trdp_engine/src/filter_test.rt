@@ -2,12 +2,12 @@
 
 ghost use Rattle.std.specs.Prelude.{◌≡◌, ◌≤◌, ◌+◌};
 ghost use Rattle.trdp_filter.specs.Telegrams.{telegram_model};
-ghost use Rattle.trdp_table.specs.Objects.{is_addressed};
+ghost use Rattle.trdp_model.specs.Objects.{is_addressed};
 
-use crate::counts::Counts;
 use trdp_filter::{Globals, Telegram};
+use trdp_model::AnyObject;
 use trdp_pd::Object;
-use trdp_table::AnyObject;
+use trdp_store::Counts;
 
 /// Whether the telegram is for the object: a filter test, which is counted.
 pub fn is_for(

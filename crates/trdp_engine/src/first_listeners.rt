@@ -4,17 +4,16 @@ ghost use Rattle.std.specs.Prelude.{◌≡◌, ℕ, ◌<◌, ◌≤◌, length, 
 ghost use Rattle.std.specs.Prelude.{◌+◌, ◌*◌, ◌^◌};
 ghost use Rattle.trdp_filter.specs.Telegrams.{telegram_model};
 ghost use Rattle.trdp_table.specs.Tables.{room_of};
-ghost use Rattle.trdp_engine.specs.Datagrams.{hearing};
-ghost use Rattle.trdp_engine.specs.Acting.{slot_at};
-ghost use Rattle.trdp_engine.specs.Indexed.{rows_from};
+ghost use Rattle.trdp_model.specs.Datagrams.{hearing};
+ghost use Rattle.trdp_store.specs.Acting.{slot_at};
+ghost use Rattle.trdp_store.specs.Indexed.{rows_from};
 ghost use Rattle.trdp_engine.specs.Sought.{hit, earlier, first_handle, hit_in, first_in};
 ghost use Rattle.trdp_engine.specs.Sought.{rows_heard};
 
-use crate::counts::Counts;
 use crate::filter_test::is_for;
-use crate::store::Store;
 use trdp_filter::{Globals, Telegram};
 use trdp_index::ComRow;
+use trdp_store::{Counts, Store};
 
 /// The lesser of two handles that there may be.
 fn earlier(known: Option<u32>, found: Option<u32>) -> Option<u32>

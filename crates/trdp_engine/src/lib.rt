@@ -14,15 +14,9 @@
 
 mod addressees;
 mod asked;
-mod by_com;
-mod by_session;
 mod callers;
 mod calls;
-mod counts;
 mod datagram;
-mod deed;
-mod event;
-mod fault;
 mod filter_test;
 mod first_listeners;
 mod laws;
@@ -31,40 +25,31 @@ mod look;
 mod moment;
 mod node;
 mod notices;
-mod objects;
 mod opening;
-mod outbox;
-mod peek;
 mod publishers;
 mod pull;
 mod reception;
-mod record;
 mod repliers;
 mod requesters;
 mod requests;
-mod room;
-mod row;
 mod run;
-mod schedule;
-mod sessions;
 mod setting;
 mod shown;
 mod start;
-mod store;
 mod subscriptions;
 mod value;
 
-pub use event::{Call, Event};
-pub use fault::{NodeFault, Refusal};
-pub use laws::{
-    error_telegrams_are_inert, malformed_datagrams_are_inert, requests_are_for_listeners, run_both,
-    same_view, view_drops_nothing,
-};
+pub use laws::run_both;
 pub use node::Node;
-pub use outbox::Outbox;
-pub use peek::PeekFault;
-pub use record::{Answer, Indication, Message, Protocol, Record, Reply, What};
-pub use shown::ValueFault;
+
+// What callers pass in and get back, and the laws of the rules, so that a program names this crate
+// alone.
+pub use trdp_model::{
+    Answer, Call, Event, Indication, Message, NodeFault, PeekFault, Protocol, Record, Refusal,
+    Reply, ValueFault, What, error_telegrams_are_inert, malformed_datagrams_are_inert,
+    requests_are_for_listeners, same_view, view_drops_nothing,
+};
+pub use trdp_outbox::Outbox;
 
 // What callers pass in and get back, so that a program names this crate alone.
 pub use trdp_base::{

@@ -2,20 +2,18 @@
 
 ghost use Rattle.std.specs.Prelude.{◌≡◌, ◌<◌, length, slice_set};
 ghost use Rattle.trdp_md.specs.Listeners.{listening};
-ghost use Rattle.trdp_engine.specs.Slots.{slots_of};
-ghost use Rattle.trdp_engine.specs.Calls.{listen_refusal};
-ghost use Rattle.trdp_engine.specs.Openings.{opened_unless, answered};
-ghost use Rattle.trdp_engine.specs.Outboxes.{plain_answer_model};
-ghost use Rattle.trdp_engine.specs.Acting.{slot_at};
+ghost use Rattle.trdp_store.specs.TableSlots.{slots_of};
+ghost use Rattle.trdp_model.specs.Calls.{listen_refusal};
+ghost use Rattle.trdp_model.specs.Openings.{opened_unless, answered};
+ghost use Rattle.trdp_outbox.specs.Outboxes.{plain_answer_model};
+ghost use Rattle.trdp_store.specs.Acting.{slot_at};
 
-use crate::counts::Counts;
-use crate::fault::Refusal;
 use crate::opening::open;
-use crate::row::PlainAnswer;
-use crate::store::Store;
 use trdp_filter::MdFilter;
 use trdp_md::Listener;
-use trdp_table::AnyObject;
+use trdp_model::{AnyObject, Refusal};
+use trdp_outbox::PlainAnswer;
+use trdp_store::{Counts, Store};
 
 /// Makes a listener of the messages that the filter lets in, in slot `s`. It needs no memory.
 pub fn listen(store: &mut Store, s: u16, filter: &MdFilter) -> PlainAnswer

@@ -1,22 +1,12 @@
 //! A look at a subscription of a slot.
 
 ghost use Rattle.std.specs.Prelude.{◌≡◌, ◌<◌, length, IfOk, IfErr, Ok, Err};
-ghost use Rattle.trdp_engine.specs.Looks.{as_subscription, subscription_at};
-ghost use Rattle.trdp_engine.specs.Acting.{slot_at};
+ghost use Rattle.trdp_model.specs.Looks.{as_subscription, subscription_at};
+ghost use Rattle.trdp_store.specs.Acting.{slot_at};
 
-use crate::objects::object_of;
-use crate::store::Store;
+use trdp_model::{AnyObject, LookFault};
 use trdp_pd::Subscription;
-use trdp_table::AnyObject;
-
-/// Why a slot has no such subscription: the first of these that applies (profile).
-#[derive(Clone, Copy, Debug, PartialEq, Eq)]
-pub enum LookFault {
-    /// The slot has no object of that handle.
-    NoHandle,
-    /// The object of that handle is no subscription.
-    WrongKind,
-}
+use trdp_store::{Store, object_of};
 
 /// The object as a subscription.
 ///

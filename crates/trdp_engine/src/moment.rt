@@ -6,30 +6,28 @@ ghost use Rattle.trdp_base.specs.Moments.{last_moment};
 ghost use Rattle.trdp_head.specs.declared.pd.TheConstants.{PD_TELEGRAM_MAX};
 ghost use Rattle.trdp_head.specs.declared.md.TheConstants.{MD_TELEGRAM_MAX};
 ghost use Rattle.trdp_pd.specs.Due.{is_due_by};
-ghost use Rattle.trdp_table.specs.Kinds.{kind_of};
+ghost use Rattle.trdp_model.specs.Kinds.{kind_of};
 ghost use Rattle.trdp_table.specs.Tables.{room_of};
-ghost use Rattle.trdp_table.specs.Objects.{due_of, after_firing, fired};
-ghost use Rattle.trdp_engine.specs.Records.{labelled};
-ghost use Rattle.trdp_engine.specs.Slots.{SlotState, entry_of, slots_of};
-ghost use Rattle.trdp_engine.specs.Moments.{sends_data, sends_again, firing_records, left_firing};
-ghost use Rattle.trdp_engine.specs.Moments.{moved_to, is_due, firing_act};
-ghost use Rattle.trdp_engine.specs.NodeStates.{HasOutcome, Appends, due_in};
-ghost use Rattle.trdp_engine.specs.Asked.{left_of};
-ghost use Rattle.trdp_engine.specs.Rooms.{HasRoom, kind_room, moment_room};
-ghost use Rattle.trdp_engine.specs.Acting.{TookWithin, slot_at, MayAct, ActsAt};
-ghost use Rattle.trdp_engine.specs.Indexed.{com_of};
-ghost use Rattle.trdp_engine.specs.InSession.{session_of};
-ghost use Rattle.trdp_engine.specs.Fitting.{EachSound};
+ghost use Rattle.trdp_model.specs.Objects.{due_of, after_firing, fired};
+ghost use Rattle.trdp_model.specs.Records.{labelled};
+ghost use Rattle.trdp_model.specs.Slots.{SlotState, entry_of};
+ghost use Rattle.trdp_store.specs.TableSlots.{slots_of};
+ghost use Rattle.trdp_model.specs.Moments.{sends_data, sends_again, firing_records, left_firing};
+ghost use Rattle.trdp_model.specs.Moments.{moved_to, is_due, firing_act};
+ghost use Rattle.trdp_model.specs.NodeModels.{HasOutcome, Appends, due_in};
+ghost use Rattle.trdp_store.specs.Deeds.{left_of};
+ghost use Rattle.trdp_outbox.specs.Rooms.{HasRoom, kind_room, moment_room};
+ghost use Rattle.trdp_store.specs.Acting.{TookWithin, slot_at, MayAct, ActsAt};
+ghost use Rattle.trdp_store.specs.Indexed.{com_of};
+ghost use Rattle.trdp_store.specs.InSession.{session_of};
+ghost use Rattle.trdp_model.specs.Fitting.{EachSound};
 
-use crate::counts::Counts;
-use crate::deed::{Deed, Left};
-use crate::outbox::Outbox;
-use crate::row::Form;
-use crate::store::{Store, count_act};
 use trdp_filter::Globals;
 use trdp_head::{MD_TELEGRAM_MAX, MdHead, PD_TELEGRAM_MAX, PdHead};
+use trdp_model::AnyObject;
+use trdp_outbox::{Form, Outbox};
 use trdp_pd::{Fired, Object};
-use trdp_table::AnyObject;
+use trdp_store::{Counts, Deed, Left, Store, count_act};
 
 /// Records the data of a publisher, with its value, under this header.
 fn push_data(object: &AnyObject, head: &PdHead, s: u16, out: &mut Outbox)
@@ -107,12 +105,12 @@ impl Deed for Firing<'_> {
     ghost use Rattle.std.specs.Prelude.{◌≡◌, ◌≤◌, true};
     ghost use Rattle.trdp_base.specs.Moments.{last_moment};
     ghost use Rattle.trdp_pd.specs.Due.{is_due_by};
-    ghost use Rattle.trdp_table.specs.Kinds.{kind_of};
-    ghost use Rattle.trdp_table.specs.Objects.{due_of};
-    ghost use Rattle.trdp_engine.specs.Moments.{firing_act};
-    ghost use Rattle.trdp_engine.specs.Slots.{entry_at};
-    ghost use Rattle.trdp_engine.specs.Rooms.{HasRoom, kind_room};
-    ghost use Rattle.trdp_engine.specs.Acting.{TookWithin};
+    ghost use Rattle.trdp_model.specs.Kinds.{kind_of};
+    ghost use Rattle.trdp_model.specs.Objects.{due_of};
+    ghost use Rattle.trdp_model.specs.Moments.{firing_act};
+    ghost use Rattle.trdp_model.specs.Slots.{entry_at};
+    ghost use Rattle.trdp_outbox.specs.Rooms.{HasRoom, kind_room};
+    ghost use Rattle.trdp_store.specs.Acting.{TookWithin};
 
     ghost act = { λ d handle object. firing_act d.globals.now (entry_at handle object) };
 

@@ -1,32 +1,30 @@
 //! The node: one event after another.
 
+ghost use Rattle.trdp_engine.specs.NodeStates.{uncounted};
 ghost use Rattle.std.specs.Prelude.{nat_le, if◌then◌else◌, None, ◌≡◌, ◌≢◌, ℕ, ◌<◌, ◌≤◌};
 ghost use Rattle.std.specs.Prelude.{length, OnOk, OnErr, IfOk, IfErr, Err, Some, slice_get};
-ghost use Rattle.trdp_engine.specs.Events.{MomentIs, TopologyIs, RoleIs, DatagramIs, CallIs};
-ghost use Rattle.trdp_engine.specs.Events.{call_model, event_model};
-ghost use Rattle.trdp_engine.specs.Slots.{SlotState};
+ghost use Rattle.trdp_model.specs.Events.{MomentIs, TopologyIs, RoleIs, DatagramIs, CallIs};
+ghost use Rattle.trdp_model.specs.Events.{call_model, event_model};
+ghost use Rattle.trdp_model.specs.Slots.{SlotState};
 ghost use Rattle.trdp_marshal.specs.Items.{model_of};
-ghost use Rattle.trdp_engine.specs.Values.{valued_at};
-ghost use Rattle.trdp_engine.specs.Configs.{setup_of};
+ghost use Rattle.trdp_model.specs.Values.{valued_at};
+ghost use Rattle.trdp_model.specs.Configs.{setup_of};
 
 use crate::addressees::Addressee;
 use crate::calls::{put_value, serve};
-use crate::counts::Counts;
-use crate::event::{Call, Event};
-use crate::fault::NodeFault;
 use crate::moment::fire_all;
-use crate::outbox::Outbox;
 use crate::reception::{Datagram, hear};
-use crate::record::Protocol;
 use crate::setting::Setting;
 use crate::start::parts;
-use crate::store::Store;
 use std::alloc::Global;
 use std::marker::Model;
 use trdp_base::{MOMENT_MAX, Place, Topo};
 use trdp_dataset::NodeConfig;
 use trdp_filter::{Globals, Groups};
 use trdp_marshal::Item;
+use trdp_model::{Call, Event, NodeFault, Protocol};
+use trdp_outbox::Outbox;
+use trdp_store::{Counts, Store};
 
 mod adding;
 mod looks;
@@ -55,11 +53,11 @@ impl Model for Node {
     ghost use Rattle.std.specs.Prelude.{◌≤◌, ◌*◌, vec_capacity};
     ghost use Rattle.trdp_base.specs.Moments.{last_moment};
     ghost use Rattle.trdp_dataset.specs.Registries.{IsRegistry};
-    ghost use Rattle.trdp_engine.specs.Configs.{setup_of};
+    ghost use Rattle.trdp_model.specs.Configs.{setup_of};
     ghost use Rattle.trdp_engine.specs.NodeStates.{NodeState};
     ghost use Rattle.trdp_table.specs.TableLaws.{object_limit};
-    ghost use Rattle.trdp_engine.specs.Slots.{slots_of};
-    ghost use Rattle.trdp_engine.specs.Fitting.{EachFits};
+    ghost use Rattle.trdp_store.specs.TableSlots.{slots_of};
+    ghost use Rattle.trdp_model.specs.Fitting.{EachFits};
 
     ghost Value = { NodeState };
 
@@ -76,12 +74,15 @@ impl Model for Node {
 }
 
 impl Node {
-    ghost use Rattle.trdp_engine.specs.NodeStates.{NodeState, GetsOutcome, StepsAsAlone};
-    ghost use Rattle.trdp_engine.specs.NodeStates.{Appends, MayTakeMemory, opened_node, no_counts};
+    ghost use Rattle.trdp_engine.specs.NodeStates.{NodeState};
+    ghost use Rattle.trdp_model.specs.NodeModels.{GetsOutcome, StepsAsAlone};
+    ghost use Rattle.trdp_model.specs.NodeModels.{Appends, MayTakeMemory};
+    ghost use Rattle.trdp_engine.specs.NodeStates.{opened_node};
+    ghost use Rattle.trdp_store.specs.Counting.{no_counts};
     ghost use Rattle.trdp_engine.specs.Costs.{IsBounded};
-    ghost use Rattle.trdp_engine.specs.Rooms.{MayLackMemory};
-    ghost use Rattle.trdp_engine.specs.Alone.{FaultIs, refused_as, globals_after, plain_effect};
-    ghost use Rattle.trdp_engine.specs.Alone.{slots_then};
+    ghost use Rattle.trdp_outbox.specs.Rooms.{MayLackMemory};
+    ghost use Rattle.trdp_model.specs.Alone.{FaultIs, refused_as, globals_after, plain_effect};
+    ghost use Rattle.trdp_model.specs.Alone.{slots_then};
 
     /// A node at moment 0 that leads no group, with an empty slot for each of the configuration, 1
     /// to 16.
@@ -131,18 +132,19 @@ impl Node {
             result }
         ensures kept { OnErr result (self.new ≡ self.old) }
         ensures unrecorded { OnErr result (out.new.records ≡ out.old.records) }
-        ensures memory { result ≡ Err NodeFault.OutOfMemory → MayTakeMemory self.old (MomentIs t) }
+        ensures memory { result ≡ Err NodeFault.OutOfMemory
+            → MayTakeMemory (uncounted self.old) (MomentIs t) }
         ensures full { result ≡ Err NodeFault.OutOfMemory
-            → MayLackMemory self.old out.old (MomentIs t) }
+            → MayLackMemory (uncounted self.old) out.old (MomentIs t) }
         ensures still { result ≡ Err NodeFault.OutOfMemory
-            → MayLackMemory self.old out.new (MomentIs t) }
+            → MayLackMemory (uncounted self.old) out.new (MomentIs t) }
         ensures config { self.new.config ≡ self.old.config }
         ensures globals { OnOk result (self.new.globals
             ≡ globals_after self.old.globals (MomentIs t)) }
         ensures count { length self.new.slots ≡ length self.old.slots }
         ensures outcomes { OnOk result ((s : ℕ) (slot : SlotState)
             → slice_get self.old.slots s ≡ Some slot
-            → GetsOutcome self.new out.old.records out.new.records s
+            → GetsOutcome (uncounted self.new) out.old.records out.new.records s
             (plain_effect (setup_of self.old.config) s slot self.old.globals (MomentIs t))) }
         ensures appends { Appends self.old.slots out.old.records out.new.records }
         ensures cost { OnOk result (IsBounded self.old.slots (MomentIs t) self.new.counts) }
@@ -216,18 +218,18 @@ impl Node {
         ensures kept { OnErr result (self.new ≡ self.old) }
         ensures unrecorded { OnErr result (out.new.records ≡ out.old.records) }
         ensures memory { result ≡ Err NodeFault.OutOfMemory
-            → MayTakeMemory self.old (DatagramIs protocol src dst bytes.now) }
+            → MayTakeMemory (uncounted self.old) (DatagramIs protocol src dst bytes.now) }
         ensures full { result ≡ Err NodeFault.OutOfMemory
-            → MayLackMemory self.old out.old (DatagramIs protocol src dst bytes.now) }
+            → MayLackMemory (uncounted self.old) out.old (DatagramIs protocol src dst bytes.now) }
         ensures still { result ≡ Err NodeFault.OutOfMemory
-            → MayLackMemory self.old out.new (DatagramIs protocol src dst bytes.now) }
+            → MayLackMemory (uncounted self.old) out.new (DatagramIs protocol src dst bytes.now) }
         ensures config { self.new.config ≡ self.old.config }
         ensures globals { OnOk result (self.new.globals
             ≡ globals_after self.old.globals (DatagramIs protocol src dst bytes.now)) }
         ensures count { length self.new.slots ≡ length self.old.slots }
         ensures outcomes { OnOk result ((s : ℕ) (slot : SlotState)
             → slice_get self.old.slots s ≡ Some slot
-            → GetsOutcome self.new out.old.records out.new.records s
+            → GetsOutcome (uncounted self.new) out.old.records out.new.records s
             (plain_effect (setup_of self.old.config) s slot self.old.globals
             (DatagramIs protocol src dst bytes.now))) }
         ensures appends { Appends self.old.slots out.old.records out.new.records }
@@ -269,16 +271,16 @@ impl Node {
         ensures kept { OnErr result (self.new ≡ self.old) }
         ensures unrecorded { OnErr result (out.new.records ≡ out.old.records) }
         ensures full { result ≡ Err NodeFault.OutOfMemory
-            → MayLackMemory self.old out.old (CallIs s (call_model call.now)) }
+            → MayLackMemory (uncounted self.old) out.old (CallIs s (call_model call.now)) }
         ensures still { result ≡ Err NodeFault.OutOfMemory
-            → MayLackMemory self.old out.new (CallIs s (call_model call.now)) }
+            → MayLackMemory (uncounted self.old) out.new (CallIs s (call_model call.now)) }
         ensures config { self.new.config ≡ self.old.config }
         ensures globals { OnOk result (self.new.globals
             ≡ globals_after self.old.globals (CallIs s (call_model call.now))) }
         ensures count { length self.new.slots ≡ length self.old.slots }
         ensures outcomes { OnOk result ((r : ℕ) (slot : SlotState)
             → slice_get self.old.slots r ≡ Some slot
-            → GetsOutcome self.new out.old.records out.new.records r
+            → GetsOutcome (uncounted self.new) out.old.records out.new.records r
             (plain_effect (setup_of self.old.config) r slot self.old.globals
             (CallIs s (call_model call.now)))) }
         ensures appends { Appends self.old.slots out.old.records out.new.records }
@@ -312,18 +314,18 @@ impl Node {
         ensures kept { OnErr result (self.new ≡ self.old) }
         ensures unrecorded { OnErr result (out.new.records ≡ out.old.records) }
         ensures memory { result ≡ Err NodeFault.OutOfMemory
-            → MayTakeMemory self.old (event_model event.now) }
+            → MayTakeMemory (uncounted self.old) (event_model event.now) }
         ensures full { result ≡ Err NodeFault.OutOfMemory
-            → MayLackMemory self.old out.old (event_model event.now) }
+            → MayLackMemory (uncounted self.old) out.old (event_model event.now) }
         ensures still { result ≡ Err NodeFault.OutOfMemory
-            → MayLackMemory self.old out.new (event_model event.now) }
+            → MayLackMemory (uncounted self.old) out.new (event_model event.now) }
         ensures config { self.new.config ≡ self.old.config }
         ensures globals { OnOk result (self.new.globals
             ≡ globals_after self.old.globals (event_model event.now)) }
         ensures count { OnOk result (length self.new.slots
             ≡ slots_then (length self.old.slots) (event_model event.now)) }
         ensures steps { OnOk result ((s : ℕ)
-            → StepsAsAlone self.old self.new out.old.records out.new.records
+            → StepsAsAlone (uncounted self.old) (uncounted self.new) out.old.records out.new.records
             (event_model event.now) s) }
         ensures appends { Appends self.new.slots out.old.records out.new.records }
         ensures cost { OnOk result (IsBounded self.old.slots (event_model event.now)
@@ -371,7 +373,7 @@ impl Node {
         ensures count { length self.new.slots ≡ length self.old.slots }
         ensures values { OnOk result ((s : ℕ) (state : SlotState)
             → slice_get self.old.slots s ≡ Some state
-            → GetsOutcome self.new out.old.records out.new.records s
+            → GetsOutcome (uncounted self.new) out.old.records out.new.records s
             (valued_at (setup_of self.old.config) slot s state handle (model_of item.now))) }
         ensures appends { Appends self.old.slots out.old.records out.new.records }
         ensures counts { OnOk result (self.new.counts ≡ no_counts) }

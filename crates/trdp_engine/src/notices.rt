@@ -2,20 +2,18 @@
 
 ghost use Rattle.std.specs.Prelude.{◌≡◌, ◌≤◌, ◌+◌, ◌++◌, ◌∷◌, [], length};
 ghost use Rattle.trdp_filter.specs.Telegrams.{telegram_model, IsWithinLimit};
-ghost use Rattle.trdp_engine.specs.Records.{labelled, message_model};
-ghost use Rattle.trdp_engine.specs.Slots.{SlotState};
-ghost use Rattle.trdp_engine.specs.Calls.{told_unless};
-ghost use Rattle.trdp_engine.specs.Notices.{notify_refusal, notice, heard, message_of};
-ghost use Rattle.trdp_engine.specs.Rooms.{HasRoom, message_room};
+ghost use Rattle.trdp_model.specs.Records.{labelled, message_model};
+ghost use Rattle.trdp_model.specs.Slots.{SlotState};
+ghost use Rattle.trdp_model.specs.Calls.{told_unless};
+ghost use Rattle.trdp_model.specs.Notices.{notify_refusal, notice, heard, message_of};
+ghost use Rattle.trdp_outbox.specs.Rooms.{HasRoom, message_room};
 
-use crate::fault::Refusal;
-use crate::outbox::Outbox;
-use crate::record::Message;
-use crate::row::PlainAnswer;
 use trdp_base::Place;
 use trdp_filter::{Globals, Telegram, topo_valid};
 use trdp_head::{MD_PAYLOAD_MAX, MdKind, MdView};
 use trdp_md::{NotifyTerms, notification};
+use trdp_model::{Message, Refusal};
+use trdp_outbox::{Outbox, PlainAnswer};
 
 /// Why a notification isn't sent.
 fn notify_refusal(terms: &NotifyTerms, payload: &[u8], globals: &Globals) -> Option<Refusal>

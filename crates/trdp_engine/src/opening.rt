@@ -2,25 +2,23 @@
 
 ghost use Rattle.std.specs.Prelude.{◌≡◌, ◌<◌, ◌≤◌, ◌+◌, ◌*◌, ◌^◌, ℕ, length, slice_set, Option};
 ghost use Rattle.std.specs.Prelude.{IfOk, IfErr, Some};
-ghost use Rattle.trdp_table.specs.Kinds.{kind_of};
+ghost use Rattle.trdp_model.specs.Kinds.{kind_of};
 ghost use Rattle.trdp_table.specs.Tables.{room_of};
-ghost use Rattle.trdp_engine.specs.declared.fault.Refusal.{Refusal};
-ghost use Rattle.trdp_engine.specs.Configs.{setup_of, zero_size_of};
-ghost use Rattle.trdp_engine.specs.Slots.{slots_of};
-ghost use Rattle.trdp_engine.specs.Calls.{is_span, dataset_refusal};
-ghost use Rattle.trdp_engine.specs.Openings.{opening_refusal};
-ghost use Rattle.trdp_engine.specs.Openings.{opened_unless, answered};
-ghost use Rattle.trdp_engine.specs.Outboxes.{plain_answer_model};
-ghost use Rattle.trdp_engine.specs.Acting.{slot_at};
-ghost use Rattle.trdp_engine.specs.InSession.{IsNewInSession};
+ghost use Rattle.trdp_model.specs.declared.fault.Refusal.{Refusal};
+ghost use Rattle.trdp_model.specs.Configs.{setup_of, zero_size_of};
+ghost use Rattle.trdp_store.specs.TableSlots.{slots_of};
+ghost use Rattle.trdp_model.specs.Calls.{is_span, dataset_refusal};
+ghost use Rattle.trdp_model.specs.Openings.{opening_refusal};
+ghost use Rattle.trdp_model.specs.Openings.{opened_unless, answered};
+ghost use Rattle.trdp_outbox.specs.Outboxes.{plain_answer_model};
+ghost use Rattle.trdp_store.specs.Acting.{slot_at};
+ghost use Rattle.trdp_store.specs.InSession.{IsNewInSession};
 
-use crate::counts::Counts;
-use crate::fault::Refusal;
-use crate::row::PlainAnswer;
-use crate::store::Store;
 use trdp_dataset::NodeConfig;
 use trdp_head::PD_PAYLOAD_MAX;
-use trdp_table::{AnyObject, Kind};
+use trdp_model::{AnyObject, Kind, Refusal};
+use trdp_outbox::PlainAnswer;
+use trdp_store::{Counts, Store};
 
 /// The shortest cycle or supervision time but 0, in microseconds (profile).
 const SPAN_MIN: u32 = 1_000;

@@ -2,30 +2,28 @@
 
 ghost use Rattle.std.specs.Prelude.{◌≡◌, ◌<◌, ◌≤◌, length, slice_set, OnErr, IfOk};
 ghost use Rattle.trdp_base.specs.Moments.{last_moment};
-ghost use Rattle.trdp_table.specs.Kinds.{kind_of};
-ghost use Rattle.trdp_engine.specs.Configs.{setup_of};
-ghost use Rattle.trdp_engine.specs.Events.{PublishCall};
-ghost use Rattle.trdp_engine.specs.Slots.{slots_of};
-ghost use Rattle.trdp_engine.specs.Calls.{puts, publish_refusal, called};
-ghost use Rattle.trdp_engine.specs.Openings.{answered};
-ghost use Rattle.trdp_engine.specs.Acts.{answers};
-ghost use Rattle.trdp_engine.specs.Outboxes.{plain_answer_model};
-ghost use Rattle.trdp_engine.specs.Acting.{slot_at};
-ghost use Rattle.trdp_engine.specs.Indexed.{com_of};
-ghost use Rattle.trdp_engine.specs.InSession.{session_of};
+ghost use Rattle.trdp_model.specs.Kinds.{kind_of};
+ghost use Rattle.trdp_model.specs.Configs.{setup_of};
+ghost use Rattle.trdp_model.specs.Events.{PublishCall};
+ghost use Rattle.trdp_store.specs.TableSlots.{slots_of};
+ghost use Rattle.trdp_model.specs.Calls.{puts, publish_refusal, called};
+ghost use Rattle.trdp_model.specs.Openings.{answered};
+ghost use Rattle.trdp_model.specs.Acts.{answers};
+ghost use Rattle.trdp_outbox.specs.Outboxes.{plain_answer_model};
+ghost use Rattle.trdp_store.specs.Acting.{slot_at};
+ghost use Rattle.trdp_store.specs.Indexed.{com_of};
+ghost use Rattle.trdp_store.specs.InSession.{session_of};
 
-use crate::counts::Counts;
-use crate::fault::Refusal;
 use crate::opening::{is_span, open, opening_refusal, value_size};
-use crate::row::PlainAnswer;
-use crate::store::Store;
 use std::alloc::{AllocError, Global};
 use trdp_dataset::NodeConfig;
 use trdp_filter::Globals;
 use trdp_head::PD_PAYLOAD_MAX;
 use trdp_marshal::fits;
+use trdp_model::{AnyObject, Kind, Refusal};
+use trdp_outbox::PlainAnswer;
 use trdp_pd::{Publisher, PublisherTerms};
-use trdp_table::{AnyObject, Kind};
+use trdp_store::{Counts, Store};
 
 /// Why slot `s` refuses a publisher of these terms.
 fn publish_refusal(

@@ -3,21 +3,21 @@
 ghost use Rattle.std.specs.Prelude.{◌≡◌, ◌+◌, ◌<◌, ◌≤◌, ◌++◌};
 ghost use Rattle.trdp_head.specs.declared.pd.TheConstants.{PD_TELEGRAM_MAX};
 ghost use Rattle.trdp_filter.specs.Telegrams.{telegram_model};
-ghost use Rattle.trdp_engine.specs.Records.{labelled};
-ghost use Rattle.trdp_engine.specs.Pulls.{answer_place, pull_answer};
-ghost use Rattle.trdp_engine.specs.Configs.{setup_of};
+ghost use Rattle.trdp_model.specs.Records.{labelled};
+ghost use Rattle.trdp_model.specs.Pulls.{answer_place, pull_answer};
+ghost use Rattle.trdp_model.specs.Configs.{setup_of};
 
-use crate::outbox::Outbox;
 use trdp_base::{Ip, Place};
 use trdp_dataset::NodeConfig;
 use trdp_filter::Telegram;
 use trdp_head::{PD_TELEGRAM_MAX, PdHead};
-use trdp_table::AnyObject;
+use trdp_model::AnyObject;
+use trdp_outbox::Outbox;
 
 /// Where a pull request is answered: at its reply address, at the node's own process data port, or
 /// where it has no such address at the place that it came from (profile). A message is no pull
 /// request.
-#[tactic(auto, unfolding(crate::specs::Pulls::answer_place))]
+#[tactic(auto, unfolding(trdp_model::specs::Pulls::answer_place))]
 pub fn answer_place(config: &NodeConfig, telegram: &Telegram<'_>) -> Place
     ensures { result ≡ answer_place (setup_of config.now) (telegram_model telegram.now) }
 {

@@ -6,25 +6,26 @@ ghost use Rattle.std.specs.List.{list_any};
 ghost use Rattle.trdp_base.specs.Moments.{last_moment};
 ghost use Rattle.trdp_filter.specs.Telegrams.{telegram_model, IsWithinLimit};
 ghost use Rattle.trdp_table.specs.TableLaws.{object_limit};
-ghost use Rattle.trdp_engine.specs.Configs.{setup_of};
-ghost use Rattle.trdp_engine.specs.Slots.{SlotState, slots_of};
-ghost use Rattle.trdp_engine.specs.Datagrams.{came_in, received_if, concerns};
-ghost use Rattle.trdp_engine.specs.NodeStates.{HasOutcome, Appends};
-ghost use Rattle.trdp_engine.specs.Rooms.{LacksRoom, datagram_room};
+ghost use Rattle.trdp_model.specs.Configs.{setup_of};
+ghost use Rattle.trdp_model.specs.Slots.{SlotState};
+ghost use Rattle.trdp_store.specs.TableSlots.{slots_of};
+ghost use Rattle.trdp_engine.specs.Arrivals.{came_in};
+ghost use Rattle.trdp_model.specs.Datagrams.{received_if, concerns};
+ghost use Rattle.trdp_model.specs.NodeModels.{HasOutcome, Appends};
+ghost use Rattle.trdp_outbox.specs.Rooms.{LacksRoom, datagram_room};
 ghost use Rattle.trdp_engine.specs.Costs.{quota_total, datagram_bounds, CostsAtMost};
 
 use crate::addressees::{Addressee, note_all};
-use crate::counts::Counts;
 use crate::datagram::{is_valid_at, take_all};
-use crate::outbox::Outbox;
-use crate::record::Protocol;
 use crate::requests::{ask_all, is_request};
 use crate::setting::Setting;
-use crate::store::Store;
 use std::alloc::AllocError;
 use trdp_base::Place;
 use trdp_filter::Telegram;
 use trdp_head::{read_md, read_pd};
+use trdp_model::Protocol;
+use trdp_outbox::Outbox;
+use trdp_store::{Counts, Store};
 
 /// What came in.
 #[derive(Clone, Copy)]

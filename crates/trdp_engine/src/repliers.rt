@@ -3,25 +3,23 @@
 ghost use Rattle.std.specs.Prelude.{◌≡◌, ◌≤◌, ◌++◌, ◌∷◌, [], Some, length};
 ghost use Rattle.trdp_base.specs.Moments.{last_moment};
 ghost use Rattle.trdp_head.specs.MdBytes.{md_bytes};
-ghost use Rattle.trdp_table.specs.Kinds.{kind_of};
-ghost use Rattle.trdp_engine.specs.declared.record.Protocol.TheVariants.{Md};
-ghost use Rattle.trdp_engine.specs.Records.{Answers, DoneIs, Sends, labelled};
-ghost use Rattle.trdp_engine.specs.Replies.{reply_refusal, query_refusal, error_refusal};
-ghost use Rattle.trdp_engine.specs.Replies.{replies, queries, reply_errors};
-ghost use Rattle.trdp_engine.specs.Rooms.{HasRoom, message_room};
-ghost use Rattle.trdp_engine.specs.Asked.{left_of};
-ghost use Rattle.trdp_engine.specs.Indexed.{com_of};
-ghost use Rattle.trdp_engine.specs.InSession.{session_of};
+ghost use Rattle.trdp_model.specs.Kinds.{kind_of};
+ghost use Rattle.trdp_model.specs.declared.record.Protocol.TheVariants.{Md};
+ghost use Rattle.trdp_model.specs.Records.{Answers, DoneIs, Sends, labelled};
+ghost use Rattle.trdp_model.specs.Replies.{reply_refusal, query_refusal, error_refusal};
+ghost use Rattle.trdp_model.specs.Replies.{replies, queries, reply_errors};
+ghost use Rattle.trdp_outbox.specs.Rooms.{HasRoom, message_room};
+ghost use Rattle.trdp_store.specs.Deeds.{left_of};
+ghost use Rattle.trdp_store.specs.Indexed.{com_of};
+ghost use Rattle.trdp_store.specs.InSession.{session_of};
 
 use crate::callers::TIMEOUT_MIN;
-use crate::deed::Left;
-use crate::fault::Refusal;
-use crate::outbox::Outbox;
-use crate::row::PlainAnswer;
 use trdp_filter::Globals;
 use trdp_head::{MD_PAYLOAD_MAX, MdHead};
 use trdp_md::{Replier, Stage};
-use trdp_table::AnyObject;
+use trdp_model::{AnyObject, Refusal};
+use trdp_outbox::{Outbox, PlainAnswer};
+use trdp_store::Left;
 
 /// A query as a call asks for it; one that can't be sent is refused.
 #[derive(Clone, Copy)]

@@ -1,30 +1,27 @@
 //! Calls about requesters.
 
 ghost use Rattle.std.specs.Prelude.{◌≡◌, ◌<◌, ◌++◌, length, slice_set, Some};
-ghost use Rattle.trdp_table.specs.Kinds.{kind_of};
-ghost use Rattle.trdp_engine.specs.Events.{OpenPullCall};
-ghost use Rattle.trdp_engine.specs.Configs.{NodeSetup};
-ghost use Rattle.trdp_engine.specs.Slots.{slots_of};
-ghost use Rattle.trdp_engine.specs.Records.{labelled};
-ghost use Rattle.trdp_engine.specs.Pulls.{pulls};
-ghost use Rattle.trdp_engine.specs.Openings.{opening_refusal, opened_unless, answered};
-ghost use Rattle.trdp_engine.specs.Outboxes.{plain_answer_model};
-ghost use Rattle.trdp_engine.specs.Rooms.{HasRoom, answer_room};
-ghost use Rattle.trdp_engine.specs.Acting.{slot_at};
+ghost use Rattle.trdp_model.specs.Kinds.{kind_of};
+ghost use Rattle.trdp_model.specs.Events.{OpenPullCall};
+ghost use Rattle.trdp_model.specs.Configs.{NodeSetup};
+ghost use Rattle.trdp_store.specs.TableSlots.{slots_of};
+ghost use Rattle.trdp_model.specs.Records.{labelled};
+ghost use Rattle.trdp_model.specs.Pulls.{pulls};
+ghost use Rattle.trdp_model.specs.Openings.{opening_refusal, opened_unless, answered};
+ghost use Rattle.trdp_outbox.specs.Outboxes.{plain_answer_model};
+ghost use Rattle.trdp_outbox.specs.Rooms.{HasRoom, answer_room};
+ghost use Rattle.trdp_store.specs.Acting.{slot_at};
 ghost use Rattle.trdp_pd.specs.Requesters.{opened};
-ghost use Rattle.trdp_table.specs.declared.kind.Kind.TheVariants.{Requester as Requesting};
-ghost use Rattle.trdp_engine.specs.Indexed.{com_of};
-ghost use Rattle.trdp_engine.specs.InSession.{session_of};
+ghost use Rattle.trdp_model.specs.declared.kind.Kind.TheVariants.{Requester as Requesting};
+ghost use Rattle.trdp_store.specs.Indexed.{com_of};
+ghost use Rattle.trdp_store.specs.InSession.{session_of};
 
-use crate::counts::Counts;
-use crate::fault::Refusal;
 use crate::opening::open;
-use crate::outbox::Outbox;
-use crate::row::PlainAnswer;
-use crate::store::Store;
 use trdp_filter::{Globals, topo_valid};
+use trdp_model::{AnyObject, Refusal};
+use trdp_outbox::{Outbox, PlainAnswer};
 use trdp_pd::{Requester, RequesterTerms};
-use trdp_table::AnyObject;
+use trdp_store::{Counts, Store};
 
 /// Makes a requester in slot `s`. It needs no memory.
 pub fn open_pull(store: &mut Store, s: u16, terms: &RequesterTerms) -> PlainAnswer

@@ -6,24 +6,22 @@ ghost use Rattle.std.specs.List.{flat_map};
 ghost use Rattle.trdp_base.specs.Moments.{last_moment};
 ghost use Rattle.trdp_filter.specs.Telegrams.{telegram_model, IsWithinLimit};
 ghost use Rattle.trdp_table.specs.Tables.{room_of};
-ghost use Rattle.trdp_engine.specs.Slots.{SlotState, slots_of};
-ghost use Rattle.trdp_engine.specs.Datagrams.{is_request, requested, acting, hearing};
-ghost use Rattle.trdp_engine.specs.NodeStates.{HasOutcome, Appends};
-ghost use Rattle.trdp_engine.specs.Rooms.{HasRoom, entries_room};
-ghost use Rattle.trdp_engine.specs.Acting.{slot_at, Becomes};
+ghost use Rattle.trdp_model.specs.Slots.{SlotState};
+ghost use Rattle.trdp_store.specs.TableSlots.{slots_of};
+ghost use Rattle.trdp_model.specs.Datagrams.{is_request, requested, acting, hearing};
+ghost use Rattle.trdp_model.specs.NodeModels.{HasOutcome, Appends};
+ghost use Rattle.trdp_outbox.specs.Rooms.{HasRoom, entries_room};
+ghost use Rattle.trdp_store.specs.Acting.{slot_at, Becomes};
 ghost use Rattle.trdp_engine.specs.Noted.{noted_from};
 
 use crate::addressees::Addressee;
-use crate::counts::Counts;
 use crate::notices::message;
-use crate::outbox::Outbox;
-use crate::row::Form;
-use crate::sessions::has_session;
-use crate::store::Store;
 use trdp_filter::{Globals, Telegram};
 use trdp_head::MdKind;
 use trdp_md::Replier;
-use trdp_table::{AnyObject, Kind};
+use trdp_model::{AnyObject, Kind};
+use trdp_outbox::{Form, Outbox};
+use trdp_store::{Counts, Store, has_session};
 
 /// Whether the telegram is a request.
 pub fn is_request(telegram: &Telegram<'_>) -> bool

@@ -1,15 +1,15 @@
 //! Many events of a node, one after another.
 
+ghost use Rattle.trdp_engine.specs.NodeStates.{uncounted};
 ghost use Rattle.std.specs.Prelude.{◌≡◌, ℕ, ◌≤◌, length, IfSome, slice_get, map, take};
-ghost use Rattle.trdp_engine.specs.Events.{event_model};
-ghost use Rattle.trdp_engine.specs.NodeStates.{RunsAsAlone, Appends, MayTakeMemory};
-ghost use Rattle.trdp_engine.specs.Rooms.{MayLackMemory};
+ghost use Rattle.trdp_model.specs.Events.{event_model};
+ghost use Rattle.trdp_model.specs.NodeModels.{RunsAsAlone, Appends, MayTakeMemory};
+ghost use Rattle.trdp_outbox.specs.Rooms.{MayLackMemory};
 ghost use Rattle.trdp_engine.specs.NodeRuns.{CountsLatest, slots_through};
 
-use crate::event::Event;
-use crate::fault::is_out_of_memory;
 use crate::node::Node;
-use crate::outbox::Outbox;
+use trdp_model::{Event, is_out_of_memory};
+use trdp_outbox::Outbox;
 
 impl Node {
     /// Takes events in turn, and answers how many were taken. It goes on after an event that is
@@ -20,14 +20,14 @@ impl Node {
     pub fn run(&mut self, events: &[Event<'_>], out: &mut Outbox) -> usize
         ensures within { result ≤ length events.now }
         ensures stops { IfSome (slice_get events.now result)
-            (λ event. MayTakeMemory self.new (event_model event)) }
+            (λ event. MayTakeMemory (uncounted self.new) (event_model event)) }
         ensures lacks { IfSome (slice_get events.now result)
-            (λ event. MayLackMemory self.new out.new (event_model event)) }
+            (λ event. MayLackMemory (uncounted self.new) out.new (event_model event)) }
         ensures config { self.new.config ≡ self.old.config }
         ensures count { length self.new.slots
             ≡ slots_through (length self.old.slots) (map event_model (take result events.now)) }
-        ensures alone { (s : ℕ) → RunsAsAlone self.old self.new out.old.records out.new.records
-            (map event_model (take result events.now)) s }
+        ensures alone { (s : ℕ) → RunsAsAlone (uncounted self.old) (uncounted self.new)
+            out.old.records out.new.records (map event_model (take result events.now)) s }
         ensures appends { Appends self.new.slots out.old.records out.new.records }
         ensures counted { CountsLatest self.old self.new
             (map event_model (take result events.now)) }

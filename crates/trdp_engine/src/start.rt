@@ -2,13 +2,14 @@
 
 ghost use Rattle.std.specs.Prelude.{◌≡◌, ◌*◌, ◌≤◌, length, IfOk, map, vec_capacity};
 ghost use Rattle.trdp_table.specs.TableLaws.{object_limit};
-ghost use Rattle.trdp_engine.specs.Slots.{opened_slot, slots_of};
+ghost use Rattle.trdp_model.specs.Slots.{opened_slot};
+ghost use Rattle.trdp_store.specs.TableSlots.{slots_of};
 
 use crate::addressees::Addressee;
-use crate::store::Store;
 use std::alloc::{AllocError, Global};
 use trdp_base::Quotas;
 use trdp_dataset::NodeConfig;
+use trdp_store::Store;
 
 /// The most objects of a node: 256 of each of six kinds in each of 16 slots (profile).
 const NOTED_MAX: usize = 24_576;

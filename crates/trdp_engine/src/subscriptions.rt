@@ -3,29 +3,26 @@
 ghost use Rattle.std.specs.Prelude.{◌≡◌, ◌<◌, ◌≤◌, ◌++◌, length, slice_set, OnErr, IfOk, IfErr};
 ghost use Rattle.std.specs.Prelude.{None, Some};
 ghost use Rattle.trdp_base.specs.Moments.{last_moment};
-ghost use Rattle.trdp_table.specs.declared.kind.Kind.TheVariants.{Subscription as Subscribing};
-ghost use Rattle.trdp_engine.specs.Configs.{setup_of, zero_size_of};
-ghost use Rattle.trdp_engine.specs.Events.{SubscribeCall};
-ghost use Rattle.trdp_engine.specs.Slots.{slots_of};
-ghost use Rattle.trdp_engine.specs.Records.{labelled};
-ghost use Rattle.trdp_engine.specs.Calls.{shows, subscribe_refusal, called};
-ghost use Rattle.trdp_engine.specs.Openings.{answered};
-ghost use Rattle.trdp_engine.specs.Outboxes.{plain_answer_model};
-ghost use Rattle.trdp_engine.specs.Rooms.{HasRoom, answer_room};
-ghost use Rattle.trdp_engine.specs.Acting.{slot_at};
+ghost use Rattle.trdp_model.specs.declared.kind.Kind.TheVariants.{Subscription as Subscribing};
+ghost use Rattle.trdp_model.specs.Configs.{setup_of, zero_size_of};
+ghost use Rattle.trdp_model.specs.Events.{SubscribeCall};
+ghost use Rattle.trdp_store.specs.TableSlots.{slots_of};
+ghost use Rattle.trdp_model.specs.Records.{labelled};
+ghost use Rattle.trdp_model.specs.Calls.{shows, subscribe_refusal, called};
+ghost use Rattle.trdp_model.specs.Openings.{answered};
+ghost use Rattle.trdp_outbox.specs.Outboxes.{plain_answer_model};
+ghost use Rattle.trdp_outbox.specs.Rooms.{HasRoom, answer_room};
+ghost use Rattle.trdp_store.specs.Acting.{slot_at};
 
-use crate::counts::Counts;
-use crate::fault::Refusal;
 use crate::look::as_subscription;
 use crate::opening::{is_span, open, opening_refusal, value_size};
-use crate::outbox::Outbox;
-use crate::row::PlainAnswer;
-use crate::store::Store;
 use std::alloc::{AllocError, Global};
 use trdp_dataset::NodeConfig;
 use trdp_filter::Globals;
+use trdp_model::{AnyObject, Kind, Refusal};
+use trdp_outbox::{Outbox, PlainAnswer};
 use trdp_pd::{Subscription, SubscriptionTerms};
-use trdp_table::{AnyObject, Kind};
+use trdp_store::{Counts, Store};
 
 /// How many bytes the zero value of a subscription of these terms in slot `s` takes.
 ///

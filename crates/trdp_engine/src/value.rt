@@ -2,14 +2,14 @@
 
 ghost use Rattle.std.specs.Prelude.{◌≡◌, IfOk, IfErr, None};
 ghost use Rattle.trdp_marshal.specs.Items.{model_of};
-ghost use Rattle.trdp_engine.specs.Values.{item_refusal_of, bytes_for, IsRefusedAs};
-ghost use Rattle.trdp_engine.specs.Configs.{setup_of};
+ghost use Rattle.trdp_model.specs.Values.{item_refusal_of, bytes_for};
+ghost use Rattle.trdp_engine.specs.Spelled.{IsRefusedAs};
+ghost use Rattle.trdp_model.specs.Configs.{setup_of};
 
-use crate::fault::Refusal;
 use std::alloc::Global;
 use trdp_dataset::NodeConfig;
 use trdp_marshal::{Item, MarshalFault, encode};
-use trdp_table::AnyObject;
+use trdp_model::{AnyObject, Refusal};
 
 /// Why an item has no bytes for an object.
 #[derive(Clone, Copy)]

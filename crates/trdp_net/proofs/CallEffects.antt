@@ -16,32 +16,32 @@ use Rattle.trdp_md.specs.declared.terms.CallerTerms.{CallerTerms}
 use Rattle.trdp_md.specs.Listeners.{listening}
 use Rattle.trdp_md.specs.Callers.{called as new_caller, request_of}
 use Rattle.trdp_md.specs.Notifications.{notification_of}
-use Rattle.trdp_table.specs.declared.kind.Kind.TheVariants as kinds
-use Rattle.trdp_table.specs.declared.any_object.AnyObject.TheVariants.{Publisher, Subscription}
-use Rattle.trdp_table.specs.declared.any_object.AnyObject.TheVariants.{Requester, Listener}
-use Rattle.trdp_table.specs.declared.any_object.AnyObject.TheVariants.{Caller}
-use Rattle.trdp_engine.specs.declared.record.Protocol.TheVariants.{Md}
-use Rattle.trdp_engine.specs.declared.fault.Refusal.{Refusal}
-use Rattle.trdp_engine.specs.declared.fault.Refusal.TheVariants as refusals
-use Rattle.trdp_engine.specs.Configs.{NodeSetup, zero_size_of}
-use Rattle.trdp_engine.specs.Records.{HandleIs, DoneIs}
-use Rattle.trdp_engine.specs.Records.{Answers}
-use Rattle.trdp_engine.specs.Slots.{SlotState}
-use Rattle.trdp_engine.specs.Openings.{opening_refusal, opened_with}
-use Rattle.trdp_engine.specs.Notices.{notify_refusal, notice}
-use Rattle.trdp_engine.specs.Requests.{has_session, request_refusal, request_sent}
-use Rattle.trdp_engine.specs.Requests.{retries_refusal}
-use Rattle.trdp_engine.specs.Calls.{publish_refusal, subscribe_refusal, listen_refusal, puts}
-use Rattle.trdp_engine.specs.Calls.{shows}
-use Rattle.trdp_engine.specs.Calls.{ends, told_unless, called}
-use Rattle.trdp_engine.specs.Pulls.{pulls}
-use Rattle.trdp_engine.specs.Replies.{replies, queries, reply_errors, confirms, aborts}
-use Rattle.trdp_engine.specs.Events.{CallModel, PublishCall, PutCall, UnpublishCall, SubscribeCall}
-use Rattle.trdp_engine.specs.Events.{GetCall, UnsubscribeCall, OpenPullCall, PullCall}
-use Rattle.trdp_engine.specs.Events.{ClosePullCall, ListenCall, UnlistenCall, NotifyCall}
-use Rattle.trdp_engine.specs.Events.{RequestCall, ReplyCall, QueryCall, ReplyErrorCall}
-use Rattle.trdp_engine.specs.Events.{ConfirmCall, AbortCall}
-use Rattle.trdp_engine.specs.Events.{CallIs}
+use Rattle.trdp_model.specs.declared.kind.Kind.TheVariants as kinds
+use Rattle.trdp_model.specs.declared.any_object.AnyObject.TheVariants.{Publisher, Subscription}
+use Rattle.trdp_model.specs.declared.any_object.AnyObject.TheVariants.{Requester, Listener}
+use Rattle.trdp_model.specs.declared.any_object.AnyObject.TheVariants.{Caller}
+use Rattle.trdp_model.specs.declared.record.Protocol.TheVariants.{Md}
+use Rattle.trdp_model.specs.declared.fault.Refusal.{Refusal}
+use Rattle.trdp_model.specs.declared.fault.Refusal.TheVariants as refusals
+use Rattle.trdp_model.specs.Configs.{NodeSetup, zero_size_of}
+use Rattle.trdp_model.specs.Records.{HandleIs, DoneIs}
+use Rattle.trdp_model.specs.Records.{Answers}
+use Rattle.trdp_model.specs.Slots.{SlotState}
+use Rattle.trdp_model.specs.Openings.{opening_refusal, opened_with}
+use Rattle.trdp_model.specs.Notices.{notify_refusal, notice}
+use Rattle.trdp_model.specs.Requests.{has_session, request_refusal, request_sent}
+use Rattle.trdp_model.specs.Requests.{retries_refusal}
+use Rattle.trdp_model.specs.Calls.{publish_refusal, subscribe_refusal, listen_refusal, puts}
+use Rattle.trdp_model.specs.Calls.{shows}
+use Rattle.trdp_model.specs.Calls.{ends, told_unless, called}
+use Rattle.trdp_model.specs.Pulls.{pulls}
+use Rattle.trdp_model.specs.Replies.{replies, queries, reply_errors, confirms, aborts}
+use Rattle.trdp_model.specs.Events.{CallModel, PublishCall, PutCall, UnpublishCall, SubscribeCall}
+use Rattle.trdp_model.specs.Events.{GetCall, UnsubscribeCall, OpenPullCall, PullCall}
+use Rattle.trdp_model.specs.Events.{ClosePullCall, ListenCall, UnlistenCall, NotifyCall}
+use Rattle.trdp_model.specs.Events.{RequestCall, ReplyCall, QueryCall, ReplyErrorCall}
+use Rattle.trdp_model.specs.Events.{ConfirmCall, AbortCall}
+use Rattle.trdp_model.specs.Events.{CallIs}
 use Rattle.trdp_net.specs.Networks.{Move, place_of}
 use Rattle.trdp_net.specs.Provenance.{Gives, IsNotified, IsRequested}
 use Rattle.trdp_net.proofs.Kept.{EntryKept, said_by}

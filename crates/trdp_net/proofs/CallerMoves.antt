@@ -28,19 +28,19 @@ use Rattle.trdp_md.specs.Callers.{caller_firing, reason_of, confirming, closed_o
 use Rattle.trdp_md.specs.Callers.{confirm_of, request_of}
 use Rattle.trdp_md.specs.Callers.{is_repeating, waiting_again, repeating}
 use Rattle.trdp_md.proofs.Confirming.{closed-done, fired-done, terms-confirming}
-use Rattle.trdp_table.specs.declared.any_object.AnyObject.TheVariants.{Caller}
-use Rattle.trdp_engine.specs.declared.record.Protocol.TheVariants.{Md}
-use Rattle.trdp_engine.specs.declared.fault.Refusal.{Refusal}
-use Rattle.trdp_engine.specs.declared.fault.Refusal.TheVariants.{State, Status}
-use Rattle.trdp_engine.specs.Configs.{NodeSetup}
-use Rattle.trdp_engine.specs.Records.{Content, MessageModel, ReplyModel, DoneIs, RepliedIs, Answers, Indicates}
-use Rattle.trdp_engine.specs.Records.{Sends}
-use Rattle.trdp_engine.specs.Acts.{Act}
-use Rattle.trdp_engine.specs.Replies.{reply_of, closing, concluded, confirms_unless}
-use Rattle.trdp_engine.specs.Replies.{confirm_refusal}
-use Rattle.trdp_engine.specs.Moments.{firing_act, firing_records, left_firing}
-use Rattle.trdp_engine.specs.Datagrams.{taking_act, taken_records, left_taking}
-use Rattle.trdp_engine.specs.Events.{ConfirmCall, CallIs}
+use Rattle.trdp_model.specs.declared.any_object.AnyObject.TheVariants.{Caller}
+use Rattle.trdp_model.specs.declared.record.Protocol.TheVariants.{Md}
+use Rattle.trdp_model.specs.declared.fault.Refusal.{Refusal}
+use Rattle.trdp_model.specs.declared.fault.Refusal.TheVariants.{State, Status}
+use Rattle.trdp_model.specs.Configs.{NodeSetup}
+use Rattle.trdp_model.specs.Records.{Content, MessageModel, ReplyModel, DoneIs, RepliedIs, Answers, Indicates}
+use Rattle.trdp_model.specs.Records.{Sends}
+use Rattle.trdp_model.specs.Acts.{Act}
+use Rattle.trdp_model.specs.Replies.{reply_of, closing, concluded, confirms_unless}
+use Rattle.trdp_model.specs.Replies.{confirm_refusal}
+use Rattle.trdp_model.specs.Moments.{firing_act, firing_records, left_firing}
+use Rattle.trdp_model.specs.Datagrams.{taking_act, taken_records, left_taking}
+use Rattle.trdp_model.specs.Events.{ConfirmCall, CallIs}
 use Rattle.trdp_net.specs.Networks.{Move, place_of}
 use Rattle.trdp_net.specs.Provenance.{Ever, In, Spot, Gives, Held}
 use Rattle.trdp_net.specs.Provenance.{IsAnsweredBySome, IsConfirmed, IsConfirmedAs}

@@ -16,9 +16,9 @@ use Rattle.trdp_md.specs.Answers.{is_place, awaits, awaits_any}
 use Rattle.trdp_md.specs.Answers.{confirmed_if}
 use Rattle.trdp_md.specs.Callers.{is_answer, is_query}
 use Rattle.trdp_md.specs.Sessions.{IsDone}
-use Rattle.trdp_table.specs.declared.any_object.AnyObject.TheVariants.{Caller}
-use Rattle.trdp_engine.specs.declared.record.Protocol.TheVariants.{Md}
-use Rattle.trdp_engine.specs.Replies.{reply_of}
+use Rattle.trdp_model.specs.declared.any_object.AnyObject.TheVariants.{Caller}
+use Rattle.trdp_model.specs.declared.record.Protocol.TheVariants.{Md}
+use Rattle.trdp_model.specs.Replies.{reply_of}
 use Rattle.trdp_net.specs.Networks.{Move, place_of}
 use Rattle.trdp_net.specs.Provenance.{Ever, Spot, Held}
 use Rattle.trdp_net.specs.Provenance.{IsAnsweredBySome, IsReplied, IsConfirmedAs}

@@ -27,7 +27,7 @@ use Rattle.trdp_md.specs.Listeners.{is_unasked, is_for}
 use Rattle.trdp_md.specs.Notifications.{notification_of}
 use Rattle.trdp_md.specs.Repliers.{answer_with, awaits_confirm, is_confirm, is_for_replier}
 use Rattle.trdp_md.specs.Waiting.{reply_time, reply_by}
-use Rattle.trdp_engine.specs.Pulls.{answer_place}
+use Rattle.trdp_model.specs.Pulls.{answer_place}
 
 -- opens each of these words, where a proof names it under its signature
 unfoldable pub computing : Unit {0}

@@ -21,18 +21,18 @@ use Rattle.trdp_pd.specs.Requesters.{RequesterState, pull_head}
 use Rattle.trdp_pd.specs.Subscriptions.{SubscriptionState, is_accepted}
 use Rattle.trdp_pd.specs.Subscriptions.{HasTaken, IsOfValue, taken_in, storing}
 use Rattle.trdp_pd.proofs.Receiving.{HasTaken-taking}
-use Rattle.trdp_table.specs.declared.any_object.AnyObject.TheVariants.{Publisher, Subscription}
-use Rattle.trdp_engine.specs.declared.record.Protocol.TheVariants.{Pd}
-use Rattle.trdp_engine.specs.declared.fault.Refusal.{Refusal}
-use Rattle.trdp_engine.specs.Configs.{NodeSetup}
-use Rattle.trdp_engine.specs.Records.{Content, DoneIs, Answers}
-use Rattle.trdp_engine.specs.Records.{value_sent}
-use Rattle.trdp_engine.specs.Acts.{Act}
-use Rattle.trdp_engine.specs.Moments.{firing_act, left_firing, firing_records}
-use Rattle.trdp_engine.specs.Datagrams.{taking_act, taken_records, left_taking, fits_object}
-use Rattle.trdp_engine.specs.Calls.{puts_unless}
-use Rattle.trdp_engine.specs.Pulls.{answer_place, pulls_if}
-use Rattle.trdp_engine.specs.Events.{PutCall, CallIs}
+use Rattle.trdp_model.specs.declared.any_object.AnyObject.TheVariants.{Publisher, Subscription}
+use Rattle.trdp_model.specs.declared.record.Protocol.TheVariants.{Pd}
+use Rattle.trdp_model.specs.declared.fault.Refusal.{Refusal}
+use Rattle.trdp_model.specs.Configs.{NodeSetup}
+use Rattle.trdp_model.specs.Records.{Content, DoneIs, Answers}
+use Rattle.trdp_model.specs.Records.{value_sent}
+use Rattle.trdp_model.specs.Acts.{Act}
+use Rattle.trdp_model.specs.Moments.{firing_act, left_firing, firing_records}
+use Rattle.trdp_model.specs.Datagrams.{taking_act, taken_records, left_taking, fits_object}
+use Rattle.trdp_model.specs.Calls.{puts_unless}
+use Rattle.trdp_model.specs.Pulls.{answer_place, pulls_if}
+use Rattle.trdp_model.specs.Events.{PutCall, CallIs}
 use Rattle.trdp_net.specs.Networks.{Move, place_of}
 use Rattle.trdp_net.specs.Provenance.{Ever, In, Spot, Gives, Held, IsPut}
 use Rattle.trdp_net.proofs.Kept.{WasPut, ValueKept, value_later, ActKept}

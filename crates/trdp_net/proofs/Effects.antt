@@ -15,27 +15,27 @@ use Rattle.trdp_filter.specs.declared.globals.Globals.{Globals}
 use Rattle.trdp_filter.specs.Telegrams.{TelegramModel, PdIs, MdIs}
 use Rattle.trdp_md.specs.declared.replier.Stage.TheVariants as stage
 use Rattle.trdp_md.specs.Repliers.{asked_by}
-use Rattle.trdp_table.specs.declared.kind.Kind.TheVariants as kinds
-use Rattle.trdp_table.specs.declared.any_object.AnyObject.TheVariants.{Replier}
-use Rattle.trdp_engine.specs.declared.record.Protocol.{Protocol}
-use Rattle.trdp_engine.specs.declared.record.Protocol.TheVariants.{Pd, Md}
-use Rattle.trdp_engine.specs.declared.fault.Refusal.{Refusal}
-use Rattle.trdp_engine.specs.Configs.{NodeSetup}
-use Rattle.trdp_engine.specs.Records.{MessageModel, AskedIs}
-use Rattle.trdp_engine.specs.Records.{Indicates}
-use Rattle.trdp_engine.specs.Slots.{SlotState, Outcome, unchanged}
-use Rattle.trdp_engine.specs.Openings.{opening_refusal}
-use Rattle.trdp_engine.specs.Notices.{message_of}
-use Rattle.trdp_engine.specs.Requests.{has_session, asked_unless}
-use Rattle.trdp_engine.specs.Requests.{asked_by_hearing}
-use Rattle.trdp_engine.specs.Datagrams.{telegram_of, hearing}
-use Rattle.trdp_engine.specs.Datagrams.{handed, is_request_kind, requested, received}
-use Rattle.trdp_engine.specs.Datagrams.{is_valid_at, received_if}
-use Rattle.trdp_engine.specs.Calls.{called}
-use Rattle.trdp_engine.specs.Events.{EventModel, MomentIs, TopologyIs}
-use Rattle.trdp_engine.specs.Events.{RoleIs, DatagramIs, CallIs}
-use Rattle.trdp_engine.specs.Events.{AddSlotIs}
-use Rattle.trdp_engine.specs.Alone.{plain_effect}
+use Rattle.trdp_model.specs.declared.kind.Kind.TheVariants as kinds
+use Rattle.trdp_model.specs.declared.any_object.AnyObject.TheVariants.{Replier}
+use Rattle.trdp_model.specs.declared.record.Protocol.{Protocol}
+use Rattle.trdp_model.specs.declared.record.Protocol.TheVariants.{Pd, Md}
+use Rattle.trdp_model.specs.declared.fault.Refusal.{Refusal}
+use Rattle.trdp_model.specs.Configs.{NodeSetup}
+use Rattle.trdp_model.specs.Records.{MessageModel, AskedIs}
+use Rattle.trdp_model.specs.Records.{Indicates}
+use Rattle.trdp_model.specs.Slots.{SlotState, Outcome, unchanged}
+use Rattle.trdp_model.specs.Openings.{opening_refusal}
+use Rattle.trdp_model.specs.Notices.{message_of}
+use Rattle.trdp_model.specs.Requests.{has_session, asked_unless}
+use Rattle.trdp_model.specs.Requests.{asked_by_hearing}
+use Rattle.trdp_model.specs.Datagrams.{telegram_of, hearing}
+use Rattle.trdp_model.specs.Datagrams.{handed, is_request_kind, requested, received}
+use Rattle.trdp_model.specs.Datagrams.{is_valid_at, received_if}
+use Rattle.trdp_model.specs.Calls.{called}
+use Rattle.trdp_model.specs.Events.{EventModel, MomentIs, TopologyIs}
+use Rattle.trdp_model.specs.Events.{RoleIs, DatagramIs, CallIs}
+use Rattle.trdp_model.specs.Events.{AddSlotIs}
+use Rattle.trdp_model.specs.Alone.{plain_effect}
 use Rattle.trdp_net.specs.Networks.{Move, effect_in, place_of}
 use Rattle.trdp_net.specs.Provenance.{Ever, Spot, IsRequested}
 use Rattle.trdp_net.specs.Provenance.{IsRequestedBySome}

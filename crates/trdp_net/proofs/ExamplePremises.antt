@@ -7,7 +7,7 @@ use Rattle.std.specs.List.{list_any}
 use Rattle.trdp_base.specs.Uris.{IsUri}
 use Rattle.trdp_base.specs.declared.session.SessionId.{SessionId}
 use Rattle.trdp_dataset.specs.Configs.{ConfigModel}
-use Rattle.trdp_engine.specs.Events.{EventModel, RequestCall, CallIs}
+use Rattle.trdp_model.specs.Events.{EventModel, RequestCall, CallIs}
 use Rattle.trdp_net.specs.Networks.{Move}
 use Rattle.trdp_net.specs.Provenance.{Ever, Always}
 use Rattle.trdp_net.specs.Typed.{IsTopo, IsPublisherTerms, IsNotifyTerms, IsCallerTerms}

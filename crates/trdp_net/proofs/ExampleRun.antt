@@ -6,11 +6,11 @@ use Rattle.trdp_head.specs.declared.pd.PdKind.TheVariants.{Data}
 use Rattle.trdp_filter.specs.Globals.{first_globals}
 use Rattle.trdp_pd.specs.declared.terms.ValueState.TheVariants.{Valid}
 use Rattle.trdp_pd.specs.Subscriptions.{SubscriptionState}
-use Rattle.trdp_table.specs.declared.any_object.AnyObject.TheVariants.{Subscription, Listener}
-use Rattle.trdp_engine.specs.declared.record.Protocol.TheVariants.{Pd, Md}
-use Rattle.trdp_engine.specs.Configs.{setup_of}
-use Rattle.trdp_engine.specs.Records.{Content}
-use Rattle.trdp_engine.specs.Slots.{Entry, SlotState}
+use Rattle.trdp_model.specs.declared.any_object.AnyObject.TheVariants.{Subscription, Listener}
+use Rattle.trdp_model.specs.declared.record.Protocol.TheVariants.{Pd, Md}
+use Rattle.trdp_model.specs.Configs.{setup_of}
+use Rattle.trdp_model.specs.Records.{Content}
+use Rattle.trdp_model.specs.Slots.{Entry, SlotState}
 use Rattle.trdp_net.specs.Networks.{NetNode}
 use Rattle.trdp_net.specs.Provenance.{Always, In}
 use Rattle.trdp_net.specs.Promises.{IsFresh}

@@ -11,14 +11,14 @@ use Rattle.trdp_head.specs.MdTelegrams.{MdTelegram, md_telegram_of}
 use Rattle.trdp_pd.specs.declared.object.Reason.{Reason}
 use Rattle.trdp_pd.specs.declared.object.Reason.TheVariants.{Done}
 use Rattle.trdp_md.specs.declared.caller.Caller.{Caller as AnyCaller}
-use Rattle.trdp_table.specs.declared.any_object.AnyObject.TheVariants.{Caller}
-use Rattle.trdp_engine.specs.declared.record.Protocol.{Protocol}
-use Rattle.trdp_engine.specs.declared.record.Protocol.TheVariants.{Pd, Md}
-use Rattle.trdp_engine.specs.Records.{Content, IndicationModel, ReplyModel, NotifiedIs, AskedIs}
-use Rattle.trdp_engine.specs.Records.{RepliedIs, ConfirmedIs, ClosedIs, Answers, Indicates, Sends}
-use Rattle.trdp_engine.specs.Notices.{message_of}
-use Rattle.trdp_engine.specs.Replies.{reply_of}
-use Rattle.trdp_engine.specs.Slots.{SlotState}
+use Rattle.trdp_model.specs.declared.any_object.AnyObject.TheVariants.{Caller}
+use Rattle.trdp_model.specs.declared.record.Protocol.{Protocol}
+use Rattle.trdp_model.specs.declared.record.Protocol.TheVariants.{Pd, Md}
+use Rattle.trdp_model.specs.Records.{Content, IndicationModel, ReplyModel, NotifiedIs, AskedIs}
+use Rattle.trdp_model.specs.Records.{RepliedIs, ConfirmedIs, ClosedIs, Answers, Indicates, Sends}
+use Rattle.trdp_model.specs.Notices.{message_of}
+use Rattle.trdp_model.specs.Replies.{reply_of}
+use Rattle.trdp_model.specs.Slots.{SlotState}
 use Rattle.trdp_net.specs.Networks.{Move, effect_in, place_of}
 use Rattle.trdp_net.specs.Provenance.{Ever, Each, Spot, Held, IsPut, IsNotified, IsRequestedBySome}
 use Rattle.trdp_net.specs.Provenance.{IsRequestedAs, IsAnsweredBySome}

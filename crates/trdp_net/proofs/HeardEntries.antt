@@ -7,17 +7,17 @@ use Rattle.std.specs.List.{flat_map}
 use Rattle.std.proofs.lemmas.Bool.Decides.{nat_tests}
 use Rattle.trdp_base.specs.declared.place.Place.{Place}
 use Rattle.trdp_filter.specs.declared.globals.Globals.{Globals}
-use Rattle.trdp_table.specs.declared.any_object.AnyObject.{AnyObject}
-use Rattle.trdp_engine.specs.declared.fault.Refusal.{Refusal}
-use Rattle.trdp_engine.specs.Records.{Content, Answers, Indicates, Sends, SilentIs, AliveIs}
-use Rattle.trdp_engine.specs.Records.{NotifiedIs, AskedIs, OverrunIs, RepliedIs, ConfirmedIs}
-use Rattle.trdp_engine.specs.Records.{ClosedIs}
-use Rattle.trdp_engine.specs.Acts.{Act, entry_left, left_at}
-use Rattle.trdp_engine.specs.Slots.{Entry, SlotState, Outcome, entry_of, with_object}
-use Rattle.trdp_engine.specs.Openings.{refused, opened_with}
-use Rattle.trdp_engine.specs.Moments.{is_due, in_order, firing_act, after_moment}
-use Rattle.trdp_engine.specs.Moments.{moved_to}
-use Rattle.trdp_engine.specs.Calls.{at_entry, at_object}
+use Rattle.trdp_model.specs.declared.any_object.AnyObject.{AnyObject}
+use Rattle.trdp_model.specs.declared.fault.Refusal.{Refusal}
+use Rattle.trdp_model.specs.Records.{Content, Answers, Indicates, Sends, SilentIs, AliveIs}
+use Rattle.trdp_model.specs.Records.{NotifiedIs, AskedIs, OverrunIs, RepliedIs, ConfirmedIs}
+use Rattle.trdp_model.specs.Records.{ClosedIs}
+use Rattle.trdp_model.specs.Acts.{Act, entry_left, left_at}
+use Rattle.trdp_model.specs.Slots.{Entry, SlotState, Outcome, entry_of, with_object}
+use Rattle.trdp_model.specs.Openings.{refused, opened_with}
+use Rattle.trdp_model.specs.Moments.{is_due, in_order, firing_act, after_moment}
+use Rattle.trdp_model.specs.Moments.{moved_to}
+use Rattle.trdp_model.specs.Calls.{at_entry, at_object}
 use Rattle.trdp_net.specs.Provenance.{In}
 use Rattle.trdp_net.specs.Promises.{replied_in, AreDistinct}
 use Rattle.trdp_net.proofs.Parts.{each_append, each_map, each_in, each_flat_map, filter_in}

@@ -7,13 +7,13 @@ use Rattle.std.proofs.lemmas.Bool.Decides.{nat_tests}
 use Rattle.trdp_base.specs.declared.place.Place.{Place}
 use Rattle.trdp_dataset.specs.Configs.{ConfigModel, SlotModel}
 use Rattle.trdp_filter.specs.declared.globals.Globals.{Globals}
-use Rattle.trdp_engine.specs.declared.fault.NodeFault.{NodeFault}
-use Rattle.trdp_engine.specs.Configs.{NodeSetup}
-use Rattle.trdp_engine.specs.Events.{EventModel, MomentIs, TopologyIs, RoleIs, DatagramIs, CallIs}
-use Rattle.trdp_engine.specs.Events.{AddSlotIs}
-use Rattle.trdp_engine.specs.Alone.{opened_by}
-use Rattle.trdp_engine.specs.Slots.{SlotState, opened_slot}
-use Rattle.trdp_engine.specs.Alone.{refused_as, plain_effect}
+use Rattle.trdp_model.specs.declared.fault.NodeFault.{NodeFault}
+use Rattle.trdp_model.specs.Configs.{NodeSetup}
+use Rattle.trdp_model.specs.Events.{EventModel, MomentIs, TopologyIs, RoleIs, DatagramIs, CallIs}
+use Rattle.trdp_model.specs.Events.{AddSlotIs}
+use Rattle.trdp_model.specs.Alone.{opened_by}
+use Rattle.trdp_model.specs.Slots.{SlotState, opened_slot}
+use Rattle.trdp_model.specs.Alone.{refused_as, plain_effect}
 use Rattle.trdp_net.specs.Networks.{NetNode, place_of, Sent, Move, Network, Step, CallAt}
 use Rattle.trdp_net.specs.Networks.{MomentAt, TopologyAt, RoleAt, DeliveryAt, AddSlotAt}
 use Rattle.trdp_net.specs.Networks.{node_after, moves, moves_unless, moves_at, reaches, delivered}

@@ -27,15 +27,15 @@ use Rattle.trdp_md.specs.Callers.{is_accepted, is_for_caller, has_place, answeri
 use Rattle.trdp_md.specs.Callers.{replied, is_complete}
 use Rattle.trdp_md.specs.Listeners.{listener_addressed}
 use Rattle.trdp_md.specs.Repliers.{is_for_replier, ended}
-use Rattle.trdp_table.specs.declared.any_object.AnyObject.{AnyObject}
-use Rattle.trdp_table.specs.declared.any_object.AnyObject.TheVariants.{Publisher, Subscription}
-use Rattle.trdp_table.specs.declared.any_object.AnyObject.TheVariants.{Requester, Listener}
-use Rattle.trdp_table.specs.declared.any_object.AnyObject.TheVariants.{Caller, Replier}
-use Rattle.trdp_engine.specs.Configs.{NodeSetup}
-use Rattle.trdp_engine.specs.Acts.{Act}
-use Rattle.trdp_engine.specs.Notices.{message_of, heard_as}
-use Rattle.trdp_engine.specs.Datagrams.{taking_act, taken_records, left_taking, fits_object}
-use Rattle.trdp_engine.specs.Pulls.{answer_place}
+use Rattle.trdp_model.specs.declared.any_object.AnyObject.{AnyObject}
+use Rattle.trdp_model.specs.declared.any_object.AnyObject.TheVariants.{Publisher, Subscription}
+use Rattle.trdp_model.specs.declared.any_object.AnyObject.TheVariants.{Requester, Listener}
+use Rattle.trdp_model.specs.declared.any_object.AnyObject.TheVariants.{Caller, Replier}
+use Rattle.trdp_model.specs.Configs.{NodeSetup}
+use Rattle.trdp_model.specs.Acts.{Act}
+use Rattle.trdp_model.specs.Notices.{message_of, heard_as}
+use Rattle.trdp_model.specs.Datagrams.{taking_act, taken_records, left_taking, fits_object}
+use Rattle.trdp_model.specs.Pulls.{answer_place}
 use Rattle.trdp_net.specs.Promises.{replied_in, IsNew, AreDistinct}
 use Rattle.trdp_net.proofs.Parts.{and_right}
 use Rattle.trdp_net.proofs.Heard.{Covers, CoversLeft, IsQuiet, QuietAct, value_quiet}

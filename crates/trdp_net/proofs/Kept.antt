@@ -15,16 +15,16 @@ use Rattle.trdp_md.specs.declared.terms.CallerTerms.{CallerTerms}
 use Rattle.trdp_md.specs.declared.caller.Caller.{Caller as AnyCaller}
 use Rattle.trdp_md.specs.declared.replier.Replier.{Replier as AnyReplier}
 use Rattle.trdp_md.specs.declared.replier.Stage.TheVariants.{AwaitConfirm}
-use Rattle.trdp_table.specs.declared.any_object.AnyObject.{AnyObject}
-use Rattle.trdp_table.specs.declared.any_object.AnyObject.TheVariants.{Publisher, Subscription}
-use Rattle.trdp_table.specs.declared.any_object.AnyObject.TheVariants.{Requester, Listener}
-use Rattle.trdp_table.specs.declared.any_object.AnyObject.TheVariants.{Caller, Replier}
-use Rattle.trdp_engine.specs.declared.record.Protocol.{Protocol}
-use Rattle.trdp_engine.specs.declared.record.Protocol.TheVariants.{Pd, Md}
-use Rattle.trdp_engine.specs.Configs.{NodeSetup}
-use Rattle.trdp_engine.specs.Records.{MessageModel}
-use Rattle.trdp_engine.specs.Slots.{Entry}
-use Rattle.trdp_engine.specs.Acts.{Act}
+use Rattle.trdp_model.specs.declared.any_object.AnyObject.{AnyObject}
+use Rattle.trdp_model.specs.declared.any_object.AnyObject.TheVariants.{Publisher, Subscription}
+use Rattle.trdp_model.specs.declared.any_object.AnyObject.TheVariants.{Requester, Listener}
+use Rattle.trdp_model.specs.declared.any_object.AnyObject.TheVariants.{Caller, Replier}
+use Rattle.trdp_model.specs.declared.record.Protocol.{Protocol}
+use Rattle.trdp_model.specs.declared.record.Protocol.TheVariants.{Pd, Md}
+use Rattle.trdp_model.specs.Configs.{NodeSetup}
+use Rattle.trdp_model.specs.Records.{MessageModel}
+use Rattle.trdp_model.specs.Slots.{Entry}
+use Rattle.trdp_model.specs.Acts.{Act}
 use Rattle.trdp_net.specs.Networks.{Move, place_of}
 use Rattle.trdp_net.specs.Provenance.{Ever, Spot, IsPut, IsRequested, IsAsked, IsReplied}
 use Rattle.trdp_net.specs.Provenance.{IsConfirmedAs, IsQueried}

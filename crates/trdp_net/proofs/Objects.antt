@@ -14,27 +14,27 @@ use Rattle.trdp_md.specs.declared.listener.Listener.{Listener as AnyListener}
 use Rattle.trdp_pd.specs.declared.object.Taken.TheVariants as took
 use Rattle.trdp_head.specs.declared.md.MdKind.{MdKind}
 use Rattle.trdp_head.specs.MdTelegrams.{MdTelegram}
-use Rattle.trdp_table.specs.declared.kind.Kind.{Kind}
-use Rattle.trdp_table.specs.Kinds.{kind_of, is_same_kind}
-use Rattle.trdp_table.specs.declared.any_object.AnyObject.{AnyObject}
-use Rattle.trdp_table.specs.declared.any_object.AnyObject.TheVariants.{Publisher, Subscription}
-use Rattle.trdp_table.specs.declared.any_object.AnyObject.TheVariants.{Requester, Listener}
-use Rattle.trdp_table.specs.declared.any_object.AnyObject.TheVariants.{Caller, Replier}
-use Rattle.trdp_engine.specs.declared.fault.Refusal.TheVariants as refusals
-use Rattle.trdp_engine.specs.declared.record.Protocol.TheVariants.{Md}
-use Rattle.trdp_engine.specs.Configs.{NodeSetup, is_fitting}
-use Rattle.trdp_engine.specs.Records.{Content, AnswerModel, Answers, DoneIs}
-use Rattle.trdp_engine.specs.Acts.{answers, refuses}
-use Rattle.trdp_engine.specs.Moments.{firing_act}
-use Rattle.trdp_engine.specs.Notices.{message_of, heard_as}
-use Rattle.trdp_engine.specs.Datagrams.{taking_act, taken_records, left_taking}
-use Rattle.trdp_engine.specs.Calls.{value_refusal, puts, ends, shows}
-use Rattle.trdp_engine.specs.Pulls.{pulls}
-use Rattle.trdp_engine.specs.Replies.{replies, queries, reply_errors, confirms, aborts}
-use Rattle.trdp_engine.specs.Replies.{error_refusal}
-use Rattle.trdp_engine.specs.Replies.{confirm_refusal}
-use Rattle.trdp_engine.specs.Events.{PutCall, ReplyCall, QueryCall, ReplyErrorCall, ConfirmCall}
-use Rattle.trdp_engine.specs.Events.{CallIs}
+use Rattle.trdp_model.specs.declared.kind.Kind.{Kind}
+use Rattle.trdp_model.specs.Kinds.{kind_of, is_same_kind}
+use Rattle.trdp_model.specs.declared.any_object.AnyObject.{AnyObject}
+use Rattle.trdp_model.specs.declared.any_object.AnyObject.TheVariants.{Publisher, Subscription}
+use Rattle.trdp_model.specs.declared.any_object.AnyObject.TheVariants.{Requester, Listener}
+use Rattle.trdp_model.specs.declared.any_object.AnyObject.TheVariants.{Caller, Replier}
+use Rattle.trdp_model.specs.declared.fault.Refusal.TheVariants as refusals
+use Rattle.trdp_model.specs.declared.record.Protocol.TheVariants.{Md}
+use Rattle.trdp_model.specs.Configs.{NodeSetup, is_fitting}
+use Rattle.trdp_model.specs.Records.{Content, AnswerModel, Answers, DoneIs}
+use Rattle.trdp_model.specs.Acts.{answers, refuses}
+use Rattle.trdp_model.specs.Moments.{firing_act}
+use Rattle.trdp_model.specs.Notices.{message_of, heard_as}
+use Rattle.trdp_model.specs.Datagrams.{taking_act, taken_records, left_taking}
+use Rattle.trdp_model.specs.Calls.{value_refusal, puts, ends, shows}
+use Rattle.trdp_model.specs.Pulls.{pulls}
+use Rattle.trdp_model.specs.Replies.{replies, queries, reply_errors, confirms, aborts}
+use Rattle.trdp_model.specs.Replies.{error_refusal}
+use Rattle.trdp_model.specs.Replies.{confirm_refusal}
+use Rattle.trdp_model.specs.Events.{PutCall, ReplyCall, QueryCall, ReplyErrorCall, ConfirmCall}
+use Rattle.trdp_model.specs.Events.{CallIs}
 use Rattle.trdp_net.specs.Networks.{Move, place_of}
 use Rattle.trdp_net.specs.Provenance.{In, Spot, Gives, Held}
 use Rattle.trdp_net.proofs.Kept.{ObjectKept, object_later, ActKept, nothing_kept}

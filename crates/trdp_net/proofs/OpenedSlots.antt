@@ -3,12 +3,12 @@ use Rattle.std.proofs.Common.{◌≡◌, ℕ, zero, suc, ◌+◌, List, [], ◌�
 use Rattle.std.proofs.Common.{subst, arith, inl, inr, slice_get}
 use Rattle.trdp_dataset.specs.Configs.{ConfigModel, SlotModel}
 use Rattle.trdp_filter.specs.declared.globals.Globals.{Globals}
-use Rattle.trdp_engine.specs.Configs.{NodeSetup}
-use Rattle.trdp_engine.specs.Events.{EventModel, MomentIs, TopologyIs, RoleIs, DatagramIs, CallIs}
-use Rattle.trdp_engine.specs.Events.{AddSlotIs}
-use Rattle.trdp_engine.specs.Slots.{SlotState, opened_slot}
-use Rattle.trdp_engine.specs.Alone.{opened_by, plain_effect}
-use Rattle.trdp_engine.specs.NodeStates.{opened_node}
+use Rattle.trdp_model.specs.Configs.{NodeSetup}
+use Rattle.trdp_model.specs.Events.{EventModel, MomentIs, TopologyIs, RoleIs, DatagramIs, CallIs}
+use Rattle.trdp_model.specs.Events.{AddSlotIs}
+use Rattle.trdp_model.specs.Slots.{SlotState, opened_slot}
+use Rattle.trdp_model.specs.Alone.{opened_by, plain_effect}
+use Rattle.trdp_model.specs.NodeModels.{opened_model}
 use Rattle.trdp_net.specs.Networks.{NetNode, net_node, slots_after, opened_network}
 use Rattle.trdp_net.specs.Provenance.{In}
 
@@ -59,7 +59,7 @@ pub none_opened : (configs : List ConfigModel) (k : ℕ) (node : NetNode)
     → (s : ℕ) (slot : SlotState) → slice_get node.slots s ≡ Some slot → slot.objects ≡ []
 none_opened [] k node is s slot at = absurd (cc)
 none_opened (config ∷ configs) zero node is s slot at =
-    let e : net_node (opened_node config) ≡ node = cc is in
+    let e : net_node (opened_model config) ≡ node = cc is in
     slots_empty config.slots s slot
     (subst (λ (x : NetNode). slice_get x.slots s ≡ Some slot) (sym e) at)
 none_opened (config ∷ configs) (suc k) node is s slot at = none_opened configs k node is s slot at

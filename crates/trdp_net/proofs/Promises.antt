@@ -11,19 +11,19 @@ use Rattle.trdp_pd.specs.Subscriptions.{SubscriptionState}
 use Rattle.trdp_md.specs.declared.terms.CallerTerms.{CallerTerms}
 use Rattle.trdp_md.specs.Callers.{called as new_caller}
 use Rattle.trdp_filter.specs.declared.globals.Globals.{Globals}
-use Rattle.trdp_table.specs.declared.any_object.AnyObject.{AnyObject}
-use Rattle.trdp_table.specs.declared.any_object.AnyObject.TheVariants.{Subscription, Caller}
-use Rattle.trdp_engine.specs.declared.fault.Refusal.{Refusal}
-use Rattle.trdp_engine.specs.Configs.{NodeSetup}
-use Rattle.trdp_engine.specs.Records.{Content, MessageModel, ReplyModel, HandleIs, NotifiedIs}
-use Rattle.trdp_engine.specs.Records.{AskedIs, RepliedIs, ConfirmedIs, ClosedIs, Answers}
-use Rattle.trdp_engine.specs.Records.{Indicates}
-use Rattle.trdp_engine.specs.Slots.{SlotState, Outcome, unchanged}
-use Rattle.trdp_engine.specs.Openings.{opened_with}
-use Rattle.trdp_engine.specs.Requests.{request_refusal, request_sent}
-use Rattle.trdp_engine.specs.Calls.{called}
-use Rattle.trdp_engine.specs.Events.{RequestCall, CallIs}
-use Rattle.trdp_engine.specs.Alone.{plain_effect}
+use Rattle.trdp_model.specs.declared.any_object.AnyObject.{AnyObject}
+use Rattle.trdp_model.specs.declared.any_object.AnyObject.TheVariants.{Subscription, Caller}
+use Rattle.trdp_model.specs.declared.fault.Refusal.{Refusal}
+use Rattle.trdp_model.specs.Configs.{NodeSetup}
+use Rattle.trdp_model.specs.Records.{Content, MessageModel, ReplyModel, HandleIs, NotifiedIs}
+use Rattle.trdp_model.specs.Records.{AskedIs, RepliedIs, ConfirmedIs, ClosedIs, Answers}
+use Rattle.trdp_model.specs.Records.{Indicates}
+use Rattle.trdp_model.specs.Slots.{SlotState, Outcome, unchanged}
+use Rattle.trdp_model.specs.Openings.{opened_with}
+use Rattle.trdp_model.specs.Requests.{request_refusal, request_sent}
+use Rattle.trdp_model.specs.Calls.{called}
+use Rattle.trdp_model.specs.Events.{RequestCall, CallIs}
+use Rattle.trdp_model.specs.Alone.{plain_effect}
 use Rattle.trdp_net.specs.Networks.{Move, Network, Step, effect_in, network_run}
 use Rattle.trdp_net.specs.Networks.{opened_network}
 use Rattle.trdp_net.specs.Provenance.{Ever, Always, In, Spot, Gives, IsPut, IsRequested}

@@ -21,19 +21,19 @@ use Rattle.trdp_md.specs.Repliers.{is_for_replier, replier_taking, ended, missed
 use Rattle.trdp_md.specs.Repliers.{answer_with}
 use Rattle.trdp_md.specs.Sessions.{IsItsConfirmation}
 use Rattle.trdp_md.proofs.Replying.{confirmed}
-use Rattle.trdp_table.specs.declared.any_object.AnyObject.{AnyObject}
-use Rattle.trdp_table.specs.declared.any_object.AnyObject.TheVariants.{Replier}
-use Rattle.trdp_engine.specs.declared.record.Protocol.TheVariants.{Md}
-use Rattle.trdp_engine.specs.declared.fault.Refusal.{Refusal}
-use Rattle.trdp_engine.specs.declared.fault.Refusal.TheVariants as refusals
-use Rattle.trdp_engine.specs.Configs.{NodeSetup}
-use Rattle.trdp_engine.specs.Records.{Content, DoneIs, Answers}
-use Rattle.trdp_engine.specs.Acts.{Act}
-use Rattle.trdp_engine.specs.Replies.{answers_unless, reply_refusal, query_refusal}
-use Rattle.trdp_engine.specs.Replies.{is_asked}
-use Rattle.trdp_engine.specs.Moments.{firing_act}
-use Rattle.trdp_engine.specs.Datagrams.{taking_act, taken_records, left_taking}
-use Rattle.trdp_engine.specs.Events.{CallModel, ReplyCall, QueryCall, ReplyErrorCall, CallIs}
+use Rattle.trdp_model.specs.declared.any_object.AnyObject.{AnyObject}
+use Rattle.trdp_model.specs.declared.any_object.AnyObject.TheVariants.{Replier}
+use Rattle.trdp_model.specs.declared.record.Protocol.TheVariants.{Md}
+use Rattle.trdp_model.specs.declared.fault.Refusal.{Refusal}
+use Rattle.trdp_model.specs.declared.fault.Refusal.TheVariants as refusals
+use Rattle.trdp_model.specs.Configs.{NodeSetup}
+use Rattle.trdp_model.specs.Records.{Content, DoneIs, Answers}
+use Rattle.trdp_model.specs.Acts.{Act}
+use Rattle.trdp_model.specs.Replies.{answers_unless, reply_refusal, query_refusal}
+use Rattle.trdp_model.specs.Replies.{is_asked}
+use Rattle.trdp_model.specs.Moments.{firing_act}
+use Rattle.trdp_model.specs.Datagrams.{taking_act, taken_records, left_taking}
+use Rattle.trdp_model.specs.Events.{CallModel, ReplyCall, QueryCall, ReplyErrorCall, CallIs}
 use Rattle.trdp_net.specs.Networks.{Move, place_of}
 use Rattle.trdp_net.specs.Provenance.{Ever, In, Spot, Gives, Held, IsAnswerCall, IsAnswered}
 use Rattle.trdp_net.specs.Provenance.{IsConfirmedBySome}

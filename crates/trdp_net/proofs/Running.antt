@@ -3,14 +3,14 @@ use Rattle.std.proofs.Common.{◌≡◌, ℕ, zero, List, [], ◌∷◌, ◌++�
 use Rattle.std.proofs.Common.{Bool, true, false, refl, ap, sym, ◌∙◌, subst, slice_get, ◌+◌, arith}
 use Rattle.std.specs.Prelude.{◌==◌, if◌then◌else◌, slice_set, Result, Ok, Err, IfOk}
 use Rattle.trdp_net.specs.declared.fault.NetworkFault.{NetworkFault}
-use Rattle.trdp_engine.specs.declared.fault.NodeFault.{NodeFault}
-use Rattle.trdp_engine.specs.Configs.{setup_of}
-use Rattle.trdp_engine.specs.Records.{RecordModel, records_of}
-use Rattle.trdp_engine.specs.Slots.{SlotState}
-use Rattle.trdp_engine.specs.Alone.{refused_as, plain_effect, told_opening, FaultIs}
-use Rattle.trdp_engine.specs.NodeStates.{NodeState}
-use Rattle.trdp_engine.specs.Events.{EventModel, MomentIs, TopologyIs, RoleIs, DatagramIs, CallIs}
-use Rattle.trdp_engine.specs.Events.{AddSlotIs}
+use Rattle.trdp_model.specs.declared.fault.NodeFault.{NodeFault}
+use Rattle.trdp_model.specs.Configs.{setup_of}
+use Rattle.trdp_model.specs.Records.{RecordModel, records_of}
+use Rattle.trdp_model.specs.Slots.{SlotState}
+use Rattle.trdp_model.specs.Alone.{refused_as, plain_effect, told_opening, FaultIs}
+use Rattle.trdp_model.specs.NodeModels.{NodeModel}
+use Rattle.trdp_model.specs.Events.{EventModel, MomentIs, TopologyIs, RoleIs, DatagramIs, CallIs}
+use Rattle.trdp_model.specs.Events.{AddSlotIs}
 use Rattle.trdp_net.specs.Networks.{NetNode, net_node, Sent, Network, Step, CallAt, MomentAt}
 use Rattle.trdp_net.specs.Networks.{TopologyAt, RoleAt, DeliveryAt, AddSlotAt, place_of}
 use Rattle.trdp_net.specs.Networks.{moves_unless, moves_at, reaches, delivered, network_step}
@@ -31,7 +31,7 @@ admitted_by None done is = refl
 admitted_by (Some fault) done is = absurd is
 
 -- a node that steps takes the event as one of the network, and tells what it told
-pub takes : (old new : NodeState) (before : List RecordModel) (event : EventModel) (told : Told)
+pub takes : (old new : NodeModel) (before : List RecordModel) (event : EventModel) (told : Told)
     → StepsSo old new before told.out.records event
     → before ≡ []
     → IsHome told.home (setup_of old.config) → told.slots ≡ length old.slots

@@ -10,16 +10,16 @@ use Rattle.trdp_head.specs.declared.md.MdKind.{MdKind}
 use Rattle.trdp_head.specs.declared.md.MdKind.TheVariants as message
 use Rattle.trdp_head.specs.MdTelegrams.{MdTelegram}
 use Rattle.trdp_md.specs.Answers.{is_place}
-use Rattle.trdp_engine.specs.declared.fault.NodeFault.{NodeFault}
-use Rattle.trdp_engine.specs.declared.record.Protocol.{Protocol}
-use Rattle.trdp_engine.specs.declared.record.Protocol.TheVariants.{Pd, Md}
-use Rattle.trdp_engine.specs.Records.{Content, Answers, Indicates, Sends}
-use Rattle.trdp_engine.specs.Events.{EventModel, MomentIs, TopologyIs, RoleIs, DatagramIs, CallIs}
-use Rattle.trdp_engine.specs.Events.{AddSlotIs}
-use Rattle.trdp_engine.specs.Alone.{opened_by}
-use Rattle.trdp_engine.specs.Slots.{Entry, SlotState}
-use Rattle.trdp_engine.specs.Alone.{refused_as, plain_effect}
-use Rattle.trdp_engine.specs.NodeStates.{opened_node}
+use Rattle.trdp_model.specs.declared.fault.NodeFault.{NodeFault}
+use Rattle.trdp_model.specs.declared.record.Protocol.{Protocol}
+use Rattle.trdp_model.specs.declared.record.Protocol.TheVariants.{Pd, Md}
+use Rattle.trdp_model.specs.Records.{Content, Answers, Indicates, Sends}
+use Rattle.trdp_model.specs.Events.{EventModel, MomentIs, TopologyIs, RoleIs, DatagramIs, CallIs}
+use Rattle.trdp_model.specs.Events.{AddSlotIs}
+use Rattle.trdp_model.specs.Alone.{opened_by}
+use Rattle.trdp_model.specs.Slots.{Entry, SlotState}
+use Rattle.trdp_model.specs.Alone.{refused_as, plain_effect}
+use Rattle.trdp_model.specs.NodeModels.{opened_model}
 use Rattle.trdp_net.specs.Networks.{NetNode, net_node, place_of, Sent, Move, Network, Step, CallAt}
 use Rattle.trdp_net.specs.Networks.{MomentAt, TopologyAt, RoleAt, DeliveryAt, AddSlotAt, effect_in}
 use Rattle.trdp_net.specs.Networks.{slots_after}
@@ -353,7 +353,7 @@ single_opened : (configs : List ConfigModel) → AreSingle configs → (k : ℕ)
     → is_group node.setup.address ≡ false
 single_opened [] h k node is = absurd (cc)
 single_opened (config ∷ configs) h zero node is =
-    let e : net_node (opened_node config) ≡ node = cc is in
+    let e : net_node (opened_model config) ≡ node = cc is in
     subst (λ (x : NetNode). is_group x.setup.address ≡ false) e h.0
 single_opened (config ∷ configs) h (suc k) node is = single_opened configs h.1 k node is
 

@@ -14,7 +14,7 @@ use Rattle.trdp_head.proofs.PdBytesFacts.{IsPdTelegram-pd_bytes}
 use Rattle.trdp_head.proofs.PdTelegramFacts.{telegram-is}
 use Rattle.trdp_head.proofs.MdBytesFacts.{IsMdTelegram-md_bytes}
 use Rattle.trdp_head.proofs.MdTelegramFacts.{md_telegram-is}
-use Rattle.trdp_engine.specs.declared.record.Protocol.TheVariants.{Pd, Md}
+use Rattle.trdp_model.specs.declared.record.Protocol.TheVariants.{Pd, Md}
 use Rattle.trdp_net.specs.Networks.{Move}
 use Rattle.trdp_net.proofs.Explained.{DataBy, MessageBy, SentBy}
 

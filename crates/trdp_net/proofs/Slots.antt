@@ -8,20 +8,20 @@ use Rattle.std.specs.List.{flat_map}
 use Rattle.std.proofs.lemmas.Bool.Decides.{nat_tests}
 use Rattle.trdp_filter.specs.declared.globals.Globals.{Globals}
 use Rattle.trdp_filter.specs.Telegrams.{TelegramModel}
-use Rattle.trdp_table.specs.declared.any_object.AnyObject.{AnyObject}
-use Rattle.trdp_engine.specs.declared.fault.Refusal.{Refusal}
-use Rattle.trdp_engine.specs.declared.fault.Refusal.TheVariants as refusals
-use Rattle.trdp_engine.specs.Configs.{NodeSetup}
-use Rattle.trdp_engine.specs.Records.{Content, HandleIs}
-use Rattle.trdp_engine.specs.Records.{Answers}
-use Rattle.trdp_engine.specs.Acts.{Act, entry_left, left_at}
-use Rattle.trdp_engine.specs.Slots.{Entry, SlotState, Outcome, unchanged, entry_of}
-use Rattle.trdp_engine.specs.Openings.{refused, opened_with}
-use Rattle.trdp_engine.specs.Moments.{is_due, is_before, inserted, in_order, firing_act}
-use Rattle.trdp_engine.specs.Moments.{moved_to}
-use Rattle.trdp_engine.specs.Datagrams.{is_acting, acting}
-use Rattle.trdp_engine.specs.Datagrams.{taking_act, handed}
-use Rattle.trdp_engine.specs.Calls.{at_entry, at_object}
+use Rattle.trdp_model.specs.declared.any_object.AnyObject.{AnyObject}
+use Rattle.trdp_model.specs.declared.fault.Refusal.{Refusal}
+use Rattle.trdp_model.specs.declared.fault.Refusal.TheVariants as refusals
+use Rattle.trdp_model.specs.Configs.{NodeSetup}
+use Rattle.trdp_model.specs.Records.{Content, HandleIs}
+use Rattle.trdp_model.specs.Records.{Answers}
+use Rattle.trdp_model.specs.Acts.{Act, entry_left, left_at}
+use Rattle.trdp_model.specs.Slots.{Entry, SlotState, Outcome, unchanged, entry_of}
+use Rattle.trdp_model.specs.Openings.{refused, opened_with}
+use Rattle.trdp_model.specs.Moments.{is_due, is_before, inserted, in_order, firing_act}
+use Rattle.trdp_model.specs.Moments.{moved_to}
+use Rattle.trdp_model.specs.Datagrams.{is_acting, acting}
+use Rattle.trdp_model.specs.Datagrams.{taking_act, handed}
+use Rattle.trdp_model.specs.Calls.{at_entry, at_object}
 use Rattle.trdp_net.specs.Networks.{Move}
 use Rattle.trdp_net.specs.Provenance.{In, Gives, Held}
 use Rattle.trdp_net.proofs.Parts.{each_append, each_map, each_in, in_flat_map, each_flat_map}

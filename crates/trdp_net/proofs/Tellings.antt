@@ -6,18 +6,26 @@ use Rattle.std.proofs.lemmas.List.{drop_all}
 use Rattle.std.specs.Prelude.{cond, ◌==◌, option_to_list}
 use Rattle.trdp_base.specs.declared.place.Place.{Place}
 use Rattle.trdp_filter.specs.declared.globals.Globals.{Globals}
-use Rattle.trdp_engine.specs.Configs.{NodeSetup}
-use Rattle.trdp_engine.specs.Records.{Content, Answers, Indicates, Sends, RecordModel, records_of}
-use Rattle.trdp_engine.specs.Events.{EventModel}
-use Rattle.trdp_engine.specs.Slots.{SlotState}
-use Rattle.trdp_engine.specs.Alone.{plain_effect}
-use Rattle.trdp_engine.proofs.Each.{dropped}
+use Rattle.trdp_model.specs.Configs.{NodeSetup}
+use Rattle.trdp_model.specs.Records.{Content, Answers, Indicates, Sends, RecordModel, records_of}
+use Rattle.trdp_model.specs.Events.{EventModel}
+use Rattle.trdp_model.specs.Slots.{SlotState}
+use Rattle.trdp_model.specs.Alone.{plain_effect}
+use Rattle.std.proofs.Common.{add-one}
+use Rattle.std.proofs.lemmas.Option.{same_Some}
 use Rattle.trdp_net.specs.Networks.{Sent, place_of, sends_of, sent_by}
 use Rattle.trdp_net.specs.Tellings.{place_at, IsHome, sends_from, sent_in_slot, sent_in_slots}
 use Rattle.trdp_net.specs.Tellings.{sent_in, all_sent, latest, sought_past, SoughtIn}
 use Rattle.trdp_net.specs.declared.told.Home.{Home}
 use Rattle.trdp_net.specs.declared.told.Sought.{Sought}
 use Rattle.trdp_net.specs.declared.told.Told.{Told}
+
+-- what is left from a number on begins with the element of that number
+dropped : {A : Type 0} (xs : List A) (i : ℕ) (x : A)
+    → slice_get xs i ≡ Some x → drop i xs ≡ x ∷ drop (i + 1) xs
+dropped [] i x at = absurd (cc)
+dropped (y ∷ xs) zero x at = ap (λ (e : _). e ∷ xs) (same_Some y x at)
+dropped (y ∷ xs) (suc i) x at = dropped xs i x at ∙ rw (add-one, add-one) refl
 
 -- number `which` of all is number `left` of the rest
 abbrev pub Remains : List Sent → ℕ → List Sent → ℕ → Type 0

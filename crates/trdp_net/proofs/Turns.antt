@@ -2,8 +2,8 @@
 use Rattle.std.proofs.Common.{◌≡◌, ℕ, zero, suc, List, [], ◌∷◌, ◌++◌, Option, None, Some, refl}
 use Rattle.std.proofs.Common.{ap, sym, subst, inl, inr, slice_get}
 use Rattle.std.specs.Prelude.{◌⊎◌}
-use Rattle.trdp_engine.specs.Records.{Content}
-use Rattle.trdp_engine.specs.Slots.{SlotState}
+use Rattle.trdp_model.specs.Records.{Content}
+use Rattle.trdp_model.specs.Slots.{SlotState}
 use Rattle.trdp_net.specs.Networks.{Move}
 use Rattle.trdp_net.specs.Provenance.{In, Gives}
 use Rattle.trdp_net.specs.Promises.{told_in}

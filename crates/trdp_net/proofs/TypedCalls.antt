@@ -16,26 +16,26 @@ use Rattle.trdp_md.specs.Answers.{awaits, confirmed}
 use Rattle.trdp_md.specs.Callers.{confirming}
 use Rattle.trdp_md.specs.Callers.{closed_of, confirm_of}
 use Rattle.trdp_md.specs.Repliers.{queried, answer_with}
-use Rattle.trdp_table.specs.declared.kind.Kind.{Kind}
-use Rattle.trdp_table.specs.Kinds.{kind_of, is_same_kind}
-use Rattle.trdp_table.specs.declared.any_object.AnyObject.{AnyObject}
-use Rattle.trdp_table.specs.declared.any_object.AnyObject.TheVariants.{Publisher, Subscription}
-use Rattle.trdp_table.specs.declared.any_object.AnyObject.TheVariants.{Requester, Listener}
-use Rattle.trdp_table.specs.declared.any_object.AnyObject.TheVariants.{Caller, Replier}
-use Rattle.trdp_engine.specs.declared.record.Protocol.TheVariants.{Md}
-use Rattle.trdp_engine.specs.declared.fault.Refusal.{Refusal}
-use Rattle.trdp_engine.specs.declared.fault.Refusal.TheVariants as refusals
-use Rattle.trdp_engine.specs.Configs.{NodeSetup}
-use Rattle.trdp_engine.specs.Records.{DoneIs}
-use Rattle.trdp_engine.specs.Records.{Answers, Sends}
-use Rattle.trdp_engine.specs.Acts.{refuses}
-use Rattle.trdp_engine.specs.Calls.{puts}
-use Rattle.trdp_engine.specs.Calls.{ends, value_refusal}
-use Rattle.trdp_engine.specs.Calls.{puts_unless}
-use Rattle.trdp_engine.specs.Pulls.{pulls, pulls_if}
-use Rattle.trdp_engine.specs.Replies.{replies, queries, reply_errors, confirms, aborts}
-use Rattle.trdp_engine.specs.Replies.{answers_unless, confirms_unless, confirm_refusal, concluded}
-use Rattle.trdp_engine.specs.Replies.{reply_refusal, query_refusal, error_refusal}
+use Rattle.trdp_model.specs.declared.kind.Kind.{Kind}
+use Rattle.trdp_model.specs.Kinds.{kind_of, is_same_kind}
+use Rattle.trdp_model.specs.declared.any_object.AnyObject.{AnyObject}
+use Rattle.trdp_model.specs.declared.any_object.AnyObject.TheVariants.{Publisher, Subscription}
+use Rattle.trdp_model.specs.declared.any_object.AnyObject.TheVariants.{Requester, Listener}
+use Rattle.trdp_model.specs.declared.any_object.AnyObject.TheVariants.{Caller, Replier}
+use Rattle.trdp_model.specs.declared.record.Protocol.TheVariants.{Md}
+use Rattle.trdp_model.specs.declared.fault.Refusal.{Refusal}
+use Rattle.trdp_model.specs.declared.fault.Refusal.TheVariants as refusals
+use Rattle.trdp_model.specs.Configs.{NodeSetup}
+use Rattle.trdp_model.specs.Records.{DoneIs}
+use Rattle.trdp_model.specs.Records.{Answers, Sends}
+use Rattle.trdp_model.specs.Acts.{refuses}
+use Rattle.trdp_model.specs.Calls.{puts}
+use Rattle.trdp_model.specs.Calls.{ends, value_refusal}
+use Rattle.trdp_model.specs.Calls.{puts_unless}
+use Rattle.trdp_model.specs.Pulls.{pulls, pulls_if}
+use Rattle.trdp_model.specs.Replies.{replies, queries, reply_errors, confirms, aborts}
+use Rattle.trdp_model.specs.Replies.{answers_unless, confirms_unless, confirm_refusal, concluded}
+use Rattle.trdp_model.specs.Replies.{reply_refusal, query_refusal, error_refusal}
 use Rattle.trdp_net.proofs.Heads.{confirm_head, answer_head}
 use Rattle.trdp_net.proofs.Repliers.{reply_limit, query_limit}
 use Rattle.trdp_net.proofs.TypedMoves.{IsCaller, IsReplier, IsTypedObject}

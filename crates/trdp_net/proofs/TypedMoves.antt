@@ -6,13 +6,13 @@ use Rattle.trdp_pd.specs.Publishers.{PublisherState}
 use Rattle.trdp_pd.specs.Requesters.{RequesterState}
 use Rattle.trdp_md.specs.declared.caller.Caller.{Caller as AnyCaller}
 use Rattle.trdp_md.specs.declared.replier.Replier.{Replier as AnyReplier}
-use Rattle.trdp_table.specs.declared.any_object.AnyObject.{AnyObject}
-use Rattle.trdp_table.specs.declared.any_object.AnyObject.TheVariants.{Publisher, Requester}
-use Rattle.trdp_table.specs.declared.any_object.AnyObject.TheVariants.{Caller}
-use Rattle.trdp_table.specs.declared.any_object.AnyObject.TheVariants.{Replier}
-use Rattle.trdp_engine.specs.Events.{CallModel, NotifyCall, RequestCall, ReplyCall, QueryCall}
-use Rattle.trdp_engine.specs.Events.{ReplyErrorCall, ConfirmCall, EventModel, CallIs}
-use Rattle.trdp_engine.specs.Slots.{Entry, SlotState}
+use Rattle.trdp_model.specs.declared.any_object.AnyObject.{AnyObject}
+use Rattle.trdp_model.specs.declared.any_object.AnyObject.TheVariants.{Publisher, Requester}
+use Rattle.trdp_model.specs.declared.any_object.AnyObject.TheVariants.{Caller}
+use Rattle.trdp_model.specs.declared.any_object.AnyObject.TheVariants.{Replier}
+use Rattle.trdp_model.specs.Events.{CallModel, NotifyCall, RequestCall, ReplyCall, QueryCall}
+use Rattle.trdp_model.specs.Events.{ReplyErrorCall, ConfirmCall, EventModel, CallIs}
+use Rattle.trdp_model.specs.Slots.{Entry, SlotState}
 use Rattle.trdp_net.specs.Networks.{Move}
 use Rattle.trdp_net.specs.Provenance.{Each}
 use Rattle.trdp_net.specs.Typed.{IsTopo, IsNotifyTerms, IsCallerTerms}

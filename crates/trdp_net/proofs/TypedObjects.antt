@@ -32,23 +32,23 @@ use Rattle.trdp_md.specs.Callers.{is_accepted, answering, replied, is_complete, 
 use Rattle.trdp_md.specs.Callers.{is_repeating, waiting_again, repeating, reason_of}
 use Rattle.trdp_md.specs.Listeners.{listener_addressed}
 use Rattle.trdp_md.specs.Repliers.{is_for_replier, ended}
-use Rattle.trdp_table.specs.declared.any_object.AnyObject.{AnyObject}
-use Rattle.trdp_table.specs.declared.any_object.AnyObject.TheVariants.{Publisher, Subscription}
-use Rattle.trdp_table.specs.declared.any_object.AnyObject.TheVariants.{Requester, Listener}
-use Rattle.trdp_table.specs.declared.any_object.AnyObject.TheVariants.{Caller, Replier}
-use Rattle.trdp_engine.specs.declared.record.Protocol.{Protocol}
-use Rattle.trdp_engine.specs.declared.record.Protocol.TheVariants.{Pd, Md}
-use Rattle.trdp_engine.specs.Configs.{NodeSetup}
-use Rattle.trdp_engine.specs.Records.{AnswerModel, value_sent}
-use Rattle.trdp_engine.specs.Records.{Content, Answers, Indicates, Sends}
-use Rattle.trdp_engine.specs.Acts.{Act, answers}
-use Rattle.trdp_engine.specs.Moments.{firing_act}
-use Rattle.trdp_engine.specs.Moments.{firing_records, left_firing}
-use Rattle.trdp_engine.specs.Notices.{message_of, heard_as}
-use Rattle.trdp_engine.specs.Datagrams.{taking_act}
-use Rattle.trdp_engine.specs.Datagrams.{taken_records, left_taking}
-use Rattle.trdp_engine.specs.Datagrams.{fits_object}
-use Rattle.trdp_engine.specs.Pulls.{answer_place}
+use Rattle.trdp_model.specs.declared.any_object.AnyObject.{AnyObject}
+use Rattle.trdp_model.specs.declared.any_object.AnyObject.TheVariants.{Publisher, Subscription}
+use Rattle.trdp_model.specs.declared.any_object.AnyObject.TheVariants.{Requester, Listener}
+use Rattle.trdp_model.specs.declared.any_object.AnyObject.TheVariants.{Caller, Replier}
+use Rattle.trdp_model.specs.declared.record.Protocol.{Protocol}
+use Rattle.trdp_model.specs.declared.record.Protocol.TheVariants.{Pd, Md}
+use Rattle.trdp_model.specs.Configs.{NodeSetup}
+use Rattle.trdp_model.specs.Records.{AnswerModel, value_sent}
+use Rattle.trdp_model.specs.Records.{Content, Answers, Indicates, Sends}
+use Rattle.trdp_model.specs.Acts.{Act, answers}
+use Rattle.trdp_model.specs.Moments.{firing_act}
+use Rattle.trdp_model.specs.Moments.{firing_records, left_firing}
+use Rattle.trdp_model.specs.Notices.{message_of, heard_as}
+use Rattle.trdp_model.specs.Datagrams.{taking_act}
+use Rattle.trdp_model.specs.Datagrams.{taken_records, left_taking}
+use Rattle.trdp_model.specs.Datagrams.{fits_object}
+use Rattle.trdp_model.specs.Pulls.{answer_place}
 use Rattle.trdp_net.proofs.Heads.{request_head}
 use Rattle.trdp_net.proofs.TypedMoves.{IsPublisher, IsTypedObject}
 use Rattle.trdp_net.specs.Provenance.{Each}

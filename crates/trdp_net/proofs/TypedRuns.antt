@@ -4,21 +4,21 @@ use Rattle.std.proofs.Common.{Bool, true, false, refl, sym, subst, inl, inr, sli
 use Rattle.std.specs.Prelude.{◌⊎◌, if◌then◌else◌}
 use Rattle.trdp_dataset.specs.Configs.{ConfigModel}
 use Rattle.trdp_filter.specs.declared.globals.Globals.{Globals}
-use Rattle.trdp_engine.specs.declared.fault.NodeFault.{NodeFault}
-use Rattle.trdp_engine.specs.Configs.{NodeSetup}
-use Rattle.trdp_engine.specs.Records.{Content, Answers, Indicates, Sends}
-use Rattle.trdp_engine.specs.Events.{CallModel, PublishCall, OpenPullCall, EventModel, MomentIs}
-use Rattle.trdp_engine.specs.Events.{TopologyIs, RoleIs, DatagramIs, CallIs}
-use Rattle.trdp_engine.specs.Events.{PutCall, UnpublishCall, SubscribeCall, GetCall}
-use Rattle.trdp_engine.specs.Events.{UnsubscribeCall}
-use Rattle.trdp_engine.specs.Events.{PullCall, ClosePullCall, ListenCall, UnlistenCall, NotifyCall}
-use Rattle.trdp_engine.specs.Events.{RequestCall, ReplyCall, QueryCall, ReplyErrorCall}
-use Rattle.trdp_engine.specs.Events.{ConfirmCall}
-use Rattle.trdp_engine.specs.Events.{AbortCall}
-use Rattle.trdp_engine.specs.Events.{AddSlotIs}
-use Rattle.trdp_engine.specs.Alone.{opened_by}
-use Rattle.trdp_engine.specs.Slots.{Entry, SlotState}
-use Rattle.trdp_engine.specs.Alone.{refused_as, plain_effect}
+use Rattle.trdp_model.specs.declared.fault.NodeFault.{NodeFault}
+use Rattle.trdp_model.specs.Configs.{NodeSetup}
+use Rattle.trdp_model.specs.Records.{Content, Answers, Indicates, Sends}
+use Rattle.trdp_model.specs.Events.{CallModel, PublishCall, OpenPullCall, EventModel, MomentIs}
+use Rattle.trdp_model.specs.Events.{TopologyIs, RoleIs, DatagramIs, CallIs}
+use Rattle.trdp_model.specs.Events.{PutCall, UnpublishCall, SubscribeCall, GetCall}
+use Rattle.trdp_model.specs.Events.{UnsubscribeCall}
+use Rattle.trdp_model.specs.Events.{PullCall, ClosePullCall, ListenCall, UnlistenCall, NotifyCall}
+use Rattle.trdp_model.specs.Events.{RequestCall, ReplyCall, QueryCall, ReplyErrorCall}
+use Rattle.trdp_model.specs.Events.{ConfirmCall}
+use Rattle.trdp_model.specs.Events.{AbortCall}
+use Rattle.trdp_model.specs.Events.{AddSlotIs}
+use Rattle.trdp_model.specs.Alone.{opened_by}
+use Rattle.trdp_model.specs.Slots.{Entry, SlotState}
+use Rattle.trdp_model.specs.Alone.{refused_as, plain_effect}
 use Rattle.trdp_net.specs.Networks.{NetNode, place_of, Sent, Network, Step, CallAt, MomentAt}
 use Rattle.trdp_net.specs.Networks.{TopologyAt, RoleAt, DeliveryAt, AddSlotAt, node_after}
 use Rattle.trdp_net.specs.Networks.{sends_of, slots_after}

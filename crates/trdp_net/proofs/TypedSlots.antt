@@ -17,41 +17,41 @@ use Rattle.trdp_md.specs.declared.terms.NotifyTerms.{NotifyTerms}
 use Rattle.trdp_md.specs.Callers.{request_of, called as new_caller}
 use Rattle.trdp_md.specs.Listeners.{listening}
 use Rattle.trdp_md.specs.Notifications.{notification_of}
-use Rattle.trdp_table.specs.declared.kind.Kind.TheVariants as kinds
-use Rattle.trdp_table.specs.declared.any_object.AnyObject.{AnyObject}
-use Rattle.trdp_table.specs.declared.any_object.AnyObject.TheVariants.{Publisher, Subscription}
-use Rattle.trdp_table.specs.declared.any_object.AnyObject.TheVariants.{Requester, Listener}
-use Rattle.trdp_table.specs.declared.any_object.AnyObject.TheVariants.{Caller}
-use Rattle.trdp_engine.specs.declared.record.Protocol.{Protocol}
-use Rattle.trdp_engine.specs.declared.record.Protocol.TheVariants.{Pd, Md}
-use Rattle.trdp_engine.specs.declared.fault.Refusal.{Refusal}
-use Rattle.trdp_engine.specs.declared.fault.Refusal.TheVariants as refusals
-use Rattle.trdp_engine.specs.Configs.{NodeSetup, zero_size_of}
-use Rattle.trdp_engine.specs.Records.{Content}
-use Rattle.trdp_engine.specs.Acts.{Act, entry_left, left_at}
-use Rattle.trdp_engine.specs.Slots.{Entry, SlotState, Outcome, unchanged, entry_of}
-use Rattle.trdp_engine.specs.Openings.{refused, opening_refusal, opened_with}
-use Rattle.trdp_engine.specs.Moments.{is_due, in_order, firing_act}
-use Rattle.trdp_engine.specs.Moments.{moved_to}
-use Rattle.trdp_engine.specs.Notices.{notify_refusal, notice}
-use Rattle.trdp_engine.specs.Requests.{has_session, request_refusal, request_sent, asked_unless}
-use Rattle.trdp_engine.specs.Requests.{asked_by_hearing}
-use Rattle.trdp_engine.specs.Datagrams.{telegram_of, hearing, is_acting, acting}
-use Rattle.trdp_engine.specs.Datagrams.{taking_act, handed, is_request_kind, requested, received}
-use Rattle.trdp_engine.specs.Datagrams.{is_valid_at, received_if}
-use Rattle.trdp_engine.specs.Calls.{publish_refusal, subscribe_refusal, listen_refusal, puts}
-use Rattle.trdp_engine.specs.Calls.{shows}
-use Rattle.trdp_engine.specs.Calls.{ends, at_entry, at_object, told_unless, called}
-use Rattle.trdp_engine.specs.Pulls.{pulls}
-use Rattle.trdp_engine.specs.Replies.{replies, queries, reply_errors, confirms, aborts}
-use Rattle.trdp_engine.specs.Events.{CallModel, PublishCall, PutCall, UnpublishCall, SubscribeCall}
-use Rattle.trdp_engine.specs.Events.{GetCall, UnsubscribeCall, OpenPullCall, PullCall}
-use Rattle.trdp_engine.specs.Events.{ClosePullCall, ListenCall, UnlistenCall, NotifyCall}
-use Rattle.trdp_engine.specs.Events.{RequestCall, ReplyCall, QueryCall, ReplyErrorCall}
-use Rattle.trdp_engine.specs.Events.{ConfirmCall, AbortCall, EventModel, MomentIs, TopologyIs}
-use Rattle.trdp_engine.specs.Events.{RoleIs, DatagramIs, CallIs}
-use Rattle.trdp_engine.specs.Events.{AddSlotIs}
-use Rattle.trdp_engine.specs.Alone.{plain_effect}
+use Rattle.trdp_model.specs.declared.kind.Kind.TheVariants as kinds
+use Rattle.trdp_model.specs.declared.any_object.AnyObject.{AnyObject}
+use Rattle.trdp_model.specs.declared.any_object.AnyObject.TheVariants.{Publisher, Subscription}
+use Rattle.trdp_model.specs.declared.any_object.AnyObject.TheVariants.{Requester, Listener}
+use Rattle.trdp_model.specs.declared.any_object.AnyObject.TheVariants.{Caller}
+use Rattle.trdp_model.specs.declared.record.Protocol.{Protocol}
+use Rattle.trdp_model.specs.declared.record.Protocol.TheVariants.{Pd, Md}
+use Rattle.trdp_model.specs.declared.fault.Refusal.{Refusal}
+use Rattle.trdp_model.specs.declared.fault.Refusal.TheVariants as refusals
+use Rattle.trdp_model.specs.Configs.{NodeSetup, zero_size_of}
+use Rattle.trdp_model.specs.Records.{Content}
+use Rattle.trdp_model.specs.Acts.{Act, entry_left, left_at}
+use Rattle.trdp_model.specs.Slots.{Entry, SlotState, Outcome, unchanged, entry_of}
+use Rattle.trdp_model.specs.Openings.{refused, opening_refusal, opened_with}
+use Rattle.trdp_model.specs.Moments.{is_due, in_order, firing_act}
+use Rattle.trdp_model.specs.Moments.{moved_to}
+use Rattle.trdp_model.specs.Notices.{notify_refusal, notice}
+use Rattle.trdp_model.specs.Requests.{has_session, request_refusal, request_sent, asked_unless}
+use Rattle.trdp_model.specs.Requests.{asked_by_hearing}
+use Rattle.trdp_model.specs.Datagrams.{telegram_of, hearing, is_acting, acting}
+use Rattle.trdp_model.specs.Datagrams.{taking_act, handed, is_request_kind, requested, received}
+use Rattle.trdp_model.specs.Datagrams.{is_valid_at, received_if}
+use Rattle.trdp_model.specs.Calls.{publish_refusal, subscribe_refusal, listen_refusal, puts}
+use Rattle.trdp_model.specs.Calls.{shows}
+use Rattle.trdp_model.specs.Calls.{ends, at_entry, at_object, told_unless, called}
+use Rattle.trdp_model.specs.Pulls.{pulls}
+use Rattle.trdp_model.specs.Replies.{replies, queries, reply_errors, confirms, aborts}
+use Rattle.trdp_model.specs.Events.{CallModel, PublishCall, PutCall, UnpublishCall, SubscribeCall}
+use Rattle.trdp_model.specs.Events.{GetCall, UnsubscribeCall, OpenPullCall, PullCall}
+use Rattle.trdp_model.specs.Events.{ClosePullCall, ListenCall, UnlistenCall, NotifyCall}
+use Rattle.trdp_model.specs.Events.{RequestCall, ReplyCall, QueryCall, ReplyErrorCall}
+use Rattle.trdp_model.specs.Events.{ConfirmCall, AbortCall, EventModel, MomentIs, TopologyIs}
+use Rattle.trdp_model.specs.Events.{RoleIs, DatagramIs, CallIs}
+use Rattle.trdp_model.specs.Events.{AddSlotIs}
+use Rattle.trdp_model.specs.Alone.{plain_effect}
 use Rattle.trdp_net.specs.Provenance.{In}
 use Rattle.trdp_net.specs.Typed.{IsTypedCall}
 use Rattle.trdp_net.proofs.Parts.{each_append, each_in, each_flat_map, filter_in}

@@ -4,14 +4,14 @@ use Rattle.trdp_base.specs.declared.place.Place.{Place}
 use Rattle.trdp_pd.specs.declared.object.Reason.TheVariants.{Done}
 use Rattle.trdp_pd.specs.declared.terms.ValueState.TheVariants.{Valid}
 use Rattle.trdp_pd.specs.Subscriptions.{SubscriptionState}
-use Rattle.trdp_table.specs.declared.any_object.AnyObject.TheVariants.{Subscription}
-use Rattle.trdp_engine.specs.declared.record.Protocol.{Protocol}
-use Rattle.trdp_engine.specs.declared.record.Protocol.TheVariants.{Pd, Md}
-use Rattle.trdp_engine.specs.Records.{Content, Answers, Indicates, Sends, HandleIs, DoneIs, ValueIs}
-use Rattle.trdp_engine.specs.Records.{NotifiedIs, AskedIs, RepliedIs, ConfirmedIs, ClosedIs}
-use Rattle.trdp_engine.specs.Events.{PublishCall, PutCall, SubscribeCall, GetCall, ListenCall}
-use Rattle.trdp_engine.specs.Events.{NotifyCall, RequestCall, QueryCall, ConfirmCall}
-use Rattle.trdp_engine.specs.Slots.{Entry, SlotState}
+use Rattle.trdp_model.specs.declared.any_object.AnyObject.TheVariants.{Subscription}
+use Rattle.trdp_model.specs.declared.record.Protocol.{Protocol}
+use Rattle.trdp_model.specs.declared.record.Protocol.TheVariants.{Pd, Md}
+use Rattle.trdp_model.specs.Records.{Content, Answers, Indicates, Sends, HandleIs, DoneIs, ValueIs}
+use Rattle.trdp_model.specs.Records.{NotifiedIs, AskedIs, RepliedIs, ConfirmedIs, ClosedIs}
+use Rattle.trdp_model.specs.Events.{PublishCall, PutCall, SubscribeCall, GetCall, ListenCall}
+use Rattle.trdp_model.specs.Events.{NotifyCall, RequestCall, QueryCall, ConfirmCall}
+use Rattle.trdp_model.specs.Slots.{Entry, SlotState}
 use Rattle.trdp_net.specs.Networks.{NetNode, Sent, Move, Network, Step, CallAt, MomentAt}
 use Rattle.trdp_net.specs.Networks.{TopologyAt, RoleAt, DeliveryAt, AddSlotAt, network_run}
 use Rattle.trdp_net.specs.Networks.{opened_network}

@@ -13,7 +13,7 @@ use Rattle.trdp_pd.specs.declared.terms.SubscriptionTerms.{SubscriptionTerms}
 use Rattle.trdp_pd.specs.declared.terms.Behaviour.TheVariants.{Keep}
 use Rattle.trdp_md.specs.declared.terms.NotifyTerms.{NotifyTerms}
 use Rattle.trdp_md.specs.declared.terms.CallerTerms.{CallerTerms}
-use Rattle.trdp_engine.specs.Records.{MessageModel, ReplyModel}
+use Rattle.trdp_model.specs.Records.{MessageModel, ReplyModel}
 
 -- a node of that address: the usual ports, no datasets, and one slot, number 0, which may have one
 -- object of each kind

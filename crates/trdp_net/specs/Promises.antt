@@ -13,12 +13,12 @@ use Rattle.trdp_md.specs.declared.caller.Caller.{Caller as AnyCaller}
 use Rattle.trdp_md.specs.declared.replier.Replier.{Replier as AnyReplier}
 use Rattle.trdp_md.specs.Answers.{is_place}
 use Rattle.trdp_md.specs.Sessions.{AreApart}
-use Rattle.trdp_table.specs.declared.any_object.AnyObject.TheVariants.{Subscription, Caller}
-use Rattle.trdp_table.specs.declared.any_object.AnyObject.TheVariants.{Replier}
-use Rattle.trdp_engine.specs.declared.record.Protocol.TheVariants.{Md}
-use Rattle.trdp_engine.specs.Records.{Content, MessageModel, ReplyModel, NotifiedIs, AskedIs}
-use Rattle.trdp_engine.specs.Records.{RepliedIs, ConfirmedIs, ClosedIs, Indicates}
-use Rattle.trdp_engine.specs.Slots.{Entry, SlotState}
+use Rattle.trdp_model.specs.declared.any_object.AnyObject.TheVariants.{Subscription, Caller}
+use Rattle.trdp_model.specs.declared.any_object.AnyObject.TheVariants.{Replier}
+use Rattle.trdp_model.specs.declared.record.Protocol.TheVariants.{Md}
+use Rattle.trdp_model.specs.Records.{Content, MessageModel, ReplyModel, NotifiedIs, AskedIs}
+use Rattle.trdp_model.specs.Records.{RepliedIs, ConfirmedIs, ClosedIs, Indicates}
+use Rattle.trdp_model.specs.Slots.{Entry, SlotState}
 use Rattle.trdp_net.specs.Networks.{NetNode, Move, Network, Step, is_group, effect_in, place_of}
 use Rattle.trdp_net.specs.Networks.{network_run, opened_network}
 use Rattle.trdp_net.specs.Provenance.{Ever, Each, In, Spot, Gives, Held, IsPut, IsNotified}

@@ -9,14 +9,14 @@ use Rattle.trdp_md.specs.declared.terms.NotifyTerms.{NotifyTerms}
 use Rattle.trdp_md.specs.declared.terms.CallerTerms.{CallerTerms}
 use Rattle.trdp_md.specs.declared.caller.Caller.{Caller as AnyCaller}
 use Rattle.trdp_md.specs.declared.replier.Replier.{Replier as AnyReplier}
-use Rattle.trdp_table.specs.declared.any_object.AnyObject.{AnyObject}
-use Rattle.trdp_table.specs.declared.any_object.AnyObject.TheVariants.{Publisher, Caller, Replier}
-use Rattle.trdp_engine.specs.declared.record.Protocol.TheVariants.{Md}
-use Rattle.trdp_engine.specs.Records.{Content, AnswerModel, HandleIs, DoneIs, MessageModel}
-use Rattle.trdp_engine.specs.Records.{ReplyModel, AskedIs, RepliedIs, Answers, Indicates}
-use Rattle.trdp_engine.specs.Events.{CallModel, PutCall, NotifyCall, RequestCall, ReplyCall}
-use Rattle.trdp_engine.specs.Events.{QueryCall, ReplyErrorCall, ConfirmCall, CallIs}
-use Rattle.trdp_engine.specs.Slots.{SlotState}
+use Rattle.trdp_model.specs.declared.any_object.AnyObject.{AnyObject}
+use Rattle.trdp_model.specs.declared.any_object.AnyObject.TheVariants.{Publisher, Caller, Replier}
+use Rattle.trdp_model.specs.declared.record.Protocol.TheVariants.{Md}
+use Rattle.trdp_model.specs.Records.{Content, AnswerModel, HandleIs, DoneIs, MessageModel}
+use Rattle.trdp_model.specs.Records.{ReplyModel, AskedIs, RepliedIs, Answers, Indicates}
+use Rattle.trdp_model.specs.Events.{CallModel, PutCall, NotifyCall, RequestCall, ReplyCall}
+use Rattle.trdp_model.specs.Events.{QueryCall, ReplyErrorCall, ConfirmCall, CallIs}
+use Rattle.trdp_model.specs.Slots.{SlotState}
 use Rattle.trdp_net.specs.Networks.{Move, effect_in, place_of}
 
 -- it held once: of some move, given the moves before that one. So `Ever P past`, said of a move

@@ -1,10 +1,10 @@
 -- What a running node told at an event, and the telegrams among it.
 use Rattle.std.specs.Prelude.{◌≡◌, ℕ, zero, suc, List, [], ◌∷◌, ◌++◌, Option, Some, slice_get}
 use Rattle.trdp_base.specs.declared.place.Place.{Place}
-use Rattle.trdp_engine.specs.declared.record.Protocol.{Protocol}
-use Rattle.trdp_engine.specs.declared.record.Protocol.TheVariants.{Pd, Md}
-use Rattle.trdp_engine.specs.Configs.{NodeSetup}
-use Rattle.trdp_engine.specs.Records.{Content, RecordModel, Answers, Indicates, Sends, records_of}
+use Rattle.trdp_model.specs.declared.record.Protocol.{Protocol}
+use Rattle.trdp_model.specs.declared.record.Protocol.TheVariants.{Pd, Md}
+use Rattle.trdp_model.specs.Configs.{NodeSetup}
+use Rattle.trdp_model.specs.Records.{Content, RecordModel, Answers, Indicates, Sends, records_of}
 use Rattle.trdp_net.specs.Networks.{Sent, place_of}
 use Rattle.trdp_net.specs.declared.told.Home.{Home}
 use Rattle.trdp_net.specs.declared.told.Sent.{Sent as AnySent}

@@ -7,8 +7,8 @@ use Rattle.trdp_pd.specs.declared.terms.PublisherTerms.{PublisherTerms}
 use Rattle.trdp_pd.specs.declared.terms.RequesterTerms.{RequesterTerms}
 use Rattle.trdp_md.specs.declared.terms.NotifyTerms.{NotifyTerms}
 use Rattle.trdp_md.specs.declared.terms.CallerTerms.{CallerTerms}
-use Rattle.trdp_engine.specs.Events.{CallModel, PublishCall, OpenPullCall, NotifyCall, RequestCall}
-use Rattle.trdp_engine.specs.Events.{ReplyCall, QueryCall, ReplyErrorCall, ConfirmCall}
+use Rattle.trdp_model.specs.Events.{CallModel, PublishCall, OpenPullCall, NotifyCall, RequestCall}
+use Rattle.trdp_model.specs.Events.{ReplyCall, QueryCall, ReplyErrorCall, ConfirmCall}
 use Rattle.trdp_net.specs.Networks.{Step, CallAt}
 use Rattle.trdp_net.specs.Provenance.{Each}
 

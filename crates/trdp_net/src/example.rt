@@ -3,9 +3,9 @@
 ghost use Rattle.std.specs.Prelude.{◌≡◌, ◌∷◌, [], pos};
 ghost use Rattle.trdp_head.specs.declared.md.MdKind.TheVariants.{Query};
 ghost use Rattle.trdp_pd.specs.declared.object.Reason.TheVariants.{Done};
-ghost use Rattle.trdp_engine.specs.declared.record.Protocol.TheVariants.{Pd, Md};
-ghost use Rattle.trdp_engine.specs.Records.{Indicates, NotifiedIs, AskedIs, RepliedIs};
-ghost use Rattle.trdp_engine.specs.Records.{ConfirmedIs, ClosedIs};
+ghost use Rattle.trdp_model.specs.declared.record.Protocol.TheVariants.{Pd, Md};
+ghost use Rattle.trdp_model.specs.Records.{Indicates, NotifiedIs, AskedIs, RepliedIs};
+ghost use Rattle.trdp_model.specs.Records.{ConfirmedIs, ClosedIs};
 ghost use Rattle.trdp_net.specs.Provenance.{Always};
 ghost use Rattle.trdp_net.specs.Typed.{AreTypedSteps};
 ghost use Rattle.trdp_net.specs.Promises.{AreSingle, IsFresh};

@@ -37,7 +37,7 @@ impl From<NodeFault> for NetworkFault {
 
 impl From<AllocError> for NetworkFault {
     ghost use Rattle.std.specs.Prelude.{◌≡◌};
-    ghost use Rattle.trdp_engine.specs.declared.fault.NodeFault.TheVariants.{OutOfMemory};
+    ghost use Rattle.trdp_model.specs.declared.fault.NodeFault.TheVariants.{OutOfMemory};
     ghost use Rattle.trdp_net.specs.declared.fault.NetworkFault.TheVariants.{Node};
 
     ghost from_gives = { λ _ fault. fault ≡ Node OutOfMemory };

@@ -7,10 +7,10 @@
 
 ghost use Rattle.std.specs.Prelude.{◌≡◌, List, Some};
 ghost use Rattle.trdp_dataset.specs.Configs.{ConfigModel};
-ghost use Rattle.trdp_engine.specs.declared.record.Protocol.TheVariants.{Md};
-ghost use Rattle.trdp_engine.specs.Records.{RecordModel};
-ghost use Rattle.trdp_engine.specs.Events.{EventModel};
-ghost use Rattle.trdp_engine.specs.NodeStates.{NodeState};
+ghost use Rattle.trdp_model.specs.declared.record.Protocol.TheVariants.{Md};
+ghost use Rattle.trdp_model.specs.Records.{RecordModel};
+ghost use Rattle.trdp_model.specs.Events.{EventModel};
+ghost use Rattle.trdp_model.specs.NodeModels.{NodeModel};
 ghost use Rattle.trdp_net.specs.Networks.{Step, Move, network_run, opened_network, place_of};
 ghost use Rattle.trdp_net.specs.Provenance.{Always, In, Spot};
 ghost use Rattle.trdp_net.specs.Typed.{AreTypedSteps};
@@ -103,7 +103,7 @@ pub fn history_is_the_run()
 /// does: the same globals, the same slots, the same records for each slot, and for one that is
 /// opened.
 pub fn nodes_move_so()
-    ensures { (old new : NodeState) (records records_then : List RecordModel) (event : EventModel)
+    ensures { (old new : NodeModel) (records records_then : List RecordModel) (event : EventModel)
         → StepsSo old new records records_then event
         → MovesSo old new records records_then event }
 {}

@@ -2,8 +2,8 @@
 
 ghost use Rattle.std.specs.Prelude.{◌≡◌, length, None, OnOk, OnErr, IfOk, IfErr, slice_get};
 ghost use Rattle.std.specs.Prelude.{option_map};
-ghost use Rattle.trdp_engine.specs.Events.{event_model, DatagramIs};
-ghost use Rattle.trdp_engine.specs.Records.{record_model};
+ghost use Rattle.trdp_model.specs.Events.{event_model, DatagramIs};
+ghost use Rattle.trdp_model.specs.Records.{record_model};
 ghost use Rattle.trdp_net.specs.Networks.{DeliveryAt, opened_network, moves_at};
 ghost use Rattle.trdp_net.specs.Networks.{Network as AnyNetwork};
 ghost use Rattle.trdp_net.specs.Running.{Shows, Follows, TakesAt, DeliversAt, MayFault, AnswerIs};

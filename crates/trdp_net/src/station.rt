@@ -1,9 +1,9 @@
 //! A running node of a network.
 
 ghost use Rattle.std.specs.Prelude.{◌≡◌, length, OnErr, IfOk, IfErr};
-ghost use Rattle.trdp_engine.specs.Alone.{refused_as};
-ghost use Rattle.trdp_engine.specs.Events.{event_model};
-ghost use Rattle.trdp_engine.specs.NodeStates.{opened_node};
+ghost use Rattle.trdp_model.specs.Alone.{refused_as};
+ghost use Rattle.trdp_model.specs.Events.{event_model};
+ghost use Rattle.trdp_model.specs.NodeModels.{opened_model};
 ghost use Rattle.trdp_net.specs.Networks.{net_node, place_of, reaches, is_group};
 ghost use Rattle.trdp_net.specs.Running.{Takes, MayFault, node_fault};
 
@@ -23,13 +23,14 @@ pub(crate) struct Station {
 }
 
 impl Model for Station {
-    ghost use Rattle.trdp_engine.specs.Configs.{setup_of};
+    ghost use Rattle.trdp_model.specs.Configs.{setup_of};
+    ghost use Rattle.trdp_engine.specs.NodeStates.{uncounted};
     ghost use Rattle.trdp_net.specs.Networks.{NetNode, net_node};
     ghost use Rattle.trdp_net.specs.Tellings.{IsHome};
 
     ghost Value = { NetNode };
 
-    ghost view = { λ s. net_node s.node };
+    ghost view = { λ s. net_node (uncounted s.node) };
 
     ghost invariant = { λ s. IsHome s.home (setup_of s.node.config) };
 }
@@ -54,7 +55,7 @@ impl Station {
     /// # Errors
     /// Want of memory.
     pub(crate) fn new(alloc: Global, config: NodeConfig) -> Result<Station, AllocError>
-        ensures { IfOk result (λ station. station ≡ net_node (opened_node config)) }
+        ensures { IfOk result (λ station. station ≡ net_node (opened_model config)) }
     {
         let home = Home::of(&config);
         match Node::new(alloc, config) {

@@ -1,8 +1,8 @@
 //! What a node told at an event, and the telegrams among it.
 
 ghost use Rattle.std.specs.Prelude.{◌≡◌, ◌∷◌, [], slice_get, option_map, option_to_list};
-ghost use Rattle.trdp_engine.specs.Configs.{setup_of};
-ghost use Rattle.trdp_engine.specs.Records.{record_model};
+ghost use Rattle.trdp_model.specs.Configs.{setup_of};
+ghost use Rattle.trdp_model.specs.Records.{record_model};
 ghost use Rattle.trdp_net.specs.Tellings.{place_at, IsHome, SoughtIn, sends_from};
 ghost use Rattle.trdp_net.specs.Tellings.{sent_in_slot, sent_in};
 ghost use Rattle.trdp_net.specs.Tellings.{all_sent, sent_model, latest};

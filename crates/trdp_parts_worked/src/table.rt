@@ -6,8 +6,9 @@ use std::test::Fail;
 use trdp_base::{Ip, Place, Quotas, Topo, Uri};
 use trdp_filter::MdFilter;
 use trdp_md::Listener;
+use trdp_model::{AnyObject, Kind};
 use trdp_pd::{Object, Publisher, PublisherTerms, Requester, RequesterTerms};
-use trdp_table::{AnyObject, Kind, Table, TableFault, room_of};
+use trdp_table::{Table, TableFault, room_of};
 
 /// What is done to a slot.
 #[derive(Clone, Copy)]

@@ -4,7 +4,7 @@ use Rattle.std.specs.Io.KnownBytes.{Keeps}
 use Rattle.trdp_dataset.specs.Configs.{ConfigModel, Reads, config_of}
 use Rattle.trdp_dataset.specs.declared.fault.ConfigFault.{ConfigFault}
 use Rattle.trdp_script.specs.ScriptRuns.{RunsScript}
-use Rattle.trdp_script.specs.declared.script.ScriptFault.{ScriptFault}
+use Rattle.trdp_script.specs.declared.fault.ScriptFault.{ScriptFault}
 use Rattle.trdp_program.specs.ConfigNames.{text_of_config_fault}
 use Rattle.trdp_program.specs.Faults.{TellsEnd, TellsFault, status_of_script}
 

@@ -5,13 +5,13 @@ use Rattle.std.proofs.Math.Seq.{take-append_seam}
 use Rattle.std.specs.Str.Lines.{lines}
 use Rattle.std.specs.Io.KnownBytes.{Appends}
 use Rattle.trdp_dataset.specs.Configs.{ConfigModel}
-use Rattle.trdp_engine.specs.NodeStates.{NodeState, opened_node, uncounted}
+use Rattle.trdp_model.specs.NodeModels.{NodeModel, opened_model}
 use Rattle.trdp_script.specs.Pieces.{ended_lines}
 use Rattle.trdp_script.specs.ScriptRuns.{PlaysLines, RunsScript, WritesFront}
 use Rattle.trdp_script.specs.declared.script.Script.{Script}
-use Rattle.trdp_script.specs.declared.script.ScriptFault.{ScriptFault}
-use Rattle.trdp_script.specs.declared.script.ScriptFault.TheVariants.{Line, Read, Write}
-use Rattle.trdp_script.specs.declared.script.ScriptFault.TheVariants.{OutOfMemory}
+use Rattle.trdp_script.specs.declared.fault.ScriptFault.{ScriptFault}
+use Rattle.trdp_script.specs.declared.fault.ScriptFault.TheVariants.{Line, Read, Write}
+use Rattle.trdp_script.specs.declared.fault.ScriptFault.TheVariants.{OutOfMemory}
 use Rattle.trdp_script.specs.ScriptText.{events_of, events_text, fault_from}
 use Rattle.trdp_script.specs.ScriptText.{script_events, script_fault, script_text}
 use Rattle.trdp_script.specs.ScriptSteps.{node_of, ComesTo, PlaysFirst, Starts, Stops}
@@ -58,16 +58,16 @@ starts_text : (config : ConfigModel) (s : Script) → Starts config s
     → (input : List ℕ) → events_text (node_of s.player) (events_of (lines (s.line.items ++ input)))
     ≡ script_text config input
 starts_text config s start input =
-    ap (λ n. events_text (uncounted n) (events_of (lines (s.line.items ++ input)))) start.node
-    ∙ ap (events_text (opened_node config)) (starts_events start input)
+    ap (λ n. events_text n (events_of (lines (s.line.items ++ input)))) start.node
+    ∙ ap (events_text (opened_model config)) (starts_events start input)
 
 -- the same of the first lines
 starts_first : (config : ConfigModel) (s : Script) → Starts config s → (input : List ℕ) (n : ℕ)
     → events_text (node_of s.player) (events_of (take n (lines (s.line.items ++ input))))
-    ≡ events_text (opened_node config) (events_of (take n (lines input)))
-starts_first config s start input n = ap (λ m. events_text (uncounted m)
+    ≡ events_text (opened_model config) (events_of (take n (lines input)))
+starts_first config s start input n = ap (λ m. events_text m
     (events_of (take n (lines (s.line.items ++ input))))) start.node
-    ∙ ap (λ l. events_text (opened_node config) (events_of (take n (lines (l ++ input)))))
+    ∙ ap (λ l. events_text (opened_model config) (events_of (take n (lines (l ++ input)))))
     start.line
 
 -- the first lines of a script were played, and what was told of them is written
@@ -85,10 +85,10 @@ first_written config a b c u v w input n start empty first flushed = record {
 -- the line behind them
 starts_next : (config : ConfigModel) (s : Script) → Starts config s → (input : List ℕ) (n : ℕ)
     → NextMayWant (node_of s.player) (lines (s.line.items ++ input)) n
-    → NextMayWant (opened_node config) (lines input) n
+    → NextMayWant (opened_model config) (lines input) n
 starts_next config s start input n next =
-    subst (λ (l : List ℕ). NextMayWant (opened_node config) (lines (l ++ input)) n) start.line
-    (subst (λ (m : NodeState). NextMayWant (uncounted m) (lines (s.line.items ++ input)) n)
+    subst (λ (l : List ℕ). NextMayWant (opened_model config) (lines (l ++ input)) n) start.line
+    (subst (λ (m : NodeModel). NextMayWant m (lines (s.line.items ++ input)) n)
     start.node next)
 
 -- a run that comes to its end, whose output is written

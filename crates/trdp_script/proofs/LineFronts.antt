@@ -5,21 +5,22 @@ use Rattle.std.proofs.Common.{arith, append_assoc, subst, take-append-drop}
 use Rattle.std.specs.Prelude.{◌==◌, slice_get}
 use Rattle.std.proofs.lemmas.List.Elements.{All-head, All-tail}
 use Rattle.std.proofs.lemmas.List.Sums.{sum_by-append, sum_by-cons}
-use Rattle.trdp_engine.specs.Events.{EventModel}
-use Rattle.trdp_engine.specs.NodeStates.{NodeState}
+use Rattle.trdp_model.specs.Events.{EventModel}
+use Rattle.trdp_model.specs.NodeModels.{NodeModel}
 use Rattle.trdp_script.specs.declared.fault.LineFault.{LineFault}
 use Rattle.trdp_script.specs.Lines.{line_of}
 use Rattle.trdp_script.specs.Pieces.{IsBare, ended_lines}
 use Rattle.trdp_script.specs.ScriptText.{after_line, event_text, events_of, events_text}
-use Rattle.trdp_script.specs.ScriptText.{fault_from, fault_or, node_after, nodes_after}
+use Rattle.trdp_script.specs.ScriptText.{fault_from, fault_or}
+use Rattle.trdp_model.specs.NodeModels.{node_after, nodes_after}
 use Rattle.trdp_script.specs.Wants.{IsThereAndMayWant, NextMayWant}
 
-pub nodes_append : (node : NodeState) (xs ys : List EventModel)
+pub nodes_append : (node : NodeModel) (xs ys : List EventModel)
     → nodes_after node (xs ++ ys) ≡ nodes_after (nodes_after node xs) ys
 nodes_append node [] ys = refl
 nodes_append node (x ∷ xs) ys = nodes_append (node_after node x) xs ys
 
-pub text_append : (node : NodeState) (xs ys : List EventModel)
+pub text_append : (node : NodeModel) (xs ys : List EventModel)
     → events_text node (xs ++ ys) ≡ events_text node xs ++ events_text (nodes_after node xs) ys
 text_append node [] ys = refl
 text_append node (x ∷ xs) ys =
@@ -74,7 +75,7 @@ events_append n (x ∷ xs) ys none =
     by_meaning (Err fault) rest later = absurd (cc)
 
 -- the text of the first lines, where they have no fault, is a front of the text of all
-pub lines_front : (node : NodeState) (n : ℕ) (all : List (List ℕ)) (k : ℕ)
+pub lines_front : (node : NodeModel) (n : ℕ) (all : List (List ℕ)) (k : ℕ)
     → fault_from n (take k all) ≡ None → (rest : List ℕ)
     × (events_text node (events_of all) ≡ events_text node (events_of (take k all)) ++ rest)
 lines_front node n all k none =
@@ -87,7 +88,7 @@ lines_front node n all k none =
     )
 
 -- the next line that may want memory, behind lines and more of them
-pub next_append : (node : NodeState) (n : ℕ) (xs ys : List (List ℕ)) (k : ℕ)
+pub next_append : (node : NodeModel) (n : ℕ) (xs ys : List (List ℕ)) (k : ℕ)
     → fault_from n xs ≡ None → NextMayWant (nodes_after node (events_of xs)) ys k
     → NextMayWant node (xs ++ ys) (length xs + k)
 next_append node n xs ys k none next =
@@ -97,7 +98,7 @@ next_append node n xs ys k none next =
     let nodes : nodes_after node (events_of (take (length xs + k) (xs ++ ys)))
     ≡ nodes_after (nodes_after node (events_of xs)) (events_of (take k ys)) =
     ap (nodes_after node) events ∙ nodes_append node (events_of xs) (events_of (take k ys)) in
-    subst (λ (m : NodeState). IsThereAndMayWant m (slice_get (xs ++ ys) (length xs + k)))
+    subst (λ (m : NodeModel). IsThereAndMayWant m (slice_get (xs ++ ys) (length xs + k)))
     (sym nodes) (subst (λ (l : Option (List ℕ)). IsThereAndMayWant
     (nodes_after (nodes_after node (events_of xs)) (events_of (take k ys))) l)
     (sym (get_append xs ys k)) next)

@@ -5,15 +5,15 @@ use Rattle.std.proofs.Common.{Result, refl, sym, ◌∙◌, ap, arith, append-ni
 use Rattle.std.specs.Prelude.{nat_lt, if◌then◌else◌, IfErr, OnOk}
 use Rattle.std.specs.Str.Lines.{lines, strip_carriage_return}
 use Rattle.std.proofs.lemmas.List.{nil_from_length}
-use Rattle.trdp_engine.specs.Events.{EventModel}
+use Rattle.trdp_model.specs.Events.{EventModel}
 use Rattle.trdp_script.specs.declared.fault.LineFault.{LineFault}
 use Rattle.trdp_script.specs.declared.fault.LineFault.TheVariants.{TooLong, Count}
 use Rattle.trdp_script.specs.declared.fault.LineFault.TheVariants.{OutOfMemory as NoMemory}
 use Rattle.trdp_script.specs.declared.player.Player.{Player}
 use Rattle.trdp_script.specs.declared.script.Script.{Script}
-use Rattle.trdp_script.specs.declared.script.ScriptFault.{ScriptFault}
-use Rattle.trdp_script.specs.declared.script.ScriptFault.TheVariants.{Line, Read, Write}
-use Rattle.trdp_script.specs.declared.script.ScriptFault.TheVariants.{OutOfMemory}
+use Rattle.trdp_script.specs.declared.fault.ScriptFault.{ScriptFault}
+use Rattle.trdp_script.specs.declared.fault.ScriptFault.TheVariants.{Line, Read, Write}
+use Rattle.trdp_script.specs.declared.fault.ScriptFault.TheVariants.{OutOfMemory}
 use Rattle.trdp_script.specs.Forms.{LineForm, forms, event_in}
 use Rattle.trdp_script.specs.Words.{words_of}
 use Rattle.trdp_script.specs.Lines.{Reads, event_or_fault, form_among}
@@ -21,7 +21,8 @@ use Rattle.trdp_script.specs.Lines.{is_skipped, line_among, line_of, may_have}
 use Rattle.trdp_script.specs.Lines.{words_say}
 use Rattle.trdp_script.specs.Pieces.{IsBare}
 use Rattle.trdp_script.specs.ScriptText.{after_line, events_of, events_text}
-use Rattle.trdp_script.specs.ScriptText.{fault_from, fault_or, nodes_after}
+use Rattle.trdp_script.specs.ScriptText.{fault_from, fault_or}
+use Rattle.trdp_model.specs.NodeModels.{nodes_after}
 use Rattle.trdp_script.specs.ScriptSteps.{node_of, Ends, LineComesTo, Plays}
 use Rattle.trdp_script.specs.ScriptSteps.{PlaysLine, Stops, StopsAt, StopsWanting, line_events}
 use Rattle.trdp_script.specs.Wants.{LineMayWant, NextMayWant}

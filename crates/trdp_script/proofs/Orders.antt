@@ -8,9 +8,9 @@ use Rattle.std.proofs.lemmas.Grind.{flat_map-append}
 use Rattle.std.proofs.lemmas.List.Concat.{flat_map-cons}
 use Rattle.std.proofs.lemmas.Bool.{cases_lt}
 use Rattle.std.proofs.lemmas.Bool.Decides.{nat_tests, eqb_tells}
-use Rattle.trdp_engine.specs.Records.{RecordModel}
+use Rattle.trdp_model.specs.Records.{RecordModel}
 use Rattle.trdp_base.specs.NumberText.{text_of_number}
-use Rattle.trdp_engine.specs.declared.fault.NodeFault.{NodeFault}
+use Rattle.trdp_model.specs.declared.fault.NodeFault.{NodeFault}
 use Rattle.trdp_script.specs.RecordText.{name_of_fault, text_of_content, text_of_fault}
 use Rattle.trdp_script.specs.RecordText.{text_of_record}
 use Rattle.trdp_script.specs.SlotOrder.{IsRising, by_slot, slot_text}

@@ -2,7 +2,7 @@
 use Rattle.std.proofs.Common.{◌≡◌, ◌+◌, ◌≤◌, ℕ, List, [], ◌∷◌, ◌++◌, length, Option, refl}
 use Rattle.std.proofs.Common.{sym, ◌∙◌, ap, arith, append_assoc, length-append, subst}
 use Rattle.trdp_script.specs.declared.script.Script.{Script}
-use Rattle.trdp_script.specs.declared.script.ScriptFault.{ScriptFault}
+use Rattle.trdp_script.specs.declared.fault.ScriptFault.{ScriptFault}
 use Rattle.trdp_script.specs.Pieces.{IsSplit}
 use Rattle.trdp_script.specs.ScriptSteps.{IsSound, Plays, Stops}
 use Rattle.trdp_script.proofs.Steps.{plays_both, stops_after, plays_nothing}

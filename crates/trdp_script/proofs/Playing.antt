@@ -7,24 +7,26 @@ use Rattle.std.specs.List.{flat_map}
 use Rattle.std.proofs.lemmas.Bool.Decides.{eqb_tells, nat_tests}
 use Rattle.std.proofs.lemmas.Grind.{flat_map-append}
 use Rattle.std.proofs.lemmas.Option.{slice_get_past}
-use Rattle.trdp_engine.specs.Configs.{NodeSetup, setup_of}
+use Rattle.trdp_model.specs.Configs.{NodeSetup, setup_of}
 use Rattle.trdp_filter.specs.declared.globals.Globals.{Globals}
-use Rattle.trdp_engine.specs.declared.fault.NodeFault.{NodeFault}
-use Rattle.trdp_engine.specs.declared.fault.NodeFault.TheVariants.{OutOfMemory}
-use Rattle.trdp_engine.specs.Events.{EventModel, MomentIs, TopologyIs, RoleIs, DatagramIs, CallIs}
-use Rattle.trdp_engine.specs.Events.{AddSlotIs}
-use Rattle.trdp_engine.specs.Records.{RecordModel, labelled, records_of}
-use Rattle.trdp_engine.specs.Slots.{SlotState}
-use Rattle.trdp_engine.specs.Alone.{FaultIs, refused_as, globals_after, records_after}
-use Rattle.trdp_engine.specs.Alone.{Standing, opened_by, slots_then, standing_after, told_opening}
-use Rattle.trdp_engine.specs.NodeStates.{NodeState, MayTakeMemory, StepsAsAlone, Appends}
-use Rattle.trdp_engine.specs.NodeStates.{no_counts, uncounted}
-use Rattle.trdp_engine.proofs.AddedSlots.{lists_same, opened_at, told_opened}
-use Rattle.trdp_engine.proofs.Steps.{open_outcome}
-use Rattle.trdp_engine.proofs.Views.{standing_open}
+use Rattle.trdp_model.specs.declared.fault.NodeFault.{NodeFault}
+use Rattle.trdp_model.specs.declared.fault.NodeFault.TheVariants.{OutOfMemory}
+use Rattle.trdp_model.specs.Events.{EventModel, MomentIs, TopologyIs, RoleIs, DatagramIs, CallIs}
+use Rattle.trdp_model.specs.Events.{AddSlotIs}
+use Rattle.trdp_model.specs.Records.{RecordModel, labelled, records_of}
+use Rattle.trdp_model.specs.Slots.{SlotState}
+use Rattle.trdp_model.specs.Alone.{FaultIs, refused_as, globals_after, records_after}
+use Rattle.trdp_model.specs.Alone.{Standing, opened_by, slots_then, standing_after, told_opening}
+use Rattle.trdp_model.specs.NodeModels.{NodeModel}
+use Rattle.trdp_model.specs.NodeModels.{StepsAsAlone, Appends}
+use Rattle.trdp_model.proofs.AddedSlots.{lists_same, opened_at, told_opened}
+use Rattle.trdp_model.proofs.Steps.{open_outcome}
+use Rattle.trdp_model.proofs.Views.{standing_open}
 use Rattle.trdp_script.specs.RecordText.{text_of_fault, text_of_record}
-use Rattle.trdp_script.specs.ScriptText.{slots_after, slots_text, node_after}
-use Rattle.trdp_script.specs.ScriptText.{event_text, node_unless, text_unless}
+use Rattle.trdp_model.specs.NodeModels.{slots_after, node_after}
+use Rattle.trdp_script.specs.ScriptText.{slots_text}
+use Rattle.trdp_script.specs.ScriptText.{event_text, text_unless}
+use Rattle.trdp_model.specs.NodeModels.{node_unless}
 use Rattle.trdp_script.specs.SlotOrder.{by_slot}
 use Rattle.trdp_script.proofs.Orders.{slots_own, by_slot_suc, by_slot_zero}
 
@@ -45,7 +47,7 @@ after_at setup g event n k (x ∷ xs) count admitted (suc i) s is =
     after_at setup g event n (suc k) xs (omega (arith, count)) admitted i s (omega (arith, is))
 
 -- the slots after an event, of which each number says what stands there
-slots_same : (old new : NodeState) (records records_then : List RecordModel) (event : EventModel)
+slots_same : (old new : NodeModel) (records records_then : List RecordModel) (event : EventModel)
     → refused_as (length old.slots) old.globals event ≡ None
     → ((s : ℕ) → StepsAsAlone old new records records_then event s)
     → new.slots
@@ -129,33 +131,30 @@ no_fault None is = refl
 no_fault (Some fault) is = absurd is
 
 -- the node after an event that it took
-pub node_played : (old new : NodeState) (records records_then : List RecordModel)
+pub node_played : (old new : NodeModel) (records records_then : List RecordModel)
     (event : EventModel) → FaultIs (refused_as (length old.slots) old.globals event) (Ok tt)
     → new.config ≡ old.config → new.globals ≡ globals_after old.globals event
     → ((s : ℕ) → StepsAsAlone old new records records_then event s)
-    → uncounted new ≡ node_after (uncounted old) event
+    → new ≡ node_after old event
 node_played old new records records_then event taken config globals steps =
     let slots = slots_same old new records records_then event
     (no_fault (refused_as (length old.slots) old.globals event) taken) steps in
-    ap (λ c. let n : NodeState = record {
+    ap (λ c. let n : NodeModel = record {
       config = c;
       globals = new.globals;
       slots = new.slots;
-      counts = no_counts;
     } in n) config
-    ∙ ap (λ g. let n : NodeState = record {
+    ∙ ap (λ g. let n : NodeModel = record {
       config = old.config;
       globals = g;
       slots = new.slots;
-      counts = no_counts;
     } in n) globals
-    ∙ ap (λ l. let n : NodeState = record {
+    ∙ ap (λ l. let n : NodeModel = record {
       config = old.config;
       globals = globals_after old.globals event;
       slots = l;
-      counts = no_counts;
     } in n) slots
-    ∙ ap (λ fault. node_unless fault (uncounted old) event)
+    ∙ ap (λ fault. node_unless fault old event)
     (sym (no_fault (refused_as (length old.slots) old.globals event) taken))
 
 -- there are no more slots than there may be
@@ -172,7 +171,7 @@ still_few n (AddSlotIs quotas) few = by (nat_lt n 16) refl
     by false is = few
 
 -- what the number past the last slot is told: that a slot is opened there
-pub own_told : (old new : NodeState) (records records_then : List RecordModel) (event : EventModel)
+pub own_told : (old new : NodeModel) (records records_then : List RecordModel) (event : EventModel)
     → refused_as (length old.slots) old.globals event ≡ None → records ≡ []
     → ((s : ℕ) → StepsAsAlone old new records records_then event s)
     → records_of (length old.slots) records_then ≡ told_opening event
@@ -209,14 +208,14 @@ opened_own m n g (AddSlotIs quotas) records admitted count own =
     ∙ ap (λ l. by_slot m records ++ l) (sym (own_labelled m records) ∙ ap (labelled m) own)
 
 -- what is told of an event that the node took
-pub text_played : (n : ℕ) (old new : NodeState) (records records_then : List RecordModel)
+pub text_played : (n : ℕ) (old new : NodeModel) (records records_then : List RecordModel)
     (event : EventModel) (text : List ℕ)
     → FaultIs (refused_as (length old.slots) old.globals event) (Ok tt)
     → length new.slots ≤ n → length new.slots ≡ slots_then (length old.slots) event
     → records ≡ [] → ((s : ℕ) → StepsAsAlone old new records records_then event s)
     → Appends new.slots records records_then
     → text ≡ flat_map text_of_record (by_slot n records_then)
-    → text ≡ event_text (uncounted old) event
+    → text ≡ event_text old event
 text_played n old new records records_then event text taken fits count empty steps appends told =
     let admitted = no_fault (refused_as (length old.slots) old.globals event) taken in
     let room : n ≡ length new.slots + (n - length new.slots) = omega (arith, fits) in
@@ -241,20 +240,10 @@ text_played n old new records records_then event text taken fits count empty ste
     old.globals event 0 old.slots) (sym (by_slot_zero records_then))
     ∙ slots_text_after (setup_of old.config) old.globals
     event records_then old.slots 0 (length old.slots) (sym whole) each))
-    ∙ ap (λ fault. text_unless fault (uncounted old) event) (sym admitted)
-
--- what the latest event cost decides nothing of the next
-pub may_uncounted : (node : NodeState) (event : EventModel)
-    → MayTakeMemory node event → MayTakeMemory (uncounted node) event
-may_uncounted node (MomentIs t) may = may
-may_uncounted node (TopologyIs topo) may = may
-may_uncounted node (RoleIs group leader) may = may
-may_uncounted node (DatagramIs protocol src dst bytes) may = may
-may_uncounted node (CallIs s call) may = may
-may_uncounted node (AddSlotIs quotas) may = may
+    ∙ ap (λ fault. text_unless fault old event) (sym admitted)
 
 -- what is told of an event that the node took no notice of
-pub text_refused : (node : NodeState) (event : EventModel) (refused : Option NodeFault)
+pub text_refused : (node : NodeModel) (event : EventModel) (refused : Option NodeFault)
     (fault : NodeFault) → FaultIs refused (Err fault) → (fault ≡ OutOfMemory → ⊥)
     → text_of_fault fault ≡ text_unless refused node event
 text_refused node event None fault is other = absurd (other is)

@@ -9,8 +9,8 @@ use Rattle.std.proofs.lemmas.List.Elements.{All-nil, All-cons}
 use Rattle.std.proofs.lemmas.List.Splits.{slice_split_at}
 use Rattle.trdp_base.specs.NumberText.{text_of_number}
 use Rattle.trdp_base.specs.QuotaLimits.{quota_limit}
-use Rattle.trdp_engine.specs.Events.{EventModel, MomentIs, TopologyIs, RoleIs, DatagramIs}
-use Rattle.trdp_engine.specs.Events.{CallIs, AddSlotIs}
+use Rattle.trdp_model.specs.Events.{EventModel, MomentIs, TopologyIs, RoleIs, DatagramIs}
+use Rattle.trdp_model.specs.Events.{CallIs, AddSlotIs}
 use Rattle.trdp_script.specs.Forms.{call_word, event_in, event_of_words, forms, has_keywords}
 use Rattle.trdp_script.specs.Forms.{role_form, topology_form, add_slot_form}
 use Rattle.trdp_script.specs.Words.{words_of, first_word, other_words, number_of_word}

@@ -6,15 +6,16 @@ use Rattle.std.specs.Prelude.{◌==◌, IfErr, OnErr}
 use Rattle.std.proofs.KnownBytes.{Appends-nil}
 use Rattle.std.proofs.lemmas.List.Elements.{All-append}
 use Rattle.std.specs.Str.Lines.{lines}
-use Rattle.trdp_engine.specs.Events.{EventModel}
-use Rattle.trdp_engine.specs.NodeStates.{NodeState}
+use Rattle.trdp_model.specs.Events.{EventModel}
+use Rattle.trdp_model.specs.NodeModels.{NodeModel}
 use Rattle.trdp_script.specs.declared.fault.LineFault.TheVariants.{TooLong}
 use Rattle.trdp_script.specs.declared.script.Script.{Script}
-use Rattle.trdp_script.specs.declared.script.ScriptFault.{ScriptFault}
-use Rattle.trdp_script.specs.declared.script.ScriptFault.TheVariants.{Line, Read, Write}
-use Rattle.trdp_script.specs.declared.script.ScriptFault.TheVariants.{OutOfMemory}
+use Rattle.trdp_script.specs.declared.fault.ScriptFault.{ScriptFault}
+use Rattle.trdp_script.specs.declared.fault.ScriptFault.TheVariants.{Line, Read, Write}
+use Rattle.trdp_script.specs.declared.fault.ScriptFault.TheVariants.{OutOfMemory}
 use Rattle.trdp_script.specs.Pieces.{IsBare}
-use Rattle.trdp_script.specs.ScriptText.{events_of, events_text, fault_from, nodes_after}
+use Rattle.trdp_script.specs.ScriptText.{events_of, events_text, fault_from}
+use Rattle.trdp_model.specs.NodeModels.{nodes_after}
 use Rattle.trdp_script.specs.ScriptSteps.{node_of, Ends, Going, Plays, PlaysFirst, Stops}
 use Rattle.trdp_script.specs.ScriptSteps.{StopsWanting, Takes}
 use Rattle.trdp_script.specs.Wants.{NextMayWant}
@@ -128,7 +129,7 @@ pub wanting_after : {a b c : Script} {v w x : Option (List ℕ)} {bs : List ℕ}
     → Plays a b v w bs → StopsWanting b c w x rest → StopsWanting a c v x (bs ++ rest)
 wanting_after {a} {b} rest p q =
     let later = lines (b.line.items ++ rest) in
-    let next = subst (λ (n : NodeState). NextMayWant n later q.count) p.taken.node_is q.wanting in
+    let next = subst (λ (n : NodeModel). NextMayWant n later q.count) p.taken.node_is q.wanting in
     record {
       count = length p.taken.ended + q.count;
       played = first_after rest q.count p q.played;

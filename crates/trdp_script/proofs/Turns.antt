@@ -8,7 +8,7 @@ use Rattle.std.proofs.Math.Seq.{drop-cons}
 use Rattle.std.proofs.lemmas.List.Concat.{flat_map-cons}
 use Rattle.std.proofs.lemmas.List.{drop_all}
 use Rattle.std.proofs.lemmas.Option.{slice_get_within, get_or_from_slice_get, slice_get-get_or}
-use Rattle.trdp_engine.specs.Records.{RecordModel}
+use Rattle.trdp_model.specs.Records.{RecordModel}
 use Rattle.trdp_script.specs.SlotOrder.{IsRising}
 
 -- an element and those behind it

@@ -1,8 +1,8 @@
 -- Which events carry bytes.
 use Rattle.std.specs.Prelude.{Bool, true, false, Option, Some, None}
-use Rattle.trdp_engine.specs.Events.{CallModel, PutCall, NotifyCall, RequestCall, ReplyCall}
-use Rattle.trdp_engine.specs.Events.{QueryCall, EventModel, MomentIs, TopologyIs, RoleIs}
-use Rattle.trdp_engine.specs.Events.{DatagramIs, CallIs, AddSlotIs}
+use Rattle.trdp_model.specs.Events.{CallModel, PutCall, NotifyCall, RequestCall, ReplyCall}
+use Rattle.trdp_model.specs.Events.{QueryCall, EventModel, MomentIs, TopologyIs, RoleIs}
+use Rattle.trdp_model.specs.Events.{DatagramIs, CallIs, AddSlotIs}
 
 -- a call carries bytes that gives a value or sends a payload
 abbrev pub does_call_carry_bytes : CallModel → Bool

@@ -1,9 +1,9 @@
 -- What the calls of lines mean.
-use Rattle.trdp_engine.specs.Events.{CallModel, PublishCall, PutCall, UnpublishCall, SubscribeCall}
-use Rattle.trdp_engine.specs.Events.{GetCall, UnsubscribeCall, OpenPullCall, PullCall}
-use Rattle.trdp_engine.specs.Events.{ClosePullCall, ListenCall, UnlistenCall, NotifyCall}
-use Rattle.trdp_engine.specs.Events.{RequestCall, ReplyCall, QueryCall, ReplyErrorCall}
-use Rattle.trdp_engine.specs.Events.{ConfirmCall, AbortCall}
+use Rattle.trdp_model.specs.Events.{CallModel, PublishCall, PutCall, UnpublishCall, SubscribeCall}
+use Rattle.trdp_model.specs.Events.{GetCall, UnsubscribeCall, OpenPullCall, PullCall}
+use Rattle.trdp_model.specs.Events.{ClosePullCall, ListenCall, UnlistenCall, NotifyCall}
+use Rattle.trdp_model.specs.Events.{RequestCall, ReplyCall, QueryCall, ReplyErrorCall}
+use Rattle.trdp_model.specs.Events.{ConfirmCall, AbortCall}
 use Rattle.trdp_script.specs.declared.calls.PlainCall.{PlainCall}
 use Rattle.trdp_script.specs.declared.calls.PlainCall.TheVariants.{Publish, Unpublish, Subscribe}
 use Rattle.trdp_script.specs.declared.calls.PlainCall.TheVariants.{Get, Unsubscribe, OpenPull}

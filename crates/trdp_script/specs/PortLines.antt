@@ -3,7 +3,7 @@ use Rattle.std.specs.Prelude.{ℕ, List, [], ◌∷◌, ◌++◌, Option, None, 
 use Rattle.std.specs.Io.BufRead.{ends_with_byte, strip_last}
 use Rattle.std.specs.Str.Lines.{strip_carriage_return}
 use Rattle.trdp_base.specs.NumberText.{text_of_number}
-use Rattle.trdp_engine.specs.Events.{EventModel}
+use Rattle.trdp_model.specs.Events.{EventModel}
 use Rattle.trdp_script.specs.Forms.{call_word, topology_form, role_form, add_slot_form}
 use Rattle.trdp_script.specs.Lines.{is_skipped, line_among, line_of}
 use Rattle.trdp_script.specs.declared.fault.LineFault.{LineFault}

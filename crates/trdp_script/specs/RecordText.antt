@@ -15,27 +15,27 @@ use Rattle.trdp_pd.specs.declared.object.Reason.TheVariants.{NotConfirmed, Reply
 use Rattle.trdp_pd.specs.Peeks.{PeekModel}
 use Rattle.trdp_pd.specs.declared.terms.ValueState.{ValueState}
 use Rattle.trdp_pd.specs.declared.terms.ValueState.TheVariants.{Never, Valid, Silent}
-use Rattle.trdp_engine.specs.Records.{AnswerModel, HandleIs, DoneIs, ValueIs, RefusedIs}
-use Rattle.trdp_engine.specs.Records.{OpenedIs}
-use Rattle.trdp_engine.specs.Records.{MessageModel, ReplyModel, IndicationModel, SilentIs, AliveIs}
-use Rattle.trdp_engine.specs.Records.{NotifiedIs, AskedIs, OverrunIs, RepliedIs, ConfirmedIs}
-use Rattle.trdp_engine.specs.Records.{ClosedIs}
-use Rattle.trdp_engine.specs.Records.{Content, Answers, Indicates, Sends, RecordModel}
-use Rattle.trdp_engine.specs.declared.fault.NodeFault.{NodeFault}
-use Rattle.trdp_engine.specs.declared.fault.NodeFault.TheVariants.{NoSlot, Past, TooLate}
-use Rattle.trdp_engine.specs.declared.fault.NodeFault.TheVariants.{NoGroup, OutOfMemory, SlotsFull}
-use Rattle.trdp_engine.specs.declared.fault.Refusal.{Refusal}
-use Rattle.trdp_engine.specs.declared.fault.Refusal.TheVariants.{NoHandle, WrongKind, State}
-use Rattle.trdp_engine.specs.declared.fault.Refusal.TheVariants.{Cycle, Timeout, Expected, Status}
-use Rattle.trdp_engine.specs.declared.fault.Refusal.TheVariants.{Range, NoDataset, TooLong, Shape}
-use Rattle.trdp_engine.specs.declared.fault.Refusal.TheVariants.{SessionOpen, Quota, Exhausted}
-use Rattle.trdp_engine.specs.declared.fault.Refusal.TheVariants.{Retries}
+use Rattle.trdp_model.specs.Records.{AnswerModel, HandleIs, DoneIs, ValueIs, RefusedIs}
+use Rattle.trdp_model.specs.Records.{OpenedIs}
+use Rattle.trdp_model.specs.Records.{MessageModel, ReplyModel, IndicationModel, SilentIs, AliveIs}
+use Rattle.trdp_model.specs.Records.{NotifiedIs, AskedIs, OverrunIs, RepliedIs, ConfirmedIs}
+use Rattle.trdp_model.specs.Records.{ClosedIs}
+use Rattle.trdp_model.specs.Records.{Content, Answers, Indicates, Sends, RecordModel}
+use Rattle.trdp_model.specs.declared.fault.NodeFault.{NodeFault}
+use Rattle.trdp_model.specs.declared.fault.NodeFault.TheVariants.{NoSlot, Past, TooLate}
+use Rattle.trdp_model.specs.declared.fault.NodeFault.TheVariants.{NoGroup, OutOfMemory, SlotsFull}
+use Rattle.trdp_model.specs.declared.fault.Refusal.{Refusal}
+use Rattle.trdp_model.specs.declared.fault.Refusal.TheVariants.{NoHandle, WrongKind, State}
+use Rattle.trdp_model.specs.declared.fault.Refusal.TheVariants.{Cycle, Timeout, Expected, Status}
+use Rattle.trdp_model.specs.declared.fault.Refusal.TheVariants.{Range, NoDataset, TooLong, Shape}
+use Rattle.trdp_model.specs.declared.fault.Refusal.TheVariants.{SessionOpen, Quota, Exhausted}
+use Rattle.trdp_model.specs.declared.fault.Refusal.TheVariants.{Retries}
 use Rattle.trdp_script.specs.declared.fault.LineFault.{LineFault}
 use Rattle.trdp_script.specs.declared.fault.LineFault.TheVariants.{TooLong as LineTooLong, Unknown}
 use Rattle.trdp_script.specs.declared.fault.LineFault.TheVariants.{Count, BadWord}
 use Rattle.trdp_script.specs.declared.fault.LineFault.TheVariants.{OutOfMemory as NoLineMemory}
-use Rattle.trdp_engine.specs.declared.record.Protocol.{Protocol}
-use Rattle.trdp_engine.specs.declared.record.Protocol.TheVariants.{Pd, Md}
+use Rattle.trdp_model.specs.declared.record.Protocol.{Protocol}
+use Rattle.trdp_model.specs.declared.record.Protocol.TheVariants.{Pd, Md}
 
 -- the name of a node's fault
 abbrev pub name_of_fault : NodeFault → List ℕ

@@ -4,11 +4,11 @@ use Rattle.std.specs.Prelude.{Option, Some, None, Result, Ok, Err}
 use Rattle.std.specs.Io.KnownBytes.{Appends}
 use Rattle.std.specs.Str.Lines.{lines}
 use Rattle.trdp_dataset.specs.Configs.{ConfigModel}
-use Rattle.trdp_engine.specs.NodeStates.{opened_node}
+use Rattle.trdp_model.specs.NodeModels.{opened_model}
 use Rattle.trdp_script.specs.declared.fault.LineFault.{LineFault}
-use Rattle.trdp_script.specs.declared.script.ScriptFault.{ScriptFault}
-use Rattle.trdp_script.specs.declared.script.ScriptFault.TheVariants.{Line, Read, Write}
-use Rattle.trdp_script.specs.declared.script.ScriptFault.TheVariants.{OutOfMemory}
+use Rattle.trdp_script.specs.declared.fault.ScriptFault.{ScriptFault}
+use Rattle.trdp_script.specs.declared.fault.ScriptFault.TheVariants.{Line, Read, Write}
+use Rattle.trdp_script.specs.declared.fault.ScriptFault.TheVariants.{OutOfMemory}
 use Rattle.trdp_script.specs.Pieces.{ended_lines}
 use Rattle.trdp_script.specs.ScriptText.{events_of, events_text, fault_from}
 use Rattle.trdp_script.specs.ScriptText.{script_fault, script_text}
@@ -19,7 +19,7 @@ pub record PlaysLines (config : ConfigModel) (input : List ℕ) (count : ℕ)
     (old new : Option (List ℕ)) : Type 0 where
   pub no_fault : fault_from 1 (take count (lines input)) ≡ None
   pub written : Appends old new
-      (events_text (opened_node config) (events_of (take count (lines input))))
+      (events_text (opened_model config) (events_of (take count (lines input))))
 
 -- a front of the input was read, behind which the reader gave no more or wasn't asked, and the lines
 -- that had their end in it were played
@@ -41,7 +41,7 @@ pub record StopsForMemory (config : ConfigModel) (input : List ℕ) (left old ne
   pub count : ℕ
   pub played : PlaysLines config input count old new
   pub wanting : HasNotBegun input left count
-      ⊎ NextMayWant (opened_node config) (lines input) count
+      ⊎ NextMayWant (opened_model config) (lines input) count
 
 -- a front of the script's text was written
 pub record WritesFront (config : ConfigModel) (input : List ℕ) (old new : Option (List ℕ))

@@ -3,16 +3,18 @@ use Rattle.std.specs.Prelude.{◌≡◌, ◌≤◌, ◌+◌, ◌++◌, ◌∷◌
 use Rattle.std.specs.Prelude.{Option, Some, None, Result, Ok, Err}
 use Rattle.std.specs.Str.Lines.{lines}
 use Rattle.trdp_dataset.specs.Configs.{ConfigModel}
-use Rattle.trdp_engine.specs.Events.{EventModel}
-use Rattle.trdp_engine.specs.NodeStates.{NodeState, opened_node, uncounted}
+use Rattle.trdp_model.specs.Events.{EventModel}
+use Rattle.trdp_model.specs.NodeModels.{NodeModel, opened_model}
+use Rattle.trdp_engine.specs.NodeStates.{uncounted}
 use Rattle.trdp_script.specs.declared.fault.LineFault.{LineFault}
 use Rattle.trdp_script.specs.declared.player.Player.{Player}
 use Rattle.trdp_script.specs.declared.script.Script.{Script}
-use Rattle.trdp_script.specs.declared.script.ScriptFault.{ScriptFault}
-use Rattle.trdp_script.specs.declared.script.ScriptFault.TheVariants.{Line, Read, Write}
-use Rattle.trdp_script.specs.declared.script.ScriptFault.TheVariants.{OutOfMemory}
+use Rattle.trdp_script.specs.declared.fault.ScriptFault.{ScriptFault}
+use Rattle.trdp_script.specs.declared.fault.ScriptFault.TheVariants.{Line, Read, Write}
+use Rattle.trdp_script.specs.declared.fault.ScriptFault.TheVariants.{OutOfMemory}
 use Rattle.trdp_script.specs.Pieces.{IsBare, ended_lines}
-use Rattle.trdp_script.specs.ScriptText.{events_of, events_text, fault_from, nodes_after}
+use Rattle.trdp_script.specs.ScriptText.{events_of, events_text, fault_from}
+use Rattle.trdp_model.specs.NodeModels.{nodes_after}
 use Rattle.trdp_script.specs.Wants.{LineMayWant, NextMayWant}
 use Rattle.trdp_script.specs.Writes.{PassesOn, PassesSome}
 
@@ -23,7 +25,7 @@ line_events (Ok None) = []
 line_events (Err fault) = []
 
 -- the node of a player, of which nothing tells what an event cost
-abbrev pub node_of : Player → NodeState
+abbrev pub node_of : Player → NodeModel
 node_of player = uncounted player.node
 
 -- a line without a fault was played
@@ -52,7 +54,7 @@ LineComesTo old new v w number (Ok event) (Err OutOfMemory) =
 
 -- where a script is: the node, the bytes of the line that has begun, and the number of that line
 pub record Going : Type 0 where
-  pub node : NodeState
+  pub node : NodeModel
   pub line : List ℕ
   pub number : ℕ
 
@@ -144,7 +146,7 @@ ComesTo old new v w rest left (Err OutOfMemory) = Stops old new v w rest OutOfMe
 
 -- a script over a node of the configuration that was just opened
 pub record Starts (config : ConfigModel) (s : Script) : Type 0 where
-  pub node : s.player.node ≡ opened_node config
+  pub node : node_of s.player ≡ opened_model config
   pub line : s.line.items ≡ []
   pub number : s.number ≡ 1
   pub output : s.player.output.items ≡ []

@@ -6,23 +6,18 @@ use Rattle.std.specs.List.{flat_map}
 use Rattle.std.specs.Str.Lines.{lines}
 use Rattle.trdp_dataset.specs.Configs.{ConfigModel}
 use Rattle.trdp_filter.specs.declared.globals.Globals.{Globals}
-use Rattle.trdp_engine.specs.declared.fault.NodeFault.{NodeFault}
-use Rattle.trdp_engine.specs.Configs.{NodeSetup, setup_of}
-use Rattle.trdp_engine.specs.Events.{EventModel}
-use Rattle.trdp_engine.specs.Records.{labelled}
-use Rattle.trdp_engine.specs.Slots.{SlotState}
-use Rattle.trdp_engine.specs.Alone.{refused_as, globals_after, slot_after, records_after}
-use Rattle.trdp_engine.specs.Alone.{opened_by, told_opening}
-use Rattle.trdp_engine.specs.NodeStates.{NodeState, opened_node}
+use Rattle.trdp_model.specs.declared.fault.NodeFault.{NodeFault}
+use Rattle.trdp_model.specs.Configs.{NodeSetup, setup_of}
+use Rattle.trdp_model.specs.Events.{EventModel}
+use Rattle.trdp_model.specs.Records.{labelled}
+use Rattle.trdp_model.specs.Slots.{SlotState}
+use Rattle.trdp_model.specs.Alone.{refused_as, records_after}
+use Rattle.trdp_model.specs.Alone.{told_opening}
+use Rattle.trdp_model.specs.NodeModels.{node_after}
+use Rattle.trdp_model.specs.NodeModels.{NodeModel, opened_model}
 use Rattle.trdp_script.specs.declared.fault.LineFault.{LineFault}
 use Rattle.trdp_script.specs.Lines.{line_of}
 use Rattle.trdp_script.specs.RecordText.{text_of_record, text_of_fault}
-
--- the slots that are there, of which the first has the number s, after an event that the node takes
-abbrev pub slots_after : NodeSetup → Globals → EventModel → ℕ → List SlotState → List SlotState
-slots_after setup g event s [] = []
-slots_after setup g event s (slot ∷ slots) =
-    slot_after setup s slot g event ∷ slots_after setup g event (suc s) slots
 
 -- the text of the records that these slots get at such an event, slots rising, each slot's in
 -- their order
@@ -32,36 +27,19 @@ slots_text setup g event s (slot ∷ slots) =
     flat_map text_of_record (labelled s (records_after setup s slot g event))
     ++ slots_text setup g event (suc s) slots
 
--- the node after an event with this fault, which it takes no notice of, or with none
-abbrev pub node_unless : Option NodeFault → NodeState → EventModel → NodeState
-node_unless (Some fault) node event = node
-node_unless None node event = record node {
-  globals = globals_after node.globals event;
-  slots = slots_after (setup_of node.config) node.globals event 0 node.slots ++ opened_by event;
-}
-
--- the node after an event
-abbrev pub node_after : NodeState → EventModel → NodeState
-node_after node event = node_unless (refused_as (length node.slots) node.globals event) node event
-
--- the node after events, one after another
-abbrev pub nodes_after : NodeState → List EventModel → NodeState
-nodes_after node [] = node
-nodes_after node (event ∷ events) = nodes_after (node_after node event) events
-
 -- what is told of an event with this fault, or of the records of one with none
-abbrev pub text_unless : Option NodeFault → NodeState → EventModel → List ℕ
+abbrev pub text_unless : Option NodeFault → NodeModel → EventModel → List ℕ
 text_unless (Some fault) node event = text_of_fault fault
 text_unless None node event =
     slots_text (setup_of node.config) node.globals event 0 node.slots
     ++ flat_map text_of_record (labelled (length node.slots) (told_opening event))
 
 -- what is told of an event
-abbrev pub event_text : NodeState → EventModel → List ℕ
+abbrev pub event_text : NodeModel → EventModel → List ℕ
 event_text node event = text_unless (refused_as (length node.slots) node.globals event) node event
 
 -- what is told of events, one after another
-abbrev pub events_text : NodeState → List EventModel → List ℕ
+abbrev pub events_text : NodeModel → List EventModel → List ℕ
 events_text node [] = []
 events_text node (event ∷ events) =
     event_text node event ++ events_text (node_after node event) events
@@ -101,4 +79,4 @@ script_fault input = fault_from 1 (lines input)
 
 -- what a script gives over a node of the configuration
 abbrev pub script_text : ConfigModel → List ℕ → List ℕ
-script_text config input = events_text (opened_node config) (script_events input)
+script_text config input = events_text (opened_model config) (script_events input)

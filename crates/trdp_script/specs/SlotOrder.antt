@@ -1,7 +1,7 @@
 -- Records slot by slot.
 use Rattle.std.specs.Prelude.{◌<◌, ◌≤◌, ◌++◌, ◌∷◌, ◌==◌, ℕ, zero, suc, List, [], filter}
 use Rattle.std.specs.Prelude.{if◌then◌else◌}
-use Rattle.trdp_engine.specs.Records.{RecordModel}
+use Rattle.trdp_model.specs.Records.{RecordModel}
 use Rattle.trdp_script.specs.RecordText.{text_of_record}
 
 -- the line of a record of the slot, and none of another

@@ -1,7 +1,7 @@
 //! Calls as lines say them. These own what they carry.
 
 ghost use Rattle.std.specs.Prelude.{◌≡◌};
-ghost use Rattle.trdp_engine.specs.Events.{call_model};
+ghost use Rattle.trdp_model.specs.Events.{call_model};
 ghost use Rattle.trdp_script.specs.LineCalls.{plain_call_of, bytes_call_of};
 
 use trdp_base::Place;

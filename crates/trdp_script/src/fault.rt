@@ -1,5 +1,6 @@
-//! Why a line can't be done.
+//! Why a line can't be done, and why a script ends.
 
+use std::alloc::AllocError;
 use thiserror::Error;
 
 /// Why a line says nothing that can be done, first the first that applies (profile).
@@ -20,4 +21,32 @@ pub enum LineFault {
     /// The line is good and carries bytes, for which there is no memory.
     #[error("there is no memory for the bytes of the line")]
     OutOfMemory = 5,
+}
+
+/// Why a script ends before the end of its input.
+#[derive(Clone, Copy, Debug, PartialEq, Eq, Error)]
+pub enum ScriptFault {
+    /// The line of that number, counted from 1 over all lines, is no good.
+    #[error("line {0} of the script: {1}")]
+    Line(u64, LineFault),
+    /// The script can't be read further.
+    #[error("the script can't be read further")]
+    Read,
+    /// The output can't be written.
+    #[error("the output can't be written")]
+    Write,
+    /// Memory was refused.
+    #[error("there is no memory for the script")]
+    OutOfMemory,
+}
+
+impl From<AllocError> for ScriptFault {
+    ghost use Rattle.std.specs.Prelude.{◌≡◌};
+    ghost use Rattle.trdp_script.specs.declared.fault.ScriptFault.TheVariants.{OutOfMemory};
+
+    ghost from_gives = { λ _ fault. fault ≡ OutOfMemory };
+
+    fn from(_: AllocError) -> ScriptFault {
+        ScriptFault::OutOfMemory
+    }
 }

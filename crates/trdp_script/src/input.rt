@@ -4,7 +4,7 @@ ghost use Rattle.std.specs.Prelude.{◌≡◌, ◌<◌, ◌≤◌, length, IfOk,
 ghost use Rattle.std.specs.Io.KnownBytes.{ReadConsumes};
 ghost use Rattle.std.specs.Str.Lines.{strip_carriage_return};
 
-use crate::script::ScriptFault;
+use crate::fault::ScriptFault;
 use std::io::Read;
 
 /// A line without the one carriage return at its end.

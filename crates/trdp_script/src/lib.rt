@@ -33,11 +33,11 @@ mod split;
 mod words;
 
 pub use calls::{BytesCall, PlainCall};
-pub use fault::LineFault;
+pub use fault::{LineFault, ScriptFault};
 pub use line::{LINE_MAX, Line, read_line};
 pub use names::line_fault_name;
 pub use order::is_rising;
 pub use output::{WRITE_TRIES, write_whole};
 pub use port::{read_control, read_operator};
 pub use print::print_record;
-pub use script::{ScriptFault, run_script};
+pub use script::run_script;

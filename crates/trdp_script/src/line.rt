@@ -1,7 +1,7 @@
 //! What one line of a script says.
 
 ghost use Rattle.std.specs.Prelude.{◌≡◌, map, option_map};
-ghost use Rattle.trdp_engine.specs.Events.{event_model};
+ghost use Rattle.trdp_model.specs.Events.{event_model};
 ghost use Rattle.trdp_script.specs.FormNames.{line_form};
 ghost use Rattle.trdp_script.specs.Lines.{line_of, line_among, words_say, form_among};
 ghost use Rattle.trdp_script.specs.Lines.{is_skipped as skipped};

@@ -4,7 +4,7 @@ ghost use Rattle.std.specs.Prelude.{◌≡◌, ◌<◌, ◌≤◌, [], length, t
 ghost use Rattle.std.specs.Io.KnownBytes.{Appends, WriteAppends};
 ghost use Rattle.trdp_script.specs.Writes.{PassesOn, PassesSome, PartlyWrites};
 
-use crate::script::ScriptFault;
+use crate::fault::ScriptFault;
 use std::alloc::{AllocError, Global};
 use std::io::{ErrorKind, Write};
 

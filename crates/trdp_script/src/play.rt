@@ -3,11 +3,12 @@
 ghost use Rattle.std.specs.Prelude.{◌≡◌, ◌≢◌, ◌≤◌, ◌++◌, ◌==◌, [], length, filter, take, true};
 ghost use Rattle.std.specs.Prelude.{IfOk, OnOk, OnErr, vec_len};
 ghost use Rattle.std.specs.List.{flat_map};
-ghost use Rattle.trdp_engine.specs.Events.{event_model};
+ghost use Rattle.trdp_model.specs.Events.{event_model};
 ghost use Rattle.trdp_engine.specs.NodeStates.{uncounted};
 ghost use Rattle.trdp_script.specs.RecordText.{text_of_record};
-ghost use Rattle.trdp_script.specs.ScriptText.{event_text, node_after};
-ghost use Rattle.trdp_engine.specs.Records.{record_model};
+ghost use Rattle.trdp_script.specs.ScriptText.{event_text};
+ghost use Rattle.trdp_model.specs.NodeModels.{node_after};
+ghost use Rattle.trdp_model.specs.Records.{record_model};
 ghost use Rattle.trdp_script.specs.SlotOrder.{by_slot, slot_text};
 ghost use Rattle.trdp_script.specs.Wants.{EventMayWant};
 

@@ -1,16 +1,16 @@
 //! The player of a script's lines, one by one.
 
 ghost use Rattle.std.specs.Prelude.{◌≡◌, ◌≤◌, [], length, Some, Ok, IfOk};
-ghost use Rattle.trdp_engine.specs.NodeStates.{opened_node};
-ghost use Rattle.trdp_engine.specs.Events.{event_model};
+ghost use Rattle.trdp_engine.specs.NodeStates.{uncounted};
+ghost use Rattle.trdp_model.specs.NodeModels.{opened_model};
+ghost use Rattle.trdp_model.specs.Events.{event_model};
 ghost use Rattle.trdp_script.specs.Lines.{line_of};
 ghost use Rattle.trdp_script.specs.ScriptSteps.{LineComesTo};
 
-use crate::fault::LineFault;
+use crate::fault::{LineFault, ScriptFault};
 use crate::line::read_line;
 use crate::output::{output_buffer, put};
 use crate::play::play;
-use crate::script::ScriptFault;
 use std::alloc::{AllocError, Global};
 use std::io::Write;
 use trdp_dataset::NodeConfig;
@@ -31,7 +31,7 @@ pub(crate) struct Player {
 impl Player {
     /// A node of the configuration that was just opened.
     pub(crate) fn new(alloc: Global, config: NodeConfig) -> Result<Player, AllocError>
-        ensures node { IfOk result (λ player. player.node ≡ opened_node config) }
+        ensures node { IfOk result (λ player. uncounted player.node ≡ opened_model config) }
         ensures slots { IfOk result (λ player. length player.node.slots ≤ 16) }
         ensures output { IfOk result (λ player. player.output.items ≡ []) }
     {

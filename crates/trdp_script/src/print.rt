@@ -3,8 +3,8 @@
 ghost use Rattle.std.specs.Prelude.{◌≡◌, ◌≤◌, ◌+◌, ◌*◌, ◌++◌, length, OnOk, OnErr};
 ghost use Rattle.std.specs.Prelude.{codes, vec_len, vec_capacity};
 ghost use Rattle.trdp_pd.specs.Peeks.{peek_model};
-ghost use Rattle.trdp_engine.specs.Records.{record_model, content_model, answer_model};
-ghost use Rattle.trdp_engine.specs.Records.{indication_model};
+ghost use Rattle.trdp_model.specs.Records.{record_model, content_model, answer_model};
+ghost use Rattle.trdp_model.specs.Records.{indication_model};
 ghost use Rattle.trdp_script.specs.declared.print.TheConstants.{CONTENT_ROOM};
 ghost use Rattle.trdp_script.specs.RecordText.{text_of_peek, text_of_answer, text_of_indication};
 ghost use Rattle.trdp_script.specs.RecordText.{words_of_send, text_of_send, text_of_content};

@@ -2,7 +2,7 @@
 
 ghost use Rattle.std.specs.Prelude.{◌≡◌, ◌≤◌, ◌+◌, ◌*◌, ◌++◌, length, codes};
 ghost use Rattle.std.specs.Prelude.{vec_len, vec_capacity};
-ghost use Rattle.trdp_engine.specs.Records.{AskedIs, message_model, reply_model};
+ghost use Rattle.trdp_model.specs.Records.{AskedIs, message_model, reply_model};
 ghost use Rattle.trdp_script.specs.RecordText.{text_of_indication, text_of_message, text_of_reply};
 ghost use Rattle.trdp_script.specs.declared.print_message.TheConstants.{ASKED_ROOM, MESSAGE_ROOM};
 ghost use Rattle.trdp_script.specs.declared.print_message.TheConstants.{REPLY_ROOM};

@@ -1,7 +1,7 @@
 //! What the words of a form say.
 
 ghost use Rattle.std.specs.Prelude.{◌≡◌, ℕ, List, Option, option_map};
-ghost use Rattle.trdp_engine.specs.Events.{EventModel, CallModel, CallIs};
+ghost use Rattle.trdp_model.specs.Events.{EventModel, CallModel, CallIs};
 ghost use Rattle.trdp_script.specs.Forms.{event_in, handle_form, datagram_form, moment_form};
 ghost use Rattle.trdp_script.specs.Forms.{topology_form, role_form, put_form, publish_form};
 ghost use Rattle.trdp_script.specs.Forms.{subscribe_form, open_pull_form, unpublish_form};

@@ -11,7 +11,7 @@ ghost use Rattle.trdp_script.specs.ScriptSteps.{Starts, Stops};
 ghost use Rattle.trdp_dataset.specs.Configs.{ConfigModel};
 ghost use Rattle.trdp_script.specs.declared.script.TheConstants.{PIECE_ROOM};
 
-use crate::fault::LineFault;
+use crate::fault::{LineFault, ScriptFault};
 use crate::input::{read_piece, without_return};
 use crate::line::LINE_MAX;
 use crate::output::flush;
@@ -19,7 +19,6 @@ use crate::player::Player;
 use crate::split::split_at_byte;
 use std::alloc::{AllocError, Global};
 use std::io::{Read, Write};
-use thiserror::Error;
 use trdp_dataset::NodeConfig;
 
 /// How many bytes are read at once.
@@ -28,34 +27,6 @@ const PIECE_ROOM: usize = 65_536;
 /// Room for the bytes of a line before its newline: the longest line and a carriage return. One
 /// byte more tells a line that is too long, however it goes on.
 const LINE_ROOM: usize = LINE_MAX + 1;
-
-/// Why a script ends before the end of its input.
-#[derive(Clone, Copy, Debug, PartialEq, Eq, Error)]
-pub enum ScriptFault {
-    /// The line of that number, counted from 1 over all lines, is no good.
-    #[error("line {0} of the script: {1}")]
-    Line(u64, LineFault),
-    /// The script can't be read further.
-    #[error("the script can't be read further")]
-    Read,
-    /// The output can't be written.
-    #[error("the output can't be written")]
-    Write,
-    /// Memory was refused.
-    #[error("there is no memory for the script")]
-    OutOfMemory,
-}
-
-impl From<AllocError> for ScriptFault {
-    ghost use Rattle.std.specs.Prelude.{◌≡◌};
-    ghost use Rattle.trdp_script.specs.declared.script.ScriptFault.TheVariants.{OutOfMemory};
-
-    ghost from_gives = { λ _ fault. fault ≡ OutOfMemory };
-
-    fn from(_: AllocError) -> ScriptFault {
-        ScriptFault::OutOfMemory
-    }
-}
 
 /// Plays a script from the reader over a node of the configuration, and writes what the node gives
 /// to the writer: for each event its records slot by slot, slots rising, each slot's in their

@@ -9,10 +9,11 @@ use Rattle.std.proofs.lemmas.List.Sums.{sum_by-cons}
 use Rattle.std.proofs.lemmas.Bool.{cases_lt, false≢true}
 use Rattle.std.proofs.lemmas.Option.{none-some}
 use Rattle.std.proofs.Math.ListN.{get_or-map}
-use Rattle.trdp_table.specs.declared.any_object.AnyObject.{AnyObject}
+use Rattle.trdp_model.specs.declared.any_object.AnyObject.{AnyObject}
 use Rattle.trdp_table.specs.declared.held.Held.{Held}
-use Rattle.trdp_table.specs.declared.kind.Kind.{Kind}
-use Rattle.trdp_table.specs.Tables.{SlotTable, TableState, slot_limit, opened_slot, slot_in}
+use Rattle.trdp_model.specs.declared.kind.Kind.{Kind}
+use Rattle.trdp_table.specs.Tables.{SlotTable, TableState, opened_slot, slot_in}
+use Rattle.trdp_model.specs.Slots.{slot_limit}
 use Rattle.trdp_table.specs.Tables.{all_quotas, room_of, all_objects, refusal, exchanged}
 use Rattle.trdp_table.specs.TableLaws.{AreLimited}
 use Rattle.trdp_table.specs.Entries.{SlotEntries, opened_entries, entries_in}

@@ -1,4 +1,3 @@
-pub mod Objects
 pub mod Searching
 pub mod Slots
 pub mod Pools

@@ -6,7 +6,8 @@ use Rattle.std.proofs.lemmas.List.{length-append, length-replicate}
 use Rattle.std.proofs.lemmas.List.Sums.{sum_by-append}
 use Rattle.trdp_table.specs.declared.entry.Entry.{Entry}
 use Rattle.trdp_table.specs.declared.held.Held.{Held}
-use Rattle.trdp_table.specs.Tables.{Keyed, SlotTable, TableState, slot_limit, opened_slot}
+use Rattle.trdp_table.specs.Tables.{Keyed, SlotTable, TableState, opened_slot}
+use Rattle.trdp_model.specs.Slots.{slot_limit}
 use Rattle.trdp_table.specs.Tables.{all_quotas, room_of}
 use Rattle.trdp_table.specs.TableLaws.{AreLimited}
 use Rattle.trdp_table.specs.Entries.{SlotEntries, opened_entries, entries_in, key_of}

@@ -8,7 +8,7 @@ use Rattle.std.proofs.lemmas.List.{length-set, map-set, length-map}
 use Rattle.std.proofs.lemmas.Bool.{false≢true, cases_eq}
 use Rattle.std.proofs.lemmas.Option.{same_Some, none-some, slice_get_within}
 use Rattle.slab.specs.Slab.{Slab, get, slab_len, Updates, with_value}
-use Rattle.trdp_table.specs.declared.any_object.AnyObject.{AnyObject}
+use Rattle.trdp_model.specs.declared.any_object.AnyObject.{AnyObject}
 use Rattle.trdp_table.specs.declared.held.Held.{Held}
 use Rattle.trdp_table.specs.Pools.{PoolState, held_in, held_count, pool_with}
 use Rattle.trdp_table.specs.Pools.{with_other_held, placed, IsKeptPool}

@@ -9,11 +9,11 @@ use Rattle.std.proofs.lemmas.List.Sums.{sum_by-cons}
 use Rattle.std.proofs.lemmas.Bool.Decides.{nat_tests}
 use Rattle.std.proofs.lemmas.Option.{same_Some, none-some}
 use Rattle.std.proofs.Math.ListN.{get_or-map}
-use Rattle.trdp_table.specs.declared.any_object.AnyObject.{AnyObject}
+use Rattle.trdp_model.specs.declared.any_object.AnyObject.{AnyObject}
 use Rattle.trdp_table.specs.declared.entry.Entry.{Entry}
 use Rattle.trdp_table.specs.declared.held.Held.{Held}
-use Rattle.trdp_table.specs.declared.kind.Kind.{Kind}
-use Rattle.trdp_table.specs.Kinds.{kind_of, is_same_kind}
+use Rattle.trdp_model.specs.declared.kind.Kind.{Kind}
+use Rattle.trdp_model.specs.Kinds.{kind_of, is_same_kind}
 use Rattle.trdp_table.specs.Tables.{Keyed, SlotTable, slot_in, all_objects, by_handle}
 use Rattle.trdp_table.specs.Tables.{count_of, refusal, all_quotas, room_of}
 use Rattle.trdp_table.specs.Tables.{with_object, without, exchanged, other_by_key}

@@ -4,10 +4,10 @@ use Rattle.std.proofs.Common.{Option, Some, None, refl, ◌∙◌, sym, ap}
 use Rattle.std.specs.Prelude.{option_map}
 use Rattle.std.proofs.lemmas.List.{map-set, set-get_or}
 use Rattle.std.proofs.lemmas.Option.{none-some}
-use Rattle.trdp_table.specs.declared.any_object.AnyObject.{AnyObject}
+use Rattle.trdp_model.specs.declared.any_object.AnyObject.{AnyObject}
 use Rattle.trdp_table.specs.declared.entry.Entry.{Entry}
 use Rattle.trdp_table.specs.declared.held.Held.{Held}
-use Rattle.trdp_table.specs.Kinds.{kind_of}
+use Rattle.trdp_model.specs.Kinds.{kind_of}
 use Rattle.trdp_table.specs.Tables.{Keyed, SlotTable, slot_in, by_handle, with_object}
 use Rattle.trdp_table.specs.Tables.{without, with_next, changed_at, Adds}
 use Rattle.trdp_table.specs.Entries.{SlotEntries, opened_entries, entries_in, entry_of, key_of}

@@ -8,10 +8,10 @@ use Rattle.std.proofs.lemmas.Option.{same_Some, none-some, slice_get_read}
 use Rattle.std.proofs.lemmas.Bool.Decides.{nat_tests}
 use Rattle.std.proofs.lemmas.List.Sums.{sum_by-cons}
 use Rattle.trdp_table.specs.declared.entry.Entry.{Entry}
-use Rattle.trdp_table.specs.declared.kind.Kind.{Kind}
-use Rattle.trdp_table.specs.declared.kind.Kind.TheVariants.{Publisher, Subscription, Requester}
-use Rattle.trdp_table.specs.declared.kind.Kind.TheVariants.{Listener, Caller, Replier}
-use Rattle.trdp_table.specs.Kinds.{kind_index, is_same_kind}
+use Rattle.trdp_model.specs.declared.kind.Kind.{Kind}
+use Rattle.trdp_model.specs.declared.kind.Kind.TheVariants.{Publisher, Subscription, Requester}
+use Rattle.trdp_model.specs.declared.kind.Kind.TheVariants.{Listener, Caller, Replier}
+use Rattle.trdp_model.specs.Kinds.{kind_index, is_same_kind}
 use Rattle.trdp_table.specs.Tables.{last_handle, all_quotas}
 use Rattle.trdp_table.specs.TableLaws.{AreLimited, object_limit}
 use Rattle.trdp_table.specs.Entries.{SlotEntries, opened_entries, entry_of, entries_of, refusal_of}

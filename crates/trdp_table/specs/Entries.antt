@@ -4,10 +4,10 @@ use Rattle.std.specs.Prelude.{slice_index, slice_index_or, slice_set}
 use Rattle.std.specs.Prelude.{Option, Some, None, option_map}
 use Rattle.std.specs.Prelude.{◌==◌, nat_le, nat_lt, not, if◌then◌else◌}
 use Rattle.trdp_table.specs.declared.entry.Entry.{Entry}
-use Rattle.trdp_table.specs.declared.kind.Kind.{Kind}
+use Rattle.trdp_model.specs.declared.kind.Kind.{Kind}
 use Rattle.trdp_table.specs.declared.fault.TableFault.{TableFault}
 use Rattle.trdp_table.specs.declared.fault.TableFault.TheVariants.{Quota, Exhausted}
-use Rattle.trdp_table.specs.Kinds.{kind_index, is_same_kind}
+use Rattle.trdp_model.specs.Kinds.{kind_index, is_same_kind}
 use Rattle.trdp_table.specs.Tables.{last_handle}
 use Rattle.trdp_table.specs.TableLaws.{AreLimited}
 

@@ -1,9 +1,9 @@
 -- What the pool and the table become where one of their objects is lent.
 use Rattle.std.specs.Prelude.{ℕ, Option}
 use Rattle.std.specs.Borrow.{Lends, LendsIf, MutBor, Fml}
-use Rattle.trdp_table.specs.declared.any_object.AnyObject.{AnyObject}
+use Rattle.trdp_model.specs.declared.any_object.AnyObject.{AnyObject}
 use Rattle.trdp_table.specs.declared.held.Held.{Held}
-use Rattle.trdp_table.specs.contracts.any_object.AnyObject.{the_row as object_row}
+use Rattle.trdp_model.specs.contracts.any_object.AnyObject.{the_row as object_row}
 use Rattle.trdp_table.specs.contracts.held.Held.{the_row as held_row}
 use Rattle.trdp_table.specs.contracts.pool.Pool.{the_row as pool_row}
 use Rattle.trdp_table.specs.contracts.table.Table.{the_row as table_row}

@@ -1,6 +1,3 @@
-pub mod Objects
-pub mod ObjectLaws
-pub mod Kinds
 pub mod Tables
 pub mod TableLaws
 pub mod Entries
@@ -8,3 +5,4 @@ pub mod SlotKept
 pub mod Pools
 pub mod TableKept
 pub mod Lending
+pub mod Refusals

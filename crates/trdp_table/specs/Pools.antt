@@ -6,7 +6,7 @@ use Rattle.std.specs.Prelude.{◌≡◌, ◌+◌, ◌<◌, ◌≤◌, ℕ, List,
 use Rattle.std.specs.Prelude.{Option, Some, None, is_some, IsSome}
 use Rattle.std.specs.Prelude.{count_by, slice_get, slice_index_or, slice_set, option_map}
 use Rattle.slab.specs.Slab.{Slab, get, slab_len}
-use Rattle.trdp_table.specs.declared.any_object.AnyObject.{AnyObject}
+use Rattle.trdp_model.specs.declared.any_object.AnyObject.{AnyObject}
 use Rattle.trdp_table.specs.declared.held.Held.{Held}
 
 -- what is held under each key from 0 on

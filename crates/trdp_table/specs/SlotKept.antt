@@ -2,8 +2,8 @@
 -- allow.
 use Rattle.std.specs.Prelude.{◌≡◌, ℕ, ◌<◌, ◌≤◌, List, length, slice_index, slice_get}
 use Rattle.trdp_table.specs.declared.entry.Entry.{Entry}
-use Rattle.trdp_table.specs.declared.kind.Kind.{Kind}
-use Rattle.trdp_table.specs.Kinds.{kind_index}
+use Rattle.trdp_model.specs.declared.kind.Kind.{Kind}
+use Rattle.trdp_model.specs.Kinds.{kind_index}
 use Rattle.trdp_table.specs.Tables.{all_quotas}
 use Rattle.trdp_table.specs.Entries.{SlotEntries, AreSlotEntries, entries_of, entry_of}
 

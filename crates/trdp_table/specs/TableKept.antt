@@ -1,11 +1,12 @@
 -- How a table keeps its objects: the lists of the slots name keys, and the pool holds under each of
 -- them the object.
 use Rattle.std.specs.Prelude.{◌≡◌, ℕ, ◌≤◌, List, length, map, sum_by, Option, Some, None}
-use Rattle.trdp_table.specs.declared.any_object.AnyObject.{AnyObject}
-use Rattle.trdp_table.specs.declared.any_object.AnyObject.TheVariants.{Requester}
+use Rattle.trdp_model.specs.declared.any_object.AnyObject.{AnyObject}
+use Rattle.trdp_model.specs.declared.any_object.AnyObject.TheVariants.{Requester}
 use Rattle.trdp_table.specs.declared.entry.Entry.{Entry}
 use Rattle.trdp_table.specs.declared.held.Held.{Held}
-use Rattle.trdp_table.specs.Tables.{Keyed, SlotTable, TableState, slot_limit, all_quotas}
+use Rattle.trdp_table.specs.Tables.{Keyed, SlotTable, TableState, all_quotas}
+use Rattle.trdp_model.specs.Slots.{slot_limit}
 use Rattle.trdp_table.specs.Entries.{SlotEntries, AreSlotEntries, entries_in, key_of}
 use Rattle.trdp_table.specs.Pools.{PoolState, held_in, owner_in, held_count}
 

@@ -3,9 +3,10 @@
 use Rattle.std.specs.Prelude.{◌==◌, ℕ, ◌<◌, ◌≤◌, List, [], ◌∷◌, length, map, slice_index, IsSome}
 use Rattle.std.specs.List.{IsDistinct}
 use Rattle.trdp_base.specs.QuotaLimits.{quota_limit}
-use Rattle.trdp_table.specs.declared.kind.Kind.{Kind}
-use Rattle.trdp_table.specs.Kinds.{kind_index}
-use Rattle.trdp_table.specs.Tables.{Keyed, SlotTable, TableState, slot_limit}
+use Rattle.trdp_model.specs.declared.kind.Kind.{Kind}
+use Rattle.trdp_model.specs.Kinds.{kind_index}
+use Rattle.trdp_table.specs.Tables.{Keyed, SlotTable, TableState}
+use Rattle.trdp_model.specs.Slots.{slot_limit}
 use Rattle.trdp_table.specs.Tables.{slot_in, count_of, all_objects, by_key, room_of}
 
 -- each handle is above h

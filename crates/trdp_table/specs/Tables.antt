@@ -3,11 +3,11 @@ use Rattle.std.specs.Prelude.{◌≡◌, ℕ, ◌+◌, max, List, [], ◌∷◌,
 use Rattle.std.specs.Prelude.{count_by, sum_by, slice_index, slice_index_or}
 use Rattle.std.specs.Prelude.{slice_set, Option, Some, None}
 use Rattle.std.specs.Prelude.{◌==◌, nat_le, nat_lt, not, if◌then◌else◌}
-use Rattle.trdp_table.specs.declared.any_object.AnyObject.{AnyObject}
-use Rattle.trdp_table.specs.declared.kind.Kind.{Kind}
+use Rattle.trdp_model.specs.declared.any_object.AnyObject.{AnyObject}
+use Rattle.trdp_model.specs.declared.kind.Kind.{Kind}
 use Rattle.trdp_table.specs.declared.fault.TableFault.{TableFault}
 use Rattle.trdp_table.specs.declared.fault.TableFault.TheVariants.{Quota, Exhausted}
-use Rattle.trdp_table.specs.Kinds.{kind_index, kind_of, is_same_kind}
+use Rattle.trdp_model.specs.Kinds.{kind_index, kind_of, is_same_kind}
 
 -- an object with its handle in its slot, its key in the table, and the kind that it was added
 -- with, for whose quota it counts
@@ -26,10 +26,6 @@ pub record SlotTable : Type 0 where
 -- the slots by their numbers, from 0
 abbrev pub TableState : Type 0
 TableState = List SlotTable
-
--- the most slots of a table
-abbrev pub slot_limit : ℕ
-slot_limit = 16
 
 -- the last handle of a slot
 abbrev pub last_handle : ℕ

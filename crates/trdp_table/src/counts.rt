@@ -1,10 +1,10 @@
 //! How many objects of each kind a slot has.
 
 ghost use Rattle.std.specs.Prelude.{◌≡◌, ◌+◌, ◌-◌, ◌<◌, slice_index, if◌then◌else◌};
-ghost use Rattle.trdp_table.specs.Kinds.{kind_index, is_same_kind};
-ghost use Rattle.trdp_table.specs.declared.kind.Kind.{Kind};
+ghost use Rattle.trdp_model.specs.Kinds.{kind_index, is_same_kind};
+ghost use Rattle.trdp_model.specs.declared.kind.Kind.{Kind};
 
-use crate::kind::Kind;
+use trdp_model::Kind;
 
 /// How many objects of each kind a slot has, kept so that a quota is tested without a scan.
 #[derive(Clone, Copy)]

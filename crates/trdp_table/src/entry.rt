@@ -1,6 +1,6 @@
 //! What a slot's list says of one of its objects.
 
-use crate::kind::Kind;
+use trdp_model::Kind;
 
 /// An object of a slot: its handle, what it counts for, and where it is.
 #[derive(Clone, Copy)]

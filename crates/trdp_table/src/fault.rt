@@ -2,6 +2,7 @@
 
 use std::alloc::AllocError;
 use thiserror::Error;
+use trdp_model::Refusal;
 
 /// Why a slot takes no further object, the first that applies of `Quota` and `Exhausted`, or why a
 /// table takes no further slot, of `SlotsFull` and `OutOfMemory` (profile).
@@ -29,5 +30,21 @@ impl From<AllocError> for TableFault {
 
     fn from(_: AllocError) -> TableFault {
         TableFault::OutOfMemory
+    }
+}
+
+impl From<TableFault> for Refusal {
+    ghost use Rattle.std.specs.Prelude.{◌≡◌};
+    ghost use Rattle.trdp_table.specs.Refusals.{table_refusal};
+
+    ghost from_gives = { λ fault refusal. refusal ≡ table_refusal fault };
+
+    fn from(fault: TableFault) -> Refusal {
+        match fault {
+            TableFault::Quota => Refusal::Quota,
+            TableFault::Exhausted | TableFault::SlotsFull | TableFault::OutOfMemory => {
+                Refusal::Exhausted
+            }
+        }
     }
 }

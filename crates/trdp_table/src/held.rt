@@ -3,7 +3,7 @@
 ghost use Rattle.std.specs.Prelude.{◌≡◌};
 ghost use Rattle.std.specs.Borrow.{sem};
 
-use crate::any_object::AnyObject;
+use trdp_model::AnyObject;
 
 /// An object, and whose it is.
 #[derive(Drop)]

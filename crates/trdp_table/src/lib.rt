@@ -7,21 +7,18 @@
 //! that for those of one more slot; nothing else takes any.
 #![tactic(auto)]
 
-mod any_object;
 mod counts;
 mod entry;
 mod fault;
 mod held;
-mod kind;
-mod laws;
 mod pool;
 mod search;
 mod slot;
 mod table;
 
-pub use any_object::AnyObject;
 pub use fault::TableFault;
-pub use kind::Kind;
-pub use laws::kind_stays;
 pub use slot::room_of;
 pub use table::Table;
+
+// What callers pass in and get back.
+pub use trdp_model::{AnyObject, Kind};

@@ -8,11 +8,11 @@ ghost use Rattle.std.specs.List.{range_with_len};
 ghost use Rattle.std.specs.Borrow.{sem};
 ghost use Rattle.trdp_table.specs.Pools.{held_in, owner_in, held_count};
 
-use crate::any_object::AnyObject;
 use crate::held::Held;
 use slab::Slab;
 use std::alloc::{AllocError, Global};
 use std::marker::Model;
+use trdp_model::AnyObject;
 
 /// Objects under keys below the room: a key is that of one object until this is removed, and may
 /// then become that of another one.

@@ -10,11 +10,11 @@ ghost use Rattle.trdp_table.specs.SlotKept.{IsIndexOf};
 use crate::counts::KindCounts;
 use crate::entry::Entry;
 use crate::fault::TableFault;
-use crate::kind::Kind;
 use crate::search::index_of;
 use std::alloc::{AllocError, Global};
 use std::marker::Model;
 use trdp_base::Quotas;
+use trdp_model::Kind;
 
 /// The last handle of a slot (profile).
 const HANDLE_MAX: u64 = 4_294_967_295;

@@ -5,25 +5,25 @@ ghost use Rattle.std.specs.Prelude.{sum_by, All, Some, None, Err, IfOk, IfErr, O
 ghost use Rattle.std.specs.Prelude.{IfSome, IsSome, is_some, slice_get, option_map, option_copied};
 ghost use Rattle.std.specs.Option.{option_copied_mut};
 ghost use Rattle.std.specs.Borrow.{sem};
-ghost use Rattle.trdp_table.specs.declared.any_object.AnyObject.{AnyObject};
-ghost use Rattle.trdp_table.specs.declared.kind.Kind.{Kind};
-ghost use Rattle.trdp_table.specs.Kinds.{kind_of};
-ghost use Rattle.trdp_table.specs.Tables.{Keyed, slot_limit, opened_slot, slot_in, all_quotas};
+ghost use Rattle.trdp_model.specs.declared.any_object.AnyObject.{AnyObject};
+ghost use Rattle.trdp_model.specs.declared.kind.Kind.{Kind};
+ghost use Rattle.trdp_model.specs.Kinds.{kind_of};
+ghost use Rattle.trdp_table.specs.Tables.{Keyed, opened_slot, slot_in, all_quotas};
+ghost use Rattle.trdp_model.specs.Slots.{slot_limit};
 ghost use Rattle.trdp_table.specs.Tables.{all_objects, by_handle, by_key, refusal, Adds};
 ghost use Rattle.trdp_table.specs.Tables.{changed_at, without, with_next, exchanged, room_of};
 ghost use Rattle.trdp_table.specs.Tables.{with_other_by_handle};
 ghost use Rattle.trdp_table.specs.TableLaws.{AreLimited, object_limit, IsTable};
 ghost use Rattle.trdp_table.specs.Entries.{opened_entries};
 
-use crate::any_object::AnyObject;
 use crate::fault::TableFault;
 use crate::held::Held;
-use crate::kind::Kind;
 use crate::pool::Pool;
 use crate::slot::{Slot, room_of};
 use std::alloc::{AllocError, Global};
 use std::marker::Model;
 use trdp_base::Quotas;
+use trdp_model::{AnyObject, Kind};
 
 /// The most slots of a table (profile).
 const SLOTS_MAX: usize = 16;

@@ -1,8 +1,8 @@
 -- A slot for the worked examples of views.
 use Rattle.std.specs.Prelude.{[], ◌∷◌}
 use Rattle.trdp_pd.specs.Subscriptions.{SubscriptionState}
-use Rattle.trdp_table.specs.declared.any_object.AnyObject.TheVariants.{Subscription}
-use Rattle.trdp_engine.specs.Slots.{SlotState}
+use Rattle.trdp_model.specs.declared.any_object.AnyObject.TheVariants.{Subscription}
+use Rattle.trdp_model.specs.Slots.{SlotState}
 
 -- a slot whose only object is this subscription
 abbrev pub with_subscription : SubscriptionState → SlotState

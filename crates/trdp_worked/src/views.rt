@@ -7,14 +7,14 @@ ghost use Rattle.trdp_filter.specs.declared.globals.Globals.{Globals};
 ghost use Rattle.trdp_filter.specs.Globals.{first_globals};
 ghost use Rattle.trdp_filter.specs.Telegrams.{PdIs};
 ghost use Rattle.trdp_pd.specs.Subscriptions.{SubscriptionState, is_for, is_stale};
-ghost use Rattle.trdp_engine.specs.declared.record.Protocol.{Protocol};
-ghost use Rattle.trdp_engine.specs.declared.record.Protocol.TheVariants.{Pd};
-ghost use Rattle.trdp_engine.specs.Configs.{NodeSetup};
-ghost use Rattle.trdp_engine.specs.Events.{CallIs, DatagramIs, MomentIs, RoleIs, AddSlotIs};
-ghost use Rattle.trdp_engine.specs.Events.{GetCall, PutCall};
-ghost use Rattle.trdp_engine.specs.Slots.{opened_slot, unchanged};
-ghost use Rattle.trdp_engine.specs.Datagrams.{telegram_of, is_valid_at};
-ghost use Rattle.trdp_engine.specs.Alone.{view, event_effect};
+ghost use Rattle.trdp_model.specs.declared.record.Protocol.{Protocol};
+ghost use Rattle.trdp_model.specs.declared.record.Protocol.TheVariants.{Pd};
+ghost use Rattle.trdp_model.specs.Configs.{NodeSetup};
+ghost use Rattle.trdp_model.specs.Events.{CallIs, DatagramIs, MomentIs, RoleIs, AddSlotIs};
+ghost use Rattle.trdp_model.specs.Events.{GetCall, PutCall};
+ghost use Rattle.trdp_model.specs.Slots.{opened_slot, unchanged};
+ghost use Rattle.trdp_model.specs.Datagrams.{telegram_of, is_valid_at};
+ghost use Rattle.trdp_model.specs.Alone.{view, event_effect};
 ghost use Rattle.trdp_worked.specs.Views.{with_subscription};
 
 /// A slot sees its own calls, refused ones too, and admitted moments. A call of another slot, a

@@ -1,19 +1,17 @@
 //! A slot is opened while the node runs.
 
 ghost use Rattle.std.specs.Prelude.{◌≡◌, ◌++◌, [], ◌∷◌, length, OnOk, OnErr};
-ghost use Rattle.trdp_engine.specs.Alone.{FaultIs, refused_as};
-ghost use Rattle.trdp_engine.specs.Events.{AddSlotIs};
-ghost use Rattle.trdp_engine.specs.NodeStates.{no_counts};
-ghost use Rattle.trdp_engine.specs.Records.{Answers, OpenedIs, labelled};
-ghost use Rattle.trdp_engine.specs.Slots.{opened_slot};
+ghost use Rattle.trdp_model.specs.Alone.{FaultIs, refused_as};
+ghost use Rattle.trdp_model.specs.Events.{AddSlotIs};
+ghost use Rattle.trdp_store.specs.Counting.{no_counts};
+ghost use Rattle.trdp_model.specs.Records.{Answers, OpenedIs, labelled};
+ghost use Rattle.trdp_model.specs.Slots.{opened_slot};
 
-use crate::counts::Counts;
-use crate::fault::NodeFault;
 use crate::node::Node;
-use crate::outbox::Outbox;
-use crate::row::PlainAnswer;
-use crate::store::SLOTS_MAX;
 use trdp_base::Quotas;
+use trdp_model::NodeFault;
+use trdp_outbox::{Outbox, PlainAnswer};
+use trdp_store::{Counts, SLOTS_MAX};
 
 impl Node {
     /// Opens the next slot, empty, with these quotas, and tells it so: room for its objects and

@@ -1,18 +1,18 @@
 //! What a node shows: its slots, its subscriptions, and what an event cost.
 
 ghost use Rattle.std.specs.Prelude.{◌≡◌, ◌≤◌, ◌∷◌, [], length, slice_get};
-ghost use Rattle.trdp_table.specs.Tables.{slot_limit};
-ghost use Rattle.trdp_engine.specs.Configs.{setup_of};
-ghost use Rattle.trdp_engine.specs.NodeStates.{IsNextDue};
-ghost use Rattle.trdp_engine.specs.Peeks.{peeked, peek_in};
-ghost use Rattle.trdp_engine.specs.ShownItems.{showing_in, ShowsItem};
+ghost use Rattle.trdp_model.specs.Slots.{slot_limit};
+ghost use Rattle.trdp_model.specs.Configs.{setup_of};
+ghost use Rattle.trdp_model.specs.NodeModels.{IsNextDue};
+ghost use Rattle.trdp_model.specs.Peeks.{peeked, peek_in};
+ghost use Rattle.trdp_model.specs.ShownItems.{showing_in, ShowsItem};
 
 use crate::look::subscription_at;
 use crate::node::Node;
-use crate::peek::PeekFault;
-use crate::shown::{ValueFault, item_shown};
+use crate::shown::item_shown;
 use std::alloc::Global;
 use trdp_marshal::Item;
+use trdp_model::{PeekFault, ValueFault};
 use trdp_pd::Peek;
 
 impl Node {

@@ -1,5 +1,6 @@
 use Rattle.std.proofs.Common.{sym, ◌∙◌, arith, length}
-use Rattle.trdp_engine.specs.Events.{event_model}
+use Rattle.trdp_engine.specs.NodeStates.{uncounted}
+use Rattle.trdp_model.specs.Events.{event_model}
 use Rattle.trdp_script.proofs.Playing.{node_played, still_few}
 use Rattle.trdp_daemon.proofs.Steps.{records_played, records_refused}
 use Rattle.trdp_daemon.proofs.Services.{no_records}
@@ -7,12 +8,12 @@ use Rattle.trdp_daemon.proofs.service.step.Goals as goal
 
 pub returns-in-Ok-clause-node : goal.returns-in-Ok-clause-node
 returns-in-Ok-clause-node c =
-    node_played c.args.node.now c.step.new.self _ _ _ c.in-Ok.ensures.fault
+    node_played (uncounted c.args.node.now) (uncounted c.step.new.self) _ _ _ c.in-Ok.ensures.fault
     c.step.ensures.config c.in-Ok.ensures.globals c.in-Ok.ensures.steps
 
 pub returns-in-Ok-clause-records : goal.returns-in-Ok-clause-records
 returns-in-Ok-clause-records c =
-    records_played 16 c.args.node.now c.step.new.self _ _ _ c.in-Ok.ensures.fault
+    records_played 16 (uncounted c.args.node.now) (uncounted c.step.new.self) _ _ _ c.in-Ok.ensures.fault
     (omega (
       arith,
       c.in-Ok.ensures.count,
@@ -34,5 +35,5 @@ pub returns-in-Some-clause-records : goal.returns-in-Some-clause-records
 returns-in-Some-clause-records c =
     let own = c.in-Some.ensures.own in
     no_records 16 _ (c.in-Err.ensures.unrecorded ∙ c.clear.ensures.records)
-    ∙ sym (records_refused c.in-Err.fault c.args.node.now
+    ∙ sym (records_refused c.in-Err.fault (uncounted c.args.node.now)
     (event_model c.args.event.now) c.in-Err.ensures.fault own.1)

@@ -1,6 +1,6 @@
 use Rattle.std.proofs.Common.{sym, ◌∙◌, ap, subst}
 use Rattle.std.specs.Option.{option_map}
-use Rattle.trdp_engine.specs.Records.{record_model}
+use Rattle.trdp_model.specs.Records.{record_model}
 use Rattle.trdp_daemon.specs.declared.link.Link.{Link}
 use Rattle.trdp_script.proofs.Turns.{some_within}
 use Rattle.trdp_daemon.specs.Tellings.{TellsRecord}

@@ -1,5 +1,5 @@
 use Rattle.std.proofs.Common.{List, suc, ◌+◌, ◌≡◌, arith, sym, ◌∙◌, ap, subst}
-use Rattle.trdp_engine.specs.Records.{RecordModel}
+use Rattle.trdp_model.specs.Records.{RecordModel}
 use Rattle.trdp_script.specs.SlotOrder.{by_slot}
 use Rattle.trdp_script.proofs.Orders.{by_slot_suc, by_slot_zero}
 use Rattle.trdp_daemon.specs.Tellings.{Tells}

@@ -1,4 +1,4 @@
-use Rattle.trdp_engine.specs.Records.{record_model}
+use Rattle.trdp_model.specs.Records.{record_model}
 use Rattle.trdp_daemon.proofs.Tellings.{tells_own}
 use Rattle.trdp_daemon.proofs.telling.tell_of_slot.Goals as goal
 

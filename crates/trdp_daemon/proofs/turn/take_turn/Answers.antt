@@ -1,5 +1,5 @@
 use Rattle.std.proofs.Common.{ℕ, subst}
-use Rattle.trdp_engine.specs.Events.{MomentIs}
+use Rattle.trdp_model.specs.Events.{MomentIs}
 use Rattle.trdp_daemon.specs.Effects.{event_effect}
 use Rattle.trdp_daemon.specs.Services.{ComesWith, service_state}
 use Rattle.trdp_daemon.proofs.Turns.{turn_taken}

@@ -1,9 +1,9 @@
 use Rattle.std.proofs.Common.{◌≡◌, ◌+◌, ◌*◌, ◌≤◌, drop}
 use Rattle.std.specs.Prelude.{vec_len, vec_capacity}
 use Rattle.trdp_filter.specs.Telegrams.{telegram_model}
-use Rattle.trdp_engine.specs.Slots.{slots_of}
+use Rattle.trdp_store.specs.TableSlots.{slots_of}
 use Rattle.trdp_engine.specs.Costs.{meant_of}
-use Rattle.trdp_engine.specs.Rooms.{room_bytes_limit}
+use Rattle.trdp_outbox.specs.Rooms.{room_bytes_limit}
 use Rattle.trdp_engine.proofs.Noting.{NotesAll}
 use Rattle.trdp_engine.proofs.addressees.note_hearers.Given as goal
 

@@ -1,9 +1,9 @@
 use Rattle.std.proofs.Common.{◌++◌, ◌∷◌, [], ◌∙◌, sym, ap, List, length, append-nil, arith}
 use Rattle.std.proofs.lemmas.List.{length-append}
 use Rattle.trdp_filter.specs.Telegrams.{telegram_model}
-use Rattle.trdp_engine.specs.Slots.{Entry}
+use Rattle.trdp_model.specs.Slots.{Entry}
 use Rattle.trdp_engine.specs.Noted.{noted_as}
-use Rattle.trdp_engine.specs.Rooms.{entries_room}
+use Rattle.trdp_outbox.specs.Rooms.{entries_room}
 use Rattle.trdp_engine.specs.declared.addressees.Addressee.{Addressee}
 use Rattle.trdp_engine.proofs.Costs.{part_counted}
 use Rattle.trdp_engine.proofs.Meant.{acts_none, acts_gone, acts_not, acts_it}

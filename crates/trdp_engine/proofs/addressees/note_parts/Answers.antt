@@ -1,8 +1,8 @@
 use Rattle.std.proofs.Common.{◌<◌, length, ◌∙◌, arith}
 use Rattle.trdp_filter.specs.Telegrams.{telegram_model}
-use Rattle.trdp_engine.specs.Slots.{slots_of}
-use Rattle.trdp_engine.specs.Acting.{slot_at}
-use Rattle.trdp_engine.proofs.Tables.{slots_length, slot_there}
+use Rattle.trdp_store.specs.TableSlots.{slots_of}
+use Rattle.trdp_store.specs.Acting.{slot_at}
+use Rattle.trdp_store.proofs.Tables.{slots_length, slot_there}
 use Rattle.trdp_engine.proofs.Costs.{meant_of-drop}
 use Rattle.trdp_engine.proofs.Noting.{notes_all_next, notes_all_end_items, notes_all_end_room}
 use Rattle.trdp_engine.proofs.addressees.note_parts.Goals as goal

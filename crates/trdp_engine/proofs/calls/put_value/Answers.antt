@@ -1,6 +1,6 @@
 use Rattle.trdp_marshal.specs.Items.{model_of}
-use Rattle.trdp_engine.specs.Configs.{setup_of}
-use Rattle.trdp_engine.proofs.Tables.{rising}
+use Rattle.trdp_model.specs.Configs.{setup_of}
+use Rattle.trdp_store.proofs.Tables.{rising}
 use Rattle.trdp_engine.proofs.Asking.{asked_refused}
 use Rattle.trdp_engine.proofs.calls.put_value.Goals as goal
 

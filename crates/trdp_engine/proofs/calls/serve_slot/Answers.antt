@@ -1,5 +1,5 @@
-use Rattle.trdp_engine.specs.Acting.{slot_at}
-use Rattle.trdp_engine.specs.Notices.{notify_refusal, notice}
+use Rattle.trdp_store.specs.Acting.{slot_at}
+use Rattle.trdp_model.specs.Notices.{notify_refusal, notice}
 use Rattle.std.proofs.Common.{◌∷◌, []}
 use Rattle.trdp_engine.proofs.Asking.{told_becomes}
 use Rattle.trdp_engine.proofs.calls.serve_slot.Goals as goal

@@ -1,9 +1,9 @@
 use Rattle.std.proofs.Common.{ℕ, ◌<◌, ◌^◌, ◌∙◌, refl, sym, subst, arith}
-use Rattle.trdp_engine.specs.Datagrams.{handed, taking_act}
+use Rattle.trdp_model.specs.Datagrams.{handed, taking_act}
 use Rattle.trdp_engine.proofs.Counting.{room_stays, one_taker, all_takers}
 use Rattle.trdp_filter.specs.Telegrams.{telegram_model}
-use Rattle.trdp_engine.specs.Configs.{setup_of}
-use Rattle.trdp_engine.specs.Slots.{slots_of}
+use Rattle.trdp_model.specs.Configs.{setup_of}
+use Rattle.trdp_store.specs.TableSlots.{slots_of}
 use Rattle.trdp_engine.proofs.NotedTurns.{goes_first, goes_next, goes_within, goes_may}
 use Rattle.trdp_engine.proofs.NotedTurns.{goes_addressed, goes_on, goes_end}
 use Rattle.trdp_engine.proofs.NotedTurns.{reached_count, reached_parts, reached_appends}

@@ -1,8 +1,8 @@
 use Rattle.std.proofs.Common.{◌≡◌, ℕ, ◌+◌, ◌*◌, ◌^◌, ◌<◌, ◌≤◌, drop}
 use Rattle.trdp_filter.specs.Telegrams.{telegram_model}
-use Rattle.trdp_engine.specs.Configs.{setup_of}
+use Rattle.trdp_model.specs.Configs.{setup_of}
 use Rattle.trdp_table.specs.Tables.{room_of}
-use Rattle.trdp_engine.specs.Slots.{slots_of}
+use Rattle.trdp_store.specs.TableSlots.{slots_of}
 use Rattle.trdp_engine.proofs.Noted.{aim_of}
 use Rattle.trdp_engine.proofs.NotedTurns.{Goes}
 use Rattle.trdp_engine.proofs.datagram.take_all.Given as goal

@@ -3,7 +3,7 @@ use Rattle.trdp_filter.specs.Telegrams.{telegram_model}
 use Rattle.std.specs.Prelude.{slice_get}
 use Rattle.std.proofs.lemmas.Option.{slice_get-get_or}
 use Rattle.trdp_index.specs.declared.com_row.ComRow.{ComRow}
-use Rattle.trdp_engine.specs.Indexed.{rows_from}
+use Rattle.trdp_store.specs.Indexed.{rows_from}
 use Rattle.trdp_engine.proofs.Heard.{row_slot, hears_next, hears_end}
 use Rattle.trdp_engine.proofs.first_listeners.hear_run.Goals as goal
 

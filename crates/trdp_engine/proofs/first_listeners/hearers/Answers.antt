@@ -1,6 +1,7 @@
 use Rattle.std.proofs.Common.{◌∙◌, sym, arith}
-use Rattle.trdp_engine.specs.Acting.{slot_at}
-use Rattle.trdp_engine.proofs.Seeking.{KeysTell, nobody_hears}
+use Rattle.trdp_store.specs.Acting.{slot_at}
+use Rattle.trdp_store.proofs.Keys.{KeysTell}
+use Rattle.trdp_engine.proofs.Seeking.{nobody_hears}
 use Rattle.trdp_engine.proofs.Heard.{sixteen, none_of_sixteen, heard_by_both}
 use Rattle.trdp_engine.proofs.first_listeners.hearers.Goals as goal
 

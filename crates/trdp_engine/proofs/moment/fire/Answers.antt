@@ -1,4 +1,4 @@
-use Rattle.trdp_engine.specs.Moments.{firing_act}
+use Rattle.trdp_model.specs.Moments.{firing_act}
 use Rattle.trdp_engine.proofs.Deeds.{deed_acts}
 use Rattle.trdp_engine.proofs.moment.fire.Goals as goal
 

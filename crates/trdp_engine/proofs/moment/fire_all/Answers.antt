@@ -1,8 +1,8 @@
 use Rattle.std.proofs.Common.{◌∙◌, arith}
 use Rattle.trdp_engine.proofs.Moving.{moving_first, nexts, next_is_due}
 use Rattle.trdp_engine.proofs.Moving.{moving_may, moves_on, moment_ends}
-use Rattle.trdp_engine.specs.Acting.{slot_at}
-use Rattle.trdp_engine.specs.Moments.{firing_act}
+use Rattle.trdp_store.specs.Acting.{slot_at}
+use Rattle.trdp_model.specs.Moments.{firing_act}
 use Rattle.trdp_engine.proofs.Counting.{counting_first, counting_on, room_stays}
 use Rattle.trdp_engine.proofs.Counting.{counted_comparisons, counted_look_ups}
 use Rattle.trdp_engine.proofs.moment.fire_all.Goals as goal

@@ -1,10 +1,10 @@
 use Rattle.std.proofs.Common.{ℕ, ◌<◌, ◌^◌, ◌∙◌, refl, sym, subst, arith}
 use Rattle.trdp_filter.specs.Telegrams.{telegram_model}
-use Rattle.trdp_engine.specs.Datagrams.{requested}
-use Rattle.trdp_engine.specs.Slots.{slots_of}
+use Rattle.trdp_model.specs.Datagrams.{requested}
+use Rattle.trdp_store.specs.TableSlots.{slots_of}
 use Rattle.trdp_engine.proofs.Counting.{one_taker, all_takers}
 use Rattle.trdp_engine.proofs.Costs.{asks_unasked}
-use Rattle.trdp_engine.proofs.Tables.{slots_length}
+use Rattle.trdp_store.proofs.Tables.{slots_length}
 use Rattle.trdp_engine.proofs.AskedTurns.{asks_first, asks_next, asks_within, asks_heard}
 use Rattle.trdp_engine.proofs.AskedTurns.{asks_row, asks_bytes, asks_on, asks_end, few_noted}
 use Rattle.trdp_engine.proofs.NotedTurns.{reached_count, reached_parts, reached_appends}

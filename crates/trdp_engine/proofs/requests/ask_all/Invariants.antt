@@ -1,7 +1,7 @@
 use Rattle.std.proofs.Common.{◌≡◌, ℕ, ◌+◌, ◌*◌, ◌^◌, ◌<◌, ◌≤◌, drop}
 use Rattle.trdp_filter.specs.Telegrams.{telegram_model}
 use Rattle.trdp_table.specs.Tables.{room_of}
-use Rattle.trdp_engine.specs.Slots.{slots_of}
+use Rattle.trdp_store.specs.TableSlots.{slots_of}
 use Rattle.trdp_engine.proofs.AskedTurns.{GoesAsking, request_of}
 use Rattle.trdp_engine.proofs.requests.ask_all.Given as goal
 

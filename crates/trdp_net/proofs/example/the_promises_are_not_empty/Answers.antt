@@ -1,8 +1,8 @@
 use Rattle.std.proofs.Common.{refl, inl, inr}
 use Rattle.std.specs.Prelude.{pos}
 use Rattle.trdp_pd.specs.declared.object.Reason.TheVariants.{Done}
-use Rattle.trdp_engine.specs.Records.{Indicates, NotifiedIs, AskedIs, RepliedIs, ConfirmedIs}
-use Rattle.trdp_engine.specs.Records.{ClosedIs}
+use Rattle.trdp_model.specs.Records.{Indicates, NotifiedIs, AskedIs, RepliedIs, ConfirmedIs}
+use Rattle.trdp_model.specs.Records.{ClosedIs}
 use Rattle.trdp_net.specs.ExampleTerms.{example_session, notice_told, request_told, query_told}
 use Rattle.trdp_net.proofs.ExamplePremises.{single, typed_steps, own_places}
 use Rattle.trdp_net.proofs.ExampleRun.{turns_are, told_at, sent_is, history_fresh, shows_valid}

@@ -1,7 +1,8 @@
 use Rattle.std.proofs.Common.{◌≡◌, ℕ, length}
-use Rattle.trdp_engine.specs.Events.{event_model}
-use Rattle.trdp_engine.specs.Alone.{refused_as, globals_after}
-use Rattle.trdp_engine.specs.NodeStates.{StepsAsAlone}
+use Rattle.trdp_engine.specs.NodeStates.{uncounted}
+use Rattle.trdp_model.specs.Events.{event_model}
+use Rattle.trdp_model.specs.Alone.{refused_as, globals_after}
+use Rattle.trdp_model.specs.NodeModels.{StepsAsAlone}
 use Rattle.trdp_net.specs.Ties.{MovesSo}
 use Rattle.trdp_net.proofs.Ties.{admits, moves_so}
 use Rattle.trdp_net.proofs.node.step.Goals as goal
@@ -13,13 +14,13 @@ returns-clause-moves c =
     (event_model c.args.event.now))
     (c.step.new.self.globals ≡ globals_after c.args.node.now.globals
     (event_model c.args.event.now))
-    ((s : ℕ) → StepsAsAlone c.args.node.now c.step.new.self c.args.out.now.records
+    ((s : ℕ) → StepsAsAlone (uncounted c.args.node.now) (uncounted c.step.new.self) c.args.out.now.records
     c.step.new.out.records (event_model c.args.event.now) s)
-    (MovesSo c.args.node.now c.step.new.self c.args.out.now.records c.step.new.out.records
+    (MovesSo (uncounted c.args.node.now) (uncounted c.step.new.self) c.args.out.now.records c.step.new.out.records
     (event_model c.args.event.now))
     c.step.ensures.fault c.step.ensures.globals c.step.ensures.steps
     (λ admitted globals steps.
-    moves_so c.args.node.now c.step.new.self c.args.out.now.records c.step.new.out.records
+    moves_so (uncounted c.args.node.now) (uncounted c.step.new.self) c.args.out.now.records c.step.new.out.records
     (event_model c.args.event.now) (record {
       admitted = admitted;
       config = c.step.ensures.config;

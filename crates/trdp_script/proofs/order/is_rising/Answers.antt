@@ -1,6 +1,6 @@
 use Rattle.std.proofs.Common.{inl, inr, ◌<◌, ◌≤◌, sym, ◌∙◌, ap, arith}
 use Rattle.std.specs.Option.{option_map}
-use Rattle.trdp_engine.specs.Records.{record_model}
+use Rattle.trdp_model.specs.Records.{record_model}
 use Rattle.trdp_script.proofs.Turns.{rising_more, rising_less}
 use Rattle.trdp_script.proofs.order.is_rising.Goals as goal
 

@@ -1,6 +1,6 @@
 use Rattle.std.proofs.Common.{inr, ◌∙◌, ap, arith, length, refl, rules, ◌++◌}
 use Rattle.std.specs.List.{flat_map}
-use Rattle.trdp_engine.specs.Events.{event_model}
+use Rattle.trdp_model.specs.Events.{event_model}
 use Rattle.trdp_script.specs.RecordText.{text_of_record}
 use Rattle.trdp_script.specs.SlotOrder.{by_slot}
 use Rattle.trdp_engine.specs.NodeStates.{uncounted}
@@ -12,7 +12,7 @@ use Rattle.trdp_script.proofs.play.play.Goals as goal
 pub returns-in-Ok-clause-node : goal.returns-in-Ok-clause-node
 returns-in-Ok-clause-node c =
     all_ok c.push_records.result
-    (node_played c.args.node.now c.step.new.self _ _ _ c.in-Ok.ensures.fault
+    (node_played (uncounted c.args.node.now) (uncounted c.step.new.self) _ _ _ c.in-Ok.ensures.fault
     c.step.ensures.config c.in-Ok.ensures.globals c.in-Ok.ensures.steps)
 
 pub returns-in-Ok-clause-text : goal.returns-in-Ok-clause-text
@@ -20,7 +20,7 @@ returns-in-Ok-clause-text c =
     let few = still_few (length c.args.node.now.slots) (event_model c.args.event.now)
     c.requires.slots in
     on_ok c.push_records.result (λ told.
-    text_played 16 c.args.node.now c.step.new.self _ _ _ _ c.in-Ok.ensures.fault
+    text_played 16 (uncounted c.args.node.now) (uncounted c.step.new.self) _ _ _ _ c.in-Ok.ensures.fault
     (omega (arith, c.in-Ok.ensures.count, few)) c.in-Ok.ensures.count
     c.clear.ensures.records c.in-Ok.ensures.steps c.step.ensures.appends
     (told ∙ ap (λ l. l ++ flat_map text_of_record (by_slot 16 c.step.new.out.records))
@@ -30,7 +30,7 @@ pub returns-in-Ok-clause-wanting : goal.returns-in-Ok-clause-wanting
 returns-in-Ok-clause-wanting c =
     let few = still_few (length c.args.node.now.slots) (event_model c.args.event.now)
     c.requires.slots in
-    let told = text_played 16 c.args.node.now c.step.new.self _ _ _
+    let told = text_played 16 (uncounted c.args.node.now) (uncounted c.step.new.self) _ _ _
     (flat_map text_of_record (by_slot 16 c.step.new.out.records)) c.in-Ok.ensures.fault
     (omega (arith, c.in-Ok.ensures.count, few)) c.in-Ok.ensures.count
     c.clear.ensures.records c.in-Ok.ensures.steps c.step.ensures.appends refl in

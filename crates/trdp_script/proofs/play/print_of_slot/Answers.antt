@@ -1,5 +1,5 @@
 use Rattle.std.proofs.Common.{rules}
-use Rattle.trdp_engine.specs.Records.{record_model}
+use Rattle.trdp_model.specs.Records.{record_model}
 use Rattle.trdp_script.proofs.Orders.{own_line}
 use Rattle.trdp_script.proofs.Results.{all_err}
 use Rattle.trdp_script.proofs.play.print_of_slot.Goals as goal

@@ -1,7 +1,7 @@
 use Rattle.std.proofs.Common.{◌<◌, ◌++◌, sym, ◌∙◌, ap, arith, refl, append_assoc}
 use Rattle.std.specs.List.{flat_map}
 use Rattle.std.specs.Option.{option_map}
-use Rattle.trdp_engine.specs.Records.{record_model}
+use Rattle.trdp_model.specs.Records.{record_model}
 use Rattle.trdp_script.specs.RecordText.{text_of_record}
 use Rattle.trdp_script.proofs.Orders.{own_among, own_line, rising_by_slot, slot_among}
 use Rattle.trdp_script.proofs.Results.{all_err}

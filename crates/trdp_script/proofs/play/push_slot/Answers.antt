@@ -1,6 +1,6 @@
 use Rattle.std.proofs.Common.{◌++◌, sym, ◌∙◌, ap}
 use Rattle.std.specs.Option.{option_map}
-use Rattle.trdp_engine.specs.Records.{record_model}
+use Rattle.trdp_model.specs.Records.{record_model}
 use Rattle.trdp_script.specs.SlotOrder.{slot_text}
 use Rattle.trdp_script.proofs.Turns.{told_one, told_all, some_within}
 use Rattle.trdp_script.proofs.Orders.{own_among, own_text}

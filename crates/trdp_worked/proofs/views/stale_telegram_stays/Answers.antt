@@ -6,18 +6,18 @@ use Rattle.trdp_filter.specs.declared.globals.Globals.{Globals}
 use Rattle.trdp_pd.specs.Subscriptions.{SubscriptionState, is_for, is_stale, is_accepted}
 use Rattle.trdp_filter.specs.Telegrams.{TelegramModel, PdIs}
 use Rattle.trdp_pd.specs.declared.object.Taken.TheVariants.{Nothing}
-use Rattle.trdp_table.specs.declared.any_object.AnyObject.{AnyObject}
-use Rattle.trdp_table.specs.declared.any_object.AnyObject.TheVariants.{Subscription}
-use Rattle.trdp_table.specs.Objects.{taking}
+use Rattle.trdp_model.specs.declared.any_object.AnyObject.{AnyObject}
+use Rattle.trdp_model.specs.declared.any_object.AnyObject.TheVariants.{Subscription}
+use Rattle.trdp_model.specs.Objects.{taking}
 use Rattle.trdp_pd.specs.Effects.{Taking}
-use Rattle.trdp_engine.specs.Configs.{NodeSetup}
-use Rattle.trdp_engine.specs.declared.record.Protocol.TheVariants.{Pd}
-use Rattle.trdp_engine.specs.Events.{DatagramIs}
-use Rattle.trdp_engine.specs.Slots.{Entry, Outcome}
-use Rattle.trdp_engine.specs.Acts.{entry_left}
-use Rattle.trdp_engine.specs.Alone.{event_effect}
+use Rattle.trdp_model.specs.Configs.{NodeSetup}
+use Rattle.trdp_model.specs.declared.record.Protocol.TheVariants.{Pd}
+use Rattle.trdp_model.specs.Events.{DatagramIs}
+use Rattle.trdp_model.specs.Slots.{Entry, Outcome}
+use Rattle.trdp_model.specs.Acts.{entry_left}
+use Rattle.trdp_model.specs.Alone.{event_effect}
 use Rattle.trdp_worked.specs.Views.{with_subscription}
-use Rattle.trdp_engine.specs.Datagrams.{fits_object, left_taking, taken_records}
+use Rattle.trdp_model.specs.Datagrams.{fits_object, left_taking, taken_records}
 use Rattle.trdp_worked.proofs.views.stale_telegram_stays.Goals as goal
 
 last_refused : (a b c : Bool) → c ≡ true → (a && b && not c) ≡ false

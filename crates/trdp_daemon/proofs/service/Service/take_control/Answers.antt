@@ -1,6 +1,6 @@
 use Rattle.std.proofs.Common.{sym, ◌∙◌, ap}
 use Rattle.std.specs.Option.{option_map}
-use Rattle.trdp_engine.specs.Events.{event_model}
+use Rattle.trdp_model.specs.Events.{event_model}
 use Rattle.trdp_script.specs.PortLines.{control_line_of}
 use Rattle.trdp_daemon.proofs.Visits.{reads_ok, control_refused}
 use Rattle.trdp_daemon.proofs.Visits.{control_skipped, control_took, placed}

@@ -1,5 +1,5 @@
 use Rattle.std.proofs.Common.{refl}
-use Rattle.trdp_engine.specs.Events.{event_model}
+use Rattle.trdp_model.specs.Events.{event_model}
 use Rattle.trdp_daemon.proofs.Services.{comes_told, comes_lost}
 use Rattle.trdp_daemon.proofs.service.Service.take_event.Goals as goal
 

@@ -1,6 +1,6 @@
 use Rattle.std.proofs.Common.{sym, ◌∙◌, ap}
 use Rattle.std.specs.Option.{option_map}
-use Rattle.trdp_engine.specs.Events.{event_model}
+use Rattle.trdp_model.specs.Events.{event_model}
 use Rattle.trdp_script.specs.PortLines.{operator_line_of}
 use Rattle.trdp_daemon.proofs.Visits.{reads_ok, operator_refused, operator_skipped, operator_took}
 use Rattle.trdp_daemon.proofs.service.Service.take_operator.Goals as goal

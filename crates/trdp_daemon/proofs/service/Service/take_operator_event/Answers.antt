@@ -1,5 +1,5 @@
 use Rattle.std.proofs.Common.{refl, ap, ◌∙◌}
-use Rattle.trdp_engine.specs.Events.{event_model}
+use Rattle.trdp_model.specs.Events.{event_model}
 use Rattle.trdp_daemon.specs.Visits.{operator_text}
 use Rattle.trdp_daemon.proofs.Services.{comes_answered, comes_unanswered}
 use Rattle.trdp_daemon.proofs.service.Service.take_operator_event.Goals as goal

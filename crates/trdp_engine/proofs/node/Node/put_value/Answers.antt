@@ -1,11 +1,11 @@
 use Rattle.std.proofs.Common.{◌<◌, length, arith}
 use Rattle.trdp_marshal.specs.Items.{model_of}
-use Rattle.trdp_engine.specs.Configs.{setup_of}
-use Rattle.trdp_engine.specs.Slots.{slots_of}
-use Rattle.trdp_engine.specs.Values.{valued, valued_at}
-use Rattle.trdp_engine.proofs.FittingEvents.{valued_at_fits}
+use Rattle.trdp_model.specs.Configs.{setup_of}
+use Rattle.trdp_store.specs.TableSlots.{slots_of}
+use Rattle.trdp_model.specs.Values.{valued, valued_at}
+use Rattle.trdp_model.proofs.FittingEvents.{valued_at_fits}
 use Rattle.trdp_engine.proofs.Parts.{became_parts, became_appends, became_count}
-use Rattle.trdp_engine.proofs.Steps.{outcomes_fit}
+use Rattle.trdp_model.proofs.Steps.{outcomes_fit}
 use Rattle.trdp_engine.proofs.node.Node.put_value.Goals as goal
 
 pub returns-clause-values : goal.returns-clause-values

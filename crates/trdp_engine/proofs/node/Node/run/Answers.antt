@@ -1,11 +1,11 @@
 use Rattle.std.proofs.Common.{arith, refl, ◌∙◌, map, take}
 use Rattle.std.proofs.lemmas.Option.{slice_get-get_or, slice_get_past}
-use Rattle.trdp_engine.specs.Events.{event_model}
+use Rattle.trdp_model.specs.Events.{event_model}
 use Rattle.trdp_engine.specs.NodeRuns.{NoneTaken}
 use Rattle.trdp_engine.proofs.Latest.{has_come, globals_next, latest_next, slots_next}
-use Rattle.trdp_engine.proofs.AddedSlots.{node_grows}
+use Rattle.trdp_engine.proofs.Runs.{node_grows}
 use Rattle.trdp_engine.proofs.Runs.{one_event, so_far, one_more}
-use Rattle.trdp_engine.proofs.Steps.{appends_none, appends_more}
+use Rattle.trdp_model.proofs.Steps.{appends_none, appends_more}
 use Rattle.trdp_engine.proofs.node.Node.run.Goals as goal
 
 pub loop-event-init : goal.loop-event-init
@@ -83,11 +83,11 @@ returns-then-is_out_of_memory-clause-alone c = λ s.
     let kept = rw memory at c.step-result.ensures.kept in
     let unrecorded = rw memory at c.step-result.ensures.unrecorded in
     rw (c.loop-event.invariant.taken, kept, unrecorded)
-    (so_far _ _ _ _ _ s (c.loop-event.invariant.runs s))
+    (so_far c.args.self.now c.loop-event.self _ _ _ s (c.loop-event.invariant.runs s))
 
 pub returns-clause-alone : goal.returns-clause-alone
 returns-clause-alone c = λ s. rw c.loop-event.invariant.taken
-    (so_far _ _ _ _ _ s (c.loop-event.invariant.runs s))
+    (so_far c.args.self.now c.loop-event.self _ _ _ s (c.loop-event.invariant.runs s))
 
 pub returns-then-is_out_of_memory-clause-stops : goal.returns-then-is_out_of_memory-clause-stops
 returns-then-is_out_of_memory-clause-stops c =

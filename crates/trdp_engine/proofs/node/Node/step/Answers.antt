@@ -1,15 +1,16 @@
 use Rattle.std.proofs.Common.{length, refl, ap, sym, ◌∙◌, arith}
-use Rattle.trdp_engine.specs.Events.{event_model}
+use Rattle.trdp_engine.specs.NodeStates.{uncounted}
+use Rattle.trdp_model.specs.Events.{event_model}
 use Rattle.trdp_engine.proofs.WithinCosts.{bounded_none, bounded_if}
-use Rattle.trdp_engine.proofs.AddedSlots.{added_alone, added_appends, added_count}
-use Rattle.trdp_engine.proofs.Steps.{steps_alone, taken_alone, appends_at, appends_none}
-use Rattle.trdp_engine.proofs.Steps.{always, unchanged_each}
-use Rattle.trdp_engine.proofs.Views.{slots_stay}
+use Rattle.trdp_model.proofs.AddedSlots.{added_alone, added_appends, added_count}
+use Rattle.trdp_model.proofs.Steps.{steps_alone, taken_alone, appends_at, appends_none}
+use Rattle.trdp_model.proofs.Steps.{always, unchanged_each}
+use Rattle.trdp_model.proofs.Views.{slots_stay}
 use Rattle.trdp_engine.proofs.node.Node.step.Goals as goal
 
 pub returns-in-Moment-clause-steps : goal.returns-in-Moment-clause-steps
 returns-in-Moment-clause-steps c =
-    taken_alone c.args.self.now c.step_moment.new.self c.args.out.now.records
+    taken_alone (uncounted c.args.self.now) (uncounted c.step_moment.new.self) c.args.out.now.records
     c.step_moment.new.out.records (event_model c.args.event.now) c.step_moment.result
     (rw c.in-Moment.is c.step_moment.ensures.fault) (rw c.in-Moment.is refl)
     c.step_moment.ensures.count
@@ -17,7 +18,7 @@ returns-in-Moment-clause-steps c =
 
 pub returns-in-Topology-clause-steps : goal.returns-in-Topology-clause-steps
 returns-in-Topology-clause-steps c =
-    steps_alone c.args.self.now c.step_topology.new.self c.args.out.now.records
+    steps_alone (uncounted c.args.self.now) (uncounted c.step_topology.new.self) c.args.out.now.records
     c.args.out.now.records (event_model c.args.event.now) (rw c.in-Topology.is refl)
     (rw c.in-Topology.is refl) (ap length c.step_topology.ensures.slots)
     (appends_none c.args.self.now.slots c.args.out.now.records c.args.out.now.records refl)
@@ -26,7 +27,7 @@ returns-in-Topology-clause-steps c =
 
 pub returns-in-Role-clause-steps : goal.returns-in-Role-clause-steps
 returns-in-Role-clause-steps c =
-    taken_alone c.args.self.now c.step_role.new.self c.args.out.now.records
+    taken_alone (uncounted c.args.self.now) (uncounted c.step_role.new.self) c.args.out.now.records
     c.args.out.now.records (event_model c.args.event.now) c.step_role.result
     (rw c.in-Role.is c.step_role.ensures.fault) (rw c.in-Role.is refl)
     (ap length c.step_role.ensures.slots)
@@ -39,7 +40,7 @@ returns-in-Datagram-clause-memory c = rw c.in-Datagram.is c.step_datagram.ensure
 
 pub returns-in-Datagram-clause-steps : goal.returns-in-Datagram-clause-steps
 returns-in-Datagram-clause-steps c =
-    taken_alone c.args.self.now c.step_datagram.new.self c.args.out.now.records
+    taken_alone (uncounted c.args.self.now) (uncounted c.step_datagram.new.self) c.args.out.now.records
     c.step_datagram.new.out.records (event_model c.args.event.now) c.step_datagram.result
     (rw c.in-Datagram.is c.step_datagram.ensures.fault) (rw c.in-Datagram.is refl)
     c.step_datagram.ensures.count
@@ -47,7 +48,7 @@ returns-in-Datagram-clause-steps c =
 
 pub returns-in-Call-clause-steps : goal.returns-in-Call-clause-steps
 returns-in-Call-clause-steps c =
-    taken_alone c.args.self.now c.step_call.new.self c.args.out.now.records
+    taken_alone (uncounted c.args.self.now) (uncounted c.step_call.new.self) c.args.out.now.records
     c.step_call.new.out.records (event_model c.args.event.now) c.step_call.result
     (rw c.in-Call.is c.step_call.ensures.fault) (rw c.in-Call.is refl) c.step_call.ensures.count
     c.step_call.ensures.appends (rw c.in-Call.is c.step_call.ensures.outcomes)
@@ -115,19 +116,19 @@ returns-in-Role-clause-appends c = appends_none _ _ _ refl
 pub returns-in-AddSlot-clause-count : goal.returns-in-AddSlot-clause-count
 returns-in-AddSlot-clause-count c =
     rw c.in-AddSlot.is
-    (added_count c.args.self.now c.step_add_slot.new.self c.in-AddSlot.quotas c.step_add_slot.result
+    (added_count (uncounted c.args.self.now) (uncounted c.step_add_slot.new.self) c.in-AddSlot.quotas c.step_add_slot.result
     c.step_add_slot.ensures.fault c.step_add_slot.ensures.slots)
 
 pub returns-in-AddSlot-clause-steps : goal.returns-in-AddSlot-clause-steps
 returns-in-AddSlot-clause-steps c =
     rw c.in-AddSlot.is
-    (added_alone c.args.self.now c.step_add_slot.new.self c.args.out.now.records
+    (added_alone (uncounted c.args.self.now) (uncounted c.step_add_slot.new.self) c.args.out.now.records
     c.step_add_slot.new.out.records c.in-AddSlot.quotas c.step_add_slot.result
     c.step_add_slot.ensures.fault c.step_add_slot.ensures.slots c.step_add_slot.ensures.told)
 
 pub returns-in-AddSlot-clause-appends : goal.returns-in-AddSlot-clause-appends
 returns-in-AddSlot-clause-appends c =
-    added_appends c.args.self.now c.step_add_slot.new.self c.args.out.now.records
+    added_appends (uncounted c.args.self.now) (uncounted c.step_add_slot.new.self) c.args.out.now.records
     c.step_add_slot.new.out.records c.in-AddSlot.quotas c.step_add_slot.result
     c.step_add_slot.ensures.unrecorded c.step_add_slot.ensures.slots c.step_add_slot.ensures.told
 

@@ -1,13 +1,13 @@
 use Rattle.std.proofs.Common.{◌<◌, length, arith}
-use Rattle.trdp_engine.specs.Configs.{setup_of}
-use Rattle.trdp_engine.specs.Events.{CallIs, call_model}
-use Rattle.trdp_engine.specs.Slots.{slots_of}
-use Rattle.trdp_engine.specs.Calls.{called}
-use Rattle.trdp_engine.specs.Alone.{plain_effect}
-use Rattle.trdp_engine.proofs.FittingEvents.{plain_call_fits}
+use Rattle.trdp_model.specs.Configs.{setup_of}
+use Rattle.trdp_model.specs.Events.{CallIs, call_model}
+use Rattle.trdp_store.specs.TableSlots.{slots_of}
+use Rattle.trdp_model.specs.Calls.{called}
+use Rattle.trdp_model.specs.Alone.{plain_effect}
+use Rattle.trdp_model.proofs.FittingEvents.{plain_call_fits}
 use Rattle.trdp_engine.proofs.WithinCosts.{bounded_none}
 use Rattle.trdp_engine.proofs.Parts.{became_parts, became_appends, became_count}
-use Rattle.trdp_engine.proofs.Steps.{outcomes_fit}
+use Rattle.trdp_model.proofs.Steps.{outcomes_fit}
 use Rattle.trdp_engine.proofs.node.Node.step_call.Goals as goal
 
 pub returns-clause-outcomes : goal.returns-clause-outcomes

@@ -1,17 +1,17 @@
 use Rattle.std.proofs.Common.{ℕ, ◌<◌, ◌^◌, ◌∙◌, ap, subst, arith}
 use Rattle.trdp_table.specs.Tables.{room_of}
-use Rattle.trdp_engine.specs.declared.counts.Counts.{Counts}
-use Rattle.trdp_engine.specs.NodeStates.{due_in}
+use Rattle.trdp_store.specs.declared.counts.Counts.{Counts}
+use Rattle.trdp_model.specs.NodeModels.{due_in}
 use Rattle.trdp_engine.proofs.Costs.{total_room}
 use Rattle.trdp_engine.proofs.Counting.{moment_within}
 use Rattle.trdp_filter.specs.declared.globals.Globals.{Globals}
-use Rattle.trdp_engine.specs.Configs.{setup_of}
-use Rattle.trdp_engine.specs.Slots.{slots_of}
-use Rattle.trdp_engine.specs.Moments.{moved_to}
-use Rattle.trdp_engine.proofs.Fitting.{each_sound}
-use Rattle.trdp_engine.proofs.FittingEvents.{moved_fits}
+use Rattle.trdp_model.specs.Configs.{setup_of}
+use Rattle.trdp_store.specs.TableSlots.{slots_of}
+use Rattle.trdp_model.specs.Moments.{moved_to}
+use Rattle.trdp_model.proofs.Fitting.{each_sound}
+use Rattle.trdp_model.proofs.FittingEvents.{moved_fits}
 use Rattle.trdp_engine.proofs.Parts.{same_count, lacks_due}
-use Rattle.trdp_engine.proofs.Steps.{has_outcome, outcomes_fit}
+use Rattle.trdp_model.proofs.Steps.{has_outcome, outcomes_fit}
 use Rattle.trdp_engine.proofs.node.Node.step_moment.Goals as goal
 
 pub returns-in_err-reserve-clause-memory : goal.returns-in_err-reserve-clause-memory

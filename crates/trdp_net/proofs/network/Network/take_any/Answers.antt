@@ -1,5 +1,5 @@
 use Rattle.std.proofs.Common.{List, [], ◌∷◌, ◌++◌, refl, ap, sym, ◌∙◌, subst}
-use Rattle.trdp_engine.specs.Events.{event_model}
+use Rattle.trdp_model.specs.Events.{event_model}
 use Rattle.trdp_net.specs.Networks.{moves_at}
 use Rattle.trdp_net.specs.Running.{NetworkState, Shows}
 use Rattle.trdp_net.specs.Tellings.{all_sent, latest}

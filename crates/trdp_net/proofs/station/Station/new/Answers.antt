@@ -1,5 +1,5 @@
 use Rattle.std.proofs.Common.{sym, subst}
-use Rattle.trdp_engine.specs.Configs.{setup_of}
+use Rattle.trdp_model.specs.Configs.{setup_of}
 use Rattle.trdp_engine.specs.NodeStates.{NodeState}
 use Rattle.trdp_net.specs.Tellings.{IsHome}
 use Rattle.trdp_net.proofs.station.Station.new.Goals as goal

@@ -1,7 +1,7 @@
 use Rattle.std.proofs.Common.{◌<◌, List, ℕ, length, arith, refl, sym, subst}
 use Rattle.std.specs.Io.KnownBytes.{Consumes}
 use Rattle.std.proofs.KnownBytes.{Keeps-refl}
-use Rattle.trdp_script.specs.declared.script.ScriptFault.TheVariants.{Read}
+use Rattle.trdp_script.specs.declared.fault.ScriptFault.TheVariants.{Read}
 use Rattle.trdp_script.proofs.Readings.{comes_stopped, piece_stops, read_none, reader_stops}
 use Rattle.trdp_script.proofs.Readings.{reading_ends, reading_more, reading_starts}
 use Rattle.trdp_script.proofs.Readings.{reading_stops, reading_written}

@@ -1,4 +1,4 @@
-use Rattle.trdp_table.specs.Kinds.{kind_of}
+use Rattle.trdp_model.specs.Kinds.{kind_of}
 use Rattle.trdp_table.proofs.Known.{within_slots, granted}
 use Rattle.trdp_table.proofs.Tables.{slot_read}
 use Rattle.trdp_table.proofs.Changes.{pool_room, IsKeptTable-add}

@@ -1,8 +1,0 @@
-use Rattle.std.proofs.Common.{arith}
-use Rattle.trdp_engine.proofs.Rows.{AllWithin-push}
-use Rattle.trdp_engine.proofs.outbox.Outbox.push.Goals as goal
-
-pub invariant_of-self : goal.invariant_of-self
-invariant_of-self c =
-    rw c.push_row.ensures.items
-    (AllWithin-push _ c.self.inside.rows.items _ c.self.invariant (omega arith))

@@ -1,0 +1,16 @@
+pub mod Tests
+pub mod Confirmed
+pub mod Objects
+pub mod Handles
+pub mod AllObjects
+pub mod Unheard
+pub mod Unasked
+pub mod Views
+pub mod Steps
+pub mod Sweeps
+pub mod Fitting
+pub mod FittingEvents
+pub mod FittingActs
+pub mod Inert
+pub mod AddedSlots
+pub mod Unconcerned

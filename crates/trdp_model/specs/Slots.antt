@@ -1,0 +1,55 @@
+-- An application slot.
+use Rattle.std.specs.Prelude.{ℕ, ◌+◌, List, [], ◌∷◌, ◌++◌, map, find, count_by, Option, ◌==◌}
+use Rattle.trdp_model.specs.declared.any_object.AnyObject.{AnyObject}
+use Rattle.trdp_model.specs.declared.kind.Kind.{Kind}
+use Rattle.trdp_model.specs.Kinds.{kind_of, is_same_kind}
+use Rattle.trdp_model.specs.Records.{Content}
+
+-- the most slots of a node
+abbrev pub slot_limit : ℕ
+slot_limit = 16
+
+-- an object under its handle
+pub record Entry : Type 0 where
+  pub handle : ℕ
+  pub object : AnyObject
+
+-- the object under that handle
+abbrev pub entry_at : ℕ → AnyObject → Entry
+entry_at handle object = record { handle = handle; object = object }
+
+-- an application slot: a quota for each kind of object, the next handle, and its objects by
+-- rising handle
+pub record SlotState : Type 0 where
+  pub quotas : List ℕ
+  pub next : ℕ
+  pub objects : List Entry
+
+-- a slot after an event, and the records that it gets
+pub record Outcome : Type 0 where
+  pub slot : SlotState
+  pub records : List Content
+
+-- a slot that an event leaves as it is, without a record
+abbrev pub unchanged : SlotState → Outcome
+unchanged slot = record { slot = slot; records = [] }
+
+-- an empty slot, whose first handle will be 1
+abbrev pub opened_slot : List ℕ → SlotState
+opened_slot quotas = record { quotas = quotas; next = 1; objects = [] }
+
+-- how many objects are of a kind, and so count for its quota
+abbrev pub count_of : Kind → List Entry → ℕ
+count_of kind objects = count_by (λ entry. is_same_kind (kind_of entry.object) kind) objects
+
+-- the object of a handle
+abbrev pub entry_of : ℕ → List Entry → Option Entry
+entry_of handle objects = find (λ entry. entry.handle == handle) objects
+
+-- a new object gets the next handle and stands last
+abbrev pub with_object : SlotState → AnyObject → SlotState
+with_object slot object =
+    record slot {
+      next = slot.next + 1;
+      objects = slot.objects ++ record { handle = slot.next; object = object } ∷ [];
+    }

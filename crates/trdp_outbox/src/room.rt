@@ -1,0 +1,104 @@
+//! Room in an outbox.
+
+ghost use Rattle.std.specs.Prelude.{◌≡◌, ◌+◌, ◌<◌, ◌^◌};
+ghost use Rattle.trdp_model.specs.Kinds.{kind_of};
+ghost use Rattle.trdp_model.specs.Events.{call_model};
+ghost use Rattle.trdp_outbox.specs.Rooms.{kind_room, no_room, call_room, message_room};
+ghost use Rattle.trdp_outbox.specs.Rooms.{confirm_room};
+
+use trdp_head::{MD_PAYLOAD_MAX, MD_TELEGRAM_MAX, PD_PAYLOAD_MAX, PD_TELEGRAM_MAX, md_length};
+use trdp_model::{AnyObject, Call, Kind};
+
+/// Room in an outbox: for so many records, and so many bytes of theirs.
+#[derive(Clone, Copy)]
+pub struct Room {
+    /// Records.
+    pub rows: usize,
+    /// Bytes of their telegrams and values, all together.
+    pub bytes: usize,
+}
+
+impl Room {
+    /// No room.
+    pub fn none() -> Room
+        ensures { result ≡ no_room }
+    {
+        Room { rows: 0, bytes: 0 }
+    }
+
+    /// Both rooms together.
+    pub fn plus(self, other: Room) -> Room
+        requires rows { self.rows + other.rows < 2 ^ 64 }
+        requires bytes { self.bytes + other.bytes < 2 ^ 64 }
+        ensures { result
+            ≡ record { rows = self.rows + other.rows; bytes = self.bytes + other.bytes } }
+    {
+        Room {
+            rows: self.rows + other.rows,
+            bytes: self.bytes + other.bytes,
+        }
+    }
+
+    /// The most that the object gives at a moment or a telegram.
+    pub fn of(object: &AnyObject) -> Room
+        ensures { result ≡ kind_room (kind_of object.now) }
+    {
+        match Kind::of(object) {
+            Kind::Publisher => Room {
+                rows: 1,
+                bytes: PD_TELEGRAM_MAX,
+            },
+            Kind::Subscription | Kind::Replier => Room { rows: 1, bytes: 0 },
+            Kind::Listener => Room {
+                rows: 1,
+                bytes: MD_PAYLOAD_MAX,
+            },
+            Kind::Caller => Room {
+                rows: 2,
+                bytes: MD_TELEGRAM_MAX,
+            },
+            Kind::Requester => Room::none(),
+        }
+    }
+
+    /// The most that a call gives.
+    pub fn of_call(call: &Call<'_>) -> Room
+        ensures { result ≡ call_room (call_model call.now) }
+    {
+        match *call {
+            Call::Notify { payload, .. } => Room::of_message(payload.len()),
+            Call::Request { payload, .. } => Room::of_message(payload.len()),
+            Call::Reply { payload, .. } => Room::of_message(payload.len()),
+            Call::Query { payload, .. } => Room::of_message(payload.len()),
+            Call::ReplyError { .. } => Room::of_message(0),
+            Call::Confirm { .. } => Room::of_confirmation(),
+            // A pull has two records, and the longest value is longer than a pull request.
+            _ => Room {
+                rows: 2,
+                bytes: PD_PAYLOAD_MAX,
+            },
+        }
+    }
+
+    /// The most that a call which sends a message of so many bytes gives.
+    fn of_message(len: usize) -> Room
+        ensures { result ≡ message_room len }
+    {
+        let bytes = if len > MD_PAYLOAD_MAX {
+            0
+        } else {
+            md_length(len)
+        };
+        Room { rows: 2, bytes }
+    }
+
+    /// The most that a confirmation gives.
+    fn of_confirmation() -> Room
+        ensures { result ≡ confirm_room }
+    {
+        Room {
+            rows: 3,
+            bytes: md_length(0),
+        }
+    }
+}

@@ -1,0 +1,8 @@
+use Rattle.std.proofs.Common.{arith}
+use Rattle.trdp_store.proofs.NextDue.{none_due_after}
+use Rattle.trdp_store.proofs.schedule.Schedule.first_due.Goals as goal
+
+pub returns-then-order-t-clause-first : goal.returns-then-order-t-clause-first
+returns-then-order-t-clause-first c =
+    none_due_after c.args.t c.in_ok-order.field-0-0 c.args.self.now.orders c.in_ok-order.order
+    (rw (← c.self.view_is) c.in_ok-order.ensures.first) (omega (arith, c.if-order-t.true))

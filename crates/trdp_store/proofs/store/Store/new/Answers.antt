@@ -1,0 +1,27 @@
+use Rattle.std.proofs.Common.{arith}
+use Rattle.trdp_store.proofs.Stored.{indexed_new}
+use Rattle.trdp_store.proofs.InSession.{session_new}
+use Rattle.trdp_store.proofs.Timed.{scheduled_new}
+use Rattle.trdp_store.proofs.OfKind.{new_kinds}
+use Rattle.trdp_store.proofs.Sizes.{room_limited}
+use Rattle.trdp_store.proofs.store.Store.new.Goals as goal
+
+pub with_room-requires-3 : goal.with_room-requires-3
+with_room-requires-3 c =
+    omega (arith, c.room-room.ensures, room_limited c.in_ok-table.table c.sound.ensures.sound)
+
+pub invariant_of-result : goal.invariant_of-result
+invariant_of-result c =
+    rw (
+      c.in_ok-coms.ensures,
+      c.in_ok-sessions.ensures,
+      c.in_ok-schedule.ensures,
+      c.room-room.ensures,
+      c.in_ok-table.ensures,
+    )
+    (record {
+      by_com = indexed_new c.args.quotas.now _ (omega arith);
+      by_session = session_new c.args.quotas.now _ (omega arith);
+      by_moment = scheduled_new c.args.quotas.now _ (omega arith);
+      kinds = new_kinds c.args.quotas.now;
+    })

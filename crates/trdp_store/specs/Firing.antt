@@ -1,0 +1,34 @@
+-- Words of the loop that fires what is due: the object that comes next.
+use Rattle.std.specs.Prelude.{◌≡◌, ℕ, ◌<◌, ◌++◌, List, [], ◌∷◌, length, Option, Some, None, true}
+use Rattle.std.specs.Prelude.{filter, option_map, slice_get}
+use Rattle.trdp_timers.specs.declared.order.Order.{Order}
+use Rattle.trdp_table.specs.Tables.{TableState}
+use Rattle.trdp_model.specs.Slots.{Entry}
+use Rattle.trdp_model.specs.Moments.{is_due, is_before, in_order}
+use Rattle.trdp_store.specs.Acting.{slot_at}
+
+-- it fires before all of these
+abbrev pub AllAfter : Entry → List Entry → Type 0
+AllAfter entry [] = Unit {0}
+AllAfter entry (other ∷ others) = (is_before entry other ≡ true) × AllAfter entry others
+
+-- the object fires first of all that are due
+pub record FiresFirst (t : ℕ) (objects : List Entry) (entry : Entry) : Type 0 where
+  pub before : List Entry
+  pub after : List Entry
+  pub split : objects ≡ before ++ entry ∷ after
+  pub due : is_due t entry ≡ true
+  pub first_before : AllAfter entry (filter (is_due t) before)
+  pub first_after : AllAfter entry (filter (is_due t) after)
+
+-- the object of the handle fires next of those that are due
+abbrev pub IsNext : ℕ → List Entry → ℕ → Type 0
+IsNext t objects handle =
+    Some handle
+    ≡ option_map (λ entry. entry.handle) (slice_get (in_order (filter (is_due t) objects)) 0)
+
+-- nothing is due by t, or the object of this slot and handle fires next of those of its slot
+abbrev pub ComesNext : ℕ → TableState → Option Order → Type 0
+ComesNext t table None = (s : ℕ) → filter (is_due t) (slot_at s table).objects ≡ []
+ComesNext t table (Some order) =
+    (order.slot < length table) × IsNext t (slot_at order.slot table).objects order.handle

@@ -1,0 +1,9 @@
+pub mod TableSlots
+pub mod Counting
+pub mod Deeds
+pub mod Firing
+pub mod Acting
+pub mod Indexed
+pub mod InSession
+pub mod OfKind
+pub mod Timed
