@@ -1,15 +1,34 @@
 //! The node: events come in, and each slot gets its answers and telegrams.
 //!
-//! What no contract can say is that memory is there. A `run` that stops before the first event
-//! that may lack it (a publishing, a subscription, or an event at which the outbox lacks room for
-//! the most that such a call, or objects of the kinds that act, may give), a `run_both` of two such
+//! A [`Node`] is made of a configuration ([`Node::new`]) and takes [`Event`]s: the calls of its
+//! slots, datagrams, moments, topology counts and redundancy roles ([`Node::step`], [`Node::run`]).
+//! What they give is appended to an [`Outbox`] as [`Record`]s: answers, indications and telegrams,
+//! each with the number of its slot. A node has no socket, no clock and no thread of its own. Each
+//! slot gets what it would get alone: the clause `alone` of [`Node::run`].
+//!
+//! ```text
+//! let mut node = Node::new(alloc, config)?;
+//! let mut out = Outbox::new(alloc);
+//! let events = [
+//!     Event::Call { slot: 0, call: Call::Publish(terms) },
+//!     Event::Call { slot: 0, call: Call::Put { handle: 1, bytes: b"\x0a\x0b" } },
+//!     Event::Moment(100_000),
+//! ];
+//! node.run(&events, &mut out);                    // 3: all were taken
+//! out.get(2);                                     // Send { .. }: the publisher's first telegram
+//! ```
+//!
+//! A value is handed over as an item by [`Node::put_value`], and looked at from outside by
+//! [`Node::peek`] and [`Node::value_of`]; [`Node::counts`] shows what the latest event cost, and
+//! [`Node::next_due`] when something is due next. The rules that all this follows are those of
+//! `trdp_model`.
+//!
+//! What no contract can say is that memory is there. A `run` that stops before the first event that
+//! may lack it (a publishing, a subscription, or an event at which the outbox lacks room for the
+//! most that such a call, or objects of the kinds that act, may give), a `run_both` of two such
 //! runs, and a `value_of` that answers want of memory wherever it could show an item meet their
 //! contracts, since memory may be lacking; the worked examples (`trdp_worked`) show that with ample
 //! memory every event is taken and every item shown.
-//!
-//! Nor can one say how often a body looks: to ask twice for what is due next, or for its room, is
-//! as good as once, and so is to dismiss an object from the schedule twice, though the comparisons
-//! of one call alone are told then.
 #![tactic(auto)]
 
 mod addressees;
