@@ -79,6 +79,8 @@ fn act(rt: &(impl Abort + AllocGlobal), timers: &mut Timers, case: usize, does: 
             assert!(rt; timers.room() <= 8);
             let totals = timers.due_totals(t, &[1, 2, 4, 8, 16, 32, 64, 128], &[1; 8]);
             same(rt, case, totals, wanted);
+            let total = timers.due_total(t, &[1, 2, 4, 8, 16, 32, 64, 128]);
+            same(rt, case, total, wanted.0);
         }
     }
 }

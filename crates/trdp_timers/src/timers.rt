@@ -170,9 +170,20 @@ impl Timers {
         Some((key, order))
     }
 
-    /// The sizes of either kind, together, of the keys that are due by the moment t; a key has the
-    /// sizes of its index. It takes no memory, and at most `2 * k + 1` comparisons for k keys that
-    /// are due.
+    /// The sizes, together, of the keys that are due by the moment t; a key has the size of its
+    /// index. It takes no memory, and at most `2 * k + 1` comparisons for k keys that are due.
+    pub fn due_total(&mut self, t: u64, sizes: &[usize]) -> u64
+        requires sizes { length self.old.orders ≤ length sizes.now }
+        requires fits { sum sizes.now < 2 ^ 64 }
+        ensures total { result ≡ sum (due_sizes t self.old.orders sizes.now) }
+        ensures kept { self.new.orders ≡ self.old.orders }
+        ensures cost { self.new.probes ≤ 2 * count_by (is_due_by t) self.old.orders + 1 }
+        ensures least { count_by (is_due_by t) self.old.orders ≤ self.new.probes }
+    {
+        self.due_totals(t, sizes, sizes).0
+    }
+
+    /// The same of sizes of either kind, in one walk.
     pub fn due_totals(&mut self, t: u64, first: &[usize], second: &[usize]) -> (u64, u64)
         requires first { length self.old.orders ≤ length first.now }
         requires first_fits { sum first.now < 2 ^ 64 }
