@@ -1,5 +1,17 @@
 //! A node as a device on a network: datagrams come from a wire, time from a clock.
 //!
+//! A [`Daemon`] takes turns: one reading of its [`Clock`], which is a moment of the node, and then
+//! one take at each port of its [`Wire`], each an event; what the node gives it offers at the wire.
+//! [`Daemon::run`] is so many turns, [`Daemon::attend`] goes on until a given time and rests while
+//! nothing is due.
+//!
+//! ```text
+//! let wire = UdpWire::bind(&rt, &config)?;
+//! let clock = RunClock::new(&rt);
+//! let mut daemon = Daemon::new(alloc, config, wire, clock)?;
+//! let totals = daemon.run(1_000_000);            // what came, went and was lost in so many turns
+//! ```
+//!
 //! What no contract can say is that memory is there: a daemon that loses every text, each line that
 //! carries bytes, and each event for which memory may be wanting, and counts them in `memory`,
 //! meets its contract, and `trdp_daemon_worked` shows that with ample memory nothing is lost. What
@@ -8,11 +20,11 @@
 //! contract, as a network may be so, and so does a [`RunClock`] that stands still; that they work
 //! is tested. For the same reason no contract says which sockets [`UdpWire::bind`] binds, and its
 //! must-fail edit turns all that it promises, a wire without failures: ports that are shifted or
-//! left out are for the tests over loopback to find. A [`RestingWire`] is such a wire that waits: of
-//! what it takes, gives and binds the same is said, and one that binds nothing answers `Bind` always
-//! as far as its contract tells. How long a rest is no contract of a wire says,
-//! nor that a daemon rests at all: one that never does offers the same. That it asks for rests, and
-//! for how long, is tested over a [`MemoryWire`]; that a datagram ends one is measured.
+//! left out are for the tests over loopback to find. A [`RestingWire`] is such a wire that waits:
+//! of what it takes, gives and binds the same is said, and one that binds nothing answers `Bind`
+//! always as far as its contract tells. How long a rest is no contract of a wire says, nor that a
+//! daemon rests at all: one that never does offers the same. That it asks for rests, and for how
+//! long, is tested over a [`MemoryWire`]; that a datagram ends one is measured.
 #![tactic(auto)]
 
 mod answer;

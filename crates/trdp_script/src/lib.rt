@@ -1,6 +1,20 @@
 //! The text form of a node: lines that say events, in scripts or one in a datagram, and lines that
 //! tell of records.
 //!
+//! [`run_script`] plays a script over a node that it opens: it reads lines, lets the node take
+//! their events, and writes what each slot gets. [`read_line`] says what one line means (a
+//! [`Line`], whose [`Line::event`] is the event), [`read_control`] and [`read_operator`] what one
+//! means that came in a datagram, and [`print_record`] writes a record as its line.
+//!
+//! ```text
+//! call 0 publish 100 0 100000 0 0 0 10.0.0.2:17224    answers  0 handle 1
+//! call 0 put 1 0a0b                                   answers  0 done
+//! moment 100000                                       sends    0 send pd 10.0.0.2:17224 0000..
+//! ```
+//!
+//! A line has one of a list of forms (`specs/Forms`), each its words and the event that they mean;
+//! docs/SCRIPT.md has them all.
+//!
 //! What no contract can say is that memory is there and that the outside works: a `read_line` that
 //! answers want of memory at each line that carries bytes meets its contract, and so does a
 //! `run_script` that answers it before it reads anything. A reader that always fails, and so a
