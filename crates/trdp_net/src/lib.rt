@@ -11,7 +11,7 @@
 //! that its destination reaches: again, in any order, as late as one likes. A group address
 //! reaches every node of its port. A loss is a delivery that never comes; nothing else is ever
 //! delivered. A node refuses an event, and then nothing changes, or the event is *admitted*, and
-//! then its slots do what `trdp_engine` says that each does alone. A call is *granted* where its
+//! then its slots do what `trdp_model` says that each does alone. A call is *granted* where its
 //! answer is other than a refusal.
 //!
 //! # What carries the promises
