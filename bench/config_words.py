@@ -26,6 +26,17 @@ def chain(depth):
     return "".join(dataset(1000 + it, 1001 + it) for it in range(depth - 1)) + dataset(999 + depth, 8)
 
 
+def limits(slots, datasets, elements, depth, size):
+    """A file of so many slots with the largest numbers, so many datasets, elements of one, datasets in one another and bytes of one."""
+    ports = ", ".join(["65535"] * 15)
+    text = f"[node]\naddress = '255.255.255.255'\npd_port = 65535\nmd_port = 65535\noperator_port = 65535\nspare_control_ports = [{ports}]\n"
+    text += ("[[slot]]\n" + "".join(f"{it} = 256\n" for it in KINDS) + "control_port = 65535\n") * slots
+    text += "".join(dataset(1000 + it, 8) for it in range(datasets - depth - 2))
+    text += dataset(100, 8) + "".join(dataset(100 + it, 99 + it) for it in range(1, depth))
+    return text + dataset(4294967295, f"8, size = {size}") + dataset(31, *[8] * elements)
+
+
+KINDS = ("publishers", "subscriptions", "requesters", "listeners", "callers", "repliers")
 # Configurations that aren't taken: what is said of each.
 FAULTS = [
     ("", "Missing node", "the file's root, key node"),
@@ -49,6 +60,11 @@ FAULTS = [
     (GOOD + chain(6), "TooDeep", "dataset 1000"),
     (GOOD + dataset(1001, 8) + dataset(1002, 1002), "TooDeep", "dataset 1002"),
     (GOOD + dataset(1001, 8) + dataset(1002, "11, size = 8174"), "TooBig", "dataset 1002"),
+    (limits(17, 256, 256, 5, 65388), "TooMany", "the file's root, key slot"),
+    (limits(16, 257, 256, 5, 65388), "TooMany", "the file's root, key dataset"),
+    (limits(16, 256, 257, 5, 65388), "TooMany", "dataset 31, key element"),
+    (limits(16, 256, 256, 6, 65388), "TooDeep", "dataset 105"),
+    (limits(16, 256, 256, 5, 65389), "TooBig", "dataset 4294967295"),
 ]
 
 # What is said of configurations that are taken.
@@ -57,8 +73,22 @@ MEANT = f"node 10.0.0.1: process data at port 17224, message data at port 17225\
 REACHED = ("warning: the network reaches the control ports at {}: a stranger's datagram, an empty one too, takes a slot's indications, and "
            "his lines are its calls; control_address = \"127.0.0.1\" keeps him out\n")
 GROUP = "what is sent to the group alone comes in, and what goes out bears another address\n"
+PORTS = ("slot = [{ control_port = 18000 }, { publishers = 256, repliers = 7 }]\nnode = { operator_port = 65535, md_port = 2, pd_port = 1, "
+         "address = '255.254.0.9', spare_control_ports = [0, 18002, 18002], control_address = '127.0.0.1' }\n")
+SPARE = [*range(18001, 18015), 65535]
 WORDS = [
     (GOOD, MEANT),
+    (open(f"{TOP}/rows/node.toml").read(),
+     "node 10.0.0.1: process data at port 17224, message data at port 17225\n"
+     + "".join(f"slot {it}, no control port: 4 publishers, 4 subscriptions, 1 requesters, 2 listeners, 2 callers, 1 repliers\n" for it in (0, 1))
+     + "dataset 1001: elements 2, bytes 1 and more\ndataset 1002: elements 3, bytes 9 and more\n"),
+    (PORTS,
+     "node 255.254.0.9: process data at port 1, message data at port 2\noperator at 127.0.0.1:65535\n"
+     f"slot 0 at 127.0.0.1:18000: {QUOTAS.replace('1 callers', '0 callers')}\n"
+     "slot 1, no control port: 256 publishers, 0 subscriptions, 0 requesters, 0 listeners, 0 callers, 7 repliers\n"
+     "slots that are added have, at 127.0.0.1, the ports 0 18002 18002\nwarning: slot 0 can hold nothing: each of its quotas is 0\n"),
+    (f"slot = [{{ callers = 1 }}]\nnode = {{ address = '10.0.0.1', control_address = '127.0.0.1', spare_control_ports = {SPARE} }}\n",
+     MEANT + f"slots that are added have, at 127.0.0.1, the ports {' '.join(map(str, SPARE))}\n"),
     (GOOD + "[[telegram]]\ncom_id = 100\ndataset = 0\n", MEANT),
     (GOOD + chain(5), MEANT + "".join(f"dataset {it}: elements 1, bytes 1\n" for it in range(1000, 1005))),
     (GOOD + dataset(1001, 8, "9, size = 0", 15), MEANT + "dataset 1001: elements 3, bytes 7 and more\n"),
@@ -77,6 +107,14 @@ WORDS = [
     (NODE.replace("10.0.0.1", "255.255.255.255") + ONE,
      MEANT.replace("10.0.0.1", "255.255.255.255")
      + "warning: address is the broadcast 255.255.255.255: " + GROUP.replace("the group alone", "all alone")),
+    (limits(16, 256, 256, 5, 65388),
+     "node 255.255.255.255: process data at port 65535, message data at port 65535\noperator at 255.255.255.255:65535\n"
+     + "".join(f"slot {slot} at 255.255.255.255:65535: {', '.join(f'256 {it}' for it in KINDS)}\n" for slot in range(16))
+     + f"slots that are added have, at 255.255.255.255, the ports {' '.join(['65535'] * 15)}\n"
+     + "".join(f"dataset {it}: elements 1, bytes 1\n" for it in (*range(1000, 1249), *range(100, 105)))
+     + "dataset 4294967295: elements 1, bytes 65388\ndataset 31: elements 256, bytes 256\nwarning: address is the broadcast 255.255.255.255: "
+     + GROUP.replace("the group alone", "all alone") + REACHED.format("255.255.255.255")
+     + "warning: no telegram of process data carries dataset 4294967295: it has 65388 bytes or more, and 1432 fit\n"),
     ("[nodes]\n" + NODE + "operater_port = 1\n" + ONE + "publisher = 1\n[[dataset]]\nid = 1001\nname = 'x'\n"
      "element = [{ type = 8, count = 2 }]\n",
      MEANT + "dataset 1001: elements 1, bytes 1\nwarning: the file's root: the key nodes means nothing\n"

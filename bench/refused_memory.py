@@ -13,14 +13,14 @@ import sys
 from refused import BENCH, built
 
 TESTS = [
-    ("trdp_parts_worked", "md_sessions::caller_keeps_its_payload"),
-    ("trdp_parts_worked", "table::a_slot_is_added_again"),
-    ("trdp_worked", "refused::an_event_is_given_again"),
-    ("trdp_worked", "refused::a_configuration_is_read_again"),
-    ("trdp_worked", "refused::values_are_spelled_again"),
-    ("trdp_worked", "refused::a_line_is_read_again"),
-    ("trdp_script_worked", "failing::a_script_without_memory"),
-    ("trdp_daemon_worked", "turns::refused_memory_is_counted"),
+    ("trdp_parts_tests", "md_sessions::caller_keeps_its_payload"),
+    ("trdp_parts_tests", "table::a_slot_is_added_again"),
+    ("trdp_node_tests", "refused::an_event_is_given_again"),
+    ("trdp_node_tests", "refused::a_configuration_is_read_again"),
+    ("trdp_node_tests", "refused::values_are_spelled_again"),
+    ("trdp_node_tests", "refused::a_line_is_read_again"),
+    ("trdp_node_tests", "failing::a_script_without_memory"),
+    ("trdp_daemon_tests", "turns::refused_memory_is_counted"),
 ]
 
 

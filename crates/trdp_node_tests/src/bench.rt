@@ -1,0 +1,101 @@
+//! A node that a test holds in its own hands, and leads by lines.
+
+use crate::same::same;
+use std::alloc::Global;
+use std::process::Abort;
+use std::test::Fail;
+use trdp_base::Place;
+use trdp_dataset::NodeConfig;
+use trdp_engine::{Event, Node, Outbox, Protocol, What};
+use trdp_script::{print_record, read_line};
+
+/// A node, with the records that it has given.
+#[derive(Drop)]
+pub struct Bench {
+    pub node: Node,
+    pub out: Outbox,
+}
+
+impl Bench {
+    /// A new node of that configuration, whose outbox is empty.
+    pub fn new(alloc: Global, config: &[u8]) -> Result<Bench, Fail> {
+        let config = NodeConfig::from_toml(alloc, config)?;
+        let node = Node::new(alloc, config).ok().ok_or("no memory")?;
+        let out = Outbox::new(alloc);
+        Ok(Bench { node, out })
+    }
+
+    /// Hands the event of a line to the node.
+    pub fn take(&mut self, alloc: Global, line: &str) -> Result<(), Fail> {
+        let mut buffer = Vec::new(alloc);
+        if let Some(event) = read_line(&mut buffer, line.as_bytes())? {
+            self.node.step(&event, &mut self.out)?;
+        }
+        Ok(())
+    }
+
+    /// Time comes to that moment, in microseconds.
+    pub fn moment(&mut self, moment: u64) -> Result<(), Fail> {
+        self.node.step(&Event::Moment(moment), &mut self.out)?;
+        Ok(())
+    }
+
+    /// A new node of that configuration that has taken the lines, and whose outbox is empty.
+    pub fn after(alloc: Global, config: &[u8], lines: &[&str]) -> Result<Bench, Fail> {
+        let mut bench = Bench::new(alloc, config)?;
+        for line in lines {
+            bench.take(alloc, line)?;
+        }
+        bench.out.clear();
+        Ok(bench)
+    }
+
+    /// Hands the telegram that the record of that index is to the node itself, as from a place of
+    /// its own, and answers its length.
+    pub fn loop_back(
+        &mut self,
+        alloc: Global,
+        index: usize,
+        protocol: Protocol,
+        place: Place,
+    ) -> Result<usize, Fail> {
+        let mut bytes = Vec::new(alloc);
+        if let Some(record) = self.out.get(index) {
+            if let What::Send { telegram, .. } = record.what {
+                bytes.extend_from_slice(telegram)?;
+            }
+        }
+        let len = bytes.len();
+        let event = Event::Datagram {
+            protocol,
+            src: place,
+            dst: place,
+            bytes: &bytes,
+        };
+        self.node.step(&event, &mut self.out)?;
+        Ok(len)
+    }
+
+    /// The records of the outbox as lines.
+    fn lines(&self, alloc: Global) -> Result<Vec<u8>, Fail> {
+        let mut text = Vec::new(alloc);
+        for index in 0..self.out.len() {
+            if let Some(record) = self.out.get(index) {
+                print_record(&mut text, &record)?;
+            }
+        }
+        Ok(text)
+    }
+
+    /// Asserts that the records of the outbox are these lines, and drops them.
+    pub fn tells(
+        &mut self,
+        rt: &(impl Abort + AllocGlobal),
+        lines: &'static str,
+    ) -> Result<(), Fail> {
+        let text = self.lines(rt.alloc())?;
+        same(rt, "the records", str::from_utf8(&text)?, lines);
+        self.out.clear();
+        Ok(())
+    }
+}

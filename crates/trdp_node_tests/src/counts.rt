@@ -1,0 +1,110 @@
+//! What datagrams cost a node, counted exactly.
+//!
+//! A search in the index by comId halves the rows: it compares the middle one, and goes on in the
+//! half before it or behind it. The rows of a comId are found by two searches, for the first of
+//! them, and for the first behind them among the rows from there on.
+
+use crate::bench::Bench;
+use crate::same::same;
+use crate::two_slots::CONFIG;
+use std::alloc::Global;
+use std::test::Fail;
+
+/// A subscription of comId 100 in the first of the two slots.
+const FIRST: &str = "call 0 subscribe 100 0 0.0.0.0 0.0.0.0 0.0.0.0 0 0 0 zero";
+
+/// The same in the second slot.
+const SECOND: &str = "call 1 subscribe 100 0 0.0.0.0 0.0.0.0 0.0.0.0 0 0 0 zero";
+
+/// A listener to comId 300 in the first slot.
+const LISTENER: &str = "call 0 listen 300 0.0.0.0 0.0.0.0 0.0.0.0 - 0 0";
+
+/// A listener to any comId in the first slot.
+const LISTENER_TO_ANY: &str = "call 0 listen any 0.0.0.0 0.0.0.0 0.0.0.0 - 0 0";
+
+/// The same in the second slot.
+const SECOND_TO_ANY: &str = "call 1 listen any 0.0.0.0 0.0.0.0 0.0.0.0 - 0 0";
+
+/// Pd c=7 com=100 | 0102
+const DATA: &str = "\
+    pd 10.0.0.2:17224 10.0.0.1:17224 \
+    00000007010050640000006400000000000000000000000200000000000000000000000035e54114\
+    01020000";
+
+/// Pd c=7 com=7 | 0102
+const OTHER_DATA: &str = "\
+    pd 10.0.0.2:17224 10.0.0.1:17224 \
+    0000000701005064000000070000000000000000000000020000000000000000000000004386af2a\
+    01020000";
+
+/// Mp s=1 com=301 | 0c
+const REPLY: &str = "\
+    md 10.0.0.2:17225 10.0.0.1:17225 \
+    0000000001004d700000012d00000000000000000000000100000000000000000000000000000000\
+    00000001000000000000000000000000000000000000000000000000000000000000000000000000\
+    00000000000000000000000000000000000000000000000000000000000000004488c7480c000000";
+
+/// Mn com=300 | 0d
+const NOTIFICATION: &str = "\
+    md 10.0.0.2:17225 10.0.0.1:17225 \
+    0000000001004d6e0000012c00000000000000000000000100000000000000000000000000000000\
+    00000000000000000000000000000000000000000000000000000000000000000000000000000000\
+    00000000000000000000000000000000000000000000000000000000000000006d6f3c7c0d000000";
+
+/// What a datagram costs a node that has taken lines: comparisons, filter tests and look-ups by
+/// session.
+struct Costing {
+    name: &'static str,
+    before: &'static [&'static str],
+    datagram: &'static str,
+    counts: [u64; 3],
+}
+
+static COSTINGS: [Costing; 4] = [
+    // The first search compares the second row and the first, the other one the second row, behind
+    // which all is looked for. Two objects are asked, and both are handed the telegram.
+    Costing {
+        name: "data that a subscription in each slot takes",
+        before: &[FIRST, SECOND],
+        datagram: DATA,
+        counts: [3, 4, 0],
+    },
+    // Both searches compare the second row and the first.
+    Costing {
+        name: "data of a comId that nobody has",
+        before: &[FIRST, SECOND, DATA],
+        datagram: OTHER_DATA,
+        counts: [4, 0, 0],
+    },
+    // The rows are those of any, of the first slot and the second, and then that of comId 300,
+    // which comes by 2 comparisons and 1, those of any by 2 and 2. All three are asked, and the
+    // first listener of each slot is handed the telegram.
+    Costing {
+        name: "a notification for two listeners of one slot and one of the other",
+        before: &[LISTENER, LISTENER_TO_ANY, SECOND_TO_ANY],
+        datagram: NOTIFICATION,
+        counts: [7, 5, 0],
+    },
+    // Its session is looked for in each slot.
+    Costing {
+        name: "a reply that nobody waits for",
+        before: &[],
+        datagram: REPLY,
+        counts: [0, 0, 2],
+    },
+];
+
+/// What the datagram of the row costs the node.
+fn counts_of(alloc: Global, row: &Costing) -> Result<[u64; 3], Fail> {
+    let mut bench = Bench::after(alloc, CONFIG, row.before)?;
+    bench.take(alloc, row.datagram)?;
+    Ok(bench.node.counts())
+}
+
+#[test]
+fn datagrams_cost_what_they_concern(rt: HostRuntime) -> Result<(), Fail> {
+    for row in &COSTINGS {
+        same(&rt, row.name, counts_of(rt.alloc(), row)?, row.counts);
+    }
+    Ok(())
+}

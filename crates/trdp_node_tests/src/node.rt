@@ -1,0 +1,186 @@
+//! The node's calls that no line makes.
+
+use crate::bench::Bench;
+use crate::same::same;
+use crate::two_slots::CONFIG;
+use std::process::Abort;
+use std::test::Fail;
+use trdp_base::{Ip, Place, Topo};
+use trdp_engine::{Call, Event, Outbox, What, run_both, same_view, view_drops_nothing};
+use trdp_pd::PublisherTerms;
+
+/// A publisher of comId 100 with a cycle of 100 ms, to 10.0.0.2.
+const TERMS: PublisherTerms = PublisherTerms {
+    com_id: 100,
+    dataset: 0,
+    cycle: 100_000,
+    group: 0,
+    topo: Topo { etb: 0, op_trn: 0 },
+    to: Place {
+        ip: Ip(0x0a00_0002),
+        port: 17224,
+    },
+};
+
+/// The publisher is made, gets its value, and is due.
+fn events() -> [Event<'static>; 3] {
+    [
+        Event::Call {
+            slot: 0,
+            call: Call::Publish(TERMS),
+        },
+        Event::Call {
+            slot: 0,
+            call: Call::Put {
+                handle: 1,
+                bytes: b"\x0a\x0b",
+            },
+        },
+        Event::Moment(100_000),
+    ]
+}
+
+/// The same for slot 0, with a call of slot 1, a moment that changes nothing and a last one that is
+/// refused.
+fn other_events() -> [Event<'static>; 6] {
+    [
+        Event::Call {
+            slot: 1,
+            call: Call::Publish(TERMS),
+        },
+        Event::Call {
+            slot: 0,
+            call: Call::Publish(TERMS),
+        },
+        Event::Moment(0),
+        Event::Call {
+            slot: 0,
+            call: Call::Put {
+                handle: 1,
+                bytes: b"\x0a\x0b",
+            },
+        },
+        Event::Moment(100_000),
+        Event::Moment(7),
+    ]
+}
+
+/// What they give.
+static FIRST_TELEGRAM: &str = "\
+    0 handle 1\n\
+    0 done\n\
+    0 send pd 10.0.0.2:17224 \
+    000000000100506400000064000000000000000000000002000000000000000000000000ec179c94\
+    0a0b0000\n";
+
+/// Asserts what the events give a new node.
+fn run(rt: &(impl Abort + AllocGlobal), bench: &mut Bench) -> Result<(), Fail> {
+    assert!(rt; bench.out.is_empty());
+    let taken = bench.node.run(&events(), &mut bench.out);
+    assert!(rt; taken == 3);
+    assert!(rt; bench.out.get(3).is_none());
+    bench.tells(rt, FIRST_TELEGRAM)
+}
+
+#[test]
+fn a_run_takes_all_events(rt: HostRuntime) -> Result<(), Fail> {
+    let mut bench = Bench::new(rt.alloc(), CONFIG)?;
+    run(&rt, &mut bench)
+}
+
+/// The sequence counter of a telegram.
+fn counter_of(telegram: &[u8]) -> Option<[u8; 4]> {
+    match telegram {
+        [a, b, c, d, ..] => Some([*a, *b, *c, *d]),
+        _ => None,
+    }
+}
+
+/// The sequence counter of the telegram that is the one record of an outbox.
+fn counter(out: &Outbox) -> Option<[u8; 4]> {
+    if out.len() == 1 {
+        if let Some(record) = out.get(0) {
+            if let What::Send { telegram, .. } = record.what {
+                return counter_of(telegram);
+            }
+        }
+    }
+    None
+}
+
+/// The moments go on by one cycle of the publisher at a time, from 0.2 to 1,000 seconds.
+#[test]
+fn ten_thousand_telegrams(rt: HostRuntime) -> Result<(), Fail> {
+    let mut bench = Bench::new(rt.alloc(), CONFIG)?;
+    run(&rt, &mut bench)?;
+    for count in 1..10_000u32 {
+        bench.moment((u64::from(count) + 1) * 100_000)?;
+        same(&rt, count, counter(&bench.out), Some(count.to_be_bytes()));
+        bench.out.clear();
+    }
+    Ok(())
+}
+
+/// The datasets, the address and the ports of the other configuration, the same slot 0, and a
+/// slot 1 that holds nothing.
+static OTHER_CONFIG: &[u8] = b"\
+[node]
+address = \"10.0.0.1\"
+[[slot]]
+publishers = 4
+subscriptions = 4
+requesters = 1
+listeners = 2
+callers = 2
+repliers = 1
+[[slot]]
+publishers = 0
+subscriptions = 0
+requesters = 0
+listeners = 0
+callers = 0
+repliers = 0
+[[dataset]]
+id = 1001
+element = [{ type = \"UINT8\" }, { type = \"UINT16\", size = 0 }]
+[[dataset]]
+id = 1002
+element = [{ type = \"INT16\" }, { type = 15 }, { type = 1001 }]
+";
+
+/// What slot 1 of that one answers, and then what slot 0 gives.
+static OTHER_TELEGRAM: &str = "\
+    1 refused Quota\n\
+    0 handle 1\n\
+    0 done\n\
+    0 send pd 10.0.0.2:17224 \
+    000000000100506400000064000000000000000000000002000000000000000000000000ec179c94\
+    0a0b0000\n";
+
+/// Asserts what both lists of events give two new nodes.
+fn run_two(
+    rt: &(impl Abort + AllocGlobal),
+    first: &mut Bench,
+    second: &mut Bench,
+) -> Result<(), Fail> {
+    let taken = run_both(
+        &mut first.node,
+        &mut second.node,
+        &events(),
+        &other_events(),
+        &mut first.out,
+        &mut second.out,
+    );
+    assert!(rt; taken == (3, 6));
+    same_view();
+    view_drops_nothing();
+    first.tells(rt, FIRST_TELEGRAM)?;
+    second.tells(rt, OTHER_TELEGRAM)
+}
+
+#[test]
+fn two_nodes_run_alike(rt: HostRuntime) -> Result<(), Fail> {
+    let mut first = Bench::new(rt.alloc(), CONFIG)?;
+    let mut second = Bench::new(rt.alloc(), OTHER_CONFIG)?;
+    run_two(&rt, &mut first, &mut second)
+}

@@ -1,0 +1,330 @@
+//! Calls for which memory is refused: each changes nothing, and the same call again does what it
+//! should.
+//!
+//! These tests pass whichever one request for memory is refused, one of their own too;
+//! `bench/refused_memory.py` refuses each in turn. That one is refused at most tells a call that
+//! lacks memory from one that says so for ever.
+
+ghost use Rattle.std.specs.Prelude.{◌≡◌};
+
+use crate::same::same;
+use crate::two_slots;
+use std::alloc::{AllocError, Global};
+use std::fmt::Debug;
+use std::process::Abort;
+use std::test::Fail;
+use trdp_base::Ip;
+use trdp_dataset::{ConfigFault, NodeConfig, Registry};
+use trdp_engine::{Call, Event, Node, NodeFault, Outbox};
+use trdp_marshal::{Item, MarshalFault, decode, encode};
+use trdp_script::{LineFault, print_record, read_line};
+
+/// What a call answers, or the same call once more where it says that memory is wanting.
+fn again<T, E: PartialEq + Debug + Copy, F: Fn() -> Result<T, E>>(
+    rt: &(impl Abort + AllocGlobal),
+    call: F,
+    no_memory: E,
+) -> Result<T, Fail>
+    requires { F.IsAlwaysCallable call }
+{
+    match call() {
+        Ok(value) => Ok(value),
+        Err(fault) => {
+            same(rt, "the first time", fault, no_memory);
+            Ok(call()?)
+        }
+    }
+}
+
+/// An event that takes memory.
+struct Row {
+    name: &'static str,
+    /// What the node has taken before.
+    before: &'static [&'static str],
+    line: &'static str,
+    /// What the node gives for that line, slot by slot.
+    gives: &'static str,
+}
+
+/// Two slots, of which the first may have no replier.
+static CONFIG: &[u8] = b"\
+[node]
+address = \"10.0.0.1\"
+[[slot]]
+publishers = 4
+subscriptions = 4
+listeners = 2
+callers = 2
+[[slot]]
+publishers = 4
+listeners = 2
+repliers = 1
+";
+
+static ROWS: [Row; 7] = [
+    Row {
+        name: "a slot",
+        before: &[],
+        line: "addslot 256 256 256 256 256 256",
+        gives: "2 opened\n",
+    },
+    Row {
+        name: "a publisher",
+        before: &[],
+        line: "call 0 publish 100 0 100000 0 0 0 10.0.0.2:17224",
+        gives: "0 handle 1\n",
+    },
+    Row {
+        name: "a subscription",
+        before: &[],
+        line: "call 0 subscribe 100 0 0.0.0.0 0.0.0.0 0.0.0.0 0 0 50000 zero",
+        gives: "0 handle 1\n",
+    },
+    Row {
+        name: "a listener",
+        before: &[],
+        line: "call 0 listen 300 0.0.0.0 0.0.0.0 0.0.0.0 - 0 0",
+        gives: "0 handle 1\n",
+    },
+    // Mr s=1 com=300 t=1000000 | 0d
+    Row {
+        name: "a caller, and its request",
+        before: &[],
+        line: "\
+            call 0 request 300 00000000-0000-0000-0000-000000000001 1 1000000 - - 0 0 \
+            10.0.0.2:17225 0d",
+        gives: "\
+            0 handle 1\n\
+            0 send md 10.0.0.2:17225 \
+            0000000001004d720000012c00000000000000000000000100000000000000000000000000000000\
+            00000001000f42400000000000000000000000000000000000000000000000000000000000000000\
+            00000000000000000000000000000000000000000000000000000000000000002e7f5d0e0d000000\n",
+    },
+    // Mr s=1 com=300 t=1000000 | 0d
+    Row {
+        name: "a request that comes to both slots",
+        before: &[
+            "call 0 listen 300 0.0.0.0 0.0.0.0 0.0.0.0 - 0 0",
+            "call 1 listen 300 0.0.0.0 0.0.0.0 0.0.0.0 - 0 0",
+        ],
+        line: "\
+            md 10.0.0.2:17225 10.0.0.1:17225 \
+            0000000001004d720000012c00000000000000000000000100000000000000000000000000000000\
+            00000001000f42400000000000000000000000000000000000000000000000000000000000000000\
+            00000000000000000000000000000000000000000000000000000000000000002e7f5d0e0d000000",
+        gives: "\
+            0 overrun 1\n\
+            1 asked 1 2 00000000-0000-0000-0000-000000000001 10.0.0.2:17225 300 - - 0d\n",
+    },
+    Row {
+        name: "a moment by which three publishers are due",
+        before: &[
+            "call 0 publish 1 0 100000 0 0 0 10.0.0.2:17224",
+            "call 1 publish 2 0 50000 0 0 0 10.0.0.2:17224",
+            "call 0 publish 3 0 100000 0 0 0 10.0.0.2:17224",
+            "call 0 put 1 00",
+            "call 1 put 1 00",
+            "call 0 put 2 00",
+        ],
+        line: "moment 100000",
+        gives: "\
+            0 send pd 10.0.0.2:17224 \
+            000000000100506400000001000000000000000000000001000000000000000000000000f274637c\
+            00000000\n\
+            0 send pd 10.0.0.2:17224 \
+            000000000100506400000003000000000000000000000001000000000000000000000000af5205ec\
+            00000000\n\
+            1 send pd 10.0.0.2:17224 \
+            000000000100506400000002000000000000000000000001000000000000000000000000a1c28e49\
+            00000000\n",
+    },
+];
+
+/// Hands the event of a line to a node, and answers whether memory was there.
+fn take(alloc: Global, node: &mut Node, line: &str, out: &mut Outbox) -> bool {
+    let mut buffer = Vec::new(alloc);
+    match read_line(&mut buffer, line.as_bytes()) {
+        Ok(Some(event)) => node.step(&event, out).is_ok(),
+        Ok(None) | Err(_) => false,
+    }
+}
+
+/// A node that has taken these lines; None for want of memory.
+fn node_after(alloc: Global, lines: &[&str]) -> Option<Node> {
+    let config = NodeConfig::from_toml(alloc, CONFIG).ok()?;
+    let mut node = Node::new(alloc, config).ok()?;
+    let mut out = Outbox::new(alloc);
+    for line in lines {
+        if !take(alloc, &mut node, line, &mut out) {
+            return None;
+        }
+    }
+    Some(node)
+}
+
+/// Hands an event to a node, and once more where it says that memory is wanting.
+fn step_again(
+    rt: &(impl Abort + AllocGlobal),
+    name: &str,
+    node: &mut Node,
+    event: &Event<'_>,
+    out: &mut Outbox,
+) {
+    let before = (node.now(), out.len());
+    let mut taken = node.step(event, out);
+    if taken == Err(NodeFault::OutOfMemory) {
+        same(rt, name, (node.now(), out.len()), before);
+        taken = node.step(event, out);
+    }
+    same(rt, name, taken, Ok(()));
+}
+
+/// Appends the lines of one slot's records.
+fn push_slot(text: &mut Vec<u8>, out: &Outbox, slot: u16) -> Result<(), AllocError> {
+    for index in 0..out.len() {
+        match out.get(index) {
+            Some(record) if record.slot == slot => print_record(text, &record)?,
+            _ => {}
+        }
+    }
+    Ok(())
+}
+
+/// The lines of all records, slot by slot.
+fn lines_of(alloc: Global, out: &Outbox) -> Result<Vec<u8>, AllocError> {
+    let mut text = Vec::new(alloc);
+    for slot in 0..16 {
+        push_slot(&mut text, out, slot)?;
+    }
+    Ok(text)
+}
+
+/// The event of a line, which is read twice: the first time memory may be wanting for its bytes.
+fn read_again<'b>(
+    rt: &(impl Abort + AllocGlobal),
+    buffer: &'b mut Vec<u8>,
+    line: &[u8],
+) -> Result<Option<Event<'b>>, Fail> {
+    let fault = read_line(buffer, line).err();
+    if let Some(fault) = fault {
+        same(rt, "the first time", fault, LineFault::OutOfMemory);
+    }
+    Ok(read_line(buffer, line)?)
+}
+
+/// Asserts what a row's event gives into an outbox that has no room.
+fn gives_again(rt: &(impl Abort + AllocGlobal), row: &Row) -> Result<(), Fail> {
+    let alloc = rt.alloc();
+    let before = || node_after(alloc, row.before).ok_or("no memory");
+    let mut node = again(rt, before, "no memory")?;
+    let mut buffer = Vec::new(alloc);
+    let mut out = Outbox::new(alloc);
+    if let Some(event) = read_again(rt, &mut buffer, row.line.as_bytes())? {
+        step_again(rt, row.name, &mut node, &event, &mut out);
+    }
+    let text = again(rt, || lines_of(alloc, &out), AllocError)?;
+    same(rt, row.name, str::from_utf8(&text)?, row.gives);
+    Ok(())
+}
+
+#[test]
+fn an_event_is_given_again(rt: HostRuntime) -> Result<(), Fail> {
+    for row in &ROWS {
+        gives_again(&rt, row)?;
+    }
+    Ok(())
+}
+
+/// A configuration that is read again where memory for it is refused.
+fn config_again(rt: &(impl Abort + AllocGlobal)) -> Result<NodeConfig, Fail> {
+    let read = || NodeConfig::from_toml(rt.alloc(), two_slots::CONFIG);
+    again(rt, read, ConfigFault::OutOfMemory)
+}
+
+#[test]
+fn a_configuration_is_read_again(rt: HostRuntime) -> Result<(), Fail> {
+    let config = config_again(&rt)?;
+    same(&rt, "the slots", config.slots(), 2);
+    same(&rt, "the address", config.address(), Ip(0x0a00_0001));
+    let registry = config.registry();
+    same(&rt, "the datasets", registry.len(), 2);
+    same(&rt, "dataset 1001", registry.zero_size(1001), Some(1));
+    same(&rt, "dataset 1002", registry.zero_size(1002), Some(9));
+    Ok(())
+}
+
+/// Whether the item is 2 and the list of 1 and 2.
+fn is_counted(item: &Item) -> bool {
+    match item {
+        Item::List(items) => match items.as_slice() {
+            [Item::U(2), Item::List(numbers)] => {
+                matches!(numbers.as_slice(), [Item::U(1), Item::U(2)])
+            }
+            _ => false,
+        },
+        _ => false,
+    }
+}
+
+/// Whether the item is -2, a time of 1 second and 2 ticks, and the list of 0 and no number.
+fn is_timed(item: &Item) -> bool {
+    match item {
+        Item::List(items) => match items.as_slice() {
+            [Item::S(-2), Item::T48(1, 2), Item::List(last)] => match last.as_slice() {
+                [Item::U(0), Item::List(numbers)] => numbers.is_empty(),
+                _ => false,
+            },
+            _ => false,
+        },
+        _ => false,
+    }
+}
+
+/// The item that these bytes spell, which spells them.
+fn spells_again(
+    rt: &(impl Abort + AllocGlobal),
+    registry: &Registry,
+    dataset: u32,
+    bytes: &[u8],
+) -> Result<Item, Fail> {
+    let alloc = rt.alloc();
+    let read = || decode(alloc, registry, dataset, bytes);
+    let item = again(rt, read, MarshalFault::OutOfMemory)?;
+    let spell = || encode(alloc, registry, dataset, &item);
+    let spelled = again(rt, spell, MarshalFault::OutOfMemory)?;
+    same(rt, dataset, spelled.as_slice(), bytes);
+    Ok(item)
+}
+
+#[test]
+fn values_are_spelled_again(rt: HostRuntime) -> Result<(), Fail> {
+    let config = config_again(&rt)?;
+    let registry = config.registry();
+    let counted = spells_again(&rt, registry, 1001, b"\x02\0\x01\0\x02")?;
+    assert!(rt; is_counted(&counted));
+    let timed = spells_again(&rt, registry, 1002, b"\xff\xfe\0\0\0\x01\0\x02\0")?;
+    assert!(rt; is_timed(&timed));
+    Ok(())
+}
+
+/// Whether the event hands 0a0b to the object 1 of slot 0.
+fn is_put(event: &Option<Event<'_>>) -> bool {
+    matches!(
+        *event,
+        Some(Event::Call {
+            slot: 0,
+            call: Call::Put {
+                handle: 1,
+                bytes: [0x0a, 0x0b],
+            },
+        })
+    )
+}
+
+#[test]
+fn a_line_is_read_again(rt: HostRuntime) -> Result<(), Fail> {
+    let mut buffer = Vec::new(rt.alloc());
+    let event = read_again(&rt, &mut buffer, b"call 0 put 1 0a0b")?;
+    assert!(rt; is_put(&event));
+    Ok(())
+}

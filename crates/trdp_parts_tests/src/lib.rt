@@ -1,0 +1,36 @@
+//! Worked examples of the crates below the node, with values from outside: texts, telegrams from
+//! the standard's layout with zlib's CRC-32, datasets, values beside their bytes, and what objects,
+//! filters, tables, indexes and timers do step by step. What each of them does is proved where it
+//! stands.
+#![tactic(auto)]
+
+#[cfg(test)]
+mod base;
+#[cfg(test)]
+mod datasets;
+#[cfg(test)]
+mod fcs;
+#[cfg(test)]
+mod filter;
+#[cfg(test)]
+mod head;
+#[cfg(test)]
+mod index;
+#[cfg(test)]
+mod marshal;
+#[cfg(test)]
+mod md;
+#[cfg(test)]
+mod md_head;
+#[cfg(test)]
+mod md_sessions;
+#[cfg(test)]
+mod pd;
+#[cfg(test)]
+mod plain;
+#[cfg(test)]
+mod same;
+#[cfg(test)]
+mod table;
+#[cfg(test)]
+mod timers;
