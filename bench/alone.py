@@ -1,0 +1,141 @@
+#!/usr/bin/env python3
+"""Each slot of a node beside the same slot by itself, over events by chance.
+
+    bench/alone.py [EVENTS [SEED [PROGRAM]]]      default: 40000 events, seed 1, $TRDPD or crates/trdpd/out/trdpd
+    bench/alone.py rows
+
+`bench/alone/` is a second implementation of the rules in docs/PROFILE.md, docs/MODEL.md and docs/SCRIPT.md: one slot by itself, which has
+a list of its objects and looks at each of them at every event. Nothing of it is taken from the crates, and no slot knows of another. Events
+by chance, some 5000 for each of several nodes, are played by the program and by each slot by itself: each event has to give the lines that the
+slots give, slots rising. A run tells how often each kind of line came, and fails where one never came that chance can reach. SEED `clock`
+takes the seed from the clock; it is printed.
+
+With `rows` the slots by themselves play all scripts that stand in the repository with their output: those of rows/ whose configuration is
+taken, and the examples. The exit status is 0 where all is alike.
+"""
+import os
+import subprocess
+import sys
+import tempfile
+import time
+from collections import Counter
+from random import Random
+
+from alone import cover, rows
+from alone.beside import Beside
+from alone.chance import Chance
+from alone.draws import Draws, config_by_chance
+from alone.lines import read_line
+from alone.play import play
+from alone.settings import Settings
+
+TOP = os.path.dirname(os.path.dirname(os.path.abspath(__file__)))
+EVENTS_OF_A_NODE = 5000
+# Stands behind each event, and gives the line behind it, so that each event's own lines show.
+MARK, MARKED = "role 0 leader", "fault NoGroup"
+
+
+class Wrong(Exception):
+    """What must not be."""
+
+
+class Run:
+    """The events of one node by chance, with what its slots give by themselves."""
+
+    def __init__(self, seed, events, seen):
+        draws = Draws(Random(seed))
+        self.config = config_by_chance(draws)
+        beside = Beside(Settings(self.config), seen)
+        chance = Chance(draws, beside, events)
+        # Of each event its line, and the lines that it gives.
+        self.events = []
+        for _ in range(events):
+            line = chance.line()
+            event = read_line(line)
+            given = beside.step(event)
+            for it in given:
+                chance.arrivals.note(it)
+                seen[cover.name_of(event, it)] += 1
+            self.events.append((line, given))
+        self.slots = len(beside.slots)
+
+    def script(self):
+        return "".join(f"{line}\n{MARK}\n" for line, _ in self.events)
+
+    def played(self, program):
+        """What the program gives, line by line."""
+        with tempfile.TemporaryDirectory() as folder:
+            path = os.path.join(folder, "node.toml")
+            with open(path, "w") as config:
+                config.write(self.config)
+            ran = subprocess.run([program, "run", path], input=self.script(), capture_output=True, text=True)
+        if ran.returncode != 0:
+            raise Wrong(f"the program ended with {ran.returncode}: {ran.stderr.strip()}")
+        return ran.stdout.split("\n")[:-1]
+
+    def compare(self, program):
+        """Compares what the program gives with what the slots give by themselves; answers how many lines these are."""
+        at, played = 0, self.played(program)
+        for number, (line, given) in enumerate(self.events):
+            wanted = given + [MARKED]
+            if (found := played[at : at + len(wanted)]) != wanted:
+                raise Wrong(self.difference(number, line, wanted, found))
+            at += len(wanted)
+        if at != len(played):
+            raise Wrong(f"{len(played) - at} lines behind the last event's")
+        return at - len(self.events)
+
+    def difference(self, number, line, wanted, found):
+        """Tells of an event at which they differ, and keeps what leads to it."""
+        folder = tempfile.mkdtemp(prefix="alone-")
+        for name, text in (("node.toml", self.config), ("script", "".join(f"{it}\n" for it, _ in self.events[: number + 1]))):
+            with open(os.path.join(folder, name), "w") as file:
+                file.write(text)
+        texts = (f"event {number + 1}: {line[:300]}", *shown("alone", wanted), *shown("program", found))
+        return "\n".join((*texts, f"{folder} has the configuration and the script"))
+
+
+def shown(who, lines):
+    return [f"  {who}: {line[:300]}" for line in lines]
+
+
+def by_chance(events, seed, program):
+    """Plays so many events, and tells what they came to."""
+    seen, given, slots, begun = Counter(), 0, 0, time.monotonic()
+    for first in range(0, events, EVENTS_OF_A_NODE):
+        name = f"{seed}.{first // EVENTS_OF_A_NODE}"
+        try:
+            run = Run(name, min(EVENTS_OF_A_NODE, events - first), seen)
+            given += run.compare(program)
+            slots += run.slots
+        except Wrong as fault:
+            raise Wrong(f"node {name}: {fault}") from None
+    print(", ".join(f"{name} {count}" for name, count in sorted(seen.items())))
+    print(f"seed {seed}: {events} events of {slots} slots give {given} lines, alike; {time.monotonic() - begun:.0f} s")
+    if missing := [name for name in cover.wanted() if not seen[name]]:
+        raise Wrong(f"these never came: {', '.join(missing)}")
+
+
+def by_rows():
+    """Plays each script of the repository on slots by themselves."""
+    count = 0
+    for where, config, script, output, ending in rows.all_of(TOP):
+        given, ended = play(config, script)
+        if "".join(f"{line}\n" for line in given) != output or ended != ending:
+            raise Wrong(f"{where} gives something else")
+        count += 1
+    print(f"{count} scripts give what stands beside them")
+
+
+def main(words):
+    if words == ["rows"]:
+        return by_rows()
+    events, seed, program = (words + ["40000", "1", os.environ.get("TRDPD", f"{TOP}/crates/trdpd/out/trdpd")][len(words) :])[:3]
+    by_chance(int(events), str(time.time_ns()) if seed == "clock" else seed, program)
+
+
+if __name__ == "__main__":
+    try:
+        main(sys.argv[1:])
+    except (Wrong, OSError) as fault:
+        sys.exit(f"alone.py: {fault}")

@@ -1,0 +1,83 @@
+"""Slots by themselves side by side, as many as a node has. None knows of another."""
+from collections import Counter
+
+from .rules import LAST_MOMENT, Setting
+from .slot import Slot
+from .telegrams import fault_of, read
+
+SLOTS_MAX = 16
+
+
+class Beside:
+    """The slots of a node, each by itself, and the lines of each event, slots rising."""
+
+    def __init__(self, settings, seen=None):
+        self.settings, self.seen = settings, Counter() if seen is None else seen
+        self.now, self.topo, self.led = 0, (0, 0), set()
+        self.slots = []
+        for quotas in settings.quotas:
+            self.open(quotas)
+
+    def open(self, quotas):
+        """A slot is opened, with the moment, the counts and the roles of now."""
+        setting = Setting(self.settings, self.seen)
+        setting.now, setting.topo, setting.led = self.now, self.topo, set(self.led)
+        self.slots.append(Slot(quotas, setting))
+
+    def fault(self, event):
+        """Why the node takes no notice of an event; None where it does."""
+        if event.slot is not None:
+            return None if event.slot < len(self.slots) else "NoSlot"
+        if event.word == "moment":
+            now = event.values[0]
+            return "Past" if now < self.now else "TooLate" if now > LAST_MOMENT else None
+        if event.word == "role" and event.values[0] == 0:
+            return "NoGroup"
+        if event.word == "addslot" and len(self.slots) == SLOTS_MAX:
+            return "SlotsFull"
+        return None
+
+    def step(self, event):
+        """The lines that an event gives."""
+        if fault := self.fault(event):
+            return [f"fault {fault}"]
+        if event.slot is not None:
+            return self.numbered(event.slot, self.slots[event.slot].call(event.word, event.values))
+        return getattr(self, event.word)(*event.values)
+
+    def numbered(self, number, lines):
+        return [f"{number} {line}" for line in lines]
+
+    def each(self, does):
+        """The lines of all slots, of what each gives."""
+        return [line for number, slot in enumerate(self.slots) for line in self.numbered(number, does(slot))]
+
+    def moment(self, now):
+        self.now = now
+        return self.each(lambda slot: slot.moment(now))
+
+    def topology(self, etb, op_trn):
+        self.topo = (etb, op_trn)
+        return self.each(lambda slot: slot.topology(etb, op_trn))
+
+    def role(self, group, leader):
+        (self.led.add if leader else self.led.discard)(group)
+        return self.each(lambda slot: slot.role(group, leader))
+
+    def addslot(self, *quotas):
+        self.open(quotas)
+        return [f"{len(self.slots) - 1} opened"]
+
+    def datagram(self, protocol, source, destination, datagram):
+        if fault := fault_of(protocol, datagram):
+            self.seen[f"{protocol} {fault}"] += 1
+            return []
+        telegram = read(protocol, datagram)
+        self.seen[f"came {telegram.kind}"] += 1
+        return self.each(lambda slot: slot.telegram(telegram, source, destination))
+
+    def pd(self, source, destination, datagram):
+        return self.datagram("pd", source, destination, datagram)
+
+    def md(self, source, destination, datagram):
+        return self.datagram("md", source, destination, datagram)

@@ -1,0 +1,170 @@
+"""Objects of message data: listeners, callers, repliers."""
+from .rules import counts_match, passes
+from .telegrams import Message, write_md
+from .texts import hex_text, place_text, session_text
+
+# From how many places a caller takes answers at most.
+PLACES_MAX = 8
+# What a received time of 0 stands for, in microseconds.
+TIME_UNSAID = 5_000_000
+
+
+def sent(place, message):
+    return f"send md {place_text(place)} {write_md(message).hex()}"
+
+
+def told(source, message):
+    """A message, as a listener's slot is told of it."""
+    uris = f"{hex_text(message.source_uri)} {hex_text(message.dest_uri)}"
+    return f"{place_text(source)} {message.com_id} {uris} {hex_text(message.payload)}"
+
+
+def time_of(message):
+    return message.time or TIME_UNSAID
+
+
+def notify(com_id, source_uri, dest_uri, etb, op_trn, to, payload):
+    message = Message("Mn", com_id, payload, topo=(etb, op_trn), source_uri=source_uri, dest_uri=dest_uri)
+    return ["done", sent(to, message)]
+
+
+class Listener:
+    kind = "listener"
+    due = None
+
+    def __init__(self, handle, setting, com_id, low, high, dest, uri, etb, op_trn):
+        self.handle, self.com_id, self.source = handle, com_id, (low, high)
+        self.dest, self.uri, self.topo = dest, uri, (etb, op_trn)
+
+    def hears(self, setting, message, source, destination):
+        if message.kind not in ("Mn", "Mr") or self.com_id not in (None, message.com_id):
+            return False
+        if self.uri not in (b"", message.dest_uri):
+            setting.note("listener: other URI")
+            return False
+        return passes(self, setting, message, source, destination)
+
+
+class Caller:
+    kind = "caller"
+
+    def __init__(self, handle, setting, com_id, session, expected, time, source, dest, etb, op_trn, to, payload, retries):
+        self.handle, self.session, self.expected, self.time = handle, session, expected, time
+        self.com_id, self.uris, self.topo, self.to = com_id, (source, dest), (etb, op_trn), to
+        self.payload, self.retries, self.sent = payload, retries, 0
+        self.due = setting.now + time
+        # Each place that has answered, and whether it awaits a confirmation.
+        self.answers = {}
+        self.over = False
+
+    def request(self):
+        message = Message("Mr", self.com_id, self.payload, self.sent, self.topo, 0, self.session, self.time, *self.uris)
+        self.sent += 1
+        return [sent(self.to, message)]
+
+    def close(self, reason):
+        self.over = True
+        return [f"closed {self.handle} {reason}"]
+
+    def done(self, when, setting):
+        """Closes it where it has all that it waits for."""
+        if self.expected == 0 or len(self.answers) < self.expected or any(self.answers.values()):
+            return []
+        setting.note(f"done {when}")
+        return self.close("Done")
+
+    def fire(self, setting):
+        if not self.answers and self.retries > 0:
+            self.retries -= 1
+            self.due = setting.now + self.time
+            if not counts_match(self.topo, setting.topo):
+                setting.note("retry not sent")
+                return []
+            setting.note(f"retry {self.sent}")
+            return self.request()
+        if not self.answers:
+            return self.close("NoReply")
+        if len(self.answers) < self.expected:
+            return self.close("NotAllReplies")
+        if any(self.answers.values()):
+            return self.close("NotConfirmed")
+        setting.note("done in the end")
+        return self.close("Done")
+
+    def hears(self, setting, message, source, destination):
+        if message.kind not in ("Mp", "Mq", "Me") or message.session != self.session:
+            return False
+        if counts_match(self.topo, message.topo):
+            return True
+        setting.note("caller: other counts")
+        return False
+
+    def take(self, setting, message, source):
+        if source in self.answers:
+            setting.note("answered already")
+            return []
+        if len(self.answers) >= (self.expected or PLACES_MAX):
+            setting.note("answers enough")
+            return []
+        self.answers[source] = message.kind == "Mq"
+        if message.kind == "Mq":
+            end = setting.now + time_of(message)
+            setting.note("deadline put off" if end > self.due else "deadline kept")
+            self.due = max(self.due, end)
+        answer = f"{place_text(source)} {message.kind} {message.status} {message.com_id} {hex_text(message.payload)}"
+        return [f"replied {self.handle} {answer}"] + self.done("by an answer", setting)
+
+    def confirm(self, setting, place, status):
+        self.answers[place] = False
+        message = Message("Mc", self.com_id, b"", 0, self.topo, status, self.session, 0, *self.uris)
+        return ["done", sent(place, message)] + self.done("by a confirmation", setting)
+
+
+class Replier:
+    kind = "replier"
+
+    def __init__(self, handle, setting, peer, request):
+        self.handle, self.peer, self.session, self.topo = handle, peer, request.session, request.topo
+        # From whom it was for, to whom it came from.
+        self.uris = (request.dest_uri, request.source_uri)
+        self.due = setting.now + time_of(request)
+        self.asked, self.over = True, False
+        setting.note("time said" if request.time else "time unsaid")
+
+    def fire(self, setting):
+        self.over = True
+        return [f"closed {self.handle} {'ReplyMissed' if self.asked else 'NoConfirm'}"]
+
+    def hears(self, setting, message, source, destination):
+        if message.kind != "Mc" or message.session != self.session:
+            return False
+        if self.asked:
+            setting.note("confirmed too soon")
+        elif source[0] != self.peer[0]:
+            setting.note("confirmed by another")
+        elif not counts_match(self.topo, message.topo):
+            setting.note("replier: other counts")
+        else:
+            return True
+        return False
+
+    def take(self, setting, message, source):
+        setting.note("confirmed from its port" if source == self.peer else "confirmed from another port")
+        self.over = True
+        return [f"confirmed {self.handle} {message.status}"]
+
+    def answer(self, kind, com_id, status, payload=b"", time=0):
+        message = Message(kind, com_id, payload, 0, self.topo, status, self.session, time, *self.uris)
+        return ["done", sent(self.peer, message)]
+
+    def reply(self, setting, com_id, status, payload):
+        self.over = True
+        return self.answer("Mp", com_id, status, payload)
+
+    def query(self, setting, com_id, status, time, payload):
+        self.asked, self.due = False, setting.now + time
+        return self.answer("Mq", com_id, status, payload, time)
+
+    def replyerror(self, setting, com_id, status):
+        self.over = True
+        return self.answer("Me", com_id, status)

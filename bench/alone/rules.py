@@ -1,0 +1,47 @@
+"""What all objects go by: what they may see, counts that match, and filters."""
+from collections import Counter
+
+# The latest moment, in microseconds.
+LAST_MOMENT = 2**62
+
+
+class Setting:
+    """What the objects of one slot may see: the time, topology counts, the groups that are led, and the configuration.
+
+    Each slot has one of its own. `note` counts what happens without a line, so that a run can tell whether it came to it.
+    """
+
+    def __init__(self, settings, seen=None):
+        self.now, self.topo, self.led = 0, (0, 0), set()
+        self.pd_port, self.datasets = settings.pd_port, settings.datasets
+        self.seen = Counter() if seen is None else seen
+
+    def note(self, what):
+        self.seen[what] += 1
+
+
+def count_matches(a, b):
+    return a == 0 or b == 0 or a == b
+
+
+def counts_match(one, other):
+    """Whether two pairs of topology counts match."""
+    return count_matches(one[0], other[0]) and count_matches(one[1], other[1])
+
+
+def in_range(bounds, address):
+    low, high = bounds
+    return low == high == 0 or low <= address <= high
+
+
+def passes(term, setting, telegram, source, destination):
+    """Whether a telegram of the right comId passes a filter: its source, destination and counts."""
+    if not in_range(term.source, source[0]):
+        setting.note(f"{term.kind}: other source")
+    elif term.dest not in (0, destination[0]):
+        setting.note(f"{term.kind}: other destination")
+    elif not counts_match(term.topo, telegram.topo):
+        setting.note(f"{term.kind}: other counts")
+    else:
+        return True
+    return False
