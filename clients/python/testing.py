@@ -11,7 +11,7 @@ import subprocess
 import tempfile
 import threading
 import time
-from collections.abc import Callable
+from collections.abc import Callable, Sequence
 
 HERE = pathlib.Path(__file__).resolve().parent
 TOP = HERE.parent.parent
@@ -33,7 +33,8 @@ def wait_until(is_so: Callable[[], bool], seconds: float = 5) -> None:
 class Daemon:
     """A daemon of a configuration, as a process."""
 
-    def __init__(self, config: str, folder: str | None = None) -> None:
+    def __init__(self, config: str, folder: str | None = None, words: Sequence[str] = ()) -> None:
+        self.words = words
         self.folder = tempfile.TemporaryDirectory() if folder is None else None
         self.path = pathlib.Path(folder or self.folder.name) / "node.toml"
         self.path.write_text(config)
@@ -45,7 +46,8 @@ class Daemon:
         # What it says goes to a file: a pipe that nobody reads would fill.
         errors = self.path.with_suffix(".errors")
         with open(errors, "wb") as out:
-            self.process = subprocess.Popen([PROGRAM, "daemon", str(self.path)], stdout=out, stderr=out)
+            line = [PROGRAM, "daemon", str(self.path), *self.words]
+            self.process = subprocess.Popen(line, stdout=out, stderr=out)
         wait_until(lambda: self.process.poll() is not None or self._has_ports())
         if self.process.poll() is not None:
             raise RuntimeError(f"the daemon ended: {errors.read_text()}")
@@ -64,6 +66,12 @@ class Daemon:
         """How many ports the configuration names, of which a spare one is at most one."""
         text = self.path.read_text()
         return 2 + sum(text.count(it) for it in ("\noperator_port", "\nspare_control_ports", "\ncontrol_port"))
+
+    def totals(self) -> dict[str, int]:
+        """Its latest line of totals, which the words `--totals SECONDS` ask for; nothing where there is none yet."""
+        whole = self.path.with_suffix(".errors").read_text().rpartition("\n")[0]
+        words = [it.split() for it in whole.splitlines() if it.startswith("taken ")]
+        return dict(zip(words[-1][::2], map(int, words[-1][1::2]))) if words else {}
 
     def end(self) -> None:
         """Ends it at once."""

@@ -1,4 +1,5 @@
-//! Scripts and services through the whole program, over readers and writers in memory.
+//! Scripts through the whole program over readers and writers that fail, and services. How scripts
+//! and configurations come out that have a fault is played by the program (`rows`).
 
 use crate::same::same;
 use std::io;
@@ -13,17 +14,10 @@ use trdp_program::{
 };
 use trdp_script::ScriptFault;
 
-/// A node with two slots and two datasets.
-const CONFIG: &[u8] = b"[node]\naddress = \"10.0.0.1\"\n\
-    [[slot]]\npublishers = 4\nsubscriptions = 4\n\
-    requesters = 1\nlisteners = 2\ncallers = 2\nrepliers = 1\n\
-    [[slot]]\npublishers = 4\nsubscriptions = 4\n\
-    requesters = 1\nlisteners = 2\ncallers = 2\nrepliers = 1\n\
-    [[dataset]]\nid = 1001\n\
-    element = [{ type = \"UINT8\" }, { type = \"UINT16\", size = 0 }]\n\
-    [[dataset]]\nid = 1002\n\
-    element = [{ type = \"INT16\" }, { type = 15 }, { type = 1001 }]\n";
+/// A node whose one slot may have a publisher.
+const CONFIG: &[u8] = b"[node]\naddress = \"10.0.0.1\"\n[[slot]]\npublishers = 1\n";
 
+/// A publisher is made.
 const PUBLISH: &[u8] = b"call 0 publish 100 0 100000 0 0 0 10.0.0.2:17224\n";
 
 /// A reader that gives its bytes, some at a time, and then fails.
@@ -91,50 +85,6 @@ fn run<R: Read>(rt: &impl AllocGlobal, config: &[u8], reader: &mut R) -> Outcome
     }
 }
 
-/// A script, its output, what stands on the error stream, and the exit status.
-type Run = (&'static [u8], &'static [u8], &'static [u8], u8);
-
-static RUNS: [Run; 6] = [
-    (
-        b"call 0 publish 100 0 100000 0 0 0 10.0.0.2:17224\ncall 0 put 1 0a0b\nmoment 100000\n",
-        b"0 handle 1\n0 done\n0 send pd 10.0.0.2:17224 \
-          0000000001005064000000640000000000000000\
-          00000002000000000000000000000000ec179c940a0b0000\n",
-        b"",
-        0,
-    ),
-    // A fault of an event is output.
-    (b"moment 5\nmoment 4", b"fault Past\n", b"", 0),
-    (b"moment 1\nmoment x\n", b"", b"line 2 fault BadWord\n", 3),
-    (b"jump 1", b"", b"line 1 fault Unknown\n", 3),
-    (
-        b"call 0 publish 1 0 0 0 0 0 10.0.0.2:17224\n# a remark\n\nmoment\nmoment 1\n",
-        b"0 handle 1\n",
-        b"line 4 fault Count\n",
-        3,
-    ),
-    (b"moment 5\nmoment 4\r", b"", b"line 2 fault BadWord\n", 3),
-];
-
-#[test]
-fn scripts_run_up_to_their_first_bad_line(rt: HostRuntime) {
-    for (case, (script, output, errors, status)) in RUNS.iter().enumerate() {
-        let mut reader = *script;
-        let outcome = run(&rt, CONFIG, &mut reader);
-        comes_to(&rt, case, &outcome, (*output, *errors, *status));
-    }
-}
-
-/// A line may have 140,000 bytes.
-#[test]
-fn a_line_that_is_too_long_ends_the_run(rt: HostRuntime) -> Result<(), Fail> {
-    let script = vec![in rt.alloc(); b'#'; 140_001]?;
-    let mut reader = script.as_slice();
-    let outcome = run(&rt, CONFIG, &mut reader);
-    comes_to(&rt, 0, &outcome, (b"", b"line 1 fault TooLong\n", 3));
-    Ok(())
-}
-
 #[test]
 fn a_failing_reader_ends_the_run(rt: HostRuntime) {
     let mut reader = FailingReader {
@@ -159,77 +109,6 @@ fn standard_error_changes_no_status(rt: HostRuntime) {
     let mut output = Vec::new(rt.alloc());
     let status = run_program(&rt, CONFIG, &mut reader, &mut output, &mut FailingWriter);
     assert!(rt; status == 3);
-}
-
-/// Configurations that aren't taken, and what stands on the error stream.
-static REFUSED: [(&[u8], &[u8]); 14] = [
-    (b"", b"config fault Missing node\n"),
-    (b"[", b"config fault Toml\n"),
-    (
-        b"[node]\naddres = '10.0.0.1'\n[[slot]]\n",
-        b"config fault Missing address\n",
-    ),
-    (
-        b"[node]\naddress = '10.0.0.1'\npd_port = 0\n[[slot]]\n",
-        b"config fault WrongType pd_port\n",
-    ),
-    (
-        b"[node]\naddress = '10.0.0.1'\n[[slot]]\npublishers = 'x'\n",
-        b"config fault WrongType publishers\n",
-    ),
-    (
-        b"[node]\naddress = '10.0.0.1'\n[[slot]]\n[[dataset]]\nid = 31\nelement = [{}]\n",
-        b"config fault Missing type\n",
-    ),
-    (
-        b"[node]\naddress = '10.0.0.1'\n[[slot]]\n[[dataset]]\nid = 31\n\
-          element = [{ type = 'REAL32' }]\n",
-        b"config fault Real\n",
-    ),
-    (
-        b"[node]\naddress = '10.0.0.1'\n[[slot]]\n[[dataset]]\nid = 30\n\
-          element = [{ type = 8 }]\n",
-        b"config fault BadId\n",
-    ),
-    (
-        b"[node]\naddress = '10.0.0.1'\n[[slot]]\n[[dataset]]\nid = 31\n\
-          element = [{ type = 8 }]\n[[dataset]]\nid = 31\nelement = [{ type = 8 }]\n",
-        b"config fault TwiceId\n",
-    ),
-    (
-        b"[node]\naddress = '10.0.0.1'\n[[slot]]\n[[dataset]]\nid = 1001\n\
-          element = [{ type = 1003 }]\n",
-        b"config fault NoDataset 1003\n",
-    ),
-    (
-        b"[node]\naddress = '10.0.0.1'\n[[slot]]\n[[dataset]]\nid = 31\n\
-          element = [{ type = 8, size = 0 }]\n",
-        b"config fault NoCount\n",
-    ),
-    (
-        b"[node]\naddress = '10.0.0.1'\n[[slot]]\n[[dataset]]\nid = 31\n\
-          element = [{ type = 31 }]\n",
-        b"config fault TooDeep\n",
-    ),
-    (
-        b"[node]\naddress = '10.0.0.1'\n[[slot]]\n[[dataset]]\nid = 31\n\
-          element = [{ type = 8, size = 65389 }]\n",
-        b"config fault TooBig\n",
-    ),
-    (
-        b"[node]\naddress = '10.0.0.1'\n[[slot]]\npublishers = 257\n",
-        b"config fault TooMany\n",
-    ),
-];
-
-/// The configuration is looked at before the script, whose first line is no good.
-#[test]
-fn tells_the_fault_of_a_configuration(rt: HostRuntime) {
-    for (case, (config, errors)) in REFUSED.iter().enumerate() {
-        let mut reader: &[u8] = b"moment x\n";
-        let outcome = run(&rt, *config, &mut reader);
-        comes_to(&rt, case, &outcome, (b"", *errors, 1));
-    }
 }
 
 #[test]
@@ -263,9 +142,13 @@ fn serve(rt: &(impl Net + Clock + AllocGlobal), config: &[u8]) -> Outcome {
     }
 }
 
+/// A configuration, the output of its service, what stands on the error stream, and the exit
+/// status.
+type Service = (&'static [u8], &'static [u8], &'static [u8], u8);
+
 #[test]
 fn services_come_to_their_totals_or_a_fault(rt: HostRuntime) {
-    static SERVICES: [Run; 3] = [
+    static SERVICES: [Service; 3] = [
         (
             LOOPBACK,
             b"taken 0 offered 0 lost 0 unread 0 memory 0\n",

@@ -1,0 +1,150 @@
+"""What comes in and goes out at each port of a daemon, datagram by datagram, and in which time."""
+from __future__ import annotations
+
+import socket
+import struct
+import time
+import unittest
+import zlib
+
+from testing import CONTROL, MD, OPERATOR, PD, Daemon, wait_until
+
+HOME, KEPT, DEVICE = "127.0.8.5", "127.0.8.6", "127.0.8.7"
+
+# The first telegram of comId 100 with the dataset 0a0b, under zlib's frame check.
+TELEGRAM = bytes.fromhex("00000000 01005064 00000064 00000000 00000000 00000002 00000000 00000000 00000000"
+                         "ec179c94 0a0b0000")
+
+
+def node(*slots: str, more: str = "") -> str:
+    """The configuration of a node with an operator's port and these slots."""
+    head = f'[node]\naddress = "{HOME}"\npd_port = {PD}\nmd_port = {MD}\noperator_port = {OPERATOR}\n{more}'
+    return head + "".join(f"[[slot]]\n{it}\n" for it in slots)
+
+
+def control(number: int, quotas: str = "") -> str:
+    """A slot of that control port."""
+    return f"{quotas}\ncontrol_port = {CONTROL + number}"
+
+
+def notification(payload: bytes) -> bytes:
+    """An `Mn` of comId 300 with that dataset, whose length is a multiple of four."""
+    head = struct.pack(">IHHIIIII", 0, 0x100, 0x4D6E, 300, 0, 0, len(payload), 0).ljust(112, b"\0")
+    return head + struct.pack("<I", zlib.crc32(head)) + payload
+
+
+class Case(unittest.TestCase):
+    """A daemon, and sockets that talk to its ports."""
+
+    def daemon(self, config: str, *words: str) -> Daemon:
+        """A daemon of that configuration, which ends with the test."""
+        daemon = Daemon(config, words=words)
+        self.addCleanup(daemon.close)
+        return daemon
+
+    def socket(self, address: str, port: int = 0, to: tuple[str, int] | None = None) -> socket.socket:
+        """A socket there, which sends to that place and waits for two seconds at most."""
+        port_socket = socket.socket(socket.AF_INET, socket.SOCK_DGRAM)
+        self.addCleanup(port_socket.close)
+        port_socket.bind((address, port))
+        port_socket.settimeout(2)
+        if to:
+            port_socket.connect(to)
+        return port_socket
+
+    def client(self, port: int, address: str = HOME) -> socket.socket:
+        """A new client of that port."""
+        return self.socket(address, to=(address, port))
+
+    def answers(self, client: socket.socket, line: bytes, answer: bytes) -> None:
+        """The line is answered so."""
+        client.send(line)
+        self.assertEqual(client.recv(65536), answer, line)
+
+    def is_quiet(self, client: socket.socket) -> None:
+        """Nothing more comes for a while."""
+        client.settimeout(0.05)
+        self.assertRaises(TimeoutError, client.recv, 65536)
+        client.settimeout(2)
+
+
+class Ports(Case):
+    """Each port is the node's own, and is asked and answers for its slot."""
+
+    def test_each_port_answers_for_its_slot(self) -> None:
+        # The third slot has no control port.
+        self.daemon(node(control(0), control(1), "", control(3)))
+        for port, line, answer in [
+            (OPERATOR, b"topology 8 0", b"ok\n"), (OPERATOR, b"get 1", b"line fault Unknown\n"),
+            (CONTROL, b"get 1", b"0 refused NoHandle\n"), (CONTROL + 1, b"get 1", b"1 refused NoHandle\n"),
+            (CONTROL + 3, b"get 1", b"3 refused NoHandle\n"),
+        ]:
+            self.answers(self.client(port), line, answer)
+
+    def test_no_two_daemons_share_a_port(self) -> None:
+        self.daemon(node(control(0)))
+        with self.assertRaisesRegex(RuntimeError, "bind fault"):
+            self.daemon(node(control(1)))
+
+    def test_control_ports_at_an_address_of_their_own(self) -> None:
+        self.daemon(node(control(0, "publishers = 1"), more=f'control_address = "{KEPT}"\n'))
+        line = f"publish 100 0 100000 0 0 0 {DEVICE}:{PD}".encode()
+        self.answers(self.client(CONTROL, KEPT), line, b"0 handle 1\n")
+        self.answers(self.client(OPERATOR, KEPT), b"role 3 leader", b"ok\n")
+
+    def test_an_answer_to_a_line_is_not_answered_in_turn(self) -> None:
+        self.daemon(node(control(0)))
+        for port in (CONTROL, OPERATOR):
+            client = self.client(port)
+            client.send(b"line fault Unknown\n")
+            self.is_quiet(client)
+            self.answers(client, b"line faults", b"line fault Unknown\n")
+            self.answers(client, b"line", b"line fault Unknown\n")
+            self.is_quiet(client)
+
+
+class Telegrams(Case):
+    """Telegrams come in whole and go out in their time."""
+
+    def test_60_000_bytes_come_in_whole(self) -> None:
+        # One is told byte by byte; the other one is heard, since what is cut would be no telegram, but its text is
+        # longer than any datagram, and is lost.
+        daemon = self.daemon(node(control(0, "listeners = 1")), "--totals", "1")
+        client = self.client(CONTROL)
+        self.answers(client, b"listen any 0.0.0.0 0.0.0.0 0.0.0.0 - 0 0", b"0 handle 1\n")
+        stranger = self.socket(DEVICE, MD, to=(HOME, MD))
+        stranger.send(notification(b"\x07" * 30_000))
+        told = f"0 notified 1 {DEVICE}:{MD} 300 - - {'07' * 30_000}\n"
+        self.assertTrue(client.recv(65536) == told.encode())
+        stranger.send(notification(b"\x07" * 60_000))
+        wanted = {"taken": 3, "offered": 3, "lost": 1, "unread": 0, "memory": 0}
+        wait_until(lambda: daemon.totals().get("taken") == 3)
+        self.assertEqual(daemon.totals(), wanted)
+        self.is_quiet(client)
+
+    def test_a_publisher_keeps_its_cycle_by_the_clock(self) -> None:
+        self.daemon(node(control(0, "publishers = 1")))
+        device, client = self.socket(DEVICE, PD), self.client(CONTROL)
+        start = time.monotonic()
+        self.answers(client, f"publish 100 0 100000 0 0 0 {DEVICE}:{PD}".encode(), b"0 handle 1\n")
+        self.answers(client, b"put 1 0a0b", b"0 done\n")
+        counters: list[int] = []
+        while time.monotonic() - start < 1:
+            counters.append(int.from_bytes(device.recv(65536)[:4], "big"))
+        self.assertEqual(counters, list(range(len(counters))))
+        # This test's own clock is the bound; a machine that is busy may send less often.
+        self.assertLessEqual(len(counters), int((time.monotonic() - start) * 10) + 1)
+
+    def test_what_comes_to_a_spare_port_waits_for_its_slot(self) -> None:
+        self.daemon(node(control(0), more=f"spare_control_ports = [{CONTROL + 1}]\n"))
+        device, client = self.socket(DEVICE, PD), self.client(CONTROL + 1)
+        client.send(f"publish 100 0 100000 0 0 0 {DEVICE}:{PD}".encode())
+        self.is_quiet(client)
+        self.answers(self.client(OPERATOR), b"addslot 1 0 0 0 0 0", b"ok\n")
+        self.assertEqual(client.recv(65536), b"1 handle 1\n")
+        self.answers(client, b"put 1 0a0b", b"1 done\n")
+        self.assertEqual(device.recv(65536), TELEGRAM)
+
+
+if __name__ == "__main__":
+    unittest.main()

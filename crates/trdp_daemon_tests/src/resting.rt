@@ -1,0 +1,62 @@
+//! A daemon that rests between its turns, over a wire that remembers each rest.
+
+use crate::bench::{MemoryDaemon, memory_daemon, totals};
+use crate::same::same;
+use std::alloc::Global;
+use std::test::Fail;
+use trdp_base::{Ip, Place};
+use trdp_daemon::{MemoryWire, Port, Rest};
+
+/// A node of one slot that publishes. A turn takes at three ports.
+const PUBLISHER: &[u8] = b"
+[node]
+address = \"10.0.0.1\"
+[[slot]]
+publishers = 1
+control_port = 18000
+";
+
+/// The publisher's application.
+const APPLICATION: Place = Place {
+    ip: Ip(0x0a00_0008),
+    port: 9000,
+};
+
+/// What the clock reads at the turns. Something is due at 100,000.
+const READINGS: [u64; 6] = [0, 100, 40_000, 100_000, 100_010, 150_000];
+
+/// The rests between these turns, where the daemon is attended to until 150,000: up to 100,000,
+/// and then not up to 200,000.
+static RESTS: [(usize, u64); 5] = [
+    (3, 100_000),
+    (6, 99_900),
+    (9, 60_000),
+    (12, 50_000),
+    (15, 49_990),
+];
+
+/// A daemon whose slot publishes every 100,000 microseconds from its first turn on; None for want
+/// of memory.
+fn publishing(alloc: Global) -> Option<MemoryDaemon> {
+    let publish = b"publish 100 0 100000 0 0 0 10.0.0.2:17224";
+    let mut wire = MemoryWire::new(alloc, 100, 100, 4096).ok()?;
+    wire.arrive(Port::Control(0), 1, APPLICATION, publish).ok()?;
+    memory_daemon(alloc, PUBLISHER, wire, &READINGS)
+}
+
+#[test]
+fn rests_until_something_is_due(rt: HostRuntime) -> Result<(), Fail> {
+    let mut daemon = publishing(rt.alloc()).ok_or("no memory")?;
+    // The answer of the call; nothing is sent, since the publisher has no value.
+    same(&rt, "totals", daemon.attend(150_000), totals(1, 1, 0, 0));
+    let rests = daemon.wire().rests();
+    same(&rt, "rests", rests.len(), RESTS.len());
+    for (index, (takes, most)) in RESTS.iter().enumerate() {
+        let wanted = Rest {
+            takes: *takes,
+            most: *most,
+        };
+        same(&rt, index, rests.get(index).copied(), Some(wanted));
+    }
+    Ok(())
+}
