@@ -1,61 +1,103 @@
 -- Facts on the written form of numbers.
 use Rattle.std.proofs.Common.{◌≡◌, ℕ, ◌+◌, ◌-◌, ◌*◌, ◌/◌, ◌%◌, ◌^◌, ◌<◌, ◌≤◌, List, [], ◌∷◌}
-use Rattle.std.proofs.Common.{◌++◌, length, drop, set, get_or, Some, Result, Ok, Err, sym}
+use Rattle.std.proofs.Common.{◌++◌, length, drop, take, set, get_or, sym}
 use Rattle.std.proofs.Common.{ap, ◌∙◌, subst, inl, inr, arith, append_assoc, length-drop}
-use Rattle.std.specs.Prelude.{IfSome}
-use Rattle.std.specs.Result.{result_ok}
-use Rattle.std.specs.Str.{IsUtf8}
-use Rattle.std.specs.Str.Parse.{ParsesUnsigned}
+use Rattle.std.specs.Str.Parse.{AllDigits, digits_value}
 use Rattle.std.proofs.lemmas.Bool.{cases_lt}
-use Rattle.std.proofs.lemmas.Fmt.{decimal_digit, decimal_step, first_decimal, IsAscii-decimal}
-use Rattle.std.proofs.lemmas.Fmt.{decimal-digits_value, parse-decimal, length-decimal-le}
+use Rattle.std.proofs.lemmas.Fmt.{decimal_digit, decimal_step, first_decimal}
+use Rattle.std.proofs.lemmas.Fmt.{decimal-digits_value, decimal_is_IsNumeral, length-decimal-le}
+use Rattle.std.proofs.lemmas.Int.Digits.{digits_more, digits_value_more}
 use Rattle.std.proofs.Math.ListN.{drop_of_length-le}
 use Rattle.std.proofs.lemmas.Nat.{pow-add}
-use Rattle.std.proofs.lemmas.List.{append-nil, drop-set, drop-set-lt}
-use Rattle.std.proofs.lemmas.Str.{IsUtf8-from_ascii}
-use Rattle.std.proofs.lemmas.Str.Parse.{parse_plain, numerals_by_value, tells_digits}
-use Rattle.trdp_base.specs.NumberText.{text_of_number, HasNeedlessStart}
+use Rattle.std.proofs.lemmas.List.{append-nil, drop-set, drop-set-lt, take_all}
+use Rattle.std.proofs.lemmas.Str.{digit_value_digit}
+use Rattle.std.proofs.lemmas.Str.Parse.{numerals_by_value, tells_digits, digit_at}
+use Rattle.std.proofs.lemmas.Str.Parse.{digits_value-take-le}
+use Rattle.trdp_base.specs.NumberText.{text_of_number, HasNeedlessZero}
 
--- a written number begins with no sign and no needless zero
-pub plain_start : (number : ℕ) → number < 2 ^ 64 → HasNeedlessStart (text_of_number number) → ⊥
-plain_start number small needless =
-    elim (cases_lt 0 number) [
-      | inl above ↦
-          let first = first_decimal number above small in
-          elim needless
-          [ inl plus ↦ omega (arith, first, plus) | inr zero ↦ omega (arith, first, zero.0) ]
-      | inr below ↦
-          let none : number ≡ 0 = omega arith in
-          let digit = decimal_digit 0 (omega arith) in
-          let start = subst (λ n. HasNeedlessStart (text_of_number n)) none needless in
-          let plain = subst HasNeedlessStart digit start in
-          elim plain [ inl plus ↦ omega (arith, plus) | inr zero ↦ omega (arith, zero.1) ]
-    ]
+-- the digits up to there, of which there may be none: they are digits, and this is their number
+pub record IsReadTo (text : List ℕ) (count number : ℕ) : Type 0 where
+  pub digits : AllDigits 10 (take count text)
+  pub value : number ≡ digits_value 10 (take count text)
 
--- a written number is text
-pub utf8_of_number : (text : List ℕ) (number : ℕ)
-    → number < 2 ^ 64 → text ≡ text_of_number number → IsUtf8 text
-utf8_of_number text number small e =
-    subst IsUtf8 (sym e) (IsUtf8-from_ascii _ (IsAscii-decimal number small))
+-- a digit is read
+pub read_one_more : (text : List ℕ) (count number more : ℕ) → count < length text
+    → 48 ≤ get_or text count 0 → get_or text count 0 ≤ 57
+    → more ≡ number * 10 + (get_or text count 0 - 48)
+    → IsReadTo text count number → IsReadTo text (count + 1) more
+read_one_more text count number more inside low high is before =
+    let digit = digit_value_digit (get_or text count 0) (low, high) in
+    record {
+      digits = digits_more 10 text count inside before.digits (omega (arith, digit, high));
+      value = omega (arith, digits_value_more 10 text count inside, digit, before.value, is);
+    }
 
--- digits with a plain start are the written form of what they read as
-pub parsed_text : {E : Type 0} → (text : List ℕ) (r : Result ℕ E) → (HasNeedlessStart text → ⊥)
-    → ParsesUnsigned 64 10 text r → IfSome (result_ok r) (λ number. text ≡ text_of_number number)
-parsed_text {E} text (Ok number) plain h =
-    let own = numerals_by_value _ tells_digits in
-    let told = parse_plain own {E = E} 64 text (Ok number) h (λ plus. plain (inl plus)) in
+-- digits with no needless zero are the written form of their number
+pub written_of_read : (text : List ℕ) (count number : ℕ) → 0 < length text
+    → (HasNeedlessZero text → ⊥) → length text ≤ count → number < 2 ^ 64
+    → IsReadTo text count number → text ≡ text_of_number number
+written_of_read text count number some plain all small read =
+    let whole : take count text ≡ text = take_all count text all in
+    let digits = subst (AllDigits 10) whole read.digits in
+    let value : number ≡ digits_value 10 text = read.value ∙ ap (digits_value 10) whole in
     let only : get_or text 0 0 ≡ 48 → length text ≡ 1 = λ zero.
     elim (cases_lt 1 (length text))
-    [ inl more ↦ absurd (plain (inr (zero, more))) | inr one ↦ omega (arith, told.0.1, one) ] in
-    sym (decimal-digits_value own text told.0.0 told.0.1 only told.0.2)
-    ∙ ap text_of_number (sym told.1)
-parsed_text text (Err e) plain h = tt
+    [ inl more ↦ absurd (plain (zero, more)) | inr one ↦ omega (arith, some, one) ] in
+    sym (decimal-digits_value (numerals_by_value _ tells_digits) text digits some only
+    (omega (arith, value, small))) ∙ ap text_of_number (sym value)
 
--- the written form of a number of 64 bits reads as that number
-pub parsed_number : {E : Type 0} → (text : List ℕ) (r : Result ℕ E) (number : ℕ) → number < 2 ^ 64
-    → text ≡ text_of_number number → ParsesUnsigned 64 10 text r → result_ok r ≡ Some number
-parsed_number text r number small e h =
-    ap result_ok (parse-decimal 64 number text r small small e h)
+-- a written number has a digit, and no needless zero
+pub written_some : (text : List ℕ) (number : ℕ)
+    → number < 2 ^ 64 → text ≡ text_of_number number → 0 < length text
+written_some text number small e = omega (arith, ap length e, (decimal_is_IsNumeral number small).0.0)
+
+pub written_plain : (text : List ℕ) (number : ℕ)
+    → number < 2 ^ 64 → text ≡ text_of_number number → HasNeedlessZero text → ⊥
+written_plain text number small e needless =
+    let zero : get_or (text_of_number number) 0 0 ≡ 48 = ap (λ l. get_or l 0 0) (sym e) ∙ needless.0 in
+    elim (cases_lt 0 number) [
+      | inl above ↦ omega (arith, first_decimal number above small, zero)
+      | inr below ↦
+          let none : number ≡ 0 = omega arith in
+          let long = ap length (e ∙ ap text_of_number none ∙ decimal_digit 0 (omega arith)) in
+          omega (arith, needless.1, long)
+    ]
+
+-- each character of a written number is a digit
+pub written_digits : (text : List ℕ) (number count : ℕ) → number < 2 ^ 64
+    → text ≡ text_of_number number → count < length text
+    → (48 ≤ get_or text count 0) × (get_or text count 0 ≤ 57)
+written_digits text number count small e inside =
+    digit_at text count
+    (subst (AllDigits 10) (sym e) (decimal_is_IsNumeral number small).0.1) inside
+
+-- the digits of a written number have it as their number
+written_value : (text : List ℕ) (number : ℕ)
+    → number < 2 ^ 64 → text ≡ text_of_number number → digits_value 10 text ≡ number
+written_value text number small e =
+    ap (digits_value 10) e ∙ (decimal_is_IsNumeral number small).1
+
+-- so that it is what was read of them all
+pub read_value : (text : List ℕ) (count read number : ℕ) → number < 2 ^ 64
+    → text ≡ text_of_number number → length text ≤ count → IsReadTo text count read → read ≡ number
+read_value text count read number small e all digits =
+    digits.value ∙ ap (digits_value 10) (take_all count text all)
+    ∙ written_value text number small e
+
+-- no front of a written number is more than it
+pub written_front : (text : List ℕ) (number count front : ℕ) → number < 2 ^ 64
+    → text ≡ text_of_number number → count < length text → IsReadTo text count front
+    → front * 10 + (get_or text count 0 - 48) ≤ number
+written_front text number count front small e inside read =
+    let digit = digit_value_digit _ (written_digits text number count small e inside) in
+    omega (
+      arith,
+      digits_value_more 10 text count inside,
+      digit,
+      read.value,
+      digits_value-take-le 10 text (count + 1) (omega arith),
+      written_value text number small e,
+    )
 
 -- a number of 64 bits has at most 20 digits
 pub length-text_of_number : (number : ℕ) → number < 2 ^ 64 → length (text_of_number number) ≤ 20

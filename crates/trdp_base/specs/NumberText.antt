@@ -1,5 +1,5 @@
 -- The written form of numbers.
-use Rattle.std.specs.Prelude.{◌≡◌, ℕ, ◌<◌, ◌⊎◌, List, length, slice_index, decimal}
+use Rattle.std.specs.Prelude.{◌≡◌, ℕ, ◌<◌, List, length, slice_index, decimal}
 
 -- the decimal digits of a number, the highest first, without leading zeros
 abbrev pub text_of_number : ℕ → List ℕ
@@ -9,6 +9,6 @@ text_of_number number = decimal number
 abbrev pub number_length : ℕ
 number_length = 20
 
--- a plus sign, or a zero with more behind it
-abbrev pub HasNeedlessStart : List ℕ → Type 0
-HasNeedlessStart text = (slice_index text 0 ≡ 43) ⊎ ((slice_index text 0 ≡ 48) × (1 < length text))
+-- a zero with more behind it
+abbrev pub HasNeedlessZero : List ℕ → Type 0
+HasNeedlessZero text = (slice_index text 0 ≡ 48) × (1 < length text)

@@ -21,13 +21,36 @@ pub fn read_hex(alloc: Global, text: &[u8]) -> Result<Vec<u8>, TextFault>
         → text.now ≡ text_of_hex bytes → IfOk result (λ read. read.items ≡ bytes) }
     ensures bad { (result ≡ Err BadText) ↔ ¬ IsHexText text.now }
 {
+    let mut bytes = Vec::new(alloc);
+    read_hex_into(text, &mut bytes)?;
+    Ok(bytes)
+}
+
+/// Reads bytes into a list, in place of what it holds: lower-case hexadecimal digits in pairs, or
+/// `-` for no bytes (profile).
+///
+/// It needs no memory where the list has room for the bytes.
+///
+/// # Errors
+/// As [`read_hex`]; the list's items stay as they were.
+pub fn read_hex_into(text: &[u8], bytes: &mut Vec<u8>) -> Result<(), TextFault>
+    ensures value { OnOk result (text.now ≡ text_of_hex bytes.new.items) }
+    ensures found { (from : List ℕ) → All (λ byte. byte < 256) from
+        → text.now ≡ text_of_hex from → OnOk result (bytes.new.items ≡ from) }
+    ensures bad { (result ≡ Err BadText) ↔ ¬ IsHexText text.now }
+    ensures err { OnErr result (bytes.new.items ≡ bytes.old.items) }
+    ensures succeeds { IsHexText text.now → length text.now / 2 ≤ vec_capacity bytes.old
+        → IsOk result }
+    ensures capacity { vec_capacity bytes.old ≤ vec_capacity bytes.new }
+{
     if is_dash(text) {
-        return Ok(Vec::new(alloc));
+        bytes.clear();
+        return Ok(());
     }
     if !is_in_pairs(text) {
         return Err(TextFault::BadText);
     }
-    Ok(bytes_of_pairs(alloc, text)?)
+    Ok(read_pairs(text, bytes)?)
 }
 
 /// Whether a text is the written form of no bytes.
@@ -65,15 +88,18 @@ fn is_digit(digit: u8) -> bool
     matches!(digit, b'0'..=b'9' | b'a'..=b'f')
 }
 
-/// The bytes with these pairs of digits.
-fn bytes_of_pairs(alloc: Global, text: &[u8]) -> Result<Vec<u8>, AllocError>
+/// Reads the bytes with these pairs of digits into a list, in place of what it holds.
+fn read_pairs(text: &[u8], bytes: &mut Vec<u8>) -> Result<(), AllocError>
     requires { IsInPairs text.now }
-    ensures pairs { IfOk result (λ bytes. hex_pairs bytes.items ≡ text.now) }
-    ensures bytes { IfOk result (λ bytes. All (λ byte. byte < 256) bytes.items) }
+    ensures pairs { OnOk result (hex_pairs bytes.new.items ≡ text.now) }
+    ensures bytes { OnOk result (All (λ byte. byte < 256) bytes.new.items) }
+    ensures err { OnErr result (bytes.new.items ≡ bytes.old.items) }
+    ensures succeeds { length text.now / 2 ≤ vec_capacity bytes.old → IsOk result }
+    ensures capacity { vec_capacity bytes.old ≤ vec_capacity bytes.new }
 {
-    let mut bytes = vec![in alloc; 0; text.len() / 2]?;
-    fill_from_pairs(text, &mut bytes);
-    Ok(bytes)
+    bytes.resize(text.len() / 2, 0)?;
+    fill_from_pairs(text, bytes);
+    Ok(())
 }
 
 /// Writes the bytes with these pairs of digits.

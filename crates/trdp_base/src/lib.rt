@@ -15,7 +15,7 @@ mod topo;
 mod uri;
 
 pub use address::{IP_LENGTH, PLACE_LENGTH, push_ip, push_place, read_ip, read_place};
-pub use hex::{push_hex, read_hex};
+pub use hex::{push_hex, read_hex, read_hex_into};
 pub use moment::{MOMENT_MAX, Moment};
 pub use number::{NUMBER_LENGTH, push_number, read_number};
 pub use place::{Ip, Place};

@@ -1,14 +1,14 @@
 //! Numbers as text: decimal digits without leading zeros.
 
-ghost use Rattle.std.specs.Prelude.{◌≡◌, ℕ, ◌+◌, ◌%◌, ◌^◌, ◌<◌, ◌≤◌, ◌↔◌, ◌++◌};
+ghost use Rattle.std.specs.Prelude.{◌≡◌, ℕ, ◌+◌, ◌-◌, ◌*◌, ◌%◌, ◌^◌, ◌<◌, ◌≤◌};
+ghost use Rattle.std.specs.Prelude.{◌↔◌, ◌++◌, IfNone};
 ghost use Rattle.std.specs.Prelude.{length, drop, IfOk, IfErr, OnOk, OnErr};
 ghost use Rattle.std.specs.Prelude.{IsOk, IfSome, IsTrue, vec_len, vec_capacity};
-ghost use Rattle.trdp_base.specs.NumberText.{text_of_number, number_length, HasNeedlessStart};
+ghost use Rattle.trdp_base.specs.NumberText.{text_of_number, number_length, HasNeedlessZero};
 ghost use Rattle.trdp_base.specs.declared.text.TextFault.TheVariants.{BadText};
 
 use crate::text::TextFault;
 use std::alloc::AllocError;
-use std::str;
 
 /// The length in bytes of the longest written number, that of 2^64 - 1.
 pub const NUMBER_LENGTH: usize = 20;
@@ -35,21 +35,37 @@ fn number_of(text: &[u8]) -> Option<u64>
     ensures found { (number : ℕ) → number < 2 ^ 64
         → text.now ≡ text_of_number number → result ≡ Some number }
 {
-    // `parse` takes a plus sign and leading zeros too.
-    if has_needless_start(text) {
+    if text.is_empty() || has_needless_zero(text) {
         return None;
     }
-    match str::from_utf8(text) {
-        Ok(digits) => digits.parse().ok(),
-        Err(_) => None,
+    let mut number = 0;
+    for character in text {
+        number = with_digit(number, *character)?;
     }
+    Some(number)
 }
 
-/// Whether a text begins with a plus sign, or with a zero and more.
-fn has_needless_start(text: &[u8]) -> bool
-    ensures { IsTrue result ↔ HasNeedlessStart text.now }
+/// Whether a text begins with a zero and has more.
+fn has_needless_zero(text: &[u8]) -> bool
+    ensures { IsTrue result ↔ HasNeedlessZero text.now }
 {
-    matches!(text, [b'+', ..] | [b'0', _, ..])
+    matches!(text, [b'0', _, ..])
+}
+
+/// The number with one digit more; None where the character is no digit, or the number too large.
+fn with_digit(number: u64, character: u8) -> Option<u64>
+    ensures digit { IfSome result (λ _. (48 ≤ character) × (character ≤ 57)) }
+    ensures value { IfSome result (λ more. more ≡ number * 10 + (character - 48)) }
+    ensures small { IfSome result (λ more. more < 2 ^ 64) }
+    ensures none { IfNone result (48 ≤ character → character ≤ 57
+        → 2 ^ 64 ≤ number * 10 + (character - 48)) }
+{
+    if !(b'0'..=b'9').contains(&character) {
+        return None;
+    }
+    number
+        .checked_mul(10)?
+        .checked_add(u64::from(character - b'0'))
 }
 
 /// Appends the written form of a number (profile).

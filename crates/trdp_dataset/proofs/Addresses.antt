@@ -1,4 +1,6 @@
 -- What is read as an address is the address of the text.
+-- For `address_of`.
+-- By: the only number that passes a test is the one that is found.
 use Rattle.std.proofs.Common.{◌≡◌, ◌<◌, ◌^◌, ℕ, zero, suc, Bool, true, false}
 use Rattle.std.proofs.Common.{List, Some, None, if◌then◌else◌, Result, Ok}
 use Rattle.std.proofs.Common.{Err, refl, sym, ap, ◌∙◌, arith, inl, inr, ◌⊎◌}

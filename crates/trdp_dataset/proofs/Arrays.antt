@@ -1,4 +1,6 @@
 -- The members of arrays.
+-- For `items`, `is_tables`, `is_numbers` and `members_at`.
+-- By: an array's items, as they are seen, are the members of its data.
 use Rattle.std.proofs.Common.{◌≡◌, Bool, true, List, [], ◌∷◌, map, Option}
 use Rattle.std.proofs.Common.{Some, refl, sym, ap, ◌∙◌, is_some}
 use Rattle.std.specs.List.{list_all, filter_map, cons_option}

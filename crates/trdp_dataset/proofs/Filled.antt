@@ -1,4 +1,6 @@
 -- What a file without a fault has at its positions.
+-- For `load`, and for `SlotNumbers` and `Sound`.
+-- By: where a list of positions is without a fault, each part of it is.
 use Rattle.std.proofs.Common.{◌≡◌, ◌==◌, ◌&&◌, ◌≤◌, ℕ, suc, Bool, true, false, nat_le}
 use Rattle.std.proofs.Common.{nat_lt, List, [], ◌∷◌, ◌++◌, length, Option, Some, None}
 use Rattle.std.proofs.Common.{option_map, option_and_then, is_some, is_none, if◌then◌else◌}
@@ -33,7 +35,7 @@ use Rattle.trdp_dataset.specs.Positions.{element_positions, dataset_positions, s
 use Rattle.trdp_dataset.specs.Faults.{count_fault, tables_fault, numbers_fault, bad_unless}
 use Rattle.trdp_dataset.specs.Faults.{fault_at}
 use Rattle.trdp_dataset.specs.Configs.{element_of, element_in, elements_in}
-use Rattle.trdp_dataset.specs.Configs.{dataset_in, datasets_in, slots_in, slot_in, numbers_of}
+use Rattle.trdp_dataset.specs.Configs.{dataset_in, datasets_in, slots_in, slot_config, numbers_of}
 use Rattle.trdp_dataset.specs.Configs.{node_value, spare_control_ports_in}
 
 -- there is no fault at these positions
@@ -296,7 +298,7 @@ pub some_slots : (top : Members) → AreGood (slot_positions top)
 unfolding slots_in slot_positions positions_at tables_at
 some_slots top g =
     let all = slots_filled (value_at Slot top) (none_there _ (and_parts _ _ g).0) in
-    let same = length-map (tables_in (value_at Slot top)) slot_in in
+    let same = length-map (tables_in (value_at Slot top)) slot_config in
     let some : 1 ≤ length (tables_in (value_at Slot top)) = rw all.table.tables (omega arith) in
     (omega (arith, some, same), omega (arith, all.few, same))
 

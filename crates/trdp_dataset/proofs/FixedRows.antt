@@ -1,4 +1,6 @@
 -- Of each dataset whether its values take as many bytes.
+-- For `fixed_datasets`, `form_fixed` and `Registry::fixed_size`.
+-- By a row for each depth, which has an entry for each dataset in order (`Lookups`).
 use Rattle.std.proofs.Common.{◌≡◌, ℕ, zero, suc, Bool, true, false, List, [], ◌∷◌, length}
 use Rattle.std.proofs.Common.{get_or, map, replicate, Some, None, option_map, refl, sym, ap, ◌∙◌}
 use Rattle.std.specs.Prelude.{slice_get}

@@ -1,4 +1,6 @@
 -- The least of several faults.
+-- For `least_fault`, which is a loop, and `load`.
+-- By: the least so far and the least of the rest are the least of all.
 use Rattle.std.proofs.Common.{◌≡◌, ℕ, ◌+◌, ◌<◌, ◌≤◌, Bool, true, false, nat_lt}
 use Rattle.std.proofs.Common.{if◌then◌else◌, length, get_or, drop, map, List, [], ◌∷◌}
 use Rattle.std.proofs.Common.{Option, Some, None, refl, sym, ap, ◌∙◌, arith, is_none}

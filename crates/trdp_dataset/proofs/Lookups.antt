@@ -1,4 +1,6 @@
 -- Looking datasets up in the map that stores them.
+-- For `Datasets::elements`, `index_of` and `push`, and for all that is kept in a list beside it.
+-- By induction on the entries, whose keys are the identifiers in order.
 use Rattle.std.proofs.Common.{◌≡◌, ◌<◌, ◌==◌, eqb-true, Bool, true, false, cond, ℕ, zero, suc, List}
 use Rattle.std.proofs.Common.{[], ◌∷◌, ◌++◌, length, get_or, map, Option, Some, None, option_map}
 use Rattle.std.proofs.Common.{if◌then◌else◌, Vec, Global, refl, sym, ap, ◌∙◌, arith, is_some}

@@ -1,4 +1,6 @@
 -- Lists that have a value for each dataset, in order.
+-- For `too_deep`, `passes` and the `one_deeper` of depths, sizes and lengths.
+-- By: a turn of the loop adds the value of the dataset that comes next.
 use Rattle.std.proofs.Common.{◌≡◌, ℕ, zero, suc, ◌+◌, Bool, true, false, not, if◌then◌else◌}
 use Rattle.std.proofs.Common.{List, [], ◌∷◌, ◌++◌, length, take, map, replicate, Option}
 use Rattle.std.proofs.Common.{Some, None, option_map, refl, sym, ap, ◌∙◌}

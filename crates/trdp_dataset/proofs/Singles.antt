@@ -1,4 +1,6 @@
 -- The faults that positions have, and those that datasets have.
+-- For `LoadLemmas` and `MeaningLemmas`.
+-- By cases on the fault: all of positions but one come before those of datasets.
 use Rattle.std.proofs.Common.{◌≡◌, ◌==◌, ◌&&◌, ℕ, ◌≤◌, Bool, true, false, nat_lt, if◌then◌else◌}
 use Rattle.std.proofs.Common.{length, map, List, [], ◌∷◌, Option, Some, None, option_map}
 use Rattle.std.proofs.Common.{is_some, IfSome, refl, ap, ◌∙◌, arith, lit≤, ◌⊎◌, inl, inr}

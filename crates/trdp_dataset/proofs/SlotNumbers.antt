@@ -1,4 +1,6 @@
 -- The slots of a file without a fault, and its spare control ports.
+-- For `NodeConfig::from_toml`.
+-- By: no position of such a file has a fault, so each array is as long as its row says (`Filled`).
 use Rattle.std.proofs.Common.{◌≡◌, ◌≤◌, List, ◌++◌, length, map, None}
 use Rattle.toml.specs.Data.{Members}
 use Rattle.trdp_dataset.specs.Datasets.{DatasetModel}

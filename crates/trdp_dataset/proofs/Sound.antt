@@ -1,4 +1,6 @@
 -- Datasets without a fault fit together.
+-- For `load`.
+-- By: a test that all datasets pass is passed by each that is looked up.
 use Rattle.std.proofs.Common.{◌≡◌, ◌==◌, ◌&&◌, ◌||◌, ◌≤◌, ◌<◌, ℕ, zero, suc, Bool, true}
 use Rattle.std.proofs.Common.{false, cond, not, nat_le, nat_lt, length, List, [], ◌∷◌}
 use Rattle.std.proofs.Common.{◌++◌, Option, Some, None, option_map, if◌then◌else◌, refl}
@@ -19,10 +21,10 @@ use Rattle.trdp_dataset.specs.ZeroSizes.{zero_size}
 use Rattle.trdp_dataset.specs.Faults.{has_twice, twice_id_in, nested_ids, no_dataset_in}
 use Rattle.trdp_dataset.specs.Faults.{no_count_in, too_deep_in, too_big_in, fit_fault}
 use Rattle.trdp_dataset.specs.Registries.{IsRegistry}
-use Rattle.trdp_dataset.proofs.Answering.{none_first}
+use Rattle.trdp_dataset.proofs.FaultLemmas.{none_first}
 use Rattle.trdp_dataset.proofs.Sizes.{unknown_size}
-use Rattle.trdp_dataset.proofs.Steps.{each, all_made}
-use Rattle.trdp_dataset.proofs.Twice.{known-cons, or_true}
+use Rattle.trdp_dataset.proofs.LoopLemmas.{each, all_made}
+use Rattle.trdp_dataset.proofs.Twice.{known-cons, or_true, false_right}
 use Rattle.trdp_dataset.proofs.Filled.{is_filled}
 
 found_by : (b : Bool) (d : DatasetModel) (rest : Option DatasetModel) (es : List Element)
@@ -138,10 +140,6 @@ first_known d ds i id once same at =
     let twice : has_twice (d ∷ ds) ≡ true = ap (λ b. b || has_twice ds) known in
     let no : true ≡ false = sym twice ∙ once in cc
 
-once_later : (a b : Bool) → (a || b) ≡ false → b ≡ false
-once_later true b e = cc
-once_later false b e = e
-
 -- no two datasets have one identifier
 apart : (registry : List DatasetModel) (i j id : ℕ) → has_twice registry ≡ false
     → option_map (λ (m : DatasetModel). m.id) (slice_get registry i) ≡ Some id
@@ -151,7 +149,7 @@ apart (d ∷ ds) zero zero id once at there = refl
 apart (d ∷ ds) zero (suc j) id once at there = absurd (first_known d ds j id once (cc) there)
 apart (d ∷ ds) (suc i) zero id once at there = absurd (first_known d ds i id once (cc) at)
 apart (d ∷ ds) (suc i) (suc j) id once at there =
-    ap suc (apart ds i j id (once_later (is_known ds d.id) (has_twice ds) once) at there)
+    ap suc (apart ds i j id (false_right (is_known ds d.id) (has_twice ds) once) at there)
 
 filled_parts : (es : List Element) → is_filled es ≡ true → (0 < length es) × (length es ≤ 256)
 filled_parts es e = let parts = and_parts (nat_lt 0 (length es)) (nat_le (length es) 256) e in

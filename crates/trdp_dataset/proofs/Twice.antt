@@ -1,4 +1,6 @@
 -- Datasets with one identifier.
+-- For `datasets_in`, and for `Sound`.
+-- By: each turn adds a dataset whose identifier is new, or stops at one that was there.
 use Rattle.std.proofs.Common.{◌≡◌, ◌==◌, ◌||◌, ℕ, Bool, true, false, cond, List, [], ◌∷◌}
 use Rattle.std.proofs.Common.{◌++◌, Option, Some, None, option_map, if◌then◌else◌, refl}
 use Rattle.std.proofs.Common.{sym, ap, ◌∙◌, is_some, eqb-true, eq-eqb, append_assoc}
@@ -14,8 +16,8 @@ use Rattle.trdp_dataset.specs.declared.fault.ConfigFault.{ConfigFault}
 use Rattle.trdp_dataset.specs.declared.fault.ConfigFault.TheVariants.{TwiceId}
 use Rattle.trdp_dataset.specs.Datasets.{DatasetModel, dataset_of, elements_of, is_known}
 use Rattle.trdp_dataset.specs.Faults.{has_twice, twice_id_in, IsFaultOf}
-use Rattle.trdp_dataset.proofs.Answering.{fault_moves}
-use Rattle.trdp_dataset.specs.Adding.{Adds, twice_fault}
+use Rattle.trdp_dataset.proofs.FaultLemmas.{fault_moves}
+use Rattle.trdp_dataset.specs.Adding.{AddsDataset, twice_fault}
 
 known_by : (b : Bool) (d : DatasetModel) (rest : Option DatasetModel)
     → is_some (cond b (Some d) rest) ≡ (b || is_some rest)
@@ -86,7 +88,8 @@ false_left : (a b : Bool) → (a || b) ≡ false → a ≡ false
 false_left true b e = cc
 false_left false b e = refl
 
-false_right : (a b : Bool) → (a || b) ≡ false → b ≡ false
+-- of two tests of which neither passes, the second
+pub false_right : (a b : Bool) → (a || b) ≡ false → b ≡ false
 false_right true b e = cc
 false_right false b e = e
 
@@ -133,7 +136,7 @@ next_dataset xs i x inside item =
 -- one turn: the datasets so far stay of different identifiers, and the rest is still to come
 pub taken_up :
     (old new : List DatasetModel) (o : Option DatasetModel) (rest all : List DatasetModel)
-    → has_twice old ≡ false → Adds old new o → old ++ cons_option o rest ≡ all
+    → has_twice old ≡ false → AddsDataset old new o → old ++ cons_option o rest ≡ all
     → (has_twice new ≡ false) × (new ++ rest ≡ all)
 taken_up old new None rest all once added e = (rw added once, rw added e)
 taken_up old new (Some d) rest all once added e = (

@@ -5,9 +5,9 @@ use Rattle.trdp_dataset.specs.declared.fault.ConfigFault.TheVariants.{TwiceId}
 use Rattle.trdp_dataset.specs.Datasets.{DatasetModel, is_known}
 
 -- the dataset, if there is one, was new and stands at the end
-abbrev pub Adds : List DatasetModel → List DatasetModel → Option DatasetModel → Type 0
-Adds old new None = new ≡ old
-Adds old new (Some d) = (is_known old d.id ≡ false) × (new ≡ old ++ d ∷ [])
+abbrev pub AddsDataset : List DatasetModel → List DatasetModel → Option DatasetModel → Type 0
+AddsDataset old new None = new ≡ old
+AddsDataset old new (Some d) = (is_known old d.id ≡ false) × (new ≡ old ++ d ∷ [])
 
 -- the dataset has the identifier of an earlier one
 abbrev pub twice_fault : List DatasetModel → Option DatasetModel → Option ConfigFault

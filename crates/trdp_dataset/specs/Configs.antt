@@ -41,12 +41,12 @@ numbers_of key None = []
 numbers_of key (Some d) = filter_map (member_in (wanted_by key)) (items_in d)
 
 -- the number at a key of a table
-abbrev pub number_at : Key → Members → ℕ
-number_at key members = number_of key (value_at key members)
+abbrev pub natural_at : Key → Members → ℕ
+natural_at key members = number_of key (value_at key members)
 
 -- an element of that type, of the size that the table gives, or 1
 abbrev pub element_of : Members → ElementKind → Element
-element_of members kind = record { kind = kind; size = number_at ElementSize members }
+element_of members kind = record { kind = kind; size = natural_at ElementSize members }
 
 -- the element that a table is, if its type is known
 unfoldable pub element_in : Members → Option Element
@@ -74,14 +74,14 @@ pub record SlotModel : Type 0 where
   pub control_port : ℕ
 
 unfoldable pub quotas_in : Members → List ℕ
-quotas_in members = map (λ key. number_at key members) quota_keys
+quotas_in members = map (λ key. natural_at key members) quota_keys
 
-unfoldable pub slot_in : Members → SlotModel
-slot_in members =
-    record { quotas = quotas_in members; control_port = number_at ControlPort members }
+unfoldable pub slot_config : Members → SlotModel
+slot_config members =
+    record { quotas = quotas_in members; control_port = natural_at ControlPort members }
 
 unfoldable pub slots_in : Members → List SlotModel
-slots_in top = map slot_in (tables_at Slot top)
+slots_in top = map slot_config (tables_at Slot top)
 
 -- the configuration of a node; the spare control ports are those of the slots that are added while
 -- the node runs, in their order, and the control address is where all control ports are
@@ -143,11 +143,12 @@ config_of top = unless (config_fault_of top) (config_in top)
 
 -- what a call read from bytes is what they mean by a function of the table; Toml comes where they
 -- are no UTF-8 or no table, and want of memory at any time
-abbrev pub Reads : {A : Type 0} → (Members → Result A ConfigFault) → List ℕ → Result A ConfigFault
+abbrev pub ReadsToml : {A : Type 0} → (Members → Result A ConfigFault) → List ℕ
+    → Result A ConfigFault
     → Type 0
-Reads meaning bytes (Err OutOfMemory) = Unit {0}
-Reads meaning bytes (Err Toml) = IsUtf8 bytes → parse_document bytes ≡ None
-Reads meaning bytes result = IsUtf8 bytes
+ReadsToml meaning bytes (Err OutOfMemory) = Unit {0}
+ReadsToml meaning bytes (Err Toml) = IsUtf8 bytes → parse_document bytes ≡ None
+ReadsToml meaning bytes result = IsUtf8 bytes
     × ((top : Members) × (parse_document bytes ≡ Some top) × (result ≡ meaning top))
 
 -- what a call parsed is the table of the bytes

@@ -178,6 +178,6 @@ IsFaultOf OutOfMemory expected = Unit {0}
 IsFaultOf fault expected = expected ≡ Some fault
 
 -- a call succeeds where no fault is expected, and else answers that fault, unless memory runs out
-abbrev pub Answers : {A : Type 0} → Option ConfigFault → Result A ConfigFault → Type 0
-Answers expected (Ok x) = expected ≡ None
-Answers expected (Err fault) = IsFaultOf fault expected
+abbrev pub RefusedAs : {A : Type 0} → Option ConfigFault → Result A ConfigFault → Type 0
+RefusedAs expected (Ok x) = expected ≡ None
+RefusedAs expected (Err fault) = IsFaultOf fault expected

@@ -4,8 +4,8 @@ use Rattle.trdp_dataset.specs.declared.config.Slot.{Slot}
 use Rattle.trdp_dataset.specs.Configs.{SlotModel}
 
 -- a slot as contracts see it
-abbrev pub slot_seen : Slot → SlotModel
-slot_seen slot = record { quotas = slot.quotas; control_port = slot.control_port }
+abbrev pub slot_model : Slot → SlotModel
+slot_model slot = record { quotas = slot.quotas; control_port = slot.control_port }
 
-abbrev pub slots_of : List Slot → List SlotModel
-slots_of slots = map slot_seen slots
+abbrev pub slot_models : List Slot → List SlotModel
+slot_models slots = map slot_model slots

@@ -5,7 +5,7 @@ ghost use Rattle.std.specs.List.{list_all};
 ghost use Rattle.trdp_dataset.specs.Stored.{zero_sizes_of};
 ghost use Rattle.trdp_dataset.specs.Datasets.{is_known, all_counted};
 ghost use Rattle.trdp_dataset.specs.Faults.{nested_ids, no_dataset_in, no_count_in};
-ghost use Rattle.trdp_dataset.specs.Faults.{too_big_in, fit_fault, Answers};
+ghost use Rattle.trdp_dataset.specs.Faults.{too_big_in, fit_fault, RefusedAs};
 
 use crate::datasets::Datasets;
 use crate::depth::too_deep;
@@ -77,7 +77,7 @@ fn all_small(sizes: &[u32]) -> bool
 #[tactic(auto, unfolding(crate::specs::Faults::too_big_in))]
 fn small_sizes(alloc: Global, datasets: &Datasets) -> Result<Vec<u32>, ConfigFault>
     ensures sizes { IfOk result (λ sizes. sizes.items ≡ zero_sizes_of datasets.now) }
-    ensures answers { Answers (too_big_in datasets.now) result }
+    ensures answers { RefusedAs (too_big_in datasets.now) result }
 {
     let sizes = zero_sizes(alloc, datasets)?;
     if all_small(&sizes) {
@@ -90,7 +90,7 @@ fn small_sizes(alloc: Global, datasets: &Datasets) -> Result<Vec<u32>, ConfigFau
 /// The zero sizes of datasets that fit together, in order.
 pub(crate) fn fit_together(alloc: Global, datasets: &Datasets) -> Result<Vec<u32>, ConfigFault>
     ensures sizes { IfOk result (λ sizes. sizes.items ≡ zero_sizes_of datasets.now) }
-    ensures answers { Answers (fit_fault datasets.now) result }
+    ensures answers { RefusedAs (fit_fault datasets.now) result }
 {
     match no_dataset(datasets) {
         Some(fault) => return Err(fault),

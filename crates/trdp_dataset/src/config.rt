@@ -9,8 +9,8 @@ ghost use Rattle.trdp_dataset.specs.Positions.{value_at};
 ghost use Rattle.trdp_dataset.specs.Seen.{tables_seen};
 ghost use Rattle.trdp_dataset.specs.Configs.{number_of, node_value, address_at, config_in};
 ghost use Rattle.trdp_dataset.specs.Configs.{datasets_in, spare_control_ports_in};
-ghost use Rattle.trdp_dataset.specs.Configs.{quotas_in, slot_in, slots_in};
-ghost use Rattle.trdp_dataset.specs.StoredSlots.{slot_seen, slots_of};
+ghost use Rattle.trdp_dataset.specs.Configs.{quotas_in, slot_config, slots_in};
+ghost use Rattle.trdp_dataset.specs.StoredSlots.{slot_model, slot_models};
 
 use crate::fault::ConfigFault;
 use crate::key::Key;
@@ -60,7 +60,7 @@ pub struct NodeConfig {
 impl Model for NodeConfig {
     ghost use Rattle.std.specs.Prelude.{◌≡◌, ◌≤◌, ◌<◌, length};
     ghost use Rattle.trdp_dataset.specs.Configs.{ConfigModel};
-    ghost use Rattle.trdp_dataset.specs.StoredSlots.{slots_of};
+    ghost use Rattle.trdp_dataset.specs.StoredSlots.{slot_models};
 
     ghost Value = { ConfigModel };
 
@@ -72,7 +72,7 @@ impl Model for NodeConfig {
       operator_port = c.operator_port;
       spare_control_ports = c.spare_control_ports.items;
       control_address = c.control_address.0;
-      slots = slots_of c.slots.items;
+      slots = slot_models c.slots.items;
     } };
 
     ghost invariant = { λ c. (1 ≤ c.pd_port) × (1 ≤ c.md_port) × (1 ≤ length c.slots.items)
@@ -96,9 +96,9 @@ fn quotas_in(slot: &Table) -> Quotas
 }
 
 /// The slot that a table is.
-#[tactic(auto, unfolding(crate::specs::Configs::slot_in))]
+#[tactic(auto, unfolding(crate::specs::Configs::slot_config))]
 fn slot_in(slot: &Table) -> Slot
-    ensures value { slot_seen result ≡ slot_in (table_view slot.now) }
+    ensures value { slot_model result ≡ slot_config (table_view slot.now) }
 {
     Slot {
         quotas: quotas_in(slot),
@@ -109,7 +109,7 @@ fn slot_in(slot: &Table) -> Slot
 /// The slots of a file.
 #[tactic(auto, unfolding(crate::specs::Configs::slots_in))]
 fn slots_in(alloc: Global, top: &Table) -> Result<Vec<Slot>, AllocError>
-    ensures value { IfOk result (λ slots. slots_of slots.items ≡ slots_in (table_view top.now)) }
+    ensures value { IfOk result (λ slots. slot_models slots.items ≡ slots_in (table_view top.now)) }
 {
     let mut slots = Vec::new(alloc);
     for member in members_at(top, Key::Slot) {
@@ -173,7 +173,7 @@ fn config_in(
     requires registry { registry ≡ datasets_in (table_view top.now) }
     requires spare { spare_control_ports.items ≡ spare_control_ports_in (table_view top.now) }
     requires few_spare { length (spare_control_ports_in (table_view top.now)) ≤ 15 }
-    requires slots { slots_of slots.items ≡ slots_in (table_view top.now) }
+    requires slots { slot_models slots.items ≡ slots_in (table_view top.now) }
     requires some { 1 ≤ length (slots_in (table_view top.now)) }
     requires few { length (slots_in (table_view top.now)) ≤ 16 }
     ensures value { result ≡ config_in (table_view top.now) }
@@ -193,7 +193,7 @@ fn config_in(
 
 impl NodeConfig {
     ghost use Rattle.std.specs.Prelude.{◌≡◌, ◌≤◌, length, option_map, slice_get};
-    ghost use Rattle.trdp_dataset.specs.Configs.{Reads, config_of};
+    ghost use Rattle.trdp_dataset.specs.Configs.{ReadsToml, config_of};
 
     /// The configuration of a file in TOML.
     ///
@@ -201,7 +201,7 @@ impl NodeConfig {
     /// The faults of [`ConfigFault`], of which `Toml` says that the bytes aren't UTF-8 or not
     /// TOML; `OutOfMemory` may come in place of any of them.
     pub fn from_toml(alloc: Global, bytes: &[u8]) -> Result<Self, ConfigFault>
-        ensures reads { Reads config_of bytes.now result }
+        ensures reads { ReadsToml config_of bytes.now result }
     {
         let top = parse(alloc, bytes)?;
         let positions = all_positions(alloc, &top)?;

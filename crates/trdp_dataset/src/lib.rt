@@ -1,9 +1,22 @@
 //! The datasets of a train's telegrams and the configuration of a node, read from TOML.
 //!
+//! A [`NodeConfig`] is a whole configuration, a [`Registry`] its datasets by identifier, and an
+//! [`Element`] one entry of a dataset. What a file lacks is told as a [`ConfigFault`] with its
+//! [`Key`].
+//!
+//! ```text
+//! let config = NodeConfig::from_toml(alloc, &bytes)?;
+//! config.slots()                       // how many slots the file has
+//! config.quotas(0)                     // those of its first slot
+//! config.registry().elements(1001)     // the entries of dataset 1001, if there is one
+//! ```
+//!
 //! What a file means, and which fault it has, are functions of the table that its text is; the
-//! table is `toml`'s to read. What no contract can say is that memory is there: a reader that
-//! always answers `OutOfMemory` meets its contract, and the tests show that a good file is taken
-//! and a broken one gets its fault. The sentence of a fault is covered by tests alone.
+//! table is `toml`'s to read.
+//!
+//! What no contract can say is that memory is there: a reader that always answers `OutOfMemory`
+//! meets its contract, and the tests show that a good file is taken and a broken one gets its
+//! fault. The sentence of a fault is covered by tests alone.
 #![tactic(auto)]
 
 mod check;

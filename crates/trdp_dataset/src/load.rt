@@ -4,7 +4,7 @@ ghost use Rattle.std.specs.Prelude.{◌≡◌, ◌++◌, List, IfOk};
 ghost use Rattle.toml.specs.View.{table_view};
 ghost use Rattle.trdp_dataset.specs.Positions.{PositionModel, dataset_positions};
 ghost use Rattle.trdp_dataset.specs.Seen.{positions_seen};
-ghost use Rattle.trdp_dataset.specs.Faults.{before_datasets, fault_in, Answers};
+ghost use Rattle.trdp_dataset.specs.Faults.{before_datasets, fault_in, RefusedAs};
 ghost use Rattle.trdp_dataset.specs.Configs.{datasets_in};
 
 use crate::check::fit_together;
@@ -37,7 +37,7 @@ pub(crate) fn load(
     requires covers { (front : List PositionModel)
         × (positions_seen positions.now ≡ front ++ dataset_positions (table_view top.now)) }
     ensures value { IfOk result (λ registry. registry ≡ datasets_in (table_view top.now)) }
-    ensures answers { Answers
+    ensures answers { RefusedAs
         (fault_in (positions_seen positions.now) (datasets_in (table_view top.now))) result }
 {
     let least = least_fault(positions);

@@ -10,8 +10,8 @@ ghost use Rattle.trdp_dataset.specs.Values.{IsAllowed, member_in, identifier_in}
 ghost use Rattle.trdp_dataset.specs.Positions.{value_at, tables_at};
 ghost use Rattle.trdp_dataset.specs.Seen.{tables_seen};
 ghost use Rattle.trdp_dataset.specs.Faults.{has_twice, IsFaultOf, twice_id_in};
-ghost use Rattle.trdp_dataset.specs.Adding.{Adds, twice_fault};
-ghost use Rattle.trdp_dataset.specs.Configs.{number_of, numbers_of, number_at, element_in};
+ghost use Rattle.trdp_dataset.specs.Adding.{AddsDataset, twice_fault};
+ghost use Rattle.trdp_dataset.specs.Configs.{number_of, numbers_of, natural_at, element_in};
 ghost use Rattle.trdp_dataset.specs.Configs.{elements_in, dataset_in, datasets_in};
 
 use crate::datasets::Datasets;
@@ -72,7 +72,7 @@ pub(crate) fn numbers_of(
 
 /// The number at a key of a table.
 pub(crate) fn number_at(table: &Table, key: Key) -> u16
-    ensures value { result ≡ number_at key (table_view table.now) }
+    ensures value { result ≡ natural_at key (table_view table.now) }
     ensures range { IsAllowed (wanted_by key) (default_of key) → IsAllowed (wanted_by key) result }
 {
     number_of(key, value_at(table, key))
@@ -135,7 +135,7 @@ pub fn identifier_of(dataset: &Table) -> Option<u32>
 /// Adds the dataset that a member of an array is, if it is a table with an identifier.
 #[tactic(auto, unfolding(crate::specs::Configs::dataset_in))]
 fn push_dataset(alloc: Global, datasets: &mut Datasets, member: &Value) -> Result<(), ConfigFault>
-    ensures added { OnOk result (Adds datasets.old datasets.new
+    ensures added { OnOk result (AddsDataset datasets.old datasets.new
         (option_and_then dataset_in (as_table (view member.now)))) }
     ensures fault { IfErr result (λ fault. IsFaultOf fault
         (twice_fault datasets.old (option_and_then dataset_in (as_table (view member.now))))) }

@@ -45,7 +45,7 @@ impl Registry {
     ghost use Rattle.trdp_dataset.specs.Registries.{IsRegistry};
     ghost use Rattle.trdp_dataset.specs.Stored.{zero_sizes_of};
     ghost use Rattle.trdp_dataset.specs.FixedSizes.{fixed_size, fixed_row};
-    ghost use Rattle.trdp_dataset.specs.Configs.{Reads, registry_of};
+    ghost use Rattle.trdp_dataset.specs.Configs.{ReadsToml, registry_of};
 
     /// The registry of a configuration file in TOML, of which the key `dataset` alone is looked
     /// at. Without that key there is no dataset.
@@ -54,7 +54,7 @@ impl Registry {
     /// The faults of [`ConfigFault`], of which `Toml` says that the bytes aren't UTF-8 or not
     /// TOML; `OutOfMemory` may come in place of any of them.
     pub fn from_toml(alloc: Global, bytes: &[u8]) -> Result<Self, ConfigFault>
-        ensures reads { Reads registry_of bytes.now result }
+        ensures reads { ReadsToml registry_of bytes.now result }
     {
         let top = parse(alloc, bytes)?;
         let positions = dataset_positions(alloc, &top)?;

@@ -1,4 +1,6 @@
 -- A register that differs once differs for ever, so that one changed byte changes the check.
+-- For `one_byte_changes_the_check`, and through it for that of damaged headers.
+-- By: a step is one-to-one where the divisor's highest bit is 1, so the same bytes keep it apart.
 use Rattle.std.proofs.Common.{lit<, ◌≡◌, ◌≢◌, ℕ, zero, suc, ◌-◌, ◌*◌, ◌/◌, ◌^◌, ◌<◌, ◌≤◌}
 use Rattle.std.proofs.Common.{List, [], ◌∷◌, ◌++◌, map, sym, ap, ◌∙◌, arith, bit_xor}
 use Rattle.std.proofs.Common.{inl, inr}

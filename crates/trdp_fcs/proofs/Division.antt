@@ -1,4 +1,6 @@
 -- The register's steps are the division's.
+-- For `Pieces` and `Zeros`, on which all functions of the register stand.
+-- By induction on the bits: each is shifted out, and adds the divisor where a 1 left the register.
 use Rattle.std.proofs.Math.Nat.{one-le-pow, pow-succ', pow-le-pow_right}
 use Rattle.std.proofs.Common.{subst, append_assoc, ◌≡◌, ℕ, zero, suc, ◌+◌, ◌-◌, ◌*◌, ◌/◌, ◌%◌}
 use Rattle.std.proofs.Common.{◌^◌, ◌<◌, ◌≤◌, true, false, cond, eqb, List, [], ◌∷◌, ◌++◌}

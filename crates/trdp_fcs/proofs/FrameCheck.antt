@@ -1,4 +1,6 @@
--- Facts on the frame check of any bytes, for crates above.
+-- A frame check has 32 bits.
+-- For crates above, whose written headers store it in four bytes.
+-- By: inverted bits are a number of as many bits, whatever they were.
 use Rattle.std.proofs.Common.{◌≡◌, ℕ, zero, suc, ◌+◌, ◌-◌, ◌*◌, ◌/◌, ◌^◌, ◌<◌}
 use Rattle.std.proofs.Common.{true, false, cond, eqb, List, [], ◌∷◌, ◌++◌, length}
 use Rattle.std.proofs.Common.{drop, replicate, refl, subst, arith, length-append}

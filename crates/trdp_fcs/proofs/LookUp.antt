@@ -1,4 +1,6 @@
 -- What is looked up is the register past bytes of 0, and past bytes.
+-- For `past_byte`, `past_four` and `past_eight`, and for those past bytes of 0.
+-- By: each table is computed once, and bytes of 0 act on each byte of a register alone (`Zeros`).
 use Rattle.std.proofs.Common.{◌≡◌, ℕ, zero, suc, ◌+◌, ◌/◌, ◌%◌, ◌^◌, ◌<◌, List, [], ◌∷◌}
 use Rattle.std.proofs.Common.{length, drop, map, slice_index_or, sym, ap, ◌∙◌, arith, bit_xor}
 use Rattle.std.specs.Int.{w32, from_le_bytes}

@@ -1,4 +1,6 @@
 -- The register past any bytes is the frame check inverted, so a check goes on where another ended.
+-- For `Running::start` and `Running::feed`.
+-- By `Division` at items of eight bits; past one list and then another is past both.
 use Rattle.std.proofs.Common.{lit<, ◌≡◌, ℕ, suc, zero, ◌+◌, ◌-◌, ◌*◌, ◌/◌, ◌%◌, ◌^◌, ◌<◌, List}
 use Rattle.std.proofs.Common.{[], ◌∷◌, ◌++◌, map, get_or, refl, sym, ap, ◌∙◌, arith, bit_xor}
 use Rattle.std.proofs.lemmas.List.{length-map, map-append}

@@ -1,4 +1,6 @@
 -- Bytes of 0 shift the register, and act on each of its bytes alone: what the tables rest on.
+-- For `LookUp` and `Damage`.
+-- By: a step leads a sum without carry to the sum of where it leads its terms, and so do many.
 use Rattle.std.proofs.Common.{◌≡◌, ℕ, zero, suc, ◌+◌, ◌*◌, ◌/◌, ◌%◌, ◌^◌, ◌<◌, List, [], ◌∷◌}
 use Rattle.std.proofs.Common.{length, refl, sym, ap, ◌∙◌, arith, bit_xor, inl, inr, ◌⊎◌}
 use Rattle.std.proofs.Math.Nat.{pow-succ'}

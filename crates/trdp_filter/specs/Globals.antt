@@ -3,9 +3,13 @@ use Rattle.std.specs.Prelude.{ℕ, Bool, false, replicate, slice_index_or, slice
 use Rattle.trdp_filter.specs.declared.globals.Groups.{Groups}
 use Rattle.trdp_filter.specs.declared.globals.Globals.{Globals}
 
+-- how many numbers a redundancy group may have, 0 for none among them (profile)
+abbrev pub group_count : ℕ
+group_count = 256
+
 -- the node leads no redundancy group
 unfoldable pub no_groups : Groups
-no_groups = record { led = replicate 256 false }
+no_groups = record { led = replicate group_count false }
 
 -- the node leads the redundancy group
 unfoldable pub leads : Groups → ℕ → Bool

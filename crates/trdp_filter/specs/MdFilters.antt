@@ -14,13 +14,13 @@ is_com_id None com_id = true
 is_com_id (Some wanted) com_id = wanted == com_id
 
 -- the URI: an empty one stands for any, else it is the telegram's
-unfoldable pub is_uri : List ℕ → List ℕ → Bool
-is_uri wanted uri = bytes_eq wanted [] || bytes_eq wanted uri
+unfoldable pub matches_uri : List ℕ → List ℕ → Bool
+matches_uri wanted uri = bytes_eq wanted [] || bytes_eq wanted uri
 
 -- receive filter: equal comId or any, source in range, destination address, destination URI, and
 -- counts that match the filter's and the node's
 unfoldable pub md_passes : MdFilter → Place → Place → MdHead → Topo → Bool
 md_passes filter src dst head node =
     is_com_id filter.com_id head.com_id && in_source_range filter.low filter.high src.ip
-    && is_destination filter.dest dst.ip && is_uri filter.uri head.dest_uri
+    && is_destination filter.dest dst.ip && matches_uri filter.uri head.dest_uri
     && topo_valid head.topo filter.topo && topo_valid head.topo node

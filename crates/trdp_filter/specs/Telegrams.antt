@@ -5,6 +5,7 @@ use Rattle.trdp_head.specs.PdTelegrams.{PdTelegram}
 use Rattle.trdp_head.specs.MdTelegrams.{MdTelegram}
 use Rattle.trdp_filter.specs.declared.telegram.Telegram.{Telegram}
 use Rattle.trdp_filter.specs.declared.telegram.Telegram.TheVariants.{Pd, Md}
+use Rattle.trdp_head.specs.Limits.{md_payload_limit, pd_payload_limit}
 
 -- a telegram with the places that its datagram came from and was sent to
 pub data TelegramModel : Type 0 where
@@ -21,8 +22,8 @@ telegram_model (Md src dst view) =
 -- the telegram is as long as its kind may be: process data carries at most 1432 bytes, a message
 -- at most 65388
 abbrev pub IsWithinLimit : TelegramModel → Type 0
-IsWithinLimit (PdIs src dst telegram) = length telegram.payload ≤ 1432
-IsWithinLimit (MdIs src dst telegram) = length telegram.payload ≤ 65388
+IsWithinLimit (PdIs src dst telegram) = length telegram.payload ≤ pd_payload_limit
+IsWithinLimit (MdIs src dst telegram) = length telegram.payload ≤ md_payload_limit
 
 -- the comId of a telegram
 abbrev pub com_id_of : TelegramModel → ℕ

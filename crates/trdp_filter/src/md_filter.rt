@@ -1,7 +1,7 @@
 //! Which messages a listener lets in.
 
 ghost use Rattle.std.specs.Prelude.{◌≡◌};
-ghost use Rattle.trdp_filter.specs.MdFilters.{is_com_id, is_uri, md_passes};
+ghost use Rattle.trdp_filter.specs.MdFilters.{is_com_id, matches_uri, md_passes};
 
 use crate::addresses::{in_source_range, is_destination};
 use crate::counts::topo_valid;
@@ -37,9 +37,9 @@ fn is_com_id(wanted: Option<u32>, com_id: u32) -> bool
 }
 
 /// Whether the URI is the wanted one; an empty one stands for any.
-#[tactic(auto, unfolding(crate::specs::MdFilters::is_uri))]
+#[tactic(auto, unfolding(crate::specs::MdFilters::matches_uri))]
 fn is_uri(wanted: &Uri, uri: &Uri) -> bool
-    ensures { result ≡ is_uri wanted.now uri.now }
+    ensures { result ≡ matches_uri wanted.now uri.now }
 {
     wanted.is_empty() || wanted == uri
 }

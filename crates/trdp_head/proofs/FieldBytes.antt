@@ -1,4 +1,6 @@
 -- A number is read back from its bytes.
+-- For the lemmas on written telegrams of both kinds.
+-- By induction on the number of bytes.
 use Rattle.std.proofs.Common.{◌≡◌, ℕ, zero, suc, ◌^◌, ◌<◌, List, []}
 use Rattle.std.proofs.Common.{length, refl, sym, ap, ◌∙◌, arith}
 use Rattle.std.proofs.lemmas.List.{reverse-reverse}

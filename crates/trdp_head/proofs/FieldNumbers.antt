@@ -1,4 +1,6 @@
 -- The numbers of a header's fields are those that `byteorder` reads and writes.
+-- For `u16_at`, `u32_at`, `u128_at`, `put_u32` and the others of the fields, and for `put_check`.
+-- By induction on the number of bytes, with one byte more at the end.
 use Rattle.std.proofs.Common.{◌≡◌, ℕ, zero, suc, ◌+◌, ◌*◌, ◌/◌, ◌%◌, ◌^◌, ◌≤◌, List, [], ◌∷◌, ◌++◌}
 use Rattle.std.proofs.Common.{length, take, reverse, refl, sym, ap, ◌∙◌, arith, length-append}
 use Rattle.std.proofs.Math.Nat.{div-one, pow-succ'}

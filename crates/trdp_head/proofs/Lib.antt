@@ -1,10 +1,10 @@
 pub mod FieldBytes
 pub mod FieldNumbers
 pub mod PartWrites
-pub mod TelegramBytesFacts
-pub mod TelegramFacts
-pub mod PdBytesFacts
-pub mod PdTelegramFacts
-pub mod MdBytesFacts
-pub mod MdTelegramFacts
-pub mod DamageFacts
+pub mod TelegramBytesLemmas
+pub mod TelegramLemmas
+pub mod PdBytesLemmas
+pub mod PdTelegramLemmas
+pub mod MdBytesLemmas
+pub mod MdTelegramLemmas
+pub mod DamageLemmas

@@ -1,4 +1,4 @@
--- The message types of message data.
+-- The message types of message data (IEC 61375-2-3:2015, Annex A).
 use Rattle.std.specs.Prelude.{ℕ, ◌==◌, if◌then◌else◌, Option, Some, None}
 use Rattle.trdp_head.specs.declared.md.MdKind.{MdKind}
 use Rattle.trdp_head.specs.declared.md.MdKind.TheVariants.{Notify, Request, Reply}

@@ -5,13 +5,13 @@ use Rattle.trdp_head.specs.declared.pd.PdKind.{PdKind}
 use Rattle.trdp_head.specs.declared.pd.PdHead.{PdHead}
 use Rattle.trdp_head.specs.Fields.{field}
 use Rattle.trdp_head.specs.Prefixes.{prefix_in, IsPrefix}
-use Rattle.trdp_head.specs.PdKinds.{code_of}
+use Rattle.trdp_head.specs.PdKinds.{pd_code_of}
 
 -- the fields that every header begins with
 abbrev pub pd_prefix : PdHead → Prefix
 pd_prefix head = record {
   counter = head.counter;
-  code = code_of head.kind;
+  code = pd_code_of head.kind;
   com_id = head.com_id;
   topo = head.topo;
 }

@@ -4,7 +4,7 @@ use Rattle.trdp_head.specs.declared.pd.PdKind.{PdKind}
 use Rattle.trdp_head.specs.declared.pd.PdHead.{PdHead}
 use Rattle.trdp_head.specs.declared.fault.HeadFault.{HeadFault}
 use Rattle.trdp_head.specs.Fields.{field}
-use Rattle.trdp_head.specs.PdKinds.{kind_of}
+use Rattle.trdp_head.specs.PdKinds.{pd_kind_of}
 use Rattle.trdp_head.specs.PdHeads.{head_in}
 use Rattle.trdp_head.specs.PdFaults.{pd_fault_of}
 
@@ -23,4 +23,4 @@ telegram_where _ _ bytes = None
 
 -- the telegram in the bytes, if they are one
 unfoldable pub pd_telegram_of : List ℕ → Option PdTelegram
-pd_telegram_of bytes = telegram_where (pd_fault_of bytes) (kind_of (field 6 2 bytes)) bytes
+pd_telegram_of bytes = telegram_where (pd_fault_of bytes) (pd_kind_of (field 6 2 bytes)) bytes

@@ -1,8 +1,22 @@
-//! Headers of TRDP telegrams, read and written (IEC 61375-2-3, the TRDP annex).
+//! Headers of TRDP telegrams, read and written: IEC 61375-2-3:2015, Annex A. Wherever this crate
+//! names the standard, it means that edition and that annex.
 //!
-//! A telegram that is read lends its payload; one that is written goes to the front of a given
-//! room, or to the end of a list that has room. Nothing here takes memory. Numbers are big-endian,
+//! [`read_pd`] and [`read_md`] give the header ([`PdHead`], [`MdHead`]) and the payload of bytes
+//! that came in, or the first [`HeadFault`]. [`write_pd`] and [`write_md`] write a telegram at the
+//! front of a given room, [`push_pd`] and [`push_md`] at the end of a list that has room.
+//!
+//! ```text
+//! let length = write_pd(&head, b"doors open", &mut room);
+//! let view = read_pd(&room[..length])?;
+//! view.head                            // head
+//! view.payload                         // b"doors open"
+//! ```
+//!
+//! A telegram that is read lends its payload. Nothing here takes memory. Numbers are big-endian,
 //! but for the frame check, whose least significant byte comes first.
+//!
+//! What no contract can say is that the layout is the standard's: it is written down once in
+//! `specs/`, and tests compare it with telegrams that others made.
 #![tactic(auto)]
 
 mod check;

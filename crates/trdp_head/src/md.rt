@@ -1,4 +1,5 @@
-//! Message data telegrams: a header of 116 bytes, the payload, and zeros up to a multiple of four.
+//! Message data telegrams (IEC 61375-2-3:2015, Annex A): a header of 116 bytes, the payload, and
+//! zeros up to a multiple of four.
 //!
 //! | Offset | Field | Type |
 //! |---|---|---|
@@ -28,7 +29,8 @@ pub const MD_TELEGRAM_MAX: usize = 65504;
 
 const _: () = prove!(MD_TELEGRAM_MAX == MD_HEAD + MD_PAYLOAD_MAX);
 
-/// The message types of message data (IEC 61375-2-3); a telegram carries the two letters in ASCII.
+/// The message types of message data (IEC 61375-2-3, Annex A); a telegram carries the two letters
+/// in ASCII.
 #[derive(Clone, Copy, Debug, PartialEq, Eq)]
 pub enum MdKind {
     /// `Mn`, a message that wants no reply.

@@ -7,6 +7,7 @@ ghost use Rattle.std.specs.Prelude.{vec_len, vec_capacity};
 ghost use Rattle.trdp_head.specs.Fields.{field};
 ghost use Rattle.trdp_head.specs.Faults.{payload_fault_of};
 ghost use Rattle.trdp_head.specs.TelegramBytes.{rounded_of, padding_of, telegram_bytes};
+ghost use Rattle.trdp_head.specs.Limits.{md_payload_limit};
 
 use crate::check::put_check;
 use crate::fault::HeadFault;
@@ -34,7 +35,7 @@ pub(crate) fn read_payload(bytes: &[u8], size: usize) -> Result<&[u8], HeadFault
 
 /// A number of bytes rounded up to a multiple of four.
 pub(crate) fn rounded(payload: usize) -> usize
-    requires { payload ≤ 65388 }
+    requires { payload ≤ md_payload_limit }
     ensures { result ≡ rounded_of payload }
 {
     payload.div_ceil(4) * 4
@@ -43,7 +44,7 @@ pub(crate) fn rounded(payload: usize) -> usize
 /// Completes the telegram at the front of the room, whose header of so many bytes stands there up
 /// to its frame check, and answers its length.
 pub(crate) fn complete(room: &mut [u8], size: usize, payload: &[u8]) -> usize
-    requires payload { length payload.now ≤ 65388 }
+    requires payload { length payload.now ≤ md_payload_limit }
     requires check { 4 ≤ size }
     requires room { size + rounded_of (length payload.now) ≤ length room.old }
     ensures length { result ≡ size + rounded_of (length payload.now) }
@@ -70,7 +71,7 @@ fn append(list: &mut Vec<u8>, bytes: &[u8])
 /// Adds a header, the payload and its zeros at the end of the list, within its room, and answers
 /// their length.
 pub(crate) fn append_telegram(list: &mut Vec<u8>, header: &[u8], payload: &[u8]) -> usize
-    requires payload { length payload.now ≤ 65388 }
+    requires payload { length payload.now ≤ md_payload_limit }
     requires room { vec_len list.old + (length header.now + rounded_of (length payload.now))
         ≤ vec_capacity list.old }
     ensures length { result ≡ length header.now + rounded_of (length payload.now) }

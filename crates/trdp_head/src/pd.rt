@@ -1,4 +1,5 @@
-//! Process data telegrams: a header of 40 bytes, the payload, and zeros up to a multiple of four.
+//! Process data telegrams (IEC 61375-2-3:2015, Annex A): a header of 40 bytes, the payload, and
+//! zeros up to a multiple of four.
 //!
 //! | Offset | Field | Type |
 //! |---|---|---|
@@ -26,7 +27,8 @@ pub const PD_TELEGRAM_MAX: usize = 1472;
 
 const _: () = prove!(PD_TELEGRAM_MAX == PD_HEAD + PD_PAYLOAD_MAX);
 
-/// The message types of process data (IEC 61375-2-3); a telegram carries the two letters in ASCII.
+/// The message types of process data (IEC 61375-2-3, Annex A); a telegram carries the two letters
+/// in ASCII.
 #[derive(Clone, Copy, Debug, PartialEq, Eq)]
 pub enum PdKind {
     /// `Pd`, data that a publisher sends in its cycle.

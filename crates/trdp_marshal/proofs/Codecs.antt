@@ -1,4 +1,6 @@
 -- Numbers and times, each way of spelling with its way of reading.
+-- For `DatasetCodecs`, `Spellings` and `WriterLemmas`.
+-- By: codecs are made of codecs: of one part, or of two, of which the second may look at the first.
 use Rattle.std.proofs.Common.{◌≡◌, inl, inr, ◌<◌, ◌≤◌, ◌-◌, ◌*◌, ◌/◌, ◌^◌, ℕ, suc, pos, negsuc}
 use Rattle.std.proofs.Common.{Bool, true, false, cond, nat_lt, List, [], ◌∷◌, ◌++◌, Option, Some}
 use Rattle.std.proofs.Common.{None, length, drop, refl, sym, ap, ◌∙◌, arith, ltb-false, le-ltb}

@@ -1,4 +1,6 @@
 -- Lists, entries and datasets, each way of spelling with its way of reading.
+-- For `Spellings`.
+-- By induction on the depth of a dataset, and on its elements.
 use Rattle.std.proofs.Common.{◌≡◌, ◌==◌, ℕ, zero, suc, Bool, true, false, cond}
 use Rattle.std.proofs.Common.{List, [], ◌∷◌, ◌++◌, Option, Some, None, refl, sym, ap, ◌∙◌}
 use Rattle.std.proofs.lemmas.Option.{none-some, same_Some, some_pair_parts}
@@ -8,11 +10,11 @@ use Rattle.trdp_dataset.specs.declared.element.Element.{Element}
 use Rattle.trdp_dataset.specs.Elements.{form_of}
 use Rattle.trdp_dataset.specs.Datasets.{DatasetModel, elements_of}
 use Rattle.trdp_marshal.specs.Items.{ItemModel, ItemModels, unsigned, signed, time48}
-use Rattle.trdp_marshal.specs.Items.{time64, list, none, more, count_of, items_in}
+use Rattle.trdp_marshal.specs.Items.{time64, list, none, more, told_count, array_length}
 use Rattle.trdp_marshal.specs.Spelling.{Speller, joined, form_spelling, repeated_spelling}
 use Rattle.trdp_marshal.specs.Spelling.{list_spelling, entry_spelling, entries_spelling}
 use Rattle.trdp_marshal.specs.Spelling.{elements_spelling, dataset_spelling, spelling}
-use Rattle.trdp_marshal.specs.Reading.{Reader, form_at, repeated_at, list_at, entry_at}
+use Rattle.trdp_marshal.specs.Reading.{Reader, form_at, repeated_at, list_at, element_at}
 use Rattle.trdp_marshal.specs.Reading.{entries_at, elements_at, dataset_at, whole, reading}
 use Rattle.trdp_marshal.specs.Numbers.{IsBytes}
 use Rattle.trdp_marshal.proofs.Codecs.{Takes, IsCodec, made_codec, pair_codec, form_codec}
@@ -91,17 +93,18 @@ either_codec true spell other read other_read first second = first
 either_codec false spell other read other_read first second = second
 
 pub entry_codec : (spell : Speller ItemModel) (read : Reader ItemModel) → IsCodec spell read
-    → (size count : ℕ) → IsCodec (entry_spelling spell size count) (entry_at read size count)
-unfolding entry_spelling entry_at
+    → (size count : ℕ) → IsCodec (entry_spelling spell size count) (element_at read size count)
+unfolding entry_spelling element_at
 entry_codec spell read codec size count =
-    either_codec (size == 1) spell (list_spelling spell (items_in size count)) read (list_at read
-    (items_in size count)) codec (list_codec spell read codec (items_in size count))
+    either_codec (size == 1) spell (list_spelling spell (array_length size count)) read
+    (list_at read
+    (array_length size count)) codec (list_codec spell read codec (array_length size count))
 
 -- the entries of elements
 entries_same : (spell : Form → Speller ItemModel)
     (e : Element) (es : List Element) (count : ℕ) (t : ItemModel) (ts : ItemModels) (text : List ℕ)
     → joined (entry_spelling (spell (form_of e.kind)) e.size count t)
-    (entries_spelling spell es (count_of t) ts) ≡ Some text
+    (entries_spelling spell es (told_count t) ts) ≡ Some text
     → entries_spelling spell (e ∷ es) count (more t ts) ≡ Some text
 unfolding entries_spelling
 entries_same spell e es count t ts text h = h
@@ -110,7 +113,7 @@ entries_only : (spell : Form → Speller ItemModel) (e : Element) (es : List Ele
     (all : ItemModels) (text : List ℕ) → entries_spelling spell (e ∷ es) count all ≡ Some text
     → (t : ItemModel) × (ts : ItemModels) × (all ≡ more t ts)
     × (joined (entry_spelling (spell (form_of e.kind)) e.size count t)
-    (entries_spelling spell es (count_of t) ts) ≡ Some text)
+    (entries_spelling spell es (told_count t) ts) ≡ Some text)
 unfolding entries_spelling
 entries_only spell e es count none text h = absurd (none-some text h)
 entries_only spell e es count (more t ts) text h = (t, ts, refl, h)
@@ -146,11 +149,11 @@ entries_codec spell read codec [] count = record {
 }
 entries_codec spell read codec (e ∷ es) count =
     pair_codec (entry_spelling (spell (form_of e.kind)) e.size count)
-    (entry_at (read (form_of e.kind)) e.size count)
-    (λ t. entries_spelling spell es (count_of t))
-    (λ t. entries_at read es (count_of t)) more (entries_spelling spell (e ∷ es) count)
+    (element_at (read (form_of e.kind)) e.size count)
+    (λ t. entries_spelling spell es (told_count t))
+    (λ t. entries_at read es (told_count t)) more (entries_spelling spell (e ∷ es) count)
     (entry_codec (spell (form_of e.kind)) (read (form_of e.kind))
-    (codec (form_of e.kind)) e.size count) (λ t. entries_codec spell read codec es (count_of t))
+    (codec (form_of e.kind)) e.size count) (λ t. entries_codec spell read codec es (told_count t))
     (entries_same spell e es count) (entries_only spell e es count)
 
 elements_same : (spell : Form → Speller ItemModel) (es : List Element)

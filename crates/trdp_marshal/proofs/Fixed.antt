@@ -1,4 +1,6 @@
 -- Values that are passed by their number, since all of them take as many bytes.
+-- For `skip` and `fits_dataset`, and for a law.
+-- By induction on the depth: a value of a type of one length is passed by that length.
 use Rattle.std.proofs.Common.{◌≡◌, true, false, Bool, not, cond, inl, inr, ◌==◌, ◌<◌, ◌≤◌}
 use Rattle.std.proofs.Common.{◌+◌, ◌-◌, ◌*◌, ℕ, zero, suc, List, [], ◌∷◌, Option, Some}
 use Rattle.std.proofs.Common.{None, length, drop, nat_lt, refl, sym, ap, ◌∙◌, arith, le-ltb}
@@ -19,16 +21,16 @@ use Rattle.trdp_dataset.specs.Depths.{is_within, elements_pass}
 use Rattle.trdp_dataset.specs.ZeroSizes.{form_size, entries_size, dataset_size, zero_size}
 use Rattle.trdp_dataset.specs.FixedSizes.{all_fixed, elements_fixed, is_fixed, fixed_size}
 use Rattle.trdp_marshal.specs.Items.{ItemModel, unsigned, signed, time48}
-use Rattle.trdp_marshal.specs.Items.{time64, list, more, count_of, items_in}
+use Rattle.trdp_marshal.specs.Items.{time64, list, more, told_count, array_length}
 use Rattle.trdp_marshal.specs.Numbers.{signed_number}
 use Rattle.trdp_marshal.specs.Spelling.{◌>>=◌}
 use Rattle.trdp_marshal.specs.Reading.{Reader, number_at, unsigned_at, signed_at, time48_at}
-use Rattle.trdp_marshal.specs.Reading.{time64_at, form_at, repeated_at, entry_at, entries_at}
+use Rattle.trdp_marshal.specs.Reading.{time64_at, form_at, repeated_at, element_at, entries_at}
 use Rattle.trdp_marshal.specs.Reading.{elements_at, dataset_at, skipped, whole, reading}
 use Rattle.trdp_marshal.specs.Lengths.{rest_after}
 use Rattle.trdp_marshal.specs.Laws.{FixedIsLength}
 use Rattle.trdp_marshal.proofs.Spellings.{reading_if_spelled}
-use Rattle.trdp_marshal.proofs.Steps.{skipped-made, entry_repeats, whole_taken, whole_nowhere}
+use Rattle.trdp_marshal.proofs.SkipLemmas.{skipped-made, entry_repeats, whole_taken, whole_nowhere}
 
 after-add : (m n : ℕ) (bytes : List ℕ)
     → (rest_after m bytes >>= λ rest. rest_after n rest) ≡ rest_after (m + n) bytes
@@ -171,7 +173,7 @@ items_by : (b : Bool) (count size : ℕ) → not b ≡ true → cond b count siz
 items_by true count size own = absurd (false≢true own)
 items_by false count size own = refl
 
-items_own : (size count : ℕ) → not (size == 0) ≡ true → items_in size count ≡ size
+items_own : (size count : ℕ) → not (size == 0) ≡ true → array_length size count ≡ size
 items_own size count own = items_by (size == 0) count size own
 
 -- entries without an array of size 0
@@ -188,13 +190,13 @@ entries_skip read size within fixed each (e ∷ es) deep one count bytes =
     let ones = and_parts _ _ one in
     let here = and_parts _ _ ones.0 in
     let form = form_of e.kind in
-    let own : items_in e.size count ≡ e.size = items_own e.size count here.0 in
+    let own : array_length e.size count ≡ e.size = items_own e.size count here.0 in
     let values = λ (rest : List ℕ). entry_repeats (read form) e.size count rest
     ∙ ap (λ (k : ℕ). skipped (repeated_at (read form) k rest)) own
     ∙ repeated_skips (read form) (size form) (each form deeper.0 here.1) e.size rest in
-    skipped_then (entry_at (read form) e.size count bytes) (λ t rest. entries_at
-    read es (count_of t) rest) (λ t ts. more t ts) (rest_after (entries_size size es))
-    (λ t rest. entries_skip read size within fixed each es deeper.1 ones.1 (count_of t) rest)
+    skipped_then (element_at (read form) e.size count bytes) (λ t rest. entries_at
+    read es (told_count t) rest) (λ t ts. more t ts) (rest_after (entries_size size es))
+    (λ t rest. entries_skip read size within fixed each es deeper.1 ones.1 (told_count t) rest)
     ∙ ap (λ (o : Option (List ℕ)). o >>= λ rest. rest_after (entries_size size es) rest)
     (values bytes)
     ∙ after-add (e.size * size form) (entries_size size es) bytes

@@ -2,11 +2,11 @@ pub mod Numbers
 pub mod Codecs
 pub mod DatasetCodecs
 pub mod Spellings
-pub mod Steps
+pub mod SkipLemmas
 pub mod Fixed
-pub mod Building
-pub mod Decoding
-pub mod Measuring
-pub mod Writing
-pub mod Refusing
+pub mod ReaderLemmas
+pub mod DecodeLemmas
+pub mod MeasureLemmas
+pub mod WriterLemmas
+pub mod RefusalLemmas
 pub mod Zeros

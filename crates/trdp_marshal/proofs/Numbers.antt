@@ -1,4 +1,6 @@
 -- The bytes of a number that was read.
+-- For `Codecs` and `Spellings`, and for the reader of numbers.
+-- By induction on the number of bytes: what stands above the lowest ones doesn't change them.
 use Rattle.std.proofs.Common.{◌≡◌, ◌<◌, ◌≤◌, ◌+◌, ◌*◌, ◌/◌, ◌%◌, ◌^◌, ℕ, zero, suc, List, []}
 use Rattle.std.proofs.Common.{◌∷◌, ◌++◌, length, drop, get_or, subst, refl, sym, ap, ◌∙◌, arith}
 use Rattle.std.specs.Int.{byte_at, bytes_high_first}

@@ -1,4 +1,6 @@
 -- The bytes of an item as a relation, and as they are computed.
+-- For `fits`, `decoded` and `encoded`, and for the laws of spelling.
+-- By each rule of the relation beside its case of the computation; then by the codecs.
 use Rattle.std.proofs.Common.{◌≡◌, inl, inr, ◌<◌, ◌≤◌, ◌*◌, ◌^◌, ◌==◌, ℕ, zero, suc}
 use Rattle.std.proofs.Common.{pos, Bool, true, false, cond, nat_lt, List, [], ◌∷◌, ◌++◌}
 use Rattle.std.proofs.Common.{Option, Some, None, length, drop, refl, sym, ap, ◌∙◌}
@@ -18,7 +20,7 @@ use Rattle.trdp_dataset.specs.declared.element.Element.{Element}
 use Rattle.trdp_dataset.specs.Elements.{width_len, form_of}
 use Rattle.trdp_dataset.specs.Datasets.{DatasetModel, elements_of}
 use Rattle.trdp_marshal.specs.Items.{ItemModel, ItemModels, unsigned, signed, time48}
-use Rattle.trdp_marshal.specs.Items.{time64, list, none, more, count_of, items_in}
+use Rattle.trdp_marshal.specs.Items.{time64, list, none, more, told_count, array_length}
 use Rattle.trdp_marshal.specs.Numbers.{IsBytes, IsNumber}
 use Rattle.trdp_marshal.specs.Spells.{Relation, Joins, SpellsUnsigned, SpellsSigned}
 use Rattle.trdp_marshal.specs.Spells.{SpellsTime48, SpellsTime64, SpellsForm, SpellsRepeated}
@@ -240,11 +242,11 @@ unfolding SpellsEntry entry_spelling
 entry_to Single spell one size count t text (inl (single, h)) =
     let test : (size == 1) ≡ true = eq-eqb _ _ single in rw test (one.to t text h)
 entry_to Single spell one size count t text (inr (several, h)) = let test : (size == 1) ≡ false =
-    ne_eqb _ _ several in rw test (list_to Single spell one (items_in size count) t text h)
+    ne_eqb _ _ several in rw test (list_to Single spell one (array_length size count) t text h)
 
 entry_from_by : (Single : Relation ItemModel) (spell : Speller ItemModel) → IsComputed Single spell
     → (size count : ℕ) (t : ItemModel) (text : List ℕ) (b : Bool) → (size == 1) ≡ b
-    → cond b (spell t) (list_spelling spell (items_in size count) t) ≡ Some text
+    → cond b (spell t) (list_spelling spell (array_length size count) t) ≡ Some text
     → SpellsEntry Single size count t text
 unfolding SpellsEntry
 entry_from_by Single spell one size count t text true test e =
@@ -252,7 +254,7 @@ entry_from_by Single spell one size count t text true test e =
 entry_from_by Single spell one size count t text false test e =
     inr (
       λ same. false≢true (sym test ∙ eq-eqb _ _ same),
-      list_from Single spell one (items_in size count) t text e,
+      list_from Single spell one (array_length size count) t text e,
     )
 
 entry_from : (Single : Relation ItemModel) (spell : Speller ItemModel) → IsComputed Single spell
@@ -275,7 +277,7 @@ entries_to Single spell one (e ∷ es) count (more t ts) text (x, y, p, q, all) 
     rw (
       entry_to (Single (form_of e.kind)) (spell (form_of e.kind)) (one (form_of e.kind))
           e.size count t x p,
-      entries_to Single spell one es (count_of t) ts y q,
+      entries_to Single spell one es (told_count t) ts y q,
       all,
     ) refl
 
@@ -289,12 +291,12 @@ entries_from Single spell one [] count (more t ts) text e = absurd (none-some te
 entries_from Single spell one (d ∷ es) count none text e = absurd (none-some text e)
 entries_from Single spell one (d ∷ es) count (more t ts) text e =
     let w = joined_some (entry_spelling (spell (form_of d.kind)) d.size count t)
-    (entries_spelling spell es (count_of t) ts) text e in (
+    (entries_spelling spell es (told_count t) ts) text e in (
       w.0,
       w.1,
       entry_from (Single (form_of d.kind)) (spell (form_of d.kind)) (one (form_of d.kind))
           d.size count t w.0 w.2,
-      entries_from Single spell one es (count_of t) ts w.1 w.3,
+      entries_from Single spell one es (told_count t) ts w.1 w.3,
       w.4,
     )
 

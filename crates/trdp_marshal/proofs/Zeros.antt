@@ -1,4 +1,6 @@
 -- The zero value is spelled by zero bytes.
+-- For a law, of `write_zero`.
+-- By induction on the depth of a dataset, and on its elements.
 use Rattle.std.proofs.Common.{◌≡◌, eqb-true, one-mul, Bool, true, false, ◌+◌}
 use Rattle.std.proofs.Common.{◌*◌, ◌==◌, ℕ, zero, suc, pos, cond, List, [], ◌∷◌}
 use Rattle.std.proofs.Common.{Option, Some, None, refl, sym, ap, ◌∙◌, arith}
@@ -13,7 +15,7 @@ use Rattle.trdp_dataset.specs.declared.element.Element.{Element}
 use Rattle.trdp_dataset.specs.Elements.{width_len, form_of}
 use Rattle.trdp_dataset.specs.Datasets.{DatasetModel, elements_of, passes, all_pass}
 use Rattle.trdp_marshal.specs.Items.{ItemModel, unsigned, signed, time48}
-use Rattle.trdp_marshal.specs.Items.{time64, list, count_of, items_in}
+use Rattle.trdp_marshal.specs.Items.{time64, list, told_count, array_length}
 use Rattle.trdp_marshal.specs.Spelling.{Speller, joined, number_spelling, unsigned_spelling}
 use Rattle.trdp_marshal.specs.Spelling.{signed_spelling, time48_spelling, time64_spelling}
 use Rattle.trdp_marshal.specs.Spelling.{form_spelling, repeated_spelling, list_spelling}
@@ -77,7 +79,7 @@ items_own size false e = refl
 entry_by : (spell : Speller ItemModel) (t : ItemModel) (n size : ℕ) (b : Bool)
     → (size == 1) ≡ b → IsZeros spell t n
     → cond b (spell (cond b t (list (copies size t))))
-    (list_spelling spell (items_in size 0) (cond b t (list (copies size t))))
+    (list_spelling spell (array_length size 0) (cond b t (list (copies size t))))
     ≡ Some (replicate (size * n) 0)
 unfolding list_spelling
 entry_by spell t n size true one e =
@@ -92,16 +94,16 @@ unfolding entry_spelling entry_zero
 entry_zeros spell t n size e = entry_by spell t n size (size == 1) refl e
 
 count_by_test : (t : ItemModel) (size : ℕ) (b : Bool)
-    → count_of t ≡ 0 → count_of (cond b t (list (copies size t))) ≡ 0
+    → told_count t ≡ 0 → told_count (cond b t (list (copies size t))) ≡ 0
 count_by_test t size true e = e
 count_by_test t size false e = refl
 
-entry_count : (t : ItemModel) (size : ℕ) → count_of t ≡ 0 → count_of (entry_zero t size) ≡ 0
+entry_count : (t : ItemModel) (size : ℕ) → told_count t ≡ 0 → told_count (entry_zero t size) ≡ 0
 unfolding entry_zero
 entry_count t size e = count_by_test t size (size == 1) e
 
-form_count : (nested : ℕ → ItemModel) → ((id : ℕ) → count_of (nested id) ≡ 0)
-    → (form : Form) → count_of (form_zero nested form) ≡ 0
+form_count : (nested : ℕ → ItemModel) → ((id : ℕ) → told_count (nested id) ≡ 0)
+    → (form : Form) → told_count (form_zero nested form) ≡ 0
 unfolding form_zero
 form_count nested empty (Unsigned w) = refl
 form_count nested empty (Signed w) = refl
@@ -110,7 +112,7 @@ form_count nested empty Time64 = refl
 form_count nested empty (Nested id) = empty id
 
 entries_zeros : (spell : Form → Speller ItemModel) (value : Form → ItemModel)
-    (size : Form → ℕ) (test : ℕ → Bool) → ((f : Form) → count_of (value f) ≡ 0)
+    (size : Form → ℕ) (test : ℕ → Bool) → ((f : Form) → told_count (value f) ≡ 0)
     → ((f : Form) → passes test f ≡ true → IsZeros (spell f) (value f) (size f))
     → (es : List Element) → all_pass test es ≡ true
     → entries_spelling spell es 0 (entries_zero value es)
@@ -129,7 +131,7 @@ entries_zeros spell value size test empty each (e ∷ es) pass =
     _ (e.size * size (form_of e.kind)) (entries_size size es) here rest
 
 dataset_count : (registry : List DatasetModel) (depth id : ℕ)
-    → count_of (dataset_zero registry depth id) ≡ 0
+    → told_count (dataset_zero registry depth id) ≡ 0
 unfolding dataset_zero
 dataset_count registry zero id = refl
 dataset_count registry (suc depth) id = refl
@@ -149,7 +151,7 @@ form_zeros registry depth deeper (Nested id) pass = deeper id pass
 
 -- the zero value of a dataset whose elements are found
 found_zeros : (spell : Form → Speller ItemModel) (value : Form → ItemModel)
-    (size : Form → ℕ) (test : ℕ → Bool) → ((f : Form) → count_of (value f) ≡ 0)
+    (size : Form → ℕ) (test : ℕ → Bool) → ((f : Form) → told_count (value f) ≡ 0)
     → ((f : Form) → passes test f ≡ true → IsZeros (spell f) (value f) (size f))
     → (found : Option (List Element)) → elements_pass test found ≡ true
     → elements_spelling spell found (list (entries_zero value (unwrap_or found [])))

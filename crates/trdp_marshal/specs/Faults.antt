@@ -32,15 +32,15 @@ encode_fault registry id item =
     if has_items registry id then length_fault (spelling registry id item) else Some NoDataset
 
 -- this fault where it is expected, and want of memory where none is
-abbrev pub FaultIs : MarshalFault → Option MarshalFault → Type 0
-FaultIs OutOfMemory expected = expected ≡ None
-FaultIs fault expected = expected ≡ Some fault
+abbrev pub IsMarshalFault : MarshalFault → Option MarshalFault → Type 0
+IsMarshalFault OutOfMemory expected = expected ≡ None
+IsMarshalFault fault expected = expected ≡ Some fault
 
 -- a call succeeds or runs out of memory exactly where no fault is expected, and else answers the
 -- one that is
-abbrev pub Answers : {X : Type 0} → Result X MarshalFault → Option MarshalFault → Type 0
-Answers (Ok x) expected = expected ≡ None
-Answers (Err fault) expected = FaultIs fault expected
+abbrev pub FailsAs : {X : Type 0} → Result X MarshalFault → Option MarshalFault → Type 0
+FailsAs (Ok x) expected = expected ≡ None
+FailsAs (Err fault) expected = IsMarshalFault fault expected
 
 -- a part of a call that answers this fault had nothing to give, unless memory ran out
 abbrev pub Fails : {Y : Type 0} → MarshalFault → Option Y → Type 0
@@ -50,6 +50,6 @@ Fails TooLong found = ⊥
 Fails OutOfMemory found = Unit {0}
 
 -- what a part of a call gives, seen by view, is what was there, unless memory ran out
-abbrev pub Gives : {X Y : Type 0} → (X → Y) → Result X MarshalFault → Option Y → Type 0
-Gives view (Ok x) found = found ≡ Some (view x)
-Gives view (Err fault) found = Fails fault found
+abbrev pub GivesFound : {X Y : Type 0} → (X → Y) → Result X MarshalFault → Option Y → Type 0
+GivesFound view (Ok x) found = found ≡ Some (view x)
+GivesFound view (Err fault) found = Fails fault found

@@ -39,16 +39,16 @@ abbrev pub models_in : List Item → ItemModels
 models_in items = models_of (map model_of items)
 
 -- how many items the array of size 0 after this one has: the number that it is
-abbrev pub count_of : ItemModel → ℕ
-count_of (unsigned n) = n
-count_of (signed z) = 0
-count_of (time48 s t) = 0
-count_of (time64 s t) = 0
-count_of (list ts) = 0
+abbrev pub told_count : ItemModel → ℕ
+told_count (unsigned n) = n
+told_count (signed z) = 0
+told_count (time48 s t) = 0
+told_count (time64 s t) = 0
+told_count (list ts) = 0
 
 -- how many values an array has: its size, or for size 0 what the entry before it says
-abbrev pub items_in : ℕ → ℕ → ℕ
-items_in size count = if size == 0 then count else size
+abbrev pub array_length : ℕ → ℕ → ℕ
+array_length size count = if size == 0 then count else size
 
 -- the items of a list, where it is one
 abbrev pub models_under : ItemModel → Option ItemModels

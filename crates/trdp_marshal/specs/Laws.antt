@@ -8,7 +8,7 @@ use Rattle.trdp_marshal.specs.Items.{ItemModel}
 use Rattle.trdp_marshal.specs.Numbers.{IsBytes}
 use Rattle.trdp_marshal.specs.Spells.{Spells, IsSpelled, Fits}
 use Rattle.trdp_marshal.specs.Spelling.{spelling}
-use Rattle.trdp_marshal.specs.Reading.{reading, is_fitting}
+use Rattle.trdp_marshal.specs.Reading.{reading, is_fitting_in}
 use Rattle.trdp_marshal.specs.Zero.{zero_of}
 
 -- one item of a dataset is spelled by at most one list of bytes
@@ -44,7 +44,7 @@ ReadIsSpelled = (registry : List DatasetModel) (id : ℕ) (item : ItemModel) (by
 -- the test of a payload says whether the bytes are one
 abbrev pub FittingIsFit : Type 0
 FittingIsFit = (registry : List DatasetModel) (id : ℕ) (bytes : List ℕ) → IsBytes bytes
-    → IsTrue (is_fitting registry id bytes) ↔ Fits registry id bytes
+    → IsTrue (is_fitting_in registry id bytes) ↔ Fits registry id bytes
 
 -- a dataset of one length is spelled by the lists of so many bytes, and by no others
 abbrev pub FixedIsLength : Type 0

@@ -9,7 +9,7 @@ use Rattle.trdp_dataset.specs.declared.element.Element.{Element}
 use Rattle.trdp_dataset.specs.Elements.{width_len, form_of}
 use Rattle.trdp_dataset.specs.Datasets.{DatasetModel, elements_of}
 use Rattle.trdp_marshal.specs.Items.{ItemModel, ItemModels, unsigned, signed, time48}
-use Rattle.trdp_marshal.specs.Items.{time64, list, none, more, count_of, items_in}
+use Rattle.trdp_marshal.specs.Items.{time64, list, none, more, told_count, array_length}
 use Rattle.trdp_marshal.specs.Numbers.{signed_number}
 use Rattle.trdp_marshal.specs.Spelling.{◌>>=◌}
 
@@ -71,16 +71,16 @@ list_at read k bytes = do
   Some (list ts.0, ts.1)
 
 -- the entry of an element: one value, or a list
-unfoldable pub entry_at : Reader ItemModel → ℕ → ℕ → Reader ItemModel
-entry_at read size count bytes =
-    if size == 1 then read bytes else list_at read (items_in size count) bytes
+unfoldable pub element_at : Reader ItemModel → ℕ → ℕ → Reader ItemModel
+element_at read size count bytes =
+    if size == 1 then read bytes else list_at read (array_length size count) bytes
 
 -- the entries of elements, one of each
 unfoldable pub entries_at : (Form → Reader ItemModel) → List Element → ℕ → Reader ItemModels
 entries_at read [] count bytes = Some (none, bytes)
 entries_at read (e ∷ es) count bytes = do
-  t ← entry_at (read (form_of e.kind)) e.size count bytes
-  ts ← entries_at read es (count_of t.0) t.1
+  t ← element_at (read (form_of e.kind)) e.size count bytes
+  ts ← entries_at read es (told_count t.0) t.1
   Some (more t.0 ts.0, ts.1)
 
 -- the list of the entries of a dataset's elements
@@ -108,8 +108,8 @@ reading registry id bytes = whole (dataset_at registry 5 id bytes)
 
 -- what is seen where no value is built: the number that counts the next entry's items, and the
 -- bytes after the value
-abbrev pub counted : Option (ItemModel × List ℕ) → Option (ℕ × List ℕ)
-counted found = option_map (λ x. (count_of x.0, x.1)) found
+abbrev pub count_after : Option (ItemModel × List ℕ) → Option (ℕ × List ℕ)
+count_after found = option_map (λ x. (told_count x.0, x.1)) found
 
 -- the bytes after the values
 abbrev pub skipped : {A : Type 0} → Option (A × List ℕ) → Option (List ℕ)
@@ -117,5 +117,5 @@ skipped found = option_map (λ x. x.1) found
 
 -- whether bytes are a payload of the dataset: any are of dataset 0, else they are those of some
 -- item
-abbrev pub is_fitting : List DatasetModel → ℕ → List ℕ → Bool
-is_fitting registry id bytes = (id == 0) || is_some (reading registry id bytes)
+abbrev pub is_fitting_in : List DatasetModel → ℕ → List ℕ → Bool
+is_fitting_in registry id bytes = (id == 0) || is_some (reading registry id bytes)

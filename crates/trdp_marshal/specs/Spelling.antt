@@ -9,7 +9,7 @@ use Rattle.trdp_dataset.specs.declared.element.Element.{Element}
 use Rattle.trdp_dataset.specs.Elements.{width_len, form_of}
 use Rattle.trdp_dataset.specs.Datasets.{DatasetModel, elements_of}
 use Rattle.trdp_marshal.specs.Items.{ItemModel, ItemModels, unsigned, signed, time48}
-use Rattle.trdp_marshal.specs.Items.{time64, list, none, more, count_of, items_in}
+use Rattle.trdp_marshal.specs.Items.{time64, list, none, more, told_count, array_length}
 
 -- what a step makes of what the one before it gave
 infixl 10 ◌>>=◌
@@ -80,7 +80,7 @@ list_spelling spell k _ = None
 -- the entry of an element: one value, or a list
 unfoldable pub entry_spelling : Speller ItemModel → ℕ → ℕ → Speller ItemModel
 entry_spelling spell size count t =
-    if size == 1 then spell t else list_spelling spell (items_in size count) t
+    if size == 1 then spell t else list_spelling spell (array_length size count) t
 
 -- the entries of elements, one of each
 unfoldable pub entries_spelling : (Form → Speller ItemModel) → List Element → ℕ
@@ -90,7 +90,7 @@ entries_spelling spell [] count (more t ts) = None
 entries_spelling spell (e ∷ es) count none = None
 entries_spelling spell (e ∷ es) count (more t ts) =
     joined (entry_spelling (spell (form_of e.kind)) e.size count t)
-    (entries_spelling spell es (count_of t) ts)
+    (entries_spelling spell es (told_count t) ts)
 
 -- the list of the entries of these elements
 unfoldable pub elements_spelling : (Form → Speller ItemModel) → Option (List Element)

@@ -8,7 +8,7 @@ use Rattle.trdp_dataset.specs.declared.element.Element.{Element}
 use Rattle.trdp_dataset.specs.Elements.{width_len, form_of}
 use Rattle.trdp_dataset.specs.Datasets.{DatasetModel, elements_of}
 use Rattle.trdp_marshal.specs.Items.{ItemModel, ItemModels, unsigned, signed, time48}
-use Rattle.trdp_marshal.specs.Items.{time64, list, none, more, count_of, items_in}
+use Rattle.trdp_marshal.specs.Items.{time64, list, none, more, told_count, array_length}
 use Rattle.trdp_marshal.specs.Numbers.{IsNumber, signed_number}
 
 -- which bytes a value is sent as
@@ -64,7 +64,7 @@ SpellsList Single k _ bytes = ⊥
 unfoldable pub SpellsEntry : Relation ItemModel → ℕ → ℕ → Relation ItemModel
 SpellsEntry Single size count item bytes =
     ((size ≡ 1) × Single item bytes)
-    ⊎ ((size ≢ 1) × SpellsList Single (items_in size count) item bytes)
+    ⊎ ((size ≢ 1) × SpellsList Single (array_length size count) item bytes)
 
 -- the entries of elements, one of each, one after the other
 unfoldable pub SpellsEntries : (Form → Relation ItemModel) → List Element → ℕ → Relation ItemModels
@@ -73,7 +73,7 @@ SpellsEntries Single [] count (more item items) bytes = ⊥
 SpellsEntries Single (e ∷ es) count none bytes = ⊥
 SpellsEntries Single (e ∷ es) count (more item items) bytes =
     Joins (SpellsEntry (Single (form_of e.kind)) e.size count item)
-    (SpellsEntries Single es (count_of item) items) bytes
+    (SpellsEntries Single es (told_count item) items) bytes
 
 -- the list of the entries of a dataset's elements; an unknown dataset has no value
 unfoldable pub SpellsElements : (Form → Relation ItemModel) → Option (List Element)

@@ -20,7 +20,7 @@ pub enum Item {
 
 impl Item {
     ghost use Rattle.std.specs.Prelude.{◌≡◌, option_map, IfOk};
-    ghost use Rattle.trdp_marshal.specs.Items.{model_of, models_in, count_of, list, models_under};
+    ghost use Rattle.trdp_marshal.specs.Items.{model_of, models_in, told_count, list, models_under};
 
     /// An equal item in memory of its own. It calls itself as deep as the item nests: that of a
     /// dataset nests no deeper than its registry lets it.
@@ -55,7 +55,7 @@ impl Item {
 
     /// How many values the array of size 0 after this entry has: the number that it is.
     pub(crate) fn count(&self) -> u64
-        ensures { result ≡ count_of (model_of self.now) }
+        ensures { result ≡ told_count (model_of self.now) }
     {
         match self {
             Item::U(number) => *number,

@@ -2,7 +2,7 @@
 
 ghost use Rattle.std.specs.Prelude.{◌≡◌, ◌≤◌, ◌<◌, ◌^◌, ◌*◌, option_map, IfSome};
 ghost use Rattle.trdp_dataset.specs.Elements.{width_len};
-ghost use Rattle.trdp_marshal.specs.Items.{items_in};
+ghost use Rattle.trdp_marshal.specs.Items.{array_length};
 ghost use Rattle.trdp_marshal.specs.Reading.{number_at};
 
 use byteorder::{BigEndian, ByteOrder};
@@ -44,7 +44,7 @@ pub(crate) fn half(width: Width) -> u64
 
 /// How many values an array has, where the entry before it says `before`.
 pub(crate) fn item_count(element: Element, before: u64) -> u64
-    ensures { result ≡ items_in element.size before }
+    ensures { result ≡ array_length element.size before }
 {
     if element.size == 0 {
         before

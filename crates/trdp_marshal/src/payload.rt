@@ -10,8 +10,9 @@ ghost use Rattle.trdp_marshal.specs.Items.{ItemModel};
 ghost use Rattle.trdp_marshal.specs.Spells.{Fits};
 ghost use Rattle.trdp_marshal.specs.Faults.{has_items};
 ghost use Rattle.trdp_marshal.specs.Lengths.{rest_after, starts_counted};
-ghost use Rattle.trdp_marshal.specs.Reading.{Reader, form_at, repeated_at, entry_at, entries_at};
-ghost use Rattle.trdp_marshal.specs.Reading.{dataset_at, counted, skipped, reading, is_fitting};
+ghost use Rattle.trdp_marshal.specs.Reading.{Reader, form_at, repeated_at, element_at, entries_at};
+ghost use Rattle.trdp_marshal.specs.Reading.{dataset_at, count_after, skipped, reading};
+ghost use Rattle.trdp_marshal.specs.Reading.{is_fitting_in};
 
 use crate::number::{DEPTH, item_count, number};
 use trdp_dataset::{Element, Form, Registry};
@@ -46,7 +47,8 @@ fn read_count(element: Element, bytes: &[u8]) -> Option<(u64, &[u8])>
     requires { is_count element ≡ true }
     ensures { (nested : ℕ → Reader ItemModel) (count : ℕ)
         → option_map (λ x. (x.0, x.1.now)) result
-        ≡ counted (entry_at (form_at nested (form_of element.kind)) element.size count bytes.now) }
+        ≡ count_after
+        (element_at (form_at nested (form_of element.kind)) element.size count bytes.now) }
 {
     match element.kind.form() {
         Form::Unsigned(width) => number(width.len(), bytes),
@@ -163,7 +165,7 @@ pub(crate) fn fits_dataset(registry: &Registry, id: u32, bytes: &[u8]) -> bool
 /// dataset, and else they must be those of some item, with none left over. No item is built and no
 /// memory taken; a count that stands in the bytes is believed no further than the bytes go.
 pub fn fits(registry: &Registry, id: u32, bytes: &[u8]) -> bool
-    ensures value { result ≡ is_fitting registry.now id bytes.now }
+    ensures value { result ≡ is_fitting_in registry.now id bytes.now }
     ensures meaning { IsTrue result ↔ Fits registry.now id bytes.now }
 {
     id == 0 || fits_dataset(registry, id, bytes)

@@ -7,8 +7,8 @@ ghost use Rattle.trdp_marshal.specs.Numbers.{signed_number};
 ghost use Rattle.trdp_marshal.specs.Spells.{Spells, IsSpelled};
 ghost use Rattle.trdp_marshal.specs.Reading.{number_at, unsigned_at, signed_at};
 ghost use Rattle.trdp_marshal.specs.Reading.{time48_at, time64_at, form_at, repeated_at};
-ghost use Rattle.trdp_marshal.specs.Reading.{entry_at, entries_at, dataset_at, reading};
-ghost use Rattle.trdp_marshal.specs.Faults.{has_items, Gives, Answers, decode_fault};
+ghost use Rattle.trdp_marshal.specs.Reading.{element_at, entries_at, dataset_at, reading};
+ghost use Rattle.trdp_marshal.specs.Faults.{has_items, GivesFound, FailsAs, decode_fault};
 
 use crate::fault::MarshalFault;
 use crate::item::Item;
@@ -35,7 +35,7 @@ fn signed(width: Width, n: u64) -> i64
 fn take_number(len: usize, bytes: &[u8]) -> Result<(u64, &[u8]), MarshalFault>
     requires low { 1 ≤ len }
     requires high { len ≤ 8 }
-    ensures value { Gives (λ x. (x.0, x.1.now)) result (number_at len bytes.now) }
+    ensures value { GivesFound (λ x. (x.0, x.1.now)) result (number_at len bytes.now) }
     ensures bound { IfOk result (λ x. x.0 < 256 ^ len) }
 {
     match number(len, bytes) {
@@ -47,7 +47,7 @@ fn take_number(len: usize, bytes: &[u8]) -> Result<(u64, &[u8]), MarshalFault>
 /// An unsigned number.
 #[tactic(auto, unfolding(crate::specs::Reading::unsigned_at))]
 fn read_unsigned(width: Width, bytes: &[u8]) -> Result<(Item, &[u8]), MarshalFault>
-    ensures { Gives (λ x. (model_of x.0, x.1.now)) result
+    ensures { GivesFound (λ x. (model_of x.0, x.1.now)) result
         (unsigned_at (width_len width) bytes.now) }
 {
     let (n, rest) = take_number(width.len(), bytes)?;
@@ -57,7 +57,8 @@ fn read_unsigned(width: Width, bytes: &[u8]) -> Result<(Item, &[u8]), MarshalFau
 /// A signed number.
 #[tactic(auto, unfolding(crate::specs::Reading::signed_at))]
 fn read_signed(width: Width, bytes: &[u8]) -> Result<(Item, &[u8]), MarshalFault>
-    ensures { Gives (λ x. (model_of x.0, x.1.now)) result (signed_at (width_len width) bytes.now) }
+    ensures { GivesFound (λ x. (model_of x.0, x.1.now)) result
+        (signed_at (width_len width) bytes.now) }
 {
     let (n, rest) = take_number(width.len(), bytes)?;
     Ok((Item::S(signed(width, n)), rest))
@@ -66,7 +67,7 @@ fn read_signed(width: Width, bytes: &[u8]) -> Result<(Item, &[u8]), MarshalFault
 /// Seconds and ticks.
 #[tactic(auto, unfolding(crate::specs::Reading::time48_at))]
 fn read_time48(bytes: &[u8]) -> Result<(Item, &[u8]), MarshalFault>
-    ensures { Gives (λ x. (model_of x.0, x.1.now)) result (time48_at bytes.now) }
+    ensures { GivesFound (λ x. (model_of x.0, x.1.now)) result (time48_at bytes.now) }
 {
     let (seconds, rest) = take_number(4, bytes)?;
     let (ticks, rest) = take_number(2, rest)?;
@@ -76,7 +77,7 @@ fn read_time48(bytes: &[u8]) -> Result<(Item, &[u8]), MarshalFault>
 /// Seconds and microseconds.
 #[tactic(auto, unfolding(crate::specs::Reading::time64_at))]
 fn read_time64(bytes: &[u8]) -> Result<(Item, &[u8]), MarshalFault>
-    ensures { Gives (λ x. (model_of x.0, x.1.now)) result (time64_at bytes.now) }
+    ensures { GivesFound (λ x. (model_of x.0, x.1.now)) result (time64_at bytes.now) }
 {
     let (seconds, rest) = take_number(4, bytes)?;
     let (micros, rest) = take_number(4, rest)?;
@@ -93,7 +94,7 @@ fn read_form<'a>(
     form: Form,
     bytes: &'a [u8],
 ) -> Result<(Item, &'a [u8]), MarshalFault>
-    ensures { Gives (λ x. (model_of x.0, x.1.now)) result
+    ensures { GivesFound (λ x. (model_of x.0, x.1.now)) result
         (form_at (dataset_at registry.now depth) form bytes.now) }
 {
     match form {
@@ -116,7 +117,7 @@ fn read_repeated<'a>(
     count: u64,
     bytes: &'a [u8],
 ) -> Result<(Vec<Item>, &'a [u8]), MarshalFault>
-    ensures { Gives (λ x. (models_in x.0.items, x.1.now)) result
+    ensures { GivesFound (λ x. (models_in x.0.items, x.1.now)) result
         (repeated_at (form_at (dataset_at registry.now depth) form) count bytes.now) }
 {
     let mut items = Vec::new(alloc);
@@ -139,8 +140,8 @@ fn read_entry<'a>(
     count: u64,
     bytes: &'a [u8],
 ) -> Result<(Item, &'a [u8]), MarshalFault>
-    ensures { Gives (λ x. (model_of x.0, x.1.now)) result
-        (entry_at (form_at (dataset_at registry.now depth) (form_of element.kind))
+    ensures { GivesFound (λ x. (model_of x.0, x.1.now)) result
+        (element_at (form_at (dataset_at registry.now depth) (form_of element.kind))
         element.size count bytes.now) }
 {
     let form = element.kind.form();
@@ -161,7 +162,7 @@ fn read_entries<'a>(
     elements: &[Element],
     bytes: &'a [u8],
 ) -> Result<(Vec<Item>, &'a [u8]), MarshalFault>
-    ensures { Gives (λ x. (models_in x.0.items, x.1.now)) result
+    ensures { GivesFound (λ x. (models_in x.0.items, x.1.now)) result
         (entries_at (form_at (dataset_at registry.now depth)) elements.now 0 bytes.now) }
 {
     let mut items = Vec::new(alloc);
@@ -185,7 +186,7 @@ fn read_dataset<'a>(
     id: u32,
     bytes: &'a [u8],
 ) -> Result<(Item, &'a [u8]), MarshalFault>
-    ensures { Gives (λ x. (model_of x.0, x.1.now)) result
+    ensures { GivesFound (λ x. (model_of x.0, x.1.now)) result
         (dataset_at registry.now depth id bytes.now) }
 {
     if depth == 0 {
@@ -205,7 +206,7 @@ fn decoded(alloc: Global, registry: &Registry, id: u32, bytes: &[u8]) -> Result<
     ensures value { IfOk result (λ item. Spells registry.now id (model_of item) bytes.now) }
     ensures reading { IfOk result (λ item. reading registry.now id bytes.now
         ≡ Some (model_of item)) }
-    ensures fault { Answers result (decode_fault registry.now id bytes.now) }
+    ensures fault { FailsAs result (decode_fault registry.now id bytes.now) }
 {
     if !has_items(registry, id) {
         return Err(MarshalFault::NoDataset);
@@ -239,7 +240,7 @@ pub fn decode(
         ↔ (¬ IsTrue (has_items registry.now id)) }
     ensures shape { (result ≡ Err MarshalFault.Shape)
         ↔ (IsTrue (has_items registry.now id) × ¬ IsSpelled registry.now id bytes.now) }
-    ensures fault { Answers result (decode_fault registry.now id bytes.now) }
+    ensures fault { FailsAs result (decode_fault registry.now id bytes.now) }
 {
     decoded(alloc, registry, id, bytes)
 }

@@ -9,8 +9,8 @@ ghost use Rattle.trdp_marshal.specs.Spelling.{time48_spelling, time64_spelling, 
 ghost use Rattle.trdp_marshal.specs.Spelling.{repeated_spelling, entry_spelling};
 ghost use Rattle.trdp_marshal.specs.Spelling.{entries_spelling, dataset_spelling, spelling};
 ghost use Rattle.trdp_marshal.specs.Spells.{Spells, HasBytes, IsTooLong};
-ghost use Rattle.trdp_marshal.specs.Lengths.{Appends};
-ghost use Rattle.trdp_marshal.specs.Faults.{has_items, Answers, encode_fault};
+ghost use Rattle.trdp_marshal.specs.Lengths.{AppendsSpelling};
+ghost use Rattle.trdp_marshal.specs.Faults.{has_items, FailsAs, encode_fault};
 
 use crate::code::{signed_code, unsigned_code};
 use crate::fault::MarshalFault;
@@ -34,7 +34,7 @@ fn push_number(out: &mut Vec<u8>, n: u64, len: usize) -> Result<(), AllocError>
 /// An unsigned number.
 fn write_unsigned(width: Width, item: &Item, out: &mut Vec<u8>) -> Result<(), AllocError>
     ensures { OnOk result
-        (Appends (unsigned_spelling (width_len width) (model_of item.now))
+        (AppendsSpelling (unsigned_spelling (width_len width) (model_of item.now))
         out.old.items out.new.items) }
 {
     match unsigned_code(width, item) {
@@ -46,7 +46,7 @@ fn write_unsigned(width: Width, item: &Item, out: &mut Vec<u8>) -> Result<(), Al
 /// A signed number.
 fn write_signed(width: Width, item: &Item, out: &mut Vec<u8>) -> Result<(), AllocError>
     ensures { OnOk result
-        (Appends (signed_spelling (width_len width) (model_of item.now))
+        (AppendsSpelling (signed_spelling (width_len width) (model_of item.now))
         out.old.items out.new.items) }
 {
     match signed_code(width, item) {
@@ -59,7 +59,7 @@ fn write_signed(width: Width, item: &Item, out: &mut Vec<u8>) -> Result<(), Allo
 #[tactic(auto, unfolding(crate::specs::Spelling::time48_spelling, crate::specs::Spelling::number_spelling))]
 fn write_time48(item: &Item, out: &mut Vec<u8>) -> Result<(), AllocError>
     ensures { OnOk result
-        (Appends (time48_spelling (model_of item.now))
+        (AppendsSpelling (time48_spelling (model_of item.now))
         out.old.items out.new.items) }
 {
     match item {
@@ -75,7 +75,7 @@ fn write_time48(item: &Item, out: &mut Vec<u8>) -> Result<(), AllocError>
 #[tactic(auto, unfolding(crate::specs::Spelling::time64_spelling, crate::specs::Spelling::number_spelling))]
 fn write_time64(item: &Item, out: &mut Vec<u8>) -> Result<(), AllocError>
     ensures { OnOk result
-        (Appends (time64_spelling (model_of item.now))
+        (AppendsSpelling (time64_spelling (model_of item.now))
         out.old.items out.new.items) }
 {
     match item {
@@ -99,7 +99,8 @@ fn write_form(
     out: &mut Vec<u8>,
 ) -> Result<(), AllocError>
     ensures { OnOk result
-        (Appends (form_spelling (dataset_spelling registry.now depth) form (model_of item.now))
+        (AppendsSpelling
+        (form_spelling (dataset_spelling registry.now depth) form (model_of item.now))
         out.old.items out.new.items) }
 {
     match form {
@@ -122,7 +123,8 @@ fn write_repeated(
     out: &mut Vec<u8>,
 ) -> Result<(), AllocError>
     ensures { OnOk result
-        (Appends (repeated_spelling (form_spelling (dataset_spelling registry.now depth) form)
+        (AppendsSpelling
+        (repeated_spelling (form_spelling (dataset_spelling registry.now depth) form)
         count (models_in items.now))
         out.old.items out.new.items) }
 {
@@ -143,7 +145,7 @@ fn write_entry(
     out: &mut Vec<u8>,
 ) -> Result<(), AllocError>
     ensures { OnOk result
-        (Appends (entry_spelling
+        (AppendsSpelling (entry_spelling
         (form_spelling (dataset_spelling registry.now depth) (form_of element.kind))
         element.size count (model_of item.now))
         out.old.items out.new.items) }
@@ -170,7 +172,7 @@ fn write_entries(
 ) -> Result<(), AllocError>
     requires { length elements.now ≡ length items.now }
     ensures { OnOk result
-        (Appends (entries_spelling (form_spelling (dataset_spelling registry.now depth))
+        (AppendsSpelling (entries_spelling (form_spelling (dataset_spelling registry.now depth))
         elements.now 0 (models_in items.now))
         out.old.items out.new.items) }
 {
@@ -193,7 +195,7 @@ fn write_dataset(
     out: &mut Vec<u8>,
 ) -> Result<(), AllocError>
     ensures { OnOk result
-        (Appends (dataset_spelling registry.now depth id (model_of item.now))
+        (AppendsSpelling (dataset_spelling registry.now depth id (model_of item.now))
         out.old.items out.new.items) }
 {
     if depth == 0 {
@@ -223,7 +225,7 @@ fn encoded(
     ensures value { IfOk result (λ bytes. Spells registry.now id (model_of item.now) bytes.items) }
     ensures spelling { IfOk result (λ bytes. spelling registry.now id (model_of item.now)
         ≡ Some bytes.items) }
-    ensures fault { Answers result (encode_fault registry.now id (model_of item.now)) }
+    ensures fault { FailsAs result (encode_fault registry.now id (model_of item.now)) }
 {
     if !has_items(registry, id) {
         return Err(MarshalFault::NoDataset);
@@ -267,7 +269,7 @@ pub fn encode(
         ↔ (IsTrue (has_items registry.now id) × ¬ HasBytes registry.now id (model_of item.now)) }
     ensures long { (result ≡ Err MarshalFault.TooLong)
         ↔ (IsTrue (has_items registry.now id) × IsTooLong registry.now id (model_of item.now)) }
-    ensures fault { Answers result (encode_fault registry.now id (model_of item.now)) }
+    ensures fault { FailsAs result (encode_fault registry.now id (model_of item.now)) }
 {
     encoded(alloc, registry, id, item)
 }

@@ -1,6 +1,6 @@
-pub mod Hearing
-pub mod Calling
-pub mod Confirming
-pub mod Replying
-pub mod Apart
-pub mod Repeating
+pub mod ListenerLemmas
+pub mod CallerLemmas
+pub mod ConfirmLemmas
+pub mod ReplierLemmas
+pub mod AnswerLemmas
+pub mod RepeatLemmas

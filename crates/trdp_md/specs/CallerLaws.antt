@@ -9,20 +9,21 @@ use Rattle.trdp_head.specs.declared.md.MdHead.{MdHead}
 use Rattle.trdp_filter.specs.declared.globals.Globals.{Globals}
 use Rattle.trdp_filter.specs.Telegrams.{TelegramModel, PdIs, MdIs}
 use Rattle.trdp_pd.specs.declared.object.Taken.TheVariants.{Nothing as NotTaken}
-use Rattle.trdp_pd.specs.Due.{is_due_by}
+use Rattle.trdp_pd.specs.Due.{has_come_by}
 use Rattle.trdp_md.specs.declared.caller.Caller.{Caller}
-use Rattle.trdp_md.specs.Callers.{is_query, is_for_caller, is_accepted, deadline_after, caller_due}
+use Rattle.trdp_md.specs.Callers.{is_query, is_for_caller, is_accepted_answer, deadline_after}
+use Rattle.trdp_md.specs.Callers.{caller_due}
 use Rattle.trdp_md.specs.Callers.{caller_addressed, caller_taking, caller_firing}
 use Rattle.trdp_md.specs.Callers.{is_repeating, repeating, is_sound_caller}
 use Rattle.trdp_filter.specs.Counts.{topo_valid}
 use Rattle.trdp_md.specs.Waiting.{reply_by}
 
 -- a message that isn't for a caller isn't accepted
-is_accepted-unaddressed :
+is_accepted_answer-unaddressed :
     (c : Caller) (src : Place) (head : MdHead)
-    → is_for_caller c head ≡ false → is_accepted c src head ≡ false
-unfolding is_accepted
-is_accepted-unaddressed c src head is = rw is refl
+    → is_for_caller c head ≡ false → is_accepted_answer c src head ≡ false
+unfolding is_accepted_answer
+is_accepted_answer-unaddressed c src head is = rw is refl
 
 -- a telegram that isn't for a caller changes nothing
 pub caller_taking-unaddressed :
@@ -31,26 +32,26 @@ pub caller_taking-unaddressed :
     → caller_taking c telegram globals fits ≡ record { object = c; taken = NotTaken }
 caller_taking-unaddressed c (PdIs src dst telegram) globals fits is = refl
 caller_taking-unaddressed c (MdIs src dst telegram) globals fits is =
-    rw (is_accepted-unaddressed c src telegram.head is) refl
+    rw (is_accepted_answer-unaddressed c src telegram.head is) refl
 
 -- a sound caller that fired has a later deadline, or none
 pub caller_due-firing :
     (c : Caller) (globals : Globals) → is_sound_caller c ≡ true
-    → is_due_by globals.now (caller_due (caller_firing c globals).object) ≡ false
+    → has_come_by globals.now (caller_due (caller_firing c globals).object) ≡ false
 unfolding is_sound_caller
 caller_due-firing c globals sound = either (is_repeating c) refl
   where
-    later : is_due_by globals.now (Some (globals.now + c.terms.timeout)) ≡ false
+    later : has_come_by globals.now (Some (globals.now + c.terms.timeout)) ≡ false
     later = grind (arith, nat_tests)
 
     sent : (b : Bool) → topo_valid c.terms.topo globals.topo ≡ b
-        → is_due_by globals.now (caller_due (repeating c globals).object) ≡ false
+        → has_come_by globals.now (caller_due (repeating c globals).object) ≡ false
     sent true is = rw is later
     sent false is = rw is later
 
     either :
         (b : Bool) → is_repeating c ≡ b
-        → is_due_by globals.now (caller_due (caller_firing c globals).object) ≡ false
+        → has_come_by globals.now (caller_due (caller_firing c globals).object) ≡ false
     either true is = rw is (sent (topo_valid c.terms.topo globals.topo) refl)
     either false is = rw is refl
 
@@ -62,10 +63,10 @@ pub caller_sound-taking :
 unfolding is_sound_caller
 caller_sound-taking c (PdIs src dst telegram) globals fits sound = sound
 caller_sound-taking c (MdIs src dst telegram) globals fits sound =
-    either (is_accepted c src telegram.head) refl
+    either (is_accepted_answer c src telegram.head) refl
   where
     either :
-        (b : Bool) → is_accepted c src telegram.head ≡ b
+        (b : Bool) → is_accepted_answer c src telegram.head ≡ b
         → is_sound_caller (caller_taking c (MdIs src dst telegram) globals fits).object ≡ true
     either true is = rw is sound
     either false is = rw is sound
@@ -93,15 +94,15 @@ nat_le-max a b t not = let m = le-max_left a b in grind (arith, nat_tests)
 
 -- an answer doesn't bring the deadline forward
 deadline_after-later :
-    (deadline : Option ℕ) (head : MdHead) (now t : ℕ) → is_due_by t deadline ≡ false
-    → is_due_by t (deadline_after deadline head now) ≡ false
+    (deadline : Option ℕ) (head : MdHead) (now t : ℕ) → has_come_by t deadline ≡ false
+    → has_come_by t (deadline_after deadline head now) ≡ false
 unfolding deadline_after
 deadline_after-later deadline head now t not = either (is_query head.kind) refl deadline not
   where
     either :
         (b : Bool) → is_query head.kind ≡ b → (deadline : Option ℕ)
-        → is_due_by t deadline ≡ false
-        → is_due_by t (deadline_after deadline head now) ≡ false
+        → has_come_by t deadline ≡ false
+        → has_come_by t (deadline_after deadline head now) ≡ false
     either true is (Some moment) not =
         rw is (nat_le-max moment (reply_by head.timeout now) t not)
     either true is None not = rw is refl
@@ -110,15 +111,15 @@ deadline_after-later deadline head now t not = either (is_query head.kind) refl 
 -- a telegram makes no caller due
 pub caller_due-taking :
     (c : Caller) (telegram : TelegramModel) (globals : Globals) (fits : Bool)
-    → is_due_by globals.now (caller_due c) ≡ false
-    → is_due_by globals.now (caller_due (caller_taking c telegram globals fits).object) ≡ false
+    → has_come_by globals.now (caller_due c) ≡ false
+    → has_come_by globals.now (caller_due (caller_taking c telegram globals fits).object) ≡ false
 caller_due-taking c (PdIs src dst telegram) globals fits not = not
 caller_due-taking c (MdIs src dst telegram) globals fits not =
-    either (is_accepted c src telegram.head) refl
+    either (is_accepted_answer c src telegram.head) refl
   where
     either :
-        (b : Bool) → is_accepted c src telegram.head ≡ b
-        → is_due_by
+        (b : Bool) → is_accepted_answer c src telegram.head ≡ b
+        → has_come_by
         globals.now
         (caller_due (caller_taking c (MdIs src dst telegram) globals fits).object)
         ≡ false

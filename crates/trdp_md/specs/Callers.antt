@@ -19,7 +19,7 @@ use Rattle.trdp_pd.specs.declared.object.Taken.TheVariants.{Nothing as NotTaken}
 use Rattle.trdp_pd.specs.declared.object.Taken.TheVariants.{Replied, RepliedLast}
 use Rattle.trdp_pd.specs.declared.object.Fired.TheVariants.{Nothing as NotFired, Again, Closed}
 use Rattle.trdp_pd.specs.Publishers.{next_counter}
-use Rattle.trdp_pd.specs.Effects.{Taking, Firing}
+use Rattle.trdp_pd.specs.Effects.{Reception, Firing}
 use Rattle.trdp_md.specs.declared.answers.Answer.{Answer}
 use Rattle.trdp_md.specs.declared.caller.Caller.{Caller}
 use Rattle.trdp_md.specs.declared.terms.CallerTerms.{CallerTerms}
@@ -27,8 +27,8 @@ use Rattle.trdp_md.specs.Answers.{has_answered, awaits, awaits_any, confirmed}
 use Rattle.trdp_md.specs.Waiting.{reply_by}
 
 -- a new caller has no answers, its timeout begins now, and its first request, of counter 0, is sent
-abbrev pub called : CallerTerms → List ℕ → ℕ → Caller
-called terms payload now = record {
+abbrev pub new_caller : CallerTerms → List ℕ → ℕ → Caller
+new_caller terms payload now = record {
   terms = terms;
   answers = [];
   deadline = Some (now + terms.timeout);
@@ -66,7 +66,7 @@ confirm_of terms status = record {
   dest_uri = terms.dest_uri;
 }
 
--- the message types that answer a request
+-- the message types that answer a request (IEC 61375-2-3:2015, Annex A)
 unfoldable pub is_answer : MdKind → Bool
 is_answer Notify = false
 is_answer Request = false
@@ -75,7 +75,7 @@ is_answer Query = true
 is_answer Confirm = false
 is_answer Error = true
 
--- the message type that wants a confirmation
+-- the message type that wants a confirmation (IEC 61375-2-3:2015, Annex A)
 unfoldable pub is_query : MdKind → Bool
 is_query Notify = false
 is_query Request = false
@@ -97,8 +97,8 @@ has_place c =
 
 -- acceptance: the message is for the caller, there is a place for it, and its source hasn't
 -- answered yet
-unfoldable pub is_accepted : Caller → Place → MdHead → Bool
-is_accepted c src head =
+unfoldable pub is_accepted_answer : Caller → Place → MdHead → Bool
+is_accepted_answer c src head =
     is_for_caller c head && has_place c && not (has_answered c.answers src)
 
 -- the answer that a message is
@@ -127,8 +127,8 @@ is_complete c =
     && not (awaits_any c.answers)
 
 -- what it is to have taken an answer
-unfoldable pub replied : Caller → Taken
-replied c = if is_complete c then RepliedLast else Replied
+unfoldable pub answer_taken : Caller → Taken
+answer_taken c = if is_complete c then RepliedLast else Replied
 
 -- when it is to close
 abbrev pub caller_due : Caller → Option ℕ
@@ -140,13 +140,13 @@ caller_addressed c (PdIs src dst telegram) globals = false
 caller_addressed c (MdIs src dst telegram) globals = is_for_caller c telegram.head
 
 -- reception: an accepted answer is added, any other telegram changes nothing
-abbrev pub caller_taking : Caller → TelegramModel → Globals → Bool → Taking Caller
+abbrev pub caller_taking : Caller → TelegramModel → Globals → Bool → Reception Caller
 caller_taking c (PdIs src dst telegram) globals fits = record { object = c; taken = NotTaken }
 caller_taking c (MdIs src dst telegram) globals fits =
-    if is_accepted c src telegram.head
+    if is_accepted_answer c src telegram.head
     then record {
       object = answering c src telegram.head globals.now;
-      taken = replied (answering c src telegram.head globals.now);
+      taken = answer_taken (answering c src telegram.head globals.now);
     }
     else record { object = c; taken = NotTaken }
 

@@ -4,7 +4,7 @@ use Rattle.std.specs.Prelude.{◌≡◌, Bool, false, refl}
 use Rattle.trdp_filter.specs.declared.globals.Globals.{Globals}
 use Rattle.trdp_filter.specs.Telegrams.{TelegramModel}
 use Rattle.trdp_pd.specs.declared.object.Taken.TheVariants.{Nothing as NotTaken}
-use Rattle.trdp_pd.specs.Due.{is_due_by}
+use Rattle.trdp_pd.specs.Due.{has_come_by}
 use Rattle.trdp_md.specs.declared.listener.Listener.{Listener}
 use Rattle.trdp_md.specs.Listeners.{listener_due, listener_addressed}
 use Rattle.trdp_md.specs.Listeners.{listener_taking, listener_firing}
@@ -19,13 +19,13 @@ listener_taking-unaddressed l telegram globals fits not = rw not refl
 -- a listener isn't due
 pub listener_due-firing :
     (l : Listener) (globals : Globals)
-    → is_due_by globals.now (listener_due (listener_firing l globals).object) ≡ false
+    → has_come_by globals.now (listener_due (listener_firing l globals).object) ≡ false
 listener_due-firing l globals = refl
 
 -- a telegram makes no listener due
 pub listener_due-taking :
     (l : Listener) (telegram : TelegramModel) (globals : Globals) (fits : Bool)
-    → is_due_by globals.now (listener_due l) ≡ false
-    → is_due_by globals.now (listener_due (listener_taking l telegram globals fits).object)
+    → has_come_by globals.now (listener_due l) ≡ false
+    → has_come_by globals.now (listener_due (listener_taking l telegram globals fits).object)
     ≡ false
 listener_due-taking l telegram globals fits not = not

@@ -12,14 +12,15 @@ use Rattle.trdp_filter.specs.MdFilters.{md_passes}
 use Rattle.trdp_filter.specs.Telegrams.{TelegramModel, PdIs, MdIs}
 use Rattle.trdp_pd.specs.declared.object.Taken.TheVariants.{Nothing as NotTaken, Heard}
 use Rattle.trdp_pd.specs.declared.object.Fired.TheVariants.{Nothing}
-use Rattle.trdp_pd.specs.Effects.{Taking, Firing}
+use Rattle.trdp_pd.specs.Effects.{Reception, Firing}
 use Rattle.trdp_md.specs.declared.listener.Listener.{Listener}
 
 -- a new listener
 abbrev pub listening : MdFilter → Listener
 listening filter = record { filter = filter }
 
--- the message types that come unasked; all others belong to a request that was made
+-- the message types that come unasked (IEC 61375-2-3:2015, Annex A); all others belong to a request
+-- that was made
 unfoldable pub is_unasked : MdKind → Bool
 is_unasked Notify = true
 is_unasked Request = true
@@ -29,8 +30,8 @@ is_unasked Confirm = false
 is_unasked Error = false
 
 -- the message is a notification or a request, and the filter passes it
-unfoldable pub is_for : Listener → Place → Place → MdHead → Globals → Bool
-is_for l src dst head globals =
+unfoldable pub is_for_listener : Listener → Place → Place → MdHead → Globals → Bool
+is_for_listener l src dst head globals =
     is_unasked head.kind && md_passes l.filter src dst head globals.topo
 
 -- a listener is never due
@@ -40,10 +41,11 @@ listener_due l = None
 -- what the telegrams for a listener are; no process data is for one
 abbrev pub listener_addressed : Listener → TelegramModel → Globals → Bool
 listener_addressed l (PdIs src dst telegram) globals = false
-listener_addressed l (MdIs src dst telegram) globals = is_for l src dst telegram.head globals
+listener_addressed l (MdIs src dst telegram) globals =
+    is_for_listener l src dst telegram.head globals
 
 -- a listener hears what is for it, and stays as it is
-abbrev pub listener_taking : Listener → TelegramModel → Globals → Bool → Taking Listener
+abbrev pub listener_taking : Listener → TelegramModel → Globals → Bool → Reception Listener
 listener_taking l telegram globals fits = record {
   object = l;
   taken = if listener_addressed l telegram globals then Heard else NotTaken;

@@ -13,7 +13,7 @@ use Rattle.trdp_pd.specs.declared.object.Reason.{Reason}
 use Rattle.trdp_pd.specs.declared.object.Reason.TheVariants.{ReplyMissed, NoConfirm}
 use Rattle.trdp_pd.specs.declared.object.Taken.TheVariants.{Nothing as NotTaken, Confirmed}
 use Rattle.trdp_pd.specs.declared.object.Fired.TheVariants.{Closed}
-use Rattle.trdp_pd.specs.Effects.{Taking, Firing}
+use Rattle.trdp_pd.specs.Effects.{Reception, Firing}
 use Rattle.trdp_md.specs.declared.replier.Stage.{Stage}
 use Rattle.trdp_md.specs.declared.replier.Stage.TheVariants.{Asked, AwaitConfirm}
 use Rattle.trdp_md.specs.declared.replier.Replier.{Replier}
@@ -87,7 +87,7 @@ abbrev pub ended : Replier → Replier
 ended r = record r { deadline = None }
 
 -- reception: the confirmation ends it, any other telegram changes nothing
-abbrev pub replier_taking : Replier → TelegramModel → Globals → Bool → Taking Replier
+abbrev pub replier_taking : Replier → TelegramModel → Globals → Bool → Reception Replier
 replier_taking r (PdIs src dst telegram) globals fits = record { object = r; taken = NotTaken }
 replier_taking r (MdIs src dst telegram) globals fits =
     if is_for_replier r src telegram.head

@@ -14,16 +14,16 @@ use Rattle.trdp_md.specs.declared.caller.Caller.{Caller}
 use Rattle.trdp_md.specs.declared.replier.Replier.{Replier}
 use Rattle.trdp_md.specs.declared.replier.Stage.TheVariants.{AwaitConfirm}
 use Rattle.trdp_md.specs.Answers.{is_place, awaits_any}
-use Rattle.trdp_md.specs.Callers.{is_accepted, answer_of}
+use Rattle.trdp_md.specs.Callers.{is_accepted_answer, answer_of}
 
 -- an answer was taken
-abbrev pub IsReplied : Taken → Type 0
-IsReplied taken = (taken ≡ Replied) ⊎ (taken ≡ RepliedLast)
+abbrev pub IsAnswerTaken : Taken → Type 0
+IsAnswerTaken taken = (taken ≡ Replied) ⊎ (taken ≡ RepliedLast)
 
 -- the telegram is a message that the caller accepts
 abbrev pub IsAccepted : Caller → TelegramModel → Type 0
 IsAccepted c (PdIs src dst telegram) = ⊥
-IsAccepted c (MdIs src dst telegram) = is_accepted c src telegram.head ≡ true
+IsAccepted c (MdIs src dst telegram) = is_accepted_answer c src telegram.head ≡ true
 
 -- the caller has one more answer, which is the telegram
 abbrev pub HasAdded : Caller → TelegramModel → Caller → Type 0

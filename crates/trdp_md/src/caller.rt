@@ -14,10 +14,13 @@
 ghost use Rattle.std.specs.Prelude.{◌≡◌, ◌<◌, ◌≤◌, length, IsTrue, IfOk};
 ghost use Rattle.trdp_base.specs.Moments.{last_moment};
 ghost use Rattle.trdp_md.specs.Answers.{awaits};
-ghost use Rattle.trdp_md.specs.Callers.{called, request_of, confirm_of, is_answer, is_query};
-ghost use Rattle.trdp_md.specs.Callers.{is_for_caller, has_place, is_accepted, deadline_after};
-ghost use Rattle.trdp_md.specs.Callers.{answering, is_complete, replied, reason_of, confirming};
+ghost use Rattle.trdp_md.specs.Callers.{new_caller, request_of, confirm_of, is_answer, is_query};
+ghost use Rattle.trdp_md.specs.Callers.{is_for_caller, has_place, is_accepted_answer};
+ghost use Rattle.trdp_md.specs.Callers.{deadline_after};
+ghost use Rattle.trdp_md.specs.Callers.{answering, is_complete, answer_taken, reason_of};
+ghost use Rattle.trdp_md.specs.Callers.{confirming};
 ghost use Rattle.trdp_md.specs.Callers.{closed_of, is_repeating, repeating};
+ghost use Rattle.trdp_head.specs.Limits.{md_payload_limit};
 
 use crate::answers::{self, Answer, Answers, PLACES_MAX};
 use crate::payload::Payload;
@@ -115,8 +118,8 @@ impl Caller {
         now: u64,
     ) -> Result<Caller, AllocError>
         requires now { now ≤ last_moment }
-        requires payload { length payload.now ≤ 65388 }
-        ensures { IfOk result (λ caller. caller ≡ called terms.now payload.now now) }
+        requires payload { length payload.now ≤ md_payload_limit }
+        ensures { IfOk result (λ caller. caller ≡ new_caller terms.now payload.now now) }
     {
         let payload = Payload::new(alloc, payload)?;
         Ok(Caller {
@@ -139,7 +142,7 @@ impl Caller {
     /// What its request carries, at most 65,388 bytes.
     pub fn payload(&self) -> &[u8]
         ensures value { result.now ≡ self.now.payload }
-        ensures within { length result.now ≤ 65388 }
+        ensures within { length result.now ≤ md_payload_limit }
     {
         self.payload.bytes()
     }
@@ -245,9 +248,9 @@ impl Caller {
     }
 
     /// Whether it takes the answer from that place.
-    #[tactic(auto, unfolding(crate::specs::Callers::is_accepted))]
+    #[tactic(auto, unfolding(crate::specs::Callers::is_accepted_answer))]
     fn accepts(&self, src: Place, head: &MdHead) -> bool
-        ensures value { result ≡ is_accepted self.now src head.now }
+        ensures value { result ≡ is_accepted_answer self.now src head.now }
         ensures room { IsTrue result → length self.now.answers < 8 }
     {
         self.is_for(head)
@@ -256,12 +259,12 @@ impl Caller {
     }
 
     /// Adds an answer that it takes, and says what this is.
-    #[tactic(auto, unfolding(crate::specs::Callers::replied))]
+    #[tactic(auto, unfolding(crate::specs::Callers::answer_taken))]
     fn add(&mut self, src: Place, head: &MdHead, now: u64) -> Taken
         requires now { now ≤ last_moment }
         requires room { length self.old.answers < 8 }
         ensures state { self.new ≡ answering self.old src head.now now }
-        ensures outcome { result ≡ replied (answering self.old src head.now now) }
+        ensures outcome { result ≡ answer_taken (answering self.old src head.now now) }
     {
         self.answers.add(Answer {
             place: src,

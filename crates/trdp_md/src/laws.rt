@@ -9,18 +9,18 @@ ghost use Rattle.trdp_filter.specs.Telegrams.{TelegramModel, MdIs};
 ghost use Rattle.trdp_head.specs.MdTelegrams.{MdTelegram};
 ghost use Rattle.trdp_pd.specs.declared.object.Reason.{Reason};
 ghost use Rattle.trdp_pd.specs.declared.object.Reason.TheVariants.{Done};
-ghost use Rattle.trdp_pd.specs.Due.{is_due_by};
+ghost use Rattle.trdp_pd.specs.Due.{has_come_by};
 ghost use Rattle.trdp_md.specs.declared.listener.Listener.{Listener};
 ghost use Rattle.trdp_md.specs.declared.terms.CallerTerms.{CallerTerms};
 ghost use Rattle.trdp_md.specs.declared.caller.Caller.{Caller};
 ghost use Rattle.trdp_md.specs.declared.replier.Replier.{Replier};
 ghost use Rattle.trdp_md.specs.Listeners.{listener_taking, listener_firing, IsHeard};
 ghost use Rattle.trdp_md.specs.Answers.{has_answered, awaits};
-ghost use Rattle.trdp_md.specs.Callers.{called, caller_due, caller_taking, caller_firing};
+ghost use Rattle.trdp_md.specs.Callers.{new_caller, caller_due, caller_taking, caller_firing};
 ghost use Rattle.trdp_md.specs.Callers.{confirming, closed_of, request_of};
 ghost use Rattle.trdp_md.specs.Repliers.{asked_by, queried, replier_due, replier_taking};
 ghost use Rattle.trdp_md.specs.Repliers.{replier_firing};
-ghost use Rattle.trdp_md.specs.Sessions.{IsReplied, IsAccepted, HasAdded, AwaitsQueriesOnly};
+ghost use Rattle.trdp_md.specs.Sessions.{IsAnswerTaken, IsAccepted, HasAdded, AwaitsQueriesOnly};
 ghost use Rattle.trdp_md.specs.Sessions.{HasAwaiting, IsDone, IsOfSameRequest, IsItsConfirmation};
 ghost use Rattle.trdp_md.specs.Sessions.{AreApart, IsAnswerKind, SettlesAt};
 
@@ -43,11 +43,11 @@ pub fn listener_hears_its_own()
 /// A session that begins, and a confirmation that is awaited from now on, end later than now.
 pub fn session_ends_later()
     ensures caller { (terms : CallerTerms) (payload : List ℕ) (now : ℕ) → 0 < terms.timeout
-        → is_due_by now (caller_due (called terms payload now)) ≡ false }
+        → has_come_by now (caller_due (new_caller terms payload now)) ≡ false }
     ensures replier { (peer : Place) (head : MdHead) (now : ℕ)
-        → is_due_by now (replier_due (asked_by peer head now)) ≡ false }
+        → has_come_by now (replier_due (asked_by peer head now)) ≡ false }
     ensures query { (r : Replier) (now timeout : ℕ) → 0 < timeout
-        → is_due_by now (replier_due (queried r now timeout)) ≡ false }
+        → has_come_by now (replier_due (queried r now timeout)) ≡ false }
 {}
 
 /// Nothing changes what a caller asks for.
@@ -80,7 +80,7 @@ pub fn caller_repeats_its_request()
 /// A caller tells each answer that it accepts, and no other telegram, and keeps it as it came.
 pub fn caller_tells_its_answers()
     ensures told { (c : Caller) (telegram : TelegramModel) (globals : Globals) (fits : Bool)
-        → IsReplied (caller_taking c telegram globals fits).taken ↔ IsAccepted c telegram }
+        → IsAnswerTaken (caller_taking c telegram globals fits).taken ↔ IsAccepted c telegram }
     ensures added { (c : Caller) (telegram : TelegramModel) (globals : Globals) (fits : Bool)
         → IsAccepted c telegram
         → HasAdded c telegram (caller_taking c telegram globals fits).object }
@@ -102,7 +102,7 @@ pub fn caller_hears_each_place_once()
 /// or confirms, they stay of places apart.
 pub fn caller_answers_stay_apart()
     ensures new { (terms : CallerTerms) (payload : List ℕ) (now : ℕ)
-        → AreApart (called terms payload now).answers }
+        → AreApart (new_caller terms payload now).answers }
     ensures taken { (c : Caller) (telegram : TelegramModel) (globals : Globals) (fits : Bool)
         → AreApart c.answers → AreApart (caller_taking c telegram globals fits).object.answers }
     ensures fired { (c : Caller) (globals : Globals) → AreApart c.answers
@@ -129,7 +129,7 @@ pub fn caller_confirms_one_place()
 /// confirmation adds another answer that awaits one.
 pub fn caller_awaits_queries_only()
     ensures new { (terms : CallerTerms) (payload : List ℕ) (now : ℕ)
-        → AwaitsQueriesOnly (called terms payload now).answers }
+        → AwaitsQueriesOnly (new_caller terms payload now).answers }
     ensures taken { (c : Caller) (telegram : TelegramModel) (globals : Globals) (fits : Bool)
         → AwaitsQueriesOnly c.answers
         → AwaitsQueriesOnly (caller_taking c telegram globals fits).object.answers }

@@ -1,8 +1,24 @@
 //! The message data objects of a slot, and notifications, which need none.
 //!
+//! A [`Caller`] is a request that waits for its answers, a [`Listener`] hears notifications and
+//! requests, and a [`Replier`] is a request that was heard and waits for its answer. Each is an
+//! `Object`, as those of process data are. `caller.rt` and `replier.rt` begin with a picture of
+//! their states.
+//!
+//! ```text
+//! caller asks        Mr -->  a listener hears it, and a replier is made
+//! caller takes it   <-- Mq   the replier queries, and awaits a confirmation
+//! caller confirms    Mc -->  the replier is over
+//! ```
+//!
 //! Each object is one state, and what a telegram or a moment does to it is a function of this
-//! state, the telegram and the node's globals alone. A caller takes the memory of its payload when
-//! it is made; nothing else here takes any.
+//! state, the telegram and the node's globals alone. Message types, sessions and header fields are
+//! those of IEC 61375-2-3:2015, Annex A; which answers count, how often a request is sent again and
+//! when an object is over is our own choice where the text says *profile*. A caller takes the
+//! memory of its payload when it is made; nothing else here takes any.
+//!
+//! What no contract can say is that memory is there for a caller's payload, that a message
+//! arrives, and that somebody calls `fire` when an object is due.
 #![tactic(auto)]
 
 mod answers;

@@ -1,7 +1,7 @@
 //! A listener: waits for notifications and requests.
 
 ghost use Rattle.std.specs.Prelude.{◌≡◌};
-ghost use Rattle.trdp_md.specs.Listeners.{is_for, is_unasked, listening};
+ghost use Rattle.trdp_md.specs.Listeners.{is_for_listener, is_unasked, listening};
 
 use trdp_base::Place;
 use trdp_filter::{Globals, MdFilter, Telegram};
@@ -42,9 +42,9 @@ impl Listener {
     }
 
     /// Whether the message is a notification or a request that the filter passes.
-    #[tactic(auto, unfolding(crate::specs::Listeners::is_for))]
+    #[tactic(auto, unfolding(crate::specs::Listeners::is_for_listener))]
     fn is_for(&self, src: Place, dst: Place, head: &MdHead, globals: &Globals) -> bool
-        ensures { result ≡ is_for self.now src dst head.now globals.entry.now }
+        ensures { result ≡ is_for_listener self.now src dst head.now globals.entry.now }
     {
         is_unasked(head.kind) && self.filter.passes(src, dst, head, globals.topo)
     }

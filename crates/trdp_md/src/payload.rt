@@ -1,6 +1,7 @@
 //! The payload of a request.
 
 ghost use Rattle.std.specs.Prelude.{◌≡◌, ◌≤◌, length, IfOk};
+ghost use Rattle.trdp_head.specs.Limits.{md_payload_limit};
 
 use std::alloc::{AllocError, Global};
 use std::marker::Model;
@@ -14,12 +15,13 @@ pub struct Payload {
 
 impl Model for Payload {
     ghost use Rattle.std.specs.Prelude.{◌≤◌, ℕ, List, length};
+    ghost use Rattle.trdp_head.specs.Limits.{md_payload_limit};
 
     ghost Value = { List ℕ };
 
     ghost view = { λ p. p.bytes.items };
 
-    ghost invariant = { λ p. length p.bytes.items ≤ 65388 };
+    ghost invariant = { λ p. length p.bytes.items ≤ md_payload_limit };
 }
 
 impl Payload {
@@ -28,7 +30,7 @@ impl Payload {
     /// # Errors
     /// [`AllocError`] where there is no memory for it.
     pub fn new(alloc: Global, bytes: &[u8]) -> Result<Payload, AllocError>
-        requires { length bytes.now ≤ 65388 }
+        requires { length bytes.now ≤ md_payload_limit }
         ensures { IfOk result (λ payload. payload ≡ bytes.now) }
     {
         let mut copy = Vec::with_capacity(alloc, bytes.len())?;
@@ -39,7 +41,7 @@ impl Payload {
     /// The bytes.
     pub fn bytes(&self) -> &[u8]
         ensures value { result.now ≡ self.now }
-        ensures within { length result.now ≤ 65388 }
+        ensures within { length result.now ≤ md_payload_limit }
     {
         &self.bytes
     }

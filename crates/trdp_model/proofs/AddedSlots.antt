@@ -1,4 +1,6 @@
 -- A slot that is opened behind the others: what stands at each number then, and what it gets.
+-- For the steps and the run of a node that open a slot, in the crates above.
+-- By cases on the number: before the new slot, its own, or past it.
 use Rattle.std.proofs.Common.{zero, suc, ◌≡◌, ℕ, ◌<◌, ◌+◌, List, [], ◌∷◌, ◌++◌, length, refl, ◌∙◌}
 use Rattle.std.proofs.Common.{ap, sym, arith, Some, None, Option, Bool, true, false, ◌≤◌}
 use Rattle.std.proofs.Common.{Result, Ok, Err, OnOk, OnErr}
@@ -12,7 +14,7 @@ use Rattle.trdp_model.specs.Configs.{NodeSetup, setup_of}
 use Rattle.trdp_model.specs.Records.{Answers, Content, OpenedIs, RecordModel, labelled, records_of}
 use Rattle.trdp_model.specs.Events.{EventModel, MomentIs, TopologyIs, RoleIs, DatagramIs}
 use Rattle.trdp_model.specs.Events.{CallIs, AddSlotIs}
-use Rattle.trdp_model.specs.Slots.{SlotState, opened_slot}
+use Rattle.trdp_model.specs.Slots.{SlotState, empty_slot}
 use Rattle.trdp_model.specs.Fitting.{EachFits}
 use Rattle.trdp_model.specs.Alone.{refused_as, Standing, standing_after, opened_by}
 use Rattle.trdp_model.specs.Alone.{told_opening, slots_then, FaultIs}
@@ -20,9 +22,9 @@ use Rattle.trdp_model.specs.declared.fault.NodeFault.{NodeFault}
 use Rattle.trdp_model.specs.declared.fault.NodeFault.TheVariants.{SlotsFull}
 use Rattle.trdp_model.specs.NodeModels.{NodeModel}
 use Rattle.trdp_model.specs.NodeModels.{StepsAsAlone, Appends}
-use Rattle.trdp_model.proofs.Views.{standing_none}
-use Rattle.trdp_model.proofs.Steps.{appends_none}
-use Rattle.trdp_model.proofs.Sweeps.{records_of-append, records_of-labelled, records_of-other}
+use Rattle.trdp_model.proofs.ViewLemmas.{standing_none}
+use Rattle.trdp_model.proofs.StepLemmas.{appends_none}
+use Rattle.trdp_model.proofs.SweepLemmas.{records_of-append, records_of-labelled, records_of-other}
 
 -- a slot that was there stays
 added_before : (slots : List SlotState) (added slot : SlotState) (s : ℕ)
@@ -69,7 +71,7 @@ told_there records n contents = records_of-append n records (labelled n contents
 -- the opening is as each number sees it
 pub opening_alone : (old new : NodeModel) (records records_then : List RecordModel)
     (quotas : List ℕ) → length old.slots < slot_limit
-    → new.slots ≡ old.slots ++ opened_slot quotas ∷ []
+    → new.slots ≡ old.slots ++ empty_slot quotas ∷ []
     → records_then ≡ records ++ labelled (length old.slots) (Answers OpenedIs ∷ [])
     → (s : ℕ) → StepsAsAlone old new records records_then (AddSlotIs quotas) s
 opening_alone old new records records_then quotas few opened told s =
@@ -100,8 +102,8 @@ opening_alone old new records records_then quotas few opened told s =
         let room : nat_lt n slot_limit ≡ true = grind (arith, nat_tests) in
         by None found
         (rw (here, room) (ap (λ (l : List SlotState). slice_get l s) opened
-        ∙ ap (slice_get (old.slots ++ opened_slot quotas ∷ [])) is
-        ∙ added_there old.slots (opened_slot quotas)))
+        ∙ ap (slice_get (old.slots ++ empty_slot quotas ∷ [])) is
+        ∙ added_there old.slots (empty_slot quotas)))
         (rw (here, room) (ap (records_of s) told
         ∙ rw is (told_there records n (Answers OpenedIs ∷ []))))
 
@@ -111,7 +113,7 @@ opening_alone old new records records_then quotas few opened told s =
         let apart : (n == s) ≡ false = grind (arith, nat_tests) in
         by None found
         (rw differ (ap (λ (l : List SlotState). slice_get l s) opened
-        ∙ added_past old.slots (opened_slot quotas) s found differ))
+        ∙ added_past old.slots (empty_slot quotas) s found differ))
         (rw differ (other apart))
 
     none : (same : Bool) → (s == n) ≡ same → slice_get old.slots s ≡ None
@@ -127,7 +129,7 @@ opening_alone old new records records_then quotas few opened told s =
         let apart : (n == s) ≡ false = grind (arith, nat_tests) in
         by (Some slot) found
         (ap (λ (l : List SlotState). slice_get l s) opened
-        ∙ added_before old.slots (opened_slot quotas) slot s found)
+        ∙ added_before old.slots (empty_slot quotas) slot s found)
         (other apart)
 
 -- the record is added behind those of before, and none for a number that has no slot then
@@ -152,9 +154,9 @@ opening_appends slots added contents records = record {
 
 -- an empty slot holds nothing that is unfit
 pub opening_fits : (setup : NodeSetup) (slots : List SlotState) (quotas : List ℕ)
-    → EachFits setup slots → EachFits setup (slots ++ opened_slot quotas ∷ [])
+    → EachFits setup slots → EachFits setup (slots ++ empty_slot quotas ∷ [])
 opening_fits setup [] quotas fits zero slot is =
-    let empty : opened_slot quotas ≡ slot = cc in rw (← empty) tt
+    let empty : empty_slot quotas ≡ slot = cc in rw (← empty) tt
 opening_fits setup [] quotas fits (suc s) slot is = absurd (cc)
 opening_fits setup (x ∷ slots) quotas fits zero slot is = fits zero slot is
 opening_fits setup (x ∷ slots) quotas fits (suc s) slot is =
@@ -231,7 +233,7 @@ room_left n globals quotas answer = by (nat_le slot_limit n) refl answer
 pub added_alone : (old new : NodeModel) (records records_then : List RecordModel)
     (quotas : List ℕ) (result : Result (Unit {0}) NodeFault)
     → FaultIs (refused_as (length old.slots) old.globals (AddSlotIs quotas)) result
-    → OnOk result (new.slots ≡ old.slots ++ opened_slot quotas ∷ [])
+    → OnOk result (new.slots ≡ old.slots ++ empty_slot quotas ∷ [])
     → OnOk result (records_then
     ≡ records ++ labelled (length old.slots) (Answers OpenedIs ∷ []))
     → OnOk result ((s : ℕ) → StepsAsAlone old new records records_then (AddSlotIs quotas) s)
@@ -242,18 +244,18 @@ added_alone old new records records_then quotas (Ok done) answer opened told =
 
 pub added_count : (old new : NodeModel) (quotas : List ℕ) (result : Result (Unit {0}) NodeFault)
     → FaultIs (refused_as (length old.slots) old.globals (AddSlotIs quotas)) result
-    → OnOk result (new.slots ≡ old.slots ++ opened_slot quotas ∷ [])
+    → OnOk result (new.slots ≡ old.slots ++ empty_slot quotas ∷ [])
     → OnOk result (length new.slots ≡ slots_then (length old.slots) (AddSlotIs quotas))
 added_count old new quotas (Err fault) answer opened = tt
 added_count old new quotas (Ok done) answer opened =
     let few = room_left (length old.slots) old.globals quotas answer in
     let room : nat_lt (length old.slots) slot_limit ≡ true = grind (arith, nat_tests) in
-    rw room (ap length opened ∙ one_more old.slots (opened_slot quotas))
+    rw room (ap length opened ∙ one_more old.slots (empty_slot quotas))
 
 pub added_appends : (old new : NodeModel) (records records_then : List RecordModel)
     (quotas : List ℕ) (result : Result (Unit {0}) NodeFault)
     → OnErr result (records_then ≡ records)
-    → OnOk result (new.slots ≡ old.slots ++ opened_slot quotas ∷ [])
+    → OnOk result (new.slots ≡ old.slots ++ empty_slot quotas ∷ [])
     → OnOk result (records_then
     ≡ records ++ labelled (length old.slots) (Answers OpenedIs ∷ []))
     → Appends new.slots records records_then
@@ -261,7 +263,7 @@ added_appends old new records records_then quotas (Err fault) unrecorded opened 
     appends_none new.slots records records_then unrecorded
 added_appends old new records records_then quotas (Ok done) unrecorded opened told =
     rw (opened, told)
-    (opening_appends old.slots (opened_slot quotas) (Answers OpenedIs ∷ []) records)
+    (opening_appends old.slots (empty_slot quotas) (Answers OpenedIs ∷ []) records)
 
 -- the slots never get fewer
 pub slots_grow : (n : ℕ) (event : EventModel) → n ≤ slots_then n event

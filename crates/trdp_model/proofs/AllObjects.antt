@@ -1,25 +1,27 @@
 -- What is true of each object of a slot is so of the one of a handle, and stays so as objects come
 -- and act.
+-- For `FitLemmas`, `FitActs` and `FitEvents`.
+-- By induction on the objects.
 use Rattle.std.proofs.Common.{◌≡◌, ℕ, List, [], ◌∷◌, ◌++◌, Some, None, Option, Bool, true, false}
 use Rattle.std.proofs.Common.{refl}
 use Rattle.std.specs.Prelude.{◌==◌}
 use Rattle.std.specs.List.{flat_map}
 use Rattle.trdp_model.specs.declared.any_object.AnyObject.{AnyObject}
-use Rattle.trdp_model.specs.Slots.{Entry, entry_of}
+use Rattle.trdp_model.specs.Slots.{Entry, entry_under}
 use Rattle.trdp_model.specs.Acts.{entry_left, left_at, acted}
 use Rattle.trdp_model.specs.Fitting.{AllObjects}
 
 -- the object of a handle is one of them
 pub AllObjects-found : (P : AnyObject → Type 0) (handle : ℕ) (objects : List Entry) (entry : Entry)
-    → AllObjects P objects → entry_of handle objects ≡ Some entry → P entry.object
+    → AllObjects P objects → entry_under handle objects ≡ Some entry → P entry.object
 AllObjects-found P handle [] entry all is = absurd (cc)
 AllObjects-found P handle (e ∷ objects) entry all is = either P handle e objects entry
     (e.handle == handle) refl all is (AllObjects-found P handle objects entry all.1)
   where
     either : (P : AnyObject → Type 0) (handle : ℕ) (e : Entry) (objects : List Entry)
         (entry : Entry) (b : Bool) → (e.handle == handle) ≡ b
-        → AllObjects P (e ∷ objects) → entry_of handle (e ∷ objects) ≡ Some entry
-        → (entry_of handle objects ≡ Some entry → P entry.object) → P entry.object
+        → AllObjects P (e ∷ objects) → entry_under handle (e ∷ objects) ≡ Some entry
+        → (entry_under handle objects ≡ Some entry → P entry.object) → P entry.object
     either P handle e objects entry true same all is rest =
         let found : Some e ≡ Some entry = rw same at is in
         let one : e ≡ entry = cc in

@@ -1,4 +1,6 @@
--- Handles of a slot's list.
+-- The handles of a slot's list rise.
+-- For crates above, whose lemmas speak of one object among those of a slot.
+-- By definition alone.
 use Rattle.std.specs.Prelude.{ℕ, ◌<◌, List, [], ◌∷◌}
 use Rattle.trdp_model.specs.Slots.{Entry}
 

@@ -1,4 +1,6 @@
 -- Datagrams at which nothing happens: they concern no slot.
+-- For `malformed_datagrams_are_inert` and `error_telegrams_are_inert`.
+-- By: no object is addressed by an error telegram, and nothing is by bytes that are no telegram.
 use Rattle.std.proofs.Common.{◌≡◌, Bool, true, false, List, [], ◌∷◌, Option, Some, None}
 use Rattle.std.proofs.Common.{refl, sym, ap, ◌∙◌}
 use Rattle.std.specs.Prelude.{ℕ, ◌&&◌}
@@ -11,7 +13,7 @@ use Rattle.trdp_head.specs.PdTelegrams.{PdTelegram, pd_telegram_of}
 use Rattle.trdp_filter.specs.declared.globals.Globals.{Globals}
 use Rattle.trdp_filter.specs.Telegrams.{PdIs}
 use Rattle.trdp_pd.specs.Publishers.{PublisherState, asks_for_value, is_asked}
-use Rattle.trdp_pd.specs.Subscriptions.{SubscriptionState, carries_value, is_for}
+use Rattle.trdp_pd.specs.Subscriptions.{SubscriptionState, carries_value, is_for_subscription}
 use Rattle.trdp_model.specs.declared.any_object.AnyObject.{AnyObject}
 use Rattle.trdp_model.specs.declared.any_object.AnyObject.TheVariants.{Publisher, Subscription}
 use Rattle.trdp_model.specs.declared.any_object.AnyObject.TheVariants.{Requester, Listener}
@@ -67,8 +69,8 @@ asks_none p head told = rw told refl
 
 -- and carries a value to no subscription
 is_for_none : (s : SubscriptionState) (src dst : Place) (head : PdHead) (globals : Globals)
-    → head.kind ≡ Error → is_for s src dst head globals ≡ false
-unfolding is_for carries_value
+    → head.kind ≡ Error → is_for_subscription s src dst head globals ≡ false
+unfolding is_for_subscription carries_value
 is_for_none s src dst head globals told = rw told refl
 
 -- so it is for no object

@@ -1,4 +1,6 @@
 -- An object keeps its kind.
+-- For `kind_stays`.
+-- By cases on the kind.
 use Rattle.std.proofs.Common.{◌≡◌, Bool, refl}
 use Rattle.trdp_filter.specs.declared.globals.Globals.{Globals}
 use Rattle.trdp_filter.specs.Telegrams.{TelegramModel}

@@ -14,7 +14,7 @@ use Rattle.trdp_model.specs.Configs.{NodeSetup}
 use Rattle.trdp_model.specs.Records.{Content, Answers, OpenedIs}
 use Rattle.trdp_model.specs.Events.{EventModel, MomentIs, TopologyIs, RoleIs, DatagramIs, CallIs}
 use Rattle.trdp_model.specs.Events.{AddSlotIs}
-use Rattle.trdp_model.specs.Slots.{SlotState, Outcome, unchanged, opened_slot}
+use Rattle.trdp_model.specs.Slots.{SlotState, Outcome, unchanged, empty_slot}
 use Rattle.trdp_model.specs.Calls.{called}
 use Rattle.trdp_model.specs.Datagrams.{telegram_of, received_if, concerns}
 use Rattle.trdp_model.specs.Moments.{moved_to}
@@ -51,7 +51,7 @@ globals_after globals (AddSlotIs quotas) = globals
 
 -- the slots that an admitted event opens, behind those that are there
 abbrev pub opened_by : EventModel → List SlotState
-opened_by (AddSlotIs quotas) = opened_slot quotas ∷ []
+opened_by (AddSlotIs quotas) = empty_slot quotas ∷ []
 opened_by event = []
 
 -- what the slot that it opens is told
@@ -76,14 +76,14 @@ is_in_view s slot globals (CallIs r call) = r == s
 is_in_view s slot globals (AddSlotIs quotas) = false
 
 -- effect of an event on a slot that sees it
-abbrev pub event_effect : NodeSetup → SlotState → Globals → EventModel → Outcome
-event_effect setup slot globals (MomentIs t) = moved_to slot (record globals { now = t })
-event_effect setup slot globals (TopologyIs topo) = unchanged slot
-event_effect setup slot globals (RoleIs group leader) = unchanged slot
-event_effect setup slot globals (DatagramIs protocol src dst bytes) =
+abbrev pub seen_effect : NodeSetup → SlotState → Globals → EventModel → Outcome
+seen_effect setup slot globals (MomentIs t) = moved_to slot (record globals { now = t })
+seen_effect setup slot globals (TopologyIs topo) = unchanged slot
+seen_effect setup slot globals (RoleIs group leader) = unchanged slot
+seen_effect setup slot globals (DatagramIs protocol src dst bytes) =
     received_if setup slot globals (telegram_of protocol src dst bytes)
-event_effect setup slot globals (CallIs s call) = called setup slot globals call
-event_effect setup slot globals (AddSlotIs quotas) = unchanged slot
+seen_effect setup slot globals (CallIs s call) = called setup slot globals call
+seen_effect setup slot globals (AddSlotIs quotas) = unchanged slot
 
 -- what stands at a slot's number, an open slot or none, and the records that the number gets
 pub record Standing : Type 0 where
@@ -98,11 +98,11 @@ none_there = record { slot = None; records = [] }
 -- open none, or one is opened there and is told it
 abbrev pub number_effect : NodeSetup → Option SlotState → Globals → EventModel → Standing
 number_effect setup (Some slot) globals event = record {
-  slot = Some (event_effect setup slot globals event).slot;
-  records = (event_effect setup slot globals event).records;
+  slot = Some (seen_effect setup slot globals event).slot;
+  records = (seen_effect setup slot globals event).records;
 }
 number_effect setup None globals (AddSlotIs quotas) =
-    record { slot = Some (opened_slot quotas); records = Answers OpenedIs ∷ [] }
+    record { slot = Some (empty_slot quotas); records = Answers OpenedIs ∷ [] }
 number_effect setup None globals event = none_there
 
 -- an event of a node with n slots that is seen at number s: by an open slot what is in its view;
@@ -163,14 +163,14 @@ standing_after setup s n slot globals event =
 abbrev pub slot_after : NodeSetup → ℕ → SlotState → Globals → EventModel → SlotState
 slot_after setup s slot globals event =
     if is_in_view s slot globals event
-    then (event_effect setup slot globals event).slot
+    then (seen_effect setup slot globals event).slot
     else slot
 
 -- the records that an open slot s gets at any one event of the node
 abbrev pub records_after : NodeSetup → ℕ → SlotState → Globals → EventModel → List Content
 records_after setup s slot globals event =
     if is_in_view s slot globals event
-    then (event_effect setup slot globals event).records
+    then (seen_effect setup slot globals event).records
     else []
 
 -- effect of any event on slot s, whether the slot sees it or not: the calls of other slots are

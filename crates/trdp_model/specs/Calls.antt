@@ -10,7 +10,7 @@ use Rattle.trdp_model.specs.declared.any_object.AnyObject.TheVariants.{Requester
 use Rattle.trdp_model.specs.declared.any_object.AnyObject.TheVariants.{Caller}
 use Rattle.trdp_filter.specs.declared.md_filter.MdFilter.{MdFilter}
 use Rattle.trdp_md.specs.Listeners.{listening}
-use Rattle.trdp_md.specs.Callers.{called as new_caller}
+use Rattle.trdp_md.specs.Callers.{new_caller}
 use Rattle.trdp_pd.specs.Publishers.{PublisherState, published}
 use Rattle.trdp_pd.specs.Subscriptions.{SubscriptionState, subscribed}
 use Rattle.trdp_pd.specs.Requesters.{opened}
@@ -31,7 +31,7 @@ use Rattle.trdp_model.specs.declared.look.LookFault.TheVariants.{WrongKind as No
 use Rattle.trdp_model.specs.Looks.{as_subscription}
 use Rattle.trdp_model.specs.Configs.{NodeSetup, is_dataset, zero_size_of, is_fitting}
 use Rattle.trdp_model.specs.Records.{Content, AnswerModel, DoneIs, ValueIs, RefusedIs, Answers}
-use Rattle.trdp_model.specs.Slots.{Entry, SlotState, Outcome, entry_of}
+use Rattle.trdp_model.specs.Slots.{Entry, SlotState, Outcome, entry_under}
 use Rattle.trdp_model.specs.Openings.{refused, opening_refusal, opened_unless, opened_with}
 use Rattle.trdp_model.specs.Acts.{Act, answers, refuses, acted}
 use Rattle.trdp_model.specs.Events.{CallModel, PublishCall, PutCall, UnpublishCall, SubscribeCall}
@@ -43,6 +43,7 @@ use Rattle.trdp_model.specs.Pulls.{pulls}
 use Rattle.trdp_model.specs.Notices.{notify_refusal, notice}
 use Rattle.trdp_model.specs.Requests.{request_refusal, request_sent}
 use Rattle.trdp_model.specs.Replies.{replies, queries, reply_errors, confirms, aborts}
+use Rattle.trdp_head.specs.Limits.{pd_payload_limit}
 
 -- a time is 0 or at least 1,000 microseconds
 abbrev pub is_span : ℕ → Bool
@@ -52,7 +53,7 @@ is_span span = span == 0 || nat_le 1000 span
 abbrev pub dataset_refusal : NodeSetup → ℕ → Option Refusal → Option Refusal
 dataset_refusal setup dataset later =
     if not (is_dataset setup dataset) then Some NoDataset else
-    if nat_lt 1432 (zero_size_of setup dataset) then Some TooLong else later
+    if nat_lt pd_payload_limit (zero_size_of setup dataset) then Some TooLong else later
 
 -- first refusal of a publishing: the cycle, the dataset, the quota, the handles
 abbrev pub publish_refusal : NodeSetup → SlotState → PublisherTerms → Option Refusal
@@ -76,7 +77,7 @@ listen_refusal slot filter =
 -- why a publisher takes no such value: more than 1432 bytes, or no value of its dataset
 abbrev pub value_refusal : NodeSetup → ℕ → List ℕ → Option Refusal
 value_refusal setup dataset bytes =
-    if nat_lt 1432 (length bytes) then Some TooLong else
+    if nat_lt pd_payload_limit (length bytes) then Some TooLong else
     if not (is_fitting setup dataset bytes) then Some Shape else None
 
 -- a value that isn't refused is the publisher's from now on
@@ -120,7 +121,7 @@ at_entry (Some entry) slot handle act = record {
 
 -- the same, at the object of a handle
 abbrev pub at_object : SlotState → ℕ → (AnyObject → Act) → Outcome
-at_object slot handle act = at_entry (entry_of handle slot.objects) slot handle act
+at_object slot handle act = at_entry (entry_under handle slot.objects) slot handle act
 
 -- a call that concerns no object: it is done, and gives these records
 abbrev pub told_unless : Option Refusal → SlotState → List Content → Outcome

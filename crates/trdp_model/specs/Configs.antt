@@ -3,7 +3,7 @@ use Rattle.std.specs.Prelude.{ℕ, List, Bool, ◌==◌, ◌||◌, if◌then◌e
 use Rattle.trdp_dataset.specs.Datasets.{DatasetModel, is_known}
 use Rattle.trdp_dataset.specs.ZeroSizes.{zero_size}
 use Rattle.trdp_dataset.specs.Configs.{ConfigModel}
-use Rattle.trdp_marshal.specs.Reading.{is_fitting as fits_dataset}
+use Rattle.trdp_marshal.specs.Reading.{is_fitting_in as fits_dataset}
 
 -- what a slot may know of the configuration: the datasets, and the node's address and its ports of
 -- process and message data; neither the quotas nor the control port of another slot

@@ -5,7 +5,7 @@ use Rattle.trdp_model.specs.declared.any_object.AnyObject.TheVariants.{Subscript
 use Rattle.trdp_pd.specs.Subscriptions.{SubscriptionState}
 use Rattle.trdp_model.specs.declared.look.LookFault.{LookFault}
 use Rattle.trdp_model.specs.declared.look.LookFault.TheVariants.{NoHandle, WrongKind}
-use Rattle.trdp_model.specs.Slots.{Entry, entry_of}
+use Rattle.trdp_model.specs.Slots.{Entry, entry_under}
 
 -- the object as a subscription; an object of another kind is none
 abbrev pub as_subscription : AnyObject → Result SubscriptionState LookFault
@@ -19,4 +19,4 @@ subscription_of (Some entry) = as_subscription entry.object
 
 -- the subscription of a handle, or why there is none
 abbrev pub subscription_at : ℕ → List Entry → Result SubscriptionState LookFault
-subscription_at handle objects = subscription_of (entry_of handle objects)
+subscription_at handle objects = subscription_of (entry_under handle objects)

@@ -12,7 +12,7 @@ use Rattle.trdp_model.specs.declared.any_object.AnyObject.TheVariants.{Publisher
 use Rattle.trdp_pd.specs.declared.object.Fired.{Fired}
 use Rattle.trdp_pd.specs.declared.object.Fired.TheVariants.{Nothing, Data, Again, Silent}
 use Rattle.trdp_pd.specs.declared.object.Fired.TheVariants.{Closed}
-use Rattle.trdp_pd.specs.Due.{is_due_by}
+use Rattle.trdp_pd.specs.Due.{has_come_by}
 use Rattle.trdp_model.specs.Objects.{due_of, after_firing, fired}
 use Rattle.trdp_model.specs.declared.record.Protocol.TheVariants.{Md}
 use Rattle.trdp_model.specs.Records.{Content, Indicates, SilentIs, Sends, value_sent}
@@ -22,11 +22,11 @@ use Rattle.trdp_model.specs.Replies.{closing}
 
 -- the object is due by t
 abbrev pub is_due : ℕ → Entry → Bool
-is_due t entry = is_due_by t (due_of entry.object)
+is_due t entry = has_come_by t (due_of entry.object)
 
 -- the order of firing: by due moment, and of one due moment by handle
-abbrev pub is_before : Entry → Entry → Bool
-is_before a b =
+abbrev pub fires_before : Entry → Entry → Bool
+fires_before a b =
     nat_lt (unwrap_or (due_of a.object) 0) (unwrap_or (due_of b.object) 0)
     || (unwrap_or (due_of a.object) 0 == unwrap_or (due_of b.object) 0 && nat_lt a.handle b.handle)
 
@@ -34,7 +34,7 @@ is_before a b =
 abbrev pub inserted : Entry → List Entry → List Entry
 inserted entry [] = entry ∷ []
 inserted entry (first ∷ entries) =
-    if is_before first entry then first ∷ inserted entry entries else entry ∷ first ∷ entries
+    if fires_before first entry then first ∷ inserted entry entries else entry ∷ first ∷ entries
 
 -- objects in the order of firing
 abbrev pub in_order : List Entry → List Entry

@@ -8,7 +8,7 @@ use Rattle.trdp_filter.specs.Globals.{first_globals}
 use Rattle.trdp_model.specs.Records.{Content, RecordModel, records_of}
 use Rattle.trdp_model.specs.Events.{EventModel, MomentIs, TopologyIs, RoleIs}
 use Rattle.trdp_model.specs.Events.{DatagramIs, CallIs, AddSlotIs}
-use Rattle.trdp_model.specs.Slots.{SlotState, Outcome, opened_slot}
+use Rattle.trdp_model.specs.Slots.{SlotState, Outcome, empty_slot}
 use Rattle.trdp_model.specs.Configs.{setup_of}
 use Rattle.trdp_model.specs.Datagrams.{telegram_of, concerns}
 use Rattle.trdp_model.specs.Moments.{is_due}
@@ -38,7 +38,7 @@ opened_model config =
     record {
       config = config;
       globals = first_globals;
-      slots = map (λ slot. opened_slot slot.quotas) config.slots;
+      slots = map (λ slot. empty_slot slot.quotas) config.slots;
     }
 
 -- one event, as number s sees it, whether a slot is open there or not

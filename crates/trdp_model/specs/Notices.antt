@@ -15,6 +15,7 @@ use Rattle.trdp_model.specs.declared.fault.Refusal.{Refusal}
 use Rattle.trdp_model.specs.declared.fault.Refusal.TheVariants.{State, TooLong}
 use Rattle.trdp_model.specs.declared.record.Protocol.TheVariants.{Md}
 use Rattle.trdp_model.specs.Records.{Content, MessageModel, Indicates, NotifiedIs, Sends}
+use Rattle.trdp_head.specs.Limits.{md_payload_limit}
 
 -- a message as a listener's slot is told of it
 abbrev pub message_of : Place → MdTelegram → MessageModel
@@ -42,7 +43,7 @@ heard handle (MdIs src dst telegram) =
 abbrev pub notify_refusal : Globals → NotifyTerms → List ℕ → Option Refusal
 notify_refusal globals terms payload =
     if not (topo_valid terms.topo globals.topo) then Some State else
-    if nat_lt 65388 (length payload) then Some TooLong else None
+    if nat_lt md_payload_limit (length payload) then Some TooLong else None
 
 -- a notification as it is sent
 abbrev pub notice : NotifyTerms → List ℕ → Content

@@ -8,8 +8,8 @@ use Rattle.trdp_model.specs.declared.any_object.AnyObject.{AnyObject}
 use Rattle.trdp_model.specs.declared.any_object.AnyObject.TheVariants.{Publisher, Subscription}
 use Rattle.trdp_model.specs.declared.any_object.AnyObject.TheVariants.{Requester, Listener}
 use Rattle.trdp_model.specs.declared.any_object.AnyObject.TheVariants.{Caller, Replier}
-use Rattle.trdp_pd.specs.Effects.{Taking, taking_as}
-use Rattle.trdp_pd.specs.Due.{is_due_by}
+use Rattle.trdp_pd.specs.Effects.{Reception, taking_as}
+use Rattle.trdp_pd.specs.Due.{has_come_by}
 use Rattle.trdp_pd.specs.Publishers.{PublisherState}
 use Rattle.trdp_pd.specs.Subscriptions.{SubscriptionState}
 use Rattle.trdp_pd.specs.Requesters.{RequesterState}
@@ -38,33 +38,33 @@ pub taking-unaddressed :
     → taking object telegram globals fits ≡ record { object = object; taken = NotTaken }
 taking-unaddressed (Publisher p) telegram globals fits not =
     ap
-    (λ (t : Taking PublisherState). taking_as Publisher t)
+    (λ (t : Reception PublisherState). taking_as Publisher t)
     (publisher_taking-unaddressed p telegram globals fits not)
 taking-unaddressed (Subscription s) telegram globals fits not =
     ap
-    (λ (t : Taking SubscriptionState). taking_as Subscription t)
+    (λ (t : Reception SubscriptionState). taking_as Subscription t)
     (subscription_taking-unaddressed s telegram globals fits not)
 taking-unaddressed (Requester r) telegram globals fits not =
     ap
-    (λ (t : Taking RequesterState). taking_as Requester t)
+    (λ (t : Reception RequesterState). taking_as Requester t)
     (requester_taking-unaddressed r telegram globals fits not)
 taking-unaddressed (Listener l) telegram globals fits not =
     ap
-    (λ (t : Taking ListenerState). taking_as Listener t)
+    (λ (t : Reception ListenerState). taking_as Listener t)
     (listener_taking-unaddressed l telegram globals fits not)
 taking-unaddressed (Caller c) telegram globals fits not =
     ap
-    (λ (t : Taking CallerState). taking_as Caller t)
+    (λ (t : Reception CallerState). taking_as Caller t)
     (caller_taking-unaddressed c telegram globals fits not)
 taking-unaddressed (Replier r) telegram globals fits not =
     ap
-    (λ (t : Taking ReplierState). taking_as Replier t)
+    (λ (t : Reception ReplierState). taking_as Replier t)
     (replier_taking-unaddressed r telegram globals fits not)
 
 -- an object that fired isn't due by now
 pub due-firing :
     (object : AnyObject) (globals : Globals) → is_sound object ≡ true
-    → is_due_by globals.now (due_of (firing object globals).object) ≡ false
+    → has_come_by globals.now (due_of (firing object globals).object) ≡ false
 due-firing (Publisher p) globals sound = publisher_due-firing p globals
 due-firing (Subscription s) globals sound = subscription_due-firing s globals
 due-firing (Requester r) globals sound = requester_due-firing r globals
@@ -75,8 +75,8 @@ due-firing (Replier r) globals sound = replier_due-firing r globals
 -- a telegram makes no object due
 pub due-taking :
     (object : AnyObject) (telegram : TelegramModel) (globals : Globals) (fits : Bool)
-    → is_sound object ≡ true → is_due_by globals.now (due_of object) ≡ false
-    → is_due_by globals.now (due_of (taking object telegram globals fits).object) ≡ false
+    → is_sound object ≡ true → has_come_by globals.now (due_of object) ≡ false
+    → has_come_by globals.now (due_of (taking object telegram globals fits).object) ≡ false
 due-taking (Publisher p) telegram globals fits sound not =
     publisher_due-taking p telegram globals fits not
 due-taking (Subscription s) telegram globals fits sound not =

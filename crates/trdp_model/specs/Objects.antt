@@ -8,7 +8,7 @@ use Rattle.trdp_model.specs.declared.any_object.AnyObject.{AnyObject}
 use Rattle.trdp_model.specs.declared.any_object.AnyObject.TheVariants.{Publisher, Subscription}
 use Rattle.trdp_model.specs.declared.any_object.AnyObject.TheVariants.{Requester, Listener}
 use Rattle.trdp_model.specs.declared.any_object.AnyObject.TheVariants.{Caller, Replier}
-use Rattle.trdp_pd.specs.Effects.{Taking, Firing, taking_as, firing_as}
+use Rattle.trdp_pd.specs.Effects.{Reception, Firing, taking_as, firing_as}
 use Rattle.trdp_pd.specs.Publishers.{publisher_due, publisher_addressed, publisher_taking}
 use Rattle.trdp_pd.specs.Publishers.{publisher_firing}
 use Rattle.trdp_pd.specs.Subscriptions.{subscription_addressed, subscription_taking}
@@ -59,7 +59,7 @@ is_addressed (Caller c) telegram globals = caller_addressed c telegram globals
 is_addressed (Replier r) telegram globals = replier_addressed r telegram globals
 
 -- the object once it was handed a telegram, and what it did with it
-abbrev pub taking : AnyObject → TelegramModel → Globals → Bool → Taking AnyObject
+abbrev pub taking : AnyObject → TelegramModel → Globals → Bool → Reception AnyObject
 taking (Publisher p) telegram globals fits =
     taking_as Publisher (publisher_taking p telegram globals fits)
 taking (Subscription s) telegram globals fits =

@@ -7,7 +7,7 @@ use Rattle.trdp_model.specs.Kinds.{kind_index}
 use Rattle.trdp_model.specs.declared.fault.Refusal.{Refusal}
 use Rattle.trdp_model.specs.declared.fault.Refusal.TheVariants.{Quota, Exhausted}
 use Rattle.trdp_model.specs.Records.{Content, AnswerModel, HandleIs, RefusedIs, Answers}
-use Rattle.trdp_model.specs.Slots.{SlotState, Outcome, count_of, with_object}
+use Rattle.trdp_model.specs.Slots.{SlotState, Outcome, kind_count, with_new_object}
 
 -- a slot with that one answer
 abbrev pub answered : SlotState → AnswerModel → Outcome
@@ -21,7 +21,7 @@ refused slot refusal = answered slot (RefusedIs refusal)
 -- 2^32 - 1 are given out
 abbrev pub opening_refusal : SlotState → Kind → Option Refusal
 opening_refusal slot kind =
-    if nat_le (slice_index slot.quotas (kind_index kind)) (count_of kind slot.objects)
+    if nat_le (slice_index slot.quotas (kind_index kind)) (kind_count kind slot.objects)
     then Some Quota
     else if nat_lt 4294967295 slot.next then Some Exhausted else None
 
@@ -29,7 +29,7 @@ opening_refusal slot kind =
 abbrev pub opened_with : Option Refusal → SlotState → AnyObject → List Content → Outcome
 opened_with (Some refusal) slot object records = refused slot refusal
 opened_with None slot object records =
-    record { slot = with_object slot object; records = Answers (HandleIs slot.next) ∷ records }
+    record { slot = with_new_object slot object; records = Answers (HandleIs slot.next) ∷ records }
 
 -- a new object is answered by its handle
 abbrev pub opened_unless : Option Refusal → SlotState → AnyObject → Outcome

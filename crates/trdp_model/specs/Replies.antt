@@ -26,6 +26,7 @@ use Rattle.trdp_model.specs.declared.record.Protocol.TheVariants.{Md}
 use Rattle.trdp_model.specs.Records.{Content, DoneIs, Answers, ReplyModel, RepliedIs, ClosedIs}
 use Rattle.trdp_model.specs.Records.{Indicates, Sends}
 use Rattle.trdp_model.specs.Acts.{Act, refuses}
+use Rattle.trdp_head.specs.Limits.{md_payload_limit}
 
 -- an answer as its caller's slot is told of it
 abbrev pub reply_of : Place → MdTelegram → ReplyModel
@@ -47,28 +48,28 @@ abbrev pub closing : ℕ → Reason → Content
 closing handle reason = Indicates (ClosedIs handle reason)
 
 -- the stage in which a replier hasn't answered yet
-abbrev pub is_asked : Stage → Bool
-is_asked Asked = true
-is_asked AwaitConfirm = false
+abbrev pub is_unanswered : Stage → Bool
+is_unanswered Asked = true
+is_unanswered AwaitConfirm = false
 
 -- first refusal of a reply: the replier has answered by a query, a status below 0, more bytes than
 -- message data carries
 abbrev pub reply_refusal : AnyReplier → ℤ → List ℕ → Option Refusal
 reply_refusal r status payload =
-    if not (is_asked r.stage) then Some State else
+    if not (is_unanswered r.stage) then Some State else
     if int_lt status (pos 0) then Some Status else
-    if nat_lt 65388 (length payload) then Some TooLong else None
+    if nat_lt md_payload_limit (length payload) then Some TooLong else None
 
 -- first refusal of a query: the same, and behind the first a timeout below 1,000 microseconds
 abbrev pub query_refusal : AnyReplier → ℤ → ℕ → List ℕ → Option Refusal
 query_refusal r status timeout payload =
-    if not (is_asked r.stage) then Some State else
+    if not (is_unanswered r.stage) then Some State else
     if nat_lt timeout 1000 then Some Timeout else reply_refusal r status payload
 
 -- first refusal of an error: the replier has answered by a query, a status of 0 or more
 abbrev pub error_refusal : AnyReplier → ℤ → Option Refusal
 error_refusal r status =
-    if not (is_asked r.stage) then Some State else
+    if not (is_unanswered r.stage) then Some State else
     if int_le (pos 0) status then Some Status else None
 
 -- an answer that isn't refused goes to the replier's peer, and this is left of the replier

@@ -23,9 +23,10 @@ use Rattle.trdp_model.specs.declared.fault.Refusal.TheVariants.{State, Timeout, 
 use Rattle.trdp_model.specs.declared.fault.Refusal.TheVariants.{SessionOpen, Retries}
 use Rattle.trdp_model.specs.declared.record.Protocol.TheVariants.{Md}
 use Rattle.trdp_model.specs.Records.{Content, Indicates, AskedIs, OverrunIs, Sends}
-use Rattle.trdp_model.specs.Slots.{Entry, SlotState, Outcome, unchanged, with_object}
+use Rattle.trdp_model.specs.Slots.{Entry, SlotState, Outcome, unchanged, with_new_object}
 use Rattle.trdp_model.specs.Openings.{opening_refusal}
 use Rattle.trdp_model.specs.Notices.{message_of}
+use Rattle.trdp_head.specs.Limits.{md_payload_limit}
 
 -- the object is a caller or a replier of that session
 abbrev pub is_of_session : SessionId → AnyObject → Bool
@@ -52,7 +53,7 @@ request_refusal slot globals terms payload =
     if not (topo_valid terms.topo globals.topo) then Some State else
     if nat_lt terms.timeout 1000 then Some Timeout else
     if nat_lt 8 terms.expected then Some Expected else
-    if nat_lt 65388 (length payload) then Some TooLong else
+    if nat_lt md_payload_limit (length payload) then Some TooLong else
     if has_session Calling terms.session slot.objects then Some SessionOpen else
     option_or (opening_refusal slot Calling) (retries_refusal terms)
 
@@ -66,7 +67,7 @@ abbrev pub asked_unless : Option Refusal → SlotState → ℕ → Globals → P
 asked_unless (Some refusal) slot listener globals src telegram =
     record { slot = slot; records = Indicates (OverrunIs listener) ∷ [] }
 asked_unless None slot listener globals src telegram = record {
-  slot = with_object slot (Replier (asked_by src telegram.head globals.now));
+  slot = with_new_object slot (Replier (asked_by src telegram.head globals.now));
   records =
       Indicates
       (AskedIs listener slot.next telegram.head.session (message_of src telegram))

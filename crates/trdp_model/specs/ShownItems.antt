@@ -16,9 +16,9 @@ use Rattle.trdp_model.specs.Looks.{subscription_at}
 use Rattle.trdp_model.specs.Slots.{SlotState}
 
 -- the same fault of a look at an item
-abbrev pub value_fault : LookFault → ValueFault
-value_fault NoHandle = NoHandleToShow
-value_fault WrongKind = WrongKindToShow
+abbrev pub shown_fault : LookFault → ValueFault
+shown_fault NoHandle = NoHandleToShow
+shown_fault WrongKind = WrongKindToShow
 
 -- a subscription whose value is an item: the bytes of dataset 0 are no item
 abbrev pub showing : SubscriptionState → Result SubscriptionState ValueFault
@@ -27,7 +27,7 @@ showing s = if s.terms.dataset == 0 then Err NoDataset else Ok s
 -- the same, if there is a subscription
 abbrev pub showing_of : Result SubscriptionState LookFault → Result SubscriptionState ValueFault
 showing_of (Ok s) = showing s
-showing_of (Err fault) = Err (value_fault fault)
+showing_of (Err fault) = Err (shown_fault fault)
 
 -- the same of the subscription of a handle in a slot, if there is one
 abbrev pub showing_in : Option SlotState → ℕ → Result SubscriptionState ValueFault

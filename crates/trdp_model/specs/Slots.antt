@@ -35,20 +35,20 @@ abbrev pub unchanged : SlotState → Outcome
 unchanged slot = record { slot = slot; records = [] }
 
 -- an empty slot, whose first handle will be 1
-abbrev pub opened_slot : List ℕ → SlotState
-opened_slot quotas = record { quotas = quotas; next = 1; objects = [] }
+abbrev pub empty_slot : List ℕ → SlotState
+empty_slot quotas = record { quotas = quotas; next = 1; objects = [] }
 
 -- how many objects are of a kind, and so count for its quota
-abbrev pub count_of : Kind → List Entry → ℕ
-count_of kind objects = count_by (λ entry. is_same_kind (kind_of entry.object) kind) objects
+abbrev pub kind_count : Kind → List Entry → ℕ
+kind_count kind objects = count_by (λ entry. is_same_kind (kind_of entry.object) kind) objects
 
 -- the object of a handle
-abbrev pub entry_of : ℕ → List Entry → Option Entry
-entry_of handle objects = find (λ entry. entry.handle == handle) objects
+abbrev pub entry_under : ℕ → List Entry → Option Entry
+entry_under handle objects = find (λ entry. entry.handle == handle) objects
 
 -- a new object gets the next handle and stands last
-abbrev pub with_object : SlotState → AnyObject → SlotState
-with_object slot object =
+abbrev pub with_new_object : SlotState → AnyObject → SlotState
+with_new_object slot object =
     record slot {
       next = slot.next + 1;
       objects = slot.objects ++ record { handle = slot.next; object = object } ∷ [];

@@ -35,7 +35,7 @@ pub fn same_view()
 
 /// The law of the view: an admitted event that a slot doesn't see does nothing in that slot's own
 /// model. What the slot sees comes to the same as all events, the calls of other slots left out.
-#[tactic(auto, using(crate::proofs::Views::view_is_plain))]
+#[tactic(auto, using(crate::proofs::ViewLemmas::view_is_plain))]
 pub fn view_drops_nothing()
     ensures { (setup : NodeSetup) (s n : ℕ) (slot : SlotState) (globals : Globals)
         (event : EventModel) → refused_as n globals event ≡ None
@@ -48,7 +48,7 @@ pub fn view_drops_nothing()
 
 /// A request is for listeners alone, so that what it does to a slot is what its first listener and
 /// the slot make of it.
-#[tactic(auto, using(crate::proofs::Unasked::for_listeners))]
+#[tactic(auto, using(crate::proofs::RequestLemmas::for_listeners))]
 pub fn requests_are_for_listeners()
     ensures { (object : AnyObject) (telegram : TelegramModel) (globals : Globals)
         → is_request telegram ≡ true → is_addressed object telegram globals ≡ true

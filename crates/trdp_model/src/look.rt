@@ -61,9 +61,9 @@ pub enum ValueFault {
 
 impl From<LookFault> for ValueFault {
     ghost use Rattle.std.specs.Prelude.{◌≡◌};
-    ghost use Rattle.trdp_model.specs.ShownItems.{value_fault};
+    ghost use Rattle.trdp_model.specs.ShownItems.{shown_fault};
 
-    ghost from_gives = { λ fault result. result ≡ value_fault fault };
+    ghost from_gives = { λ fault result. result ≡ shown_fault fault };
 
     fn from(fault: LookFault) -> ValueFault {
         match fault {

@@ -1,3 +1,3 @@
-pub mod Sending
-pub mod Receiving
-pub mod Moments
+pub mod PublisherLemmas
+pub mod SubscriptionLemmas
+pub mod MomentLemmas

@@ -7,6 +7,6 @@ IsDueBy None now = ⊥
 IsDueBy (Some due) now = due ≤ now
 
 -- the moment has come by t
-abbrev pub is_due_by : ℕ → Option ℕ → Bool
-is_due_by t None = false
-is_due_by t (Some due) = nat_le due t
+abbrev pub has_come_by : ℕ → Option ℕ → Bool
+has_come_by t None = false
+has_come_by t (Some due) = nat_le due t

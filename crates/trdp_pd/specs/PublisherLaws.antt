@@ -9,7 +9,7 @@ use Rattle.trdp_head.specs.declared.pd.PdHead.{PdHead}
 use Rattle.trdp_filter.specs.declared.globals.Globals.{Globals}
 use Rattle.trdp_filter.specs.Telegrams.{TelegramModel, PdIs, MdIs}
 use Rattle.trdp_pd.specs.declared.object.Taken.TheVariants.{Nothing as NotTaken}
-use Rattle.trdp_pd.specs.Due.{is_due_by}
+use Rattle.trdp_pd.specs.Due.{has_come_by}
 use Rattle.trdp_pd.specs.Publishers.{PublisherState, is_answered, is_asked, may_send, next_due}
 use Rattle.trdp_pd.specs.Publishers.{publisher_addressed, publisher_due, publisher_firing}
 use Rattle.trdp_pd.specs.Publishers.{publisher_taking}
@@ -24,10 +24,10 @@ pub nat_le-past : (a b : ℕ) → b < a → nat_le a b ≡ false
 nat_le-past a b lt = grind (arith, nat_tests)
 
 -- what the firing of a publisher leaves
-due-firing :
+publisher_firing-due :
     (p : PublisherState) (globals : Globals)
     → (publisher_firing p globals).object.due ≡ next_due p globals.now
-due-firing p globals = either (may_send p globals) refl
+publisher_firing-due p globals = either (may_send p globals) refl
   where
     either :
         (b : Bool) → may_send p globals ≡ b
@@ -48,13 +48,14 @@ terms-firing p globals = either (may_send p globals) refl
 -- a publisher that fired isn't due by now
 pub publisher_due-firing :
     (p : PublisherState) (globals : Globals)
-    → is_due_by globals.now (publisher_due (publisher_firing p globals).object) ≡ false
+    → has_come_by globals.now (publisher_due (publisher_firing p globals).object) ≡ false
 publisher_due-firing p globals =
-    rw (terms-firing p globals, due-firing p globals) (either (p.terms.cycle == 0) refl)
+    rw (terms-firing p globals, publisher_firing-due p globals) (either (p.terms.cycle == 0) refl)
   where
     either :
         (b : Bool) → (p.terms.cycle == 0) ≡ b
-        → is_due_by globals.now (publisher_due (record p { due = next_due p globals.now })) ≡ false
+        → has_come_by globals.now (publisher_due (record p { due = next_due p globals.now }))
+        ≡ false
     either true is = rw is refl
     either false is =
         let some : 0 < p.terms.cycle = grind (arith, nat_tests) in
@@ -80,15 +81,15 @@ publisher_taking-unaddressed p (MdIs src dst telegram) globals fits is = refl
 -- a telegram makes no publisher due
 pub publisher_due-taking :
     (p : PublisherState) (telegram : TelegramModel) (globals : Globals) (fits : Bool)
-    → is_due_by globals.now (publisher_due p) ≡ false
-    → is_due_by globals.now (publisher_due (publisher_taking p telegram globals fits).object)
+    → has_come_by globals.now (publisher_due p) ≡ false
+    → has_come_by globals.now (publisher_due (publisher_taking p telegram globals fits).object)
     ≡ false
 publisher_due-taking p (PdIs src dst telegram) globals fits not =
     either (is_answered p telegram.head globals) refl
   where
     either :
         (b : Bool) → is_answered p telegram.head globals ≡ b
-        → is_due_by
+        → has_come_by
         globals.now
         (publisher_due (publisher_taking p (PdIs src dst telegram) globals fits).object)
         ≡ false

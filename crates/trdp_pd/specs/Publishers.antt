@@ -12,7 +12,7 @@ use Rattle.trdp_filter.specs.Telegrams.{TelegramModel, PdIs, MdIs}
 use Rattle.trdp_pd.specs.declared.terms.PublisherTerms.{PublisherTerms}
 use Rattle.trdp_pd.specs.declared.object.Taken.TheVariants.{Nothing as NotTaken, Pulled}
 use Rattle.trdp_pd.specs.declared.object.Fired.TheVariants.{Nothing, Data}
-use Rattle.trdp_pd.specs.Effects.{Taking, Firing}
+use Rattle.trdp_pd.specs.Effects.{Reception, Firing}
 
 -- a publisher: what it is to send, when it is next due, its value if it has one, and the counter
 -- of its next telegram
@@ -107,7 +107,7 @@ is_answered p head globals = is_asked p head && may_send p globals
 -- pull answer: one telegram out of the cycle, which is counted like those of the cycle and leaves
 -- the due moment
 abbrev pub publisher_taking :
-    PublisherState → TelegramModel → Globals → Bool → Taking PublisherState
+    PublisherState → TelegramModel → Globals → Bool → Reception PublisherState
 publisher_taking p (PdIs src dst telegram) globals fits =
     if is_answered p telegram.head globals
     then record {

@@ -4,7 +4,7 @@ use Rattle.std.specs.Prelude.{◌≡◌, Bool, false, refl}
 use Rattle.trdp_filter.specs.declared.globals.Globals.{Globals}
 use Rattle.trdp_filter.specs.Telegrams.{TelegramModel}
 use Rattle.trdp_pd.specs.declared.object.Taken.TheVariants.{Nothing as NotTaken}
-use Rattle.trdp_pd.specs.Due.{is_due_by}
+use Rattle.trdp_pd.specs.Due.{has_come_by}
 use Rattle.trdp_pd.specs.Requesters.{RequesterState, requester_due, requester_addressed}
 use Rattle.trdp_pd.specs.Requesters.{requester_taking, requester_firing}
 
@@ -18,13 +18,13 @@ requester_taking-unaddressed r telegram globals fits not = refl
 -- a requester isn't due
 pub requester_due-firing :
     (r : RequesterState) (globals : Globals)
-    → is_due_by globals.now (requester_due (requester_firing r globals).object) ≡ false
+    → has_come_by globals.now (requester_due (requester_firing r globals).object) ≡ false
 requester_due-firing r globals = refl
 
 -- a telegram makes no requester due
 pub requester_due-taking :
     (r : RequesterState) (telegram : TelegramModel) (globals : Globals) (fits : Bool)
-    → is_due_by globals.now (requester_due r) ≡ false
-    → is_due_by globals.now (requester_due (requester_taking r telegram globals fits).object)
+    → has_come_by globals.now (requester_due r) ≡ false
+    → has_come_by globals.now (requester_due (requester_taking r telegram globals fits).object)
     ≡ false
 requester_due-taking r telegram globals fits not = not

@@ -7,7 +7,7 @@ use Rattle.trdp_filter.specs.Telegrams.{TelegramModel}
 use Rattle.trdp_pd.specs.declared.terms.RequesterTerms.{RequesterTerms}
 use Rattle.trdp_pd.specs.declared.object.Taken.TheVariants.{Nothing as NotTaken}
 use Rattle.trdp_pd.specs.declared.object.Fired.TheVariants.{Nothing}
-use Rattle.trdp_pd.specs.Effects.{Taking, Firing}
+use Rattle.trdp_pd.specs.Effects.{Reception, Firing}
 use Rattle.trdp_pd.specs.Publishers.{next_counter}
 
 -- a requester: what it asks for, and the counter of its next pull request
@@ -49,7 +49,7 @@ requester_addressed r telegram globals = false
 
 -- a requester takes no telegram
 abbrev pub requester_taking :
-    RequesterState → TelegramModel → Globals → Bool → Taking RequesterState
+    RequesterState → TelegramModel → Globals → Bool → Reception RequesterState
 requester_taking r telegram globals fits = record { object = r; taken = NotTaken }
 
 -- a requester does nothing by itself

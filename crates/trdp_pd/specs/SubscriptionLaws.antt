@@ -8,18 +8,20 @@ use Rattle.trdp_head.specs.declared.pd.PdHead.{PdHead}
 use Rattle.trdp_filter.specs.declared.globals.Globals.{Globals}
 use Rattle.trdp_filter.specs.Telegrams.{TelegramModel, PdIs, MdIs}
 use Rattle.trdp_pd.specs.declared.object.Taken.TheVariants.{Nothing as NotTaken}
-use Rattle.trdp_pd.specs.Due.{is_due_by}
+use Rattle.trdp_pd.specs.Due.{has_come_by}
 use Rattle.trdp_pd.specs.PublisherLaws.{nat_le-past}
-use Rattle.trdp_pd.specs.Subscriptions.{SubscriptionState, deadline_from, is_for, is_accepted}
+use Rattle.trdp_pd.specs.Subscriptions.{SubscriptionState, deadline_from, is_for_subscription}
+use Rattle.trdp_pd.specs.Subscriptions.{is_accepted_value}
 use Rattle.trdp_pd.specs.Subscriptions.{subscription_addressed, subscription_taking}
 use Rattle.trdp_pd.specs.Subscriptions.{subscription_firing}
 
 -- a telegram that isn't for a subscription isn't accepted
-is_accepted-unaddressed :
+is_accepted_value-unaddressed :
     (s : SubscriptionState) (src dst : Place) (head : PdHead) (globals : Globals) (fits : Bool)
-    → is_for s src dst head globals ≡ false → is_accepted s src dst head globals fits ≡ false
-unfolding is_accepted
-is_accepted-unaddressed s src dst head globals fits is = rw is refl
+    → is_for_subscription s src dst head globals ≡ false
+    → is_accepted_value s src dst head globals fits ≡ false
+unfolding is_accepted_value
+is_accepted_value-unaddressed s src dst head globals fits is = rw is refl
 
 -- a telegram that isn't for a subscription changes nothing
 pub subscription_taking-unaddressed :
@@ -27,38 +29,38 @@ pub subscription_taking-unaddressed :
     → subscription_addressed s telegram globals ≡ false
     → subscription_taking s telegram globals fits ≡ record { object = s; taken = NotTaken }
 subscription_taking-unaddressed s (PdIs src dst telegram) globals fits is =
-    rw (is_accepted-unaddressed s src dst telegram.head globals fits is) refl
+    rw (is_accepted_value-unaddressed s src dst telegram.head globals fits is) refl
 subscription_taking-unaddressed s (MdIs src dst telegram) globals fits is = refl
 
 -- a subscription that fired has no deadline
 pub subscription_due-firing :
     (s : SubscriptionState) (globals : Globals)
-    → is_due_by globals.now (subscription_firing s globals).object.deadline ≡ false
+    → has_come_by globals.now (subscription_firing s globals).object.deadline ≡ false
 subscription_due-firing s globals = refl
 
 -- a supervision time that begins now ends later
 pub deadline_from-later :
-    (supervision now : ℕ) → is_due_by now (deadline_from supervision now) ≡ false
+    (supervision now : ℕ) → has_come_by now (deadline_from supervision now) ≡ false
 unfolding deadline_from
 deadline_from-later supervision now = either (supervision == 0) refl
   where
     either :
         (b : Bool) → (supervision == 0) ≡ b
-        → is_due_by now (deadline_from supervision now) ≡ false
+        → has_come_by now (deadline_from supervision now) ≡ false
     either true is = rw is refl
     either false is = rw is (nat_le-past (now + supervision) now (grind (arith, nat_tests)))
 
 -- a telegram makes no subscription due
 pub subscription_due-taking :
     (s : SubscriptionState) (telegram : TelegramModel) (globals : Globals) (fits : Bool)
-    → is_due_by globals.now s.deadline ≡ false
-    → is_due_by globals.now (subscription_taking s telegram globals fits).object.deadline ≡ false
+    → has_come_by globals.now s.deadline ≡ false
+    → has_come_by globals.now (subscription_taking s telegram globals fits).object.deadline ≡ false
 subscription_due-taking s (PdIs src dst telegram) globals fits not =
-    either (is_accepted s src dst telegram.head globals fits) refl
+    either (is_accepted_value s src dst telegram.head globals fits) refl
   where
     either :
-        (b : Bool) → is_accepted s src dst telegram.head globals fits ≡ b
-        → is_due_by
+        (b : Bool) → is_accepted_value s src dst telegram.head globals fits ≡ b
+        → has_come_by
         globals.now
         (subscription_taking s (PdIs src dst telegram) globals fits).object.deadline
         ≡ false

@@ -7,7 +7,7 @@ use Rattle.trdp_base.specs.declared.place.Place.{Place}
 use Rattle.trdp_head.specs.declared.pd.PdHead.{PdHead}
 use Rattle.trdp_head.specs.declared.pd.PdKind.{PdKind}
 use Rattle.trdp_head.specs.declared.pd.PdKind.TheVariants.{Data, PullReply}
-use Rattle.trdp_head.specs.PdKinds.{code_of}
+use Rattle.trdp_head.specs.PdKinds.{pd_code_of}
 use Rattle.trdp_head.specs.PdTelegrams.{PdTelegram}
 use Rattle.trdp_filter.specs.declared.globals.Globals.{Globals}
 use Rattle.trdp_filter.specs.PdFilters.{pd_passes}
@@ -22,7 +22,7 @@ use Rattle.trdp_pd.specs.declared.terms.Latest.{Latest}
 use Rattle.trdp_pd.specs.declared.object.Taken.{Taken}
 use Rattle.trdp_pd.specs.declared.object.Taken.TheVariants.{Nothing, Stored, Alive}
 use Rattle.trdp_pd.specs.declared.object.Fired.TheVariants.{Silent}
-use Rattle.trdp_pd.specs.Effects.{Taking, Firing}
+use Rattle.trdp_pd.specs.Effects.{Reception, Firing}
 
 -- a subscription: its terms, the size of its dataset's zero value, its deadline if it has one, how
 -- good its value is, the counter that it shows, the latest telegram that it took unless it timed
@@ -63,28 +63,34 @@ carries_value Data = true
 carries_value PullReply = true
 carries_value _ = false
 
--- stale: of the source address and message type of the latest accepted telegram, and less than 16
--- behind it modulo 2^32
+-- how many sequence counters before the latest one are those of old telegrams (profile)
+abbrev pub stale_window : ℕ
+stale_window = 16
+
+-- stale: of the source address and message type of the latest accepted telegram, and its counter
+-- less than the window behind that one's, modulo 2^32
 unfoldable pub is_stale : Option Latest → Ip → PdHead → Bool
 is_stale None source head = false
 is_stale (Some latest) source head =
-    latest.source.0 == source.0 && code_of latest.kind == code_of head.kind
-    && nat_lt ((latest.counter + 2 ^ 32 - head.counter) % 2 ^ 32) 16
+    latest.source.0 == source.0 && pd_code_of latest.kind == pd_code_of head.kind
+    && nat_lt ((latest.counter + 2 ^ 32 - head.counter) % 2 ^ 32) stale_window
 
 -- the telegram is data or a pull reply, and the filter passes it
-unfoldable pub is_for : SubscriptionState → Place → Place → PdHead → Globals → Bool
-is_for s src dst head globals =
+unfoldable pub is_for_subscription : SubscriptionState → Place → Place → PdHead → Globals → Bool
+is_for_subscription s src dst head globals =
     carries_value head.kind && pd_passes s.terms.filter src dst head globals.topo
 
 -- acceptance: the telegram is for the subscription, its payload fits the dataset, and it isn't
 -- stale
-unfoldable pub is_accepted : SubscriptionState → Place → Place → PdHead → Globals → Bool → Bool
-is_accepted s src dst head globals fits =
-    is_for s src dst head globals && fits && not (is_stale s.latest src.ip head)
+unfoldable pub is_accepted_value : SubscriptionState → Place → Place → PdHead → Globals → Bool
+    → Bool
+is_accepted_value s src dst head globals fits =
+    is_for_subscription s src dst head globals && fits && not (is_stale s.latest src.ip head)
 
 -- what the telegrams for a subscription are; no message is for one
 abbrev pub subscription_addressed : SubscriptionState → TelegramModel → Globals → Bool
-subscription_addressed s (PdIs src dst telegram) globals = is_for s src dst telegram.head globals
+subscription_addressed s (PdIs src dst telegram) globals =
+    is_for_subscription s src dst telegram.head globals
 subscription_addressed s (MdIs src dst telegram) globals = false
 
 -- an accepted telegram sets value, counter, memory and state, and the supervision time begins anew
@@ -108,9 +114,9 @@ taken_in _ = Stored
 
 -- reception: an accepted telegram is stored, any other changes nothing
 abbrev pub subscription_taking :
-    SubscriptionState → TelegramModel → Globals → Bool → Taking SubscriptionState
+    SubscriptionState → TelegramModel → Globals → Bool → Reception SubscriptionState
 subscription_taking s (PdIs src dst telegram) globals fits =
-    if is_accepted s src dst telegram.head globals fits
+    if is_accepted_value s src dst telegram.head globals fits
     then record { object = storing s src telegram globals.now; taken = taken_in s.state }
     else record { object = s; taken = Nothing }
 subscription_taking s (MdIs src dst telegram) globals fits = record { object = s; taken = Nothing }

@@ -1,6 +1,7 @@
 //! Room for one payload.
 
 ghost use Rattle.std.specs.Prelude.{◌≡◌, ℕ, ◌≤◌, [], length, replicate, IfOk};
+ghost use Rattle.trdp_head.specs.Limits.{pd_payload_limit};
 
 use std::alloc::{AllocError, Global};
 use std::marker::Model;
@@ -19,12 +20,13 @@ pub struct PayloadBuffer {
 impl Model for PayloadBuffer {
     ghost use Rattle.std.specs.Prelude.{◌≡◌, ◌≤◌, take, vec_capacity, vec_len};
     ghost use Rattle.trdp_pd.specs.Payloads.{PayloadState};
+    ghost use Rattle.trdp_head.specs.Limits.{pd_payload_limit};
 
     ghost Value = { PayloadState };
 
     ghost view = { λ b. record { bytes = take b.size b.room.items; room = vec_capacity b.room } };
 
-    ghost invariant = { λ b. (vec_len b.room ≡ 1432) × (b.size ≤ 1432) };
+    ghost invariant = { λ b. (vec_len b.room ≡ pd_payload_limit) × (b.size ≤ pd_payload_limit) };
 }
 
 impl PayloadBuffer {
@@ -34,7 +36,7 @@ impl PayloadBuffer {
     /// [`AllocError`] where there is no memory for it.
     pub fn new(alloc: Global) -> Result<PayloadBuffer, AllocError>
         ensures bytes { IfOk result (λ payload. payload.bytes ≡ []) }
-        ensures room { IfOk result (λ payload. 1432 ≤ payload.room) }
+        ensures room { IfOk result (λ payload. pd_payload_limit ≤ payload.room) }
     {
         let room = Vec::from_elem(alloc, 0, PD_PAYLOAD_MAX)?;
         Ok(PayloadBuffer { room, size: 0 })
@@ -43,14 +45,14 @@ impl PayloadBuffer {
     /// The payload.
     pub fn bytes(&self) -> &[u8]
         ensures value { result.now ≡ self.now.bytes }
-        ensures within { length result.now ≤ 1432 }
+        ensures within { length result.now ≤ pd_payload_limit }
     {
         &self.room[..self.size]
     }
 
     /// Replaces the payload by these bytes.
     pub fn set(&mut self, bytes: &[u8])
-        requires { length bytes.now ≤ 1432 }
+        requires { length bytes.now ≤ pd_payload_limit }
         ensures { self.new ≡ record self.old { bytes = bytes.now } }
     {
         let (payload, _) = self.room.split_at_mut(bytes.len());
@@ -60,7 +62,7 @@ impl PayloadBuffer {
 
     /// Replaces the payload by that many zeros.
     pub fn set_zeros(&mut self, size: usize)
-        requires { size ≤ 1432 }
+        requires { size ≤ pd_payload_limit }
         ensures { self.new ≡ record self.old { bytes = replicate size 0 } }
     {
         let (payload, _) = self.room.split_at_mut(size);

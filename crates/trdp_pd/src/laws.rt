@@ -7,7 +7,7 @@ ghost use Rattle.trdp_filter.specs.declared.globals.Globals.{Globals};
 ghost use Rattle.trdp_filter.specs.Telegrams.{TelegramModel};
 ghost use Rattle.trdp_pd.specs.declared.terms.PublisherTerms.{PublisherTerms};
 ghost use Rattle.trdp_pd.specs.declared.terms.SubscriptionTerms.{SubscriptionTerms};
-ghost use Rattle.trdp_pd.specs.Due.{is_due_by};
+ghost use Rattle.trdp_pd.specs.Due.{has_come_by};
 ghost use Rattle.trdp_pd.specs.Publishers.{PublisherState, published, publisher_due};
 ghost use Rattle.trdp_pd.specs.Publishers.{publisher_taking, publisher_firing};
 ghost use Rattle.trdp_pd.specs.Subscriptions.{SubscriptionState, HasTaken, subscribed};
@@ -19,9 +19,9 @@ use crate::terms::ValueState;
 /// A new object is due later than now, if ever.
 pub fn new_is_later()
     ensures publisher { (terms : PublisherTerms) (now : ℕ)
-        → is_due_by now (publisher_due (published terms now)) ≡ false }
+        → has_come_by now (publisher_due (published terms now)) ≡ false }
     ensures subscription { (terms : SubscriptionTerms) (zero_size now : ℕ)
-        → is_due_by now (subscribed terms zero_size now).deadline ≡ false }
+        → has_come_by now (subscribed terms zero_size now).deadline ≡ false }
 {}
 
 /// Neither a telegram nor a moment changes what a publisher is to send, or its value; and no

@@ -4,8 +4,8 @@ ghost use Rattle.std.specs.Prelude.{◌≡◌, ℕ, ◌≤◌, Option, Bool, tru
 ghost use Rattle.trdp_base.specs.Moments.{last_moment};
 ghost use Rattle.trdp_filter.specs.Telegrams.{TelegramModel, telegram_model, IsWithinLimit};
 ghost use Rattle.trdp_filter.specs.declared.globals.Globals.{Globals};
-ghost use Rattle.trdp_pd.specs.Due.{IsDueBy, is_due_by};
-ghost use Rattle.trdp_pd.specs.Effects.{Taking, Firing};
+ghost use Rattle.trdp_pd.specs.Due.{IsDueBy, has_come_by};
+ghost use Rattle.trdp_pd.specs.Effects.{Reception, Firing};
 
 use trdp_filter::{Globals, Telegram};
 use trdp_head::{MdHead, PdHead};
@@ -82,7 +82,7 @@ pub trait Object {
 
     /// The object once it was handed a telegram, which fits its dataset or doesn't, and what it
     /// did with it.
-    ghost taking: { Self → TelegramModel → Globals → Bool → Taking Self };
+    ghost taking: { Self → TelegramModel → Globals → Bool → Reception Self };
 
     /// The object once it fired, and what it did.
     ghost firing: { Self → Globals → Firing Self };
@@ -123,12 +123,12 @@ pub trait Object {
 
     /// An object that fired isn't due by now.
     ghost later: { (x : Self) (globals : Globals) → is_sound x ≡ true
-        → is_due_by globals.now (due_of (firing x globals).object) ≡ false };
+        → has_come_by globals.now (due_of (firing x globals).object) ≡ false };
 
     /// An object that isn't due before it is handed a telegram isn't due after it.
     ghost undue: { (x : Self) (telegram : TelegramModel) (globals : Globals) (fits : Bool)
-        → is_sound x ≡ true → is_due_by globals.now (due_of x) ≡ false
-        → is_due_by globals.now (due_of (taking x telegram globals fits).object) ≡ false };
+        → is_sound x ≡ true → has_come_by globals.now (due_of x) ≡ false
+        → has_come_by globals.now (due_of (taking x telegram globals fits).object) ≡ false };
 
     /// A sound object that was handed a telegram is sound.
     ghost kept_sound_by_taking: { (x : Self) (telegram : TelegramModel) (globals : Globals)

@@ -70,6 +70,7 @@ fn asked_com_id(head: &PdHead) -> u32
 impl Publisher {
     ghost use Rattle.trdp_pd.specs.Publishers.{PublisherState, published, may_send, is_asked};
     ghost use Rattle.trdp_pd.specs.Publishers.{is_answered, head_as, next_counter};
+    ghost use Rattle.trdp_head.specs.Limits.{pd_payload_limit};
 
     /// A publisher without a value, first due one cycle after `now`, in microseconds (profile).
     ///
@@ -92,7 +93,7 @@ impl Publisher {
 
     /// Gives it a new value of at most 1432 bytes.
     pub fn put(&mut self, bytes: &[u8])
-        requires { length bytes.now ≤ 1432 }
+        requires { length bytes.now ≤ pd_payload_limit }
         ensures { self.new ≡ record self.old { value = Some bytes.now } }
     {
         self.buffer.set(bytes);
@@ -102,7 +103,7 @@ impl Publisher {
     /// Its value, at most 1432 bytes; None before the first put.
     pub fn value(&self) -> Option<&[u8]>
         ensures value { option_copied result ≡ self.now.value }
-        ensures within { IfSome result (λ bytes. length bytes.now ≤ 1432) }
+        ensures within { IfSome result (λ bytes. length bytes.now ≤ pd_payload_limit) }
     {
         if self.has_value {
             Some(self.buffer.bytes())

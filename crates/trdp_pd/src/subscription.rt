@@ -4,6 +4,7 @@ ghost use Rattle.std.specs.Prelude.{◌≡◌, ℕ, ◌≤◌, length, IfOk};
 ghost use Rattle.trdp_base.specs.Moments.{last_moment};
 ghost use Rattle.trdp_pd.specs.Subscriptions.{first_size, deadline_from, carries_value, is_stale};
 ghost use Rattle.trdp_pd.specs.Subscriptions.{taken_in};
+ghost use Rattle.trdp_head.specs.Limits.{pd_payload_limit};
 
 use crate::buffer::PayloadBuffer;
 use crate::object::{Fired, Object, Taken};
@@ -42,6 +43,7 @@ pub struct Subscription {
 impl Model for Subscription {
     ghost use Rattle.std.specs.Prelude.{◌≤◌};
     ghost use Rattle.trdp_pd.specs.Subscriptions.{SubscriptionState};
+    ghost use Rattle.trdp_head.specs.Limits.{pd_payload_limit};
 
     ghost Value = { SubscriptionState };
 
@@ -55,16 +57,16 @@ impl Model for Subscription {
       value = s.value.bytes;
     } };
 
-    ghost invariant = { λ s. s.zero_size ≤ 1432 };
+    ghost invariant = { λ s. s.zero_size ≤ pd_payload_limit };
 }
 
 /// The length of a new subscription's value in bytes: that of its dataset's zero value, which is
 /// given, and 0 for dataset 0, whatever is given.
 #[tactic(auto, unfolding(crate::specs::Subscriptions::first_size))]
 fn first_size(terms: &SubscriptionTerms, zero_size: usize) -> usize
-    requires { zero_size ≤ 1432 }
+    requires { zero_size ≤ pd_payload_limit }
     ensures size { result ≡ first_size terms.now zero_size }
-    ensures within { result ≤ 1432 }
+    ensures within { result ≤ pd_payload_limit }
 {
     if terms.dataset == 0 { 0 } else { zero_size }
 }
@@ -121,9 +123,11 @@ fn taken_in(state: ValueState) -> Taken
 
 impl Subscription {
     ghost use Rattle.trdp_head.specs.PdTelegrams.{PdTelegram};
-    ghost use Rattle.trdp_pd.specs.Subscriptions.{SubscriptionState, subscribed, is_for};
-    ghost use Rattle.trdp_pd.specs.Subscriptions.{is_accepted, storing, value_after_time_out};
+    ghost use Rattle.trdp_pd.specs.Subscriptions.{SubscriptionState, subscribed};
+    ghost use Rattle.trdp_pd.specs.Subscriptions.{is_for_subscription};
+    ghost use Rattle.trdp_pd.specs.Subscriptions.{is_accepted_value, storing, value_after_time_out};
     ghost use Rattle.trdp_pd.specs.Peeks.{peek_model, shown};
+    ghost use Rattle.trdp_head.specs.Limits.{pd_payload_limit};
 
     /// A subscription that shows the zero value of its dataset, supervised from `now` on, in
     /// microseconds (profile).
@@ -139,7 +143,7 @@ impl Subscription {
         zero_size: usize,
         now: u64,
     ) -> Result<Subscription, AllocError>
-        requires zero_size { zero_size ≤ 1432 }
+        requires zero_size { zero_size ≤ pd_payload_limit }
         requires now { now ≤ last_moment }
         ensures { IfOk result (λ s. s ≡ subscribed terms.now zero_size now) }
     {
@@ -174,7 +178,7 @@ impl Subscription {
     /// What it shows, in every state.
     pub fn peek(&self) -> Peek<'_>
         ensures shown { peek_model result ≡ shown self.now }
-        ensures within { length result.bytes.now ≤ 1432 }
+        ensures within { length result.bytes.now ≤ pd_payload_limit }
     {
         Peek {
             state: self.state,
@@ -184,24 +188,24 @@ impl Subscription {
     }
 
     /// Whether the telegram is data or a pull reply that the filter passes.
-    #[tactic(auto, unfolding(crate::specs::Subscriptions::is_for))]
+    #[tactic(auto, unfolding(crate::specs::Subscriptions::is_for_subscription))]
     fn is_for(&self, src: Place, dst: Place, head: &PdHead, globals: &Globals) -> bool
-        ensures { result ≡ is_for self.now src dst head.now globals.entry.now }
+        ensures { result ≡ is_for_subscription self.now src dst head.now globals.entry.now }
     {
         carries_value(head.kind) && self.terms.filter.passes(src, dst, head, globals.topo)
     }
 
     /// Whether it takes the telegram: it is for it, the payload fits, and it isn't stale.
-    #[tactic(auto, unfolding(crate::specs::Subscriptions::is_accepted))]
+    #[tactic(auto, unfolding(crate::specs::Subscriptions::is_accepted_value))]
     fn accepts(&self, src: Place, dst: Place, head: &PdHead, globals: &Globals, fits: bool) -> bool
-        ensures { result ≡ is_accepted self.now src dst head.now globals.entry.now fits }
+        ensures { result ≡ is_accepted_value self.now src dst head.now globals.entry.now fits }
     {
         self.is_for(src, dst, head, globals) && fits && !is_stale(self.latest, src.ip, head)
     }
 
     /// Stores a telegram that it takes.
     fn store(&mut self, src: Place, view: &PdView<'_>, now: u64)
-        requires limit { length view.now.payload.now ≤ 1432 }
+        requires limit { length view.now.payload.now ≤ pd_payload_limit }
         requires now { now ≤ last_moment }
         ensures { self.new ≡ storing self.old src
             (record { head = view.now.head; payload = view.now.payload.now }) now }

@@ -7,6 +7,7 @@ ghost use Rattle.trdp_head.specs.MdKinds.{md_code_of};
 ghost use Rattle.trdp_head.specs.MdHeads.{IsMdHead};
 ghost use Rattle.trdp_head.specs.IsMdTelegram.{IsMdTelegram};
 ghost use Rattle.trdp_head.specs.MdBytes.{md_length_of, md_head_bytes, md_bytes};
+ghost use Rattle.trdp_head.specs.Limits.{md_payload_limit};
 
 use crate::check::put_check;
 use crate::fields::{put_bytes, put_i32, put_u32, put_u128};
@@ -17,7 +18,7 @@ use crate::prefix::{Prefix, put_prefix};
 /// The length in bytes of a telegram with so many bytes of payload, 0 to 65388: 116, and the
 /// payload rounded up to a multiple of four (IEC 61375-2-3).
 pub fn md_length(payload: usize) -> usize
-    requires { payload ≤ 65388 }
+    requires { payload ≤ md_payload_limit }
     ensures { result ≡ md_length_of payload }
 {
     MD_HEAD + rounded(payload)
@@ -64,7 +65,7 @@ fn put_head(room: &mut [u8], head: MdHead, payload: u32)
 /// what lies behind the telegram in the room stays. The version is 0x0100; the zeros behind the
 /// URIs and the payload are written.
 pub fn write_md(head: &MdHead, payload: &[u8], room: &mut [u8]) -> usize
-    requires payload { length payload.now ≤ 65388 }
+    requires payload { length payload.now ≤ md_payload_limit }
     requires room { md_length_of (length payload.now) ≤ length room.old }
     ensures length { result ≡ md_length_of (length payload.now) }
     ensures written { room.new ≡ md_bytes head.now payload.now
@@ -91,7 +92,7 @@ fn header(head: MdHead, payload: u32) -> [u8; MD_HEAD]
 /// It is the telegram that [`write_md`] writes. The payload has at most 65388 bytes, and the list
 /// room for the length that [`md_length`] says.
 pub fn push_md(head: &MdHead, payload: &[u8], list: &mut Vec<u8>) -> usize
-    requires payload { length payload.now ≤ 65388 }
+    requires payload { length payload.now ≤ md_payload_limit }
     requires room { vec_len list.old + md_length_of (length payload.now)
         ≤ vec_capacity list.old }
     ensures length { result ≡ md_length_of (length payload.now) }

@@ -1,7 +1,7 @@
 //! Reading a process data telegram.
 
 ghost use Rattle.std.specs.Prelude.{◌≡◌, ◌≤◌, List, ℕ, length, Some, None, IfOk, IfErr, IsOkAnd};
-ghost use Rattle.trdp_head.specs.PdKinds.{kind_of};
+ghost use Rattle.trdp_head.specs.PdKinds.{pd_kind_of};
 ghost use Rattle.trdp_head.specs.Prefixes.{prefix_in};
 ghost use Rattle.trdp_head.specs.PdHeads.{head_in};
 ghost use Rattle.trdp_head.specs.IsPdTelegram.{IsPdTelegram};
@@ -18,7 +18,7 @@ use trdp_base::Ip;
 
 /// The type of a code, if it is one of process data.
 fn kind_of_code(code: u16) -> Option<PdKind>
-    ensures { result ≡ kind_of code }
+    ensures { result ≡ pd_kind_of code }
 {
     match code {
         0x5064 => Some(PdKind::Data),

@@ -3,10 +3,11 @@
 ghost use Rattle.std.specs.Prelude.{ℕ, ◌≡◌, ◌≤◌, ◌+◌, ◌++◌, length, take, drop};
 ghost use Rattle.std.specs.Prelude.{vec_len, vec_capacity};
 ghost use Rattle.trdp_head.specs.Checks.{with_check};
-ghost use Rattle.trdp_head.specs.PdKinds.{code_of};
+ghost use Rattle.trdp_head.specs.PdKinds.{pd_code_of};
 ghost use Rattle.trdp_head.specs.PdHeads.{IsPdHead};
 ghost use Rattle.trdp_head.specs.IsPdTelegram.{IsPdTelegram};
 ghost use Rattle.trdp_head.specs.PdBytes.{pd_length_of, pd_head_bytes, pd_bytes};
+ghost use Rattle.trdp_head.specs.Limits.{pd_payload_limit};
 
 use crate::check::put_check;
 use crate::fields::put_u32;
@@ -17,7 +18,7 @@ use crate::prefix::{Prefix, put_prefix};
 /// The length in bytes of a telegram with so many bytes of payload, 0 to 1432: 40, and the payload
 /// rounded up to a multiple of four (IEC 61375-2-3).
 pub fn pd_length(payload: usize) -> usize
-    requires { payload ≤ 1432 }
+    requires { payload ≤ pd_payload_limit }
     ensures { result ≡ pd_length_of payload }
 {
     PD_HEAD + rounded(payload)
@@ -25,7 +26,7 @@ pub fn pd_length(payload: usize) -> usize
 
 /// The code of a type.
 fn code_of_kind(kind: PdKind) -> u16
-    ensures { result ≡ code_of kind }
+    ensures { result ≡ pd_code_of kind }
 {
     match kind {
         PdKind::Data => 0x5064,
@@ -60,7 +61,7 @@ fn put_head(room: &mut [u8], head: PdHead, payload: u32)
 /// what lies behind the telegram in the room stays. The version is 0x0100, the reserved field and
 /// the padding are 0.
 pub fn write_pd(head: &PdHead, payload: &[u8], room: &mut [u8]) -> usize
-    requires payload { length payload.now ≤ 1432 }
+    requires payload { length payload.now ≤ pd_payload_limit }
     requires room { pd_length_of (length payload.now) ≤ length room.old }
     ensures length { result ≡ pd_length_of (length payload.now) }
     ensures written { room.new ≡ pd_bytes head.now payload.now
@@ -87,7 +88,7 @@ fn header(head: PdHead, payload: u32) -> [u8; PD_HEAD]
 /// It is the telegram that [`write_pd`] writes. The payload has at most 1432 bytes, and the list
 /// room for the length that [`pd_length`] says.
 pub fn push_pd(head: &PdHead, payload: &[u8], list: &mut Vec<u8>) -> usize
-    requires payload { length payload.now ≤ 1432 }
+    requires payload { length payload.now ≤ pd_payload_limit }
     requires room { vec_len list.old + pd_length_of (length payload.now)
         ≤ vec_capacity list.old }
     ensures length { result ≡ pd_length_of (length payload.now) }

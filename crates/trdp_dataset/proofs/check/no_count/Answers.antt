@@ -2,7 +2,7 @@ use Rattle.trdp_dataset.specs.Faults.{no_count_in}
 use Rattle.std.proofs.Common.{Some, None, false, if◌then◌else◌, ap}
 use Rattle.trdp_dataset.specs.declared.fault.ConfigFault.TheVariants.{NoCount}
 use Rattle.trdp_dataset.specs.Datasets.{all_counted}
-use Rattle.trdp_dataset.proofs.Steps.{each_passed, each_failed}
+use Rattle.trdp_dataset.proofs.LoopLemmas.{each_passed, each_failed}
 use Rattle.trdp_dataset.proofs.check.no_count.Goals as goal
 
 pub returns-then-not-is_counted : goal.returns-then-not-is_counted

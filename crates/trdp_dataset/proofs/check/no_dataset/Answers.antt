@@ -2,7 +2,7 @@ use Rattle.std.proofs.Common.{ℕ, not, option_map, ap}
 use Rattle.trdp_dataset.specs.declared.fault.ConfigFault.TheVariants.{NoDataset}
 use Rattle.trdp_dataset.specs.Datasets.{is_known}
 use Rattle.trdp_dataset.specs.Faults.{no_dataset_in, nested_ids}
-use Rattle.trdp_dataset.proofs.Steps.{first_made, none_made}
+use Rattle.trdp_dataset.proofs.LoopLemmas.{first_made, none_made}
 use Rattle.trdp_dataset.proofs.check.no_dataset.Goals as goal
 
 pub returns-in-Some : goal.returns-in-Some

@@ -1,4 +1,4 @@
-use Rattle.trdp_head.proofs.DamageFacts.{pd_found, md_found}
+use Rattle.trdp_head.proofs.DamageLemmas.{pd_found, md_found}
 use Rattle.trdp_head.proofs.laws.one_damaged_byte_is_found.Goals as goal
 
 pub returns-clause-pd : goal.returns-clause-pd

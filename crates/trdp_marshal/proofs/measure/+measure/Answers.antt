@@ -2,10 +2,11 @@ use Rattle.std.proofs.Common.{ℕ, List, Option, Some, None, ap, ◌∙◌, refl
 use Rattle.trdp_marshal.specs.Items.{model_of, models_in}
 use Rattle.trdp_marshal.specs.Spelling.{form_spelling, dataset_spelling}
 use Rattle.trdp_marshal.specs.Lengths.{measured}
-use Rattle.trdp_marshal.proofs.Measuring.{repeated_differ, entries_differ, repeated_at_place}
-use Rattle.trdp_marshal.proofs.Measuring.{entries_at_place, turned, halted, ended, repeated_past}
-use Rattle.trdp_marshal.proofs.Measuring.{entries_past, entry_alone, entry_listed}
-use Rattle.trdp_marshal.proofs.Measuring.{dataset_unspelled, dataset_missing, dataset_listed}
+use Rattle.trdp_marshal.proofs.MeasureLemmas.{repeated_differ, entries_differ, repeated_at_place}
+use Rattle.trdp_marshal.proofs.MeasureLemmas.{entries_at_place, turned, halted, ended}
+use Rattle.trdp_marshal.proofs.MeasureLemmas.{repeated_past}
+use Rattle.trdp_marshal.proofs.MeasureLemmas.{entries_past, entry_alone, entry_listed}
+use Rattle.trdp_marshal.proofs.MeasureLemmas.{dataset_unspelled, dataset_missing, dataset_listed}
 use Rattle.trdp_marshal.proofs.measure.+measure.Goals as goal
 
 pub measure_repeated-returns-then-items-count : goal.measure_repeated-returns-then-items-count

@@ -3,7 +3,7 @@ use Rattle.trdp_marshal.specs.Items.{models_in}
 use Rattle.trdp_marshal.specs.Spelling.{form_spelling, repeated_spelling}
 use Rattle.trdp_marshal.specs.Spelling.{entries_spelling, dataset_spelling}
 use Rattle.trdp_marshal.specs.Lengths.{measured}
-use Rattle.trdp_marshal.proofs.Measuring.{plus}
+use Rattle.trdp_marshal.proofs.MeasureLemmas.{plus}
 use Rattle.trdp_marshal.proofs.measure.+measure.Given as goal
 
 abbrev pub decreases-measure_dataset : goal.decreases-measure_dataset

@@ -3,11 +3,11 @@ use Rattle.std.specs.Prelude.{option_map}
 use Rattle.trdp_marshal.specs.Reading.{form_at, dataset_at}
 use Rattle.trdp_dataset.specs.Depths.{is_within}
 use Rattle.trdp_dataset.specs.Datasets.{passes}
-use Rattle.trdp_marshal.proofs.Steps.{repeated_turn, repeated_halt, repeated_done}
-use Rattle.trdp_marshal.proofs.Steps.{entries_counted, entries_turn, entries_halt}
-use Rattle.trdp_marshal.proofs.Steps.{entries_done, entry_skipped, pass_at, counts_at}
-use Rattle.trdp_marshal.proofs.Steps.{dataset_skipped, within_some, within_known}
-use Rattle.trdp_marshal.proofs.Steps.{within_below, skipped_none, nested_repeated, some_seen}
+use Rattle.trdp_marshal.proofs.SkipLemmas.{repeated_turn, repeated_halt, repeated_done}
+use Rattle.trdp_marshal.proofs.SkipLemmas.{entries_counted, entries_turn, entries_halt}
+use Rattle.trdp_marshal.proofs.SkipLemmas.{entries_done, entry_skipped, pass_at, counts_at}
+use Rattle.trdp_marshal.proofs.SkipLemmas.{dataset_skipped, within_some, within_known}
+use Rattle.trdp_marshal.proofs.SkipLemmas.{within_below, skipped_none, nested_repeated, some_seen}
 use Rattle.trdp_marshal.proofs.Fixed.{basic_size, basic_repeated}
 use Rattle.trdp_marshal.proofs.Fixed.{repeated_skips, dataset_skipped_whole}
 use Rattle.trdp_marshal.proofs.payload.+skip.Goals as goal

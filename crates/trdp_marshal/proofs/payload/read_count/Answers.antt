@@ -1,4 +1,4 @@
-use Rattle.trdp_marshal.proofs.Steps.{count_read}
+use Rattle.trdp_marshal.proofs.SkipLemmas.{count_read}
 use Rattle.trdp_marshal.proofs.payload.read_count.Goals as goal
 
 pub returns-in-Unsigned : goal.returns-in-Unsigned

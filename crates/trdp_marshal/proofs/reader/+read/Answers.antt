@@ -1,9 +1,11 @@
 use Rattle.std.proofs.Common.{sym, ◌∙◌}
 use Rattle.trdp_marshal.specs.Reading.{form_at, dataset_at}
-use Rattle.trdp_marshal.proofs.Building.{gives_fault, gives_same, repeated_builds, repeated_fails}
-use Rattle.trdp_marshal.proofs.Building.{repeated_built, entries_build, entries_fail, entries_built}
-use Rattle.trdp_marshal.proofs.Building.{entry_single, entry_several, dataset_of_entries}
-use Rattle.trdp_marshal.proofs.Building.{dataset_of_none, dataset_too_deep, listed, unlisted}
+use Rattle.trdp_marshal.proofs.ReaderLemmas.{gives_fault, gives_same, repeated_builds}
+use Rattle.trdp_marshal.proofs.ReaderLemmas.{repeated_fails}
+use Rattle.trdp_marshal.proofs.ReaderLemmas.{repeated_built, entries_build, entries_fail}
+use Rattle.trdp_marshal.proofs.ReaderLemmas.{entries_built}
+use Rattle.trdp_marshal.proofs.ReaderLemmas.{entry_single, entry_several, dataset_of_entries}
+use Rattle.trdp_marshal.proofs.ReaderLemmas.{dataset_of_none, dataset_too_deep, listed, unlisted}
 use Rattle.trdp_marshal.proofs.reader.+read.Goals as goal
 
 pub read_repeated-returns-in_err-item : goal.read_repeated-returns-in_err-item

@@ -1,6 +1,6 @@
 use Rattle.std.proofs.Common.{◌≡◌, ◌+◌, ◌-◌, ◌*◌, drop}
 use Rattle.trdp_marshal.specs.Reading.{form_at, repeated_at, entries_at, dataset_at}
-use Rattle.trdp_marshal.proofs.Building.{with_front}
+use Rattle.trdp_marshal.proofs.ReaderLemmas.{with_front}
 use Rattle.trdp_marshal.proofs.reader.+read.Given as goal
 
 abbrev pub decreases-read_dataset : goal.decreases-read_dataset

@@ -1,5 +1,5 @@
 use Rattle.std.proofs.Common.{arith}
-use Rattle.trdp_marshal.proofs.Refusing.{tells_undecoded_unknown, tells_undecoded_shape}
+use Rattle.trdp_marshal.proofs.RefusalLemmas.{tells_undecoded_unknown, tells_undecoded_shape}
 use Rattle.trdp_marshal.proofs.reader.decode.Goals as goal
 
 pub returns-clause-unknown : goal.returns-clause-unknown

@@ -1,6 +1,6 @@
 use Rattle.std.proofs.Common.{sym, arith}
 use Rattle.trdp_marshal.proofs.Spellings.{read_spells}
-use Rattle.trdp_marshal.proofs.Decoding.{unknown, misfit, faultless, memory_alone, decoded}
+use Rattle.trdp_marshal.proofs.DecodeLemmas.{unknown, misfit, faultless, memory_alone, decoded}
 use Rattle.trdp_marshal.proofs.reader.decoded.Goals as goal
 
 pub returns-then-not-has_items-clause-fault : goal.returns-then-not-has_items-clause-fault

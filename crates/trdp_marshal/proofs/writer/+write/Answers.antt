@@ -1,12 +1,12 @@
 use Rattle.std.proofs.Common.{◌≡◌, ◌-◌, Some, None, ◌∙◌, refl, arith}
 use Rattle.trdp_marshal.specs.Items.{model_of, models_in}
 use Rattle.trdp_marshal.specs.Spelling.{form_spelling, dataset_spelling}
-use Rattle.trdp_marshal.proofs.Measuring.{entries_differ, entries_at_place, entries_past}
-use Rattle.trdp_marshal.proofs.Measuring.{entry_alone, entry_listed, dataset_unspelled}
-use Rattle.trdp_marshal.proofs.Measuring.{dataset_missing, dataset_listed}
-use Rattle.trdp_marshal.proofs.Writing.{joined_splits, continues_on, continues_end}
-use Rattle.trdp_marshal.proofs.Writing.{continues_start, appends_same, unspelled, unmeasured}
-use Rattle.trdp_marshal.proofs.Writing.{repeated_splits, repeated_over, nothing_left}
+use Rattle.trdp_marshal.proofs.MeasureLemmas.{entries_differ, entries_at_place, entries_past}
+use Rattle.trdp_marshal.proofs.MeasureLemmas.{entry_alone, entry_listed, dataset_unspelled}
+use Rattle.trdp_marshal.proofs.MeasureLemmas.{dataset_missing, dataset_listed}
+use Rattle.trdp_marshal.proofs.WriterLemmas.{joined_splits, continues_on, continues_end}
+use Rattle.trdp_marshal.proofs.WriterLemmas.{continues_start, appends_same, unspelled, unmeasured}
+use Rattle.trdp_marshal.proofs.WriterLemmas.{repeated_splits, repeated_over, nothing_left}
 use Rattle.trdp_marshal.proofs.writer.+write.Goals as goal
 
 pub write_repeated-loop-item-init : goal.write_repeated-loop-item-init

@@ -2,7 +2,7 @@ use Rattle.std.proofs.Common.{◌+◌, ◌-◌, ◌*◌, drop}
 use Rattle.trdp_marshal.specs.Items.{models_in}
 use Rattle.trdp_marshal.specs.Spelling.{form_spelling, repeated_spelling}
 use Rattle.trdp_marshal.specs.Spelling.{entries_spelling, dataset_spelling}
-use Rattle.trdp_marshal.proofs.Writing.{Continues}
+use Rattle.trdp_marshal.proofs.WriterLemmas.{Continues}
 use Rattle.trdp_marshal.proofs.writer.+write.Given as goal
 
 abbrev pub decreases-write_dataset : goal.decreases-write_dataset

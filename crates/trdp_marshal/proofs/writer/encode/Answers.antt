@@ -1,5 +1,5 @@
 use Rattle.trdp_marshal.specs.Items.{model_of}
-use Rattle.trdp_marshal.proofs.Refusing.{tells_unknown, tells_shape, tells_long}
+use Rattle.trdp_marshal.proofs.RefusalLemmas.{tells_unknown, tells_shape, tells_long}
 use Rattle.trdp_marshal.proofs.writer.encode.Goals as goal
 
 pub returns-clause-unknown : goal.returns-clause-unknown

@@ -1,4 +1,4 @@
-use Rattle.trdp_md.proofs.Apart.{accepts_session, accepts_kind}
+use Rattle.trdp_md.proofs.AnswerLemmas.{accepts_session, accepts_kind}
 use Rattle.trdp_md.proofs.laws.caller_accepts_its_session.Goals as goal
 
 pub returns-clause-session : goal.returns-clause-session

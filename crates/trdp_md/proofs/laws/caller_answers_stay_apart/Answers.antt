@@ -1,4 +1,4 @@
-use Rattle.trdp_md.proofs.Apart.{apart_taking, apart_confirming}
+use Rattle.trdp_md.proofs.AnswerLemmas.{apart_taking, apart_confirming}
 use Rattle.trdp_md.proofs.laws.caller_answers_stay_apart.Goals as goal
 
 pub returns-clause-taken : goal.returns-clause-taken

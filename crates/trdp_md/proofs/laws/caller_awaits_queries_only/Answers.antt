@@ -1,5 +1,5 @@
-use Rattle.trdp_md.proofs.Calling.{queries-new, queries-taking}
-use Rattle.trdp_md.proofs.Confirming.{queries-confirming}
+use Rattle.trdp_md.proofs.CallerLemmas.{queries-new, queries-taking}
+use Rattle.trdp_md.proofs.ConfirmLemmas.{queries-confirming}
 use Rattle.trdp_md.proofs.laws.caller_awaits_queries_only.Goals as goal
 
 pub returns-clause-new : goal.returns-clause-new

@@ -1,4 +1,4 @@
-use Rattle.trdp_md.proofs.Confirming.{HasAwaiting-awaits, awaits-confirming}
+use Rattle.trdp_md.proofs.ConfirmLemmas.{HasAwaiting-awaits, awaits-confirming}
 use Rattle.trdp_md.proofs.laws.caller_confirms_what_awaits.Goals as goal
 
 pub returns-clause-found : goal.returns-clause-found

@@ -1,4 +1,4 @@
-use Rattle.trdp_md.proofs.Calling.{once, counts, remembers}
+use Rattle.trdp_md.proofs.CallerLemmas.{once, counts, remembers}
 use Rattle.trdp_md.proofs.laws.caller_hears_each_place_once.Goals as goal
 
 pub returns-clause-once : goal.returns-clause-once

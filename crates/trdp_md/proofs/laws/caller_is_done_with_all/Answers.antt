@@ -1,4 +1,4 @@
-use Rattle.trdp_md.proofs.Confirming.{closed-done, last-done, fired-done}
+use Rattle.trdp_md.proofs.ConfirmLemmas.{closed-done, last-done, fired-done}
 use Rattle.trdp_md.proofs.laws.caller_is_done_with_all.Goals as goal
 
 pub returns-clause-closed : goal.returns-clause-closed

@@ -1,5 +1,5 @@
-use Rattle.trdp_md.proofs.Calling.{terms-taking}
-use Rattle.trdp_md.proofs.Confirming.{terms-confirming}
+use Rattle.trdp_md.proofs.CallerLemmas.{terms-taking}
+use Rattle.trdp_md.proofs.ConfirmLemmas.{terms-confirming}
 use Rattle.trdp_md.proofs.laws.caller_keeps.Goals as goal
 
 pub returns-clause-taken : goal.returns-clause-taken

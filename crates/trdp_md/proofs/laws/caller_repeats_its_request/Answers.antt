@@ -1,4 +1,4 @@
-use Rattle.trdp_md.proofs.Repeating.{unanswered, fewer}
+use Rattle.trdp_md.proofs.RepeatLemmas.{unanswered, fewer}
 use Rattle.trdp_md.proofs.laws.caller_repeats_its_request.Goals as goal
 
 pub returns-clause-unanswered : goal.returns-clause-unanswered

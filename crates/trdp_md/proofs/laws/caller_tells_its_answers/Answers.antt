@@ -1,4 +1,4 @@
-use Rattle.trdp_md.proofs.Calling.{tells, adds}
+use Rattle.trdp_md.proofs.CallerLemmas.{tells, adds}
 use Rattle.trdp_md.proofs.laws.caller_tells_its_answers.Goals as goal
 
 pub returns-clause-told : goal.returns-clause-told

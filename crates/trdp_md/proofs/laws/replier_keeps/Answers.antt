@@ -1,4 +1,4 @@
-use Rattle.trdp_md.proofs.Replying.{keeps-taking, keeps-firing, keeps-queried}
+use Rattle.trdp_md.proofs.ReplierLemmas.{keeps-taking, keeps-firing, keeps-queried}
 use Rattle.trdp_md.proofs.laws.replier_keeps.Goals as goal
 
 pub returns-clause-taken : goal.returns-clause-taken

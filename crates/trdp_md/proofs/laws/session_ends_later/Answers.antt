@@ -1,5 +1,5 @@
-use Rattle.trdp_md.proofs.Calling.{called-later}
-use Rattle.trdp_md.proofs.Replying.{asked_by-later, queried-later}
+use Rattle.trdp_md.proofs.CallerLemmas.{called-later}
+use Rattle.trdp_md.proofs.ReplierLemmas.{asked_by-later, queried-later}
 use Rattle.trdp_md.proofs.laws.session_ends_later.Goals as goal
 
 pub returns-clause-caller : goal.returns-clause-caller

@@ -1,5 +1,5 @@
 use Rattle.trdp_pd.specs.SubscriptionLaws.{deadline_from-later}
-use Rattle.trdp_pd.proofs.Moments.{published-later}
+use Rattle.trdp_pd.proofs.MomentLemmas.{published-later}
 use Rattle.trdp_pd.proofs.laws.new_is_later.Goals as goal
 
 pub returns-clause-publisher : goal.returns-clause-publisher

@@ -1,5 +1,5 @@
 use Rattle.trdp_pd.specs.PublisherLaws.{terms-firing}
-use Rattle.trdp_pd.proofs.Sending.{value-firing, terms-taking, value-taking, due-taking}
+use Rattle.trdp_pd.proofs.PublisherLemmas.{value-firing, terms-taking, value-taking, due-taking}
 use Rattle.trdp_pd.proofs.laws.publisher_keeps.Goals as goal
 
 pub returns-clause-taken_terms : goal.returns-clause-taken_terms

@@ -1,4 +1,4 @@
-use Rattle.trdp_pd.proofs.Sending.{sent-com_id, sent-value, pulled-com_id, pulled-value}
+use Rattle.trdp_pd.proofs.PublisherLemmas.{sent-com_id, sent-value, pulled-com_id, pulled-value}
 use Rattle.trdp_pd.proofs.laws.publisher_sends_its_own.Goals as goal
 
 pub returns-clause-pulled_com_id : goal.returns-clause-pulled_com_id

@@ -1,4 +1,4 @@
-use Rattle.trdp_pd.proofs.Receiving.{terms-taking}
+use Rattle.trdp_pd.proofs.SubscriptionLemmas.{terms-taking}
 use Rattle.trdp_pd.proofs.laws.subscription_keeps.Goals as goal
 
 pub returns-clause-taken : goal.returns-clause-taken

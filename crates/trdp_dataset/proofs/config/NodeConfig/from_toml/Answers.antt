@@ -4,12 +4,12 @@ use Rattle.toml.specs.View.{table_view}
 use Rattle.trdp_dataset.specs.Positions.{PositionModel, node_positions}
 use Rattle.trdp_dataset.specs.Positions.{slot_positions, all_positions}
 use Rattle.trdp_dataset.specs.Seen.{positions_seen}
-use Rattle.trdp_dataset.specs.Faults.{IsFaultOf, Answers, fault_in}
+use Rattle.trdp_dataset.specs.Faults.{IsFaultOf, RefusedAs, fault_in}
 use Rattle.trdp_dataset.specs.Configs.{datasets_in, config_in, config_fault_of, config_of}
-use Rattle.trdp_dataset.proofs.Answering.{err_answers, err_alone}
+use Rattle.trdp_dataset.proofs.FaultLemmas.{err_answers, err_alone}
 use Rattle.std.proofs.Common.{List, None}
 use Rattle.trdp_dataset.proofs.SlotNumbers.{slots_counted, spare_counted}
-use Rattle.trdp_dataset.proofs.Meaning.{reads}
+use Rattle.trdp_dataset.proofs.MeaningLemmas.{reads}
 use Rattle.trdp_dataset.proofs.config.NodeConfig.from_toml.Goals as goal
 
 pub returns-in_err-registry : goal.returns-in_err-registry
@@ -36,7 +36,7 @@ returns c =
     let top = table_view c.in_ok-top.top in
     let ds = datasets_in top in
     let same = ap positions_seen c.deref.ensures.value ∙ c.in_ok-positions.ensures in
-    let none = subst (λ positions. Answers (fault_in positions ds) (Ok c.in_ok-registry.registry))
+    let none = subst (λ positions. RefusedAs (fault_in positions ds) (Ok c.in_ok-registry.registry))
     same c.in_ok-registry.ensures.answers in
     record {
       reads = reads config_of (all_positions top)

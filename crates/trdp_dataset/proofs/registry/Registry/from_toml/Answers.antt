@@ -2,9 +2,9 @@ use Rattle.std.proofs.Common.{List, [], refl, ap, ◌∙◌, subst}
 use Rattle.toml.specs.View.{table_view}
 use Rattle.trdp_dataset.specs.Positions.{PositionModel, dataset_positions}
 use Rattle.trdp_dataset.specs.Seen.{positions_seen}
-use Rattle.trdp_dataset.specs.Faults.{Answers, fault_in}
+use Rattle.trdp_dataset.specs.Faults.{RefusedAs, fault_in}
 use Rattle.trdp_dataset.specs.Configs.{datasets_in, registry_fault_of, registry_of}
-use Rattle.trdp_dataset.proofs.Meaning.{reads}
+use Rattle.trdp_dataset.proofs.MeaningLemmas.{reads}
 use Rattle.trdp_dataset.proofs.registry.Registry.from_toml.Goals as goal
 
 pub returns : goal.returns
@@ -16,7 +16,8 @@ returns c =
     record {
       reads = reads registry_of (dataset_positions top) ds ds c.args.bytes.now
           top c.load.result c.in_ok-top.ensures.0 c.in_ok-top.ensures.1 refl c.load.ensures.value
-          (subst (λ (positions : List PositionModel). Answers (fault_in positions ds) c.load.result)
+          (subst (λ (positions : List PositionModel). RefusedAs (fault_in positions ds)
+          c.load.result)
           same c.load.ensures.answers);
     }
 

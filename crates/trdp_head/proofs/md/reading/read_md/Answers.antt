@@ -4,10 +4,10 @@ use Rattle.trdp_head.specs.declared.prefix.Prefix.{Prefix}
 use Rattle.trdp_head.specs.declared.fault.HeadFault.TheVariants.{Kind}
 use Rattle.trdp_head.specs.MdKinds.{md_kind_of}
 use Rattle.trdp_head.specs.MdFaults.{md_fault_of}
-use Rattle.trdp_head.proofs.TelegramFacts.{err_answers}
-use Rattle.trdp_head.proofs.MdTelegramFacts.{md-no_fault, md-telegram, md_fault-prefix}
-use Rattle.trdp_head.proofs.MdTelegramFacts.{md_fault-kind, md_fault-payload}
-use Rattle.trdp_head.proofs.MdTelegramFacts.{md_telegram_of-fault, md_telegram-is}
+use Rattle.trdp_head.proofs.TelegramLemmas.{err_answers}
+use Rattle.trdp_head.proofs.MdTelegramLemmas.{md-no_fault, md-telegram, md_fault-prefix}
+use Rattle.trdp_head.proofs.MdTelegramLemmas.{md_fault-kind, md_fault-payload}
+use Rattle.trdp_head.proofs.MdTelegramLemmas.{md_telegram_of-fault, md_telegram-is}
 use Rattle.trdp_head.proofs.md.reading.read_md.Goals as goal
 use Rattle.trdp_head.proofs.md.reading.read_md.Goals.{After-from_residual}
 use Rattle.trdp_head.proofs.md.reading.read_md.Goals.{After-from_residual-in_err-payload}

@@ -7,7 +7,7 @@ use Rattle.trdp_head.specs.declared.prefix.Prefix.{Prefix}
 use Rattle.trdp_head.specs.Fields.{be_bytes}
 use Rattle.trdp_head.specs.Prefixes.{prefix_bytes}
 use Rattle.trdp_head.specs.MdBytes.{md_head_bytes}
-use Rattle.trdp_head.proofs.MdBytesFacts.{uri_held}
+use Rattle.trdp_head.proofs.MdBytesLemmas.{uri_held}
 use Rattle.trdp_head.proofs.PartWrites.{more}
 use Rattle.trdp_head.proofs.md.writing.put_head.Goals as goal
 

@@ -1,7 +1,7 @@
 use Rattle.std.proofs.Common.{List, ℕ, length, drop, ◌++◌, ap, ◌∙◌, arith}
 use Rattle.trdp_head.specs.MdBytes.{md_bytes, md_length_of}
 use Rattle.trdp_head.specs.TelegramBytes.{telegram_bytes}
-use Rattle.trdp_head.proofs.MdBytesFacts.{IsMdTelegram-md_bytes}
+use Rattle.trdp_head.proofs.MdBytesLemmas.{IsMdTelegram-md_bytes}
 use Rattle.trdp_head.proofs.md.writing.write_md.Goals as goal
 
 pub returns-clause-written : goal.returns-clause-written

@@ -2,12 +2,12 @@ use Rattle.std.proofs.Common.{◌≡◌, Some, sym, ap, ◌∙◌}
 use Rattle.std.proofs.lemmas.Option.{none-some}
 use Rattle.trdp_head.specs.declared.prefix.Prefix.{Prefix}
 use Rattle.trdp_head.specs.declared.fault.HeadFault.TheVariants.{Kind}
-use Rattle.trdp_head.specs.PdKinds.{kind_of}
+use Rattle.trdp_head.specs.PdKinds.{pd_kind_of}
 use Rattle.trdp_head.specs.PdFaults.{pd_fault_of}
-use Rattle.trdp_head.proofs.TelegramFacts.{err_answers}
-use Rattle.trdp_head.proofs.PdTelegramFacts.{pd-no_fault, pd-telegram, pd_fault-prefix}
-use Rattle.trdp_head.proofs.PdTelegramFacts.{pd_fault-kind, pd_fault-payload}
-use Rattle.trdp_head.proofs.PdTelegramFacts.{pd_telegram_of-fault, telegram-is}
+use Rattle.trdp_head.proofs.TelegramLemmas.{err_answers}
+use Rattle.trdp_head.proofs.PdTelegramLemmas.{pd-no_fault, pd-telegram, pd_fault-prefix}
+use Rattle.trdp_head.proofs.PdTelegramLemmas.{pd_fault-kind, pd_fault-payload}
+use Rattle.trdp_head.proofs.PdTelegramLemmas.{pd_telegram_of-fault, telegram-is}
 use Rattle.trdp_head.proofs.pd.reading.read_pd.Goals as goal
 use Rattle.trdp_head.proofs.pd.reading.read_pd.Goals.{After-from_residual}
 use Rattle.trdp_head.proofs.pd.reading.read_pd.Goals.{After-from_residual-in_err-payload}
@@ -33,7 +33,7 @@ returns-in_err-prefix-clause-exact c = λ head payload telegram.
 unknown : (c : In_default) → pd_fault_of c.args.bytes.now ≡ Some Kind
 unknown c =
     pd_fault-kind c.args.bytes.now c.in_ok-prefix.ensures.none
-    (ap (λ (p : Prefix). kind_of p.code) (sym c.in_ok-prefix.ensures.value)
+    (ap (λ (p : Prefix). pd_kind_of p.code) (sym c.in_ok-prefix.ensures.value)
     ∙ sym c.kind_of_code.ensures ∙ c.in_default.is)
 
 pub returns-in_default-clause-fault : goal.returns-in_default-clause-fault
@@ -46,7 +46,7 @@ bad_payload : (c : After-from_residual-in_err-payload)
     → pd_fault_of c.args.bytes.now ≡ Some c.in_err-payload.field-0.0
 bad_payload c =
     pd_fault-payload c.args.bytes.now c.in-Some.kind c.in_ok-prefix.ensures.none
-    (ap (λ (p : Prefix). kind_of p.code) (sym c.in_ok-prefix.ensures.value)
+    (ap (λ (p : Prefix). pd_kind_of p.code) (sym c.in_ok-prefix.ensures.value)
     ∙ sym c.kind_of_code.ensures ∙ c.in-Some.is) ∙ c.in_err-payload.ensures.fault
 
 pub returns-in_err-payload-clause-fault : goal.returns-in_err-payload-clause-fault
@@ -67,7 +67,7 @@ pub returns-clause-telegram : goal.returns-clause-telegram
 returns-clause-telegram c =
     pd-telegram c.args.bytes.now c.in-Some.kind
     _ c.in_ok-payload.payload.now c.in_ok-prefix.ensures.none c.in_ok-payload.ensures.none
-    (ap (λ (p : Prefix). kind_of p.code) (sym c.in_ok-prefix.ensures.value)
+    (ap (λ (p : Prefix). pd_kind_of p.code) (sym c.in_ok-prefix.ensures.value)
     ∙ sym c.kind_of_code.ensures ∙ c.in-Some.is)
     c.head_of.ensures c.in_ok-payload.ensures.value
 

@@ -1,7 +1,7 @@
 use Rattle.std.proofs.Common.{List, ℕ, length, drop, ◌++◌, ap, ◌∙◌, arith}
 use Rattle.trdp_head.specs.PdBytes.{pd_bytes, pd_length_of}
 use Rattle.trdp_head.specs.TelegramBytes.{telegram_bytes}
-use Rattle.trdp_head.proofs.PdBytesFacts.{IsPdTelegram-pd_bytes}
+use Rattle.trdp_head.proofs.PdBytesLemmas.{IsPdTelegram-pd_bytes}
 use Rattle.trdp_head.proofs.pd.writing.write_pd.Goals as goal
 
 pub returns-clause-written : goal.returns-clause-written
