@@ -1,4 +1,6 @@
 -- The control ports of slots, one after another.
+-- For `ports_of`, `push_control` and `control_number`, and for `EachPort`.
+-- By a loop's invariant: the ports so far, and one for each number of those left.
 use Rattle.std.proofs.Common.{◌≡◌, suc, ◌+◌, ◌<◌, ℕ, List, [], ◌∷◌, ◌++◌, Some, None}
 use Rattle.std.proofs.Common.{refl, sym, ◌∙◌, ap, arith, append_assoc, append-nil, length, drop}
 use Rattle.std.proofs.Common.{zero, map}
@@ -6,7 +8,7 @@ use Rattle.std.specs.Prelude.{slice_get}
 use Rattle.std.specs.Option.{option_map}
 use Rattle.std.proofs.lemmas.List.{drop_all}
 use Rattle.trdp_dataset.specs.Configs.{SlotModel, ConfigModel}
-use Rattle.trdp_script.proofs.Turns.{drop_get, some_within}
+use Rattle.trdp_script.proofs.PlayLemmas.Turns.{drop_get, some_within}
 use Rattle.trdp_daemon.specs.declared.port.Port.{Port}
 use Rattle.trdp_daemon.specs.declared.port.Port.TheVariants.{Control, Pd, Md, Operator}
 use Rattle.trdp_daemon.specs.Ports.{port_unless_0, control_numbers, control_ports, ports_of}

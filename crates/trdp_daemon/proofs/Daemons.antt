@@ -1,4 +1,6 @@
 -- A daemon's turns, one after another.
+-- For `Daemon::new`, `turn`, `timed_turn` and `run`, and for `Resting`.
+-- By: turns that are served one after another are served together.
 use Rattle.std.proofs.Common.{◌≡◌, ◌+◌, ℕ, List, [], ◌∷◌, ◌++◌, Option, refl, sym, ◌∙◌}
 use Rattle.std.proofs.Common.{ap, subst, length, map, append-nil, length-append}
 use Rattle.std.specs.List.{flat_map}

@@ -1,4 +1,6 @@
 -- Where its slots are open, each port of a configuration is taken from.
+-- For `each_port_is_taken_from`.
+-- By induction on the ports: each slot that was open stays so, so that its port is there.
 use Rattle.std.proofs.Common.{◌≡◌, suc, ◌+◌, ◌<◌, ◌≤◌, ℕ, Bool, true, false, List, [], ◌∷◌, ◌++◌}
 use Rattle.std.proofs.Common.{refl, ◌∙◌, ap, subst, arith, length, map, if◌then◌else◌}
 use Rattle.std.specs.Prelude.{◌==◌, All}
@@ -8,7 +10,7 @@ use Rattle.std.proofs.lemmas.List.{length-map}
 use Rattle.std.proofs.lemmas.List.Elements.{All-cons, All-nil}
 use Rattle.trdp_dataset.specs.Configs.{ConfigModel}
 use Rattle.trdp_model.specs.NodeModels.{NodeModel}
-use Rattle.trdp_model.specs.Slots.{opened_slot}
+use Rattle.trdp_model.specs.Slots.{empty_slot}
 use Rattle.trdp_daemon.specs.declared.port.Port.{Port}
 use Rattle.trdp_daemon.specs.declared.port.Port.TheVariants.{Pd, Md, Operator, Control}
 use Rattle.trdp_daemon.specs.Effects.{ServiceState, event_effect}
@@ -119,7 +121,7 @@ pub all_open : (config : ConfigModel) → config.spare_control_ports ≡ []
 all_open config none =
     omega (
       arith,
-      length-map config.slots (λ slot. opened_slot slot.quotas),
+      length-map config.slots (λ slot. empty_slot slot.quotas),
       numbers_count config.slots config.spare_control_ports,
       ap (λ (l : List ℕ). length l) none,
     )

@@ -1,4 +1,6 @@
 -- The gives of a wire in memory, one thing after another.
+-- For `MemoryWire::bytes`, `give` and `push_give`.
+-- By induction on the rows: each names its part of all bytes.
 use Rattle.std.proofs.Common.{◌≡◌, suc, zero, ◌+◌, ◌≤◌, ℕ, List, [], ◌∷◌, ◌++◌, refl}
 use Rattle.std.proofs.Common.{sym, ◌∙◌, ap, arith, length, take, drop, length-append}
 use Rattle.std.proofs.lemmas.List.{take_all, take-append-le, drop-append-le}

@@ -1,4 +1,6 @@
 -- Lines that can't be lost.
+-- For `lost_only_where_memory_is_taken`.
+-- By cases on what the line means: where it takes no memory none can be wanting for it.
 use Rattle.std.proofs.Common.{◌≡◌, ℕ, suc, Bool, true, false, List, [], ◌∷◌, ◌++◌, Option, Some}
 use Rattle.std.proofs.Common.{None}
 use Rattle.std.proofs.Common.{Result, Ok, Err, IfOk, IfSome, refl, sym, ◌∙◌, ap, not, if◌then◌else◌}
@@ -19,7 +21,7 @@ use Rattle.trdp_model.specs.Slots.{SlotState}
 use Rattle.trdp_script.specs.declared.fault.LineFault.{LineFault}
 use Rattle.trdp_script.specs.EventBytes.{carries_bytes}
 use Rattle.trdp_script.specs.PortLines.{control_line_of, operator_line_of}
-use Rattle.trdp_script.proofs.PortLemmas.{IsOperators, operators_line}
+use Rattle.trdp_script.proofs.ReadLemmas.Ports.{IsOperators, operators_line}
 use Rattle.trdp_model.specs.NodeModels.{node_after}
 use Rattle.trdp_daemon.specs.declared.port.Port.TheVariants.{Operator, Control}
 use Rattle.trdp_daemon.specs.Effects.{ServiceState, Loss, LineLost, EventLost, TextsLost}

@@ -1,4 +1,6 @@
 -- What came and went at a link, one thing after another.
+-- For `Link::miss`, and for all lemmas on visits, turns and tellings.
+-- By: what is carried by two things one after another is both of it, in that order.
 use Rattle.std.proofs.Common.{◌≡◌, zero, suc, ◌+◌, ◌-◌, ◌^◌, min, ℕ, Bool, List, []}
 use Rattle.std.proofs.Common.{◌++◌, length, map, Option, Some, None, refl, sym, ◌∙◌}
 use Rattle.std.proofs.Common.{ap, arith, append_assoc, append-nil, length-append}

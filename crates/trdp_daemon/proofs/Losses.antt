@@ -1,4 +1,6 @@
 -- Where no loss is counted, nothing was lost.
+-- For `nothing_missed`.
+-- By cases on each visit of each turn: a sum of losses that is 0 has none.
 use Rattle.std.proofs.Common.{◌≡◌, ℕ, Bool, true, false, List, [], ◌∷◌, Option, Some, None}
 use Rattle.std.proofs.Common.{Result, Ok, Err, refl, ◌∙◌, ap, arith, map, if◌then◌else◌}
 use Rattle.trdp_base.specs.declared.place.Place.{Place}

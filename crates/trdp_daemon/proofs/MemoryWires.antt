@@ -1,4 +1,6 @@
 -- What the calls of a wire in memory make of it.
+-- For `MemoryWire::arrive`, `take`, `give` and `rest`.
+-- By cases: the wire has room for one thing more, or the call fails and is counted.
 use Rattle.std.proofs.Common.{◌≡◌, ◌==◌, ◌&&◌, ◌||◌, ◌<◌, ◌+◌, ◌-◌, ◌^◌, zero, suc}
 use Rattle.std.proofs.Common.{ℕ, Bool, true, false, nat_lt, if◌then◌else◌, List, []}
 use Rattle.std.proofs.Common.{◌∷◌, ◌++◌, refl, sym, ◌∙◌, ap, arith, length, eqb-true}

@@ -1,4 +1,6 @@
 -- Turns with rests between them, one after another.
+-- For `Daemon::attend` and `timed_turn`.
+-- By a loop's invariant: the turns so far are early, and a rest changes nothing of them.
 use Rattle.std.proofs.Common.{◌≡◌, ◌+◌, ℕ, List, [], ◌∷◌, Option, refl, sym, ◌∙◌}
 use Rattle.std.proofs.Common.{ap, subst, map, ◌||◌, false, nat_le, ◌⊎◌, inl, inr, ◌^◌, ◌-◌}
 use Rattle.std.specs.List.{list_any, flat_map}

@@ -1,4 +1,6 @@
 -- What an event came to.
+-- For `step`, `take_event` and `take_operator_event`, and for `lost_only_where_memory_is_taken`.
+-- By cases: the node takes the event, refuses it, or has no memory for it.
 use Rattle.std.proofs.Common.{◌≡◌, ℕ, List, [], Option, refl, sym, ◌∙◌, ap, subst}
 use Rattle.std.proofs.Common.{Bool, true, false, if◌then◌else◌, length, suc, zero, append-nil}
 use Rattle.trdp_base.specs.declared.place.Place.{Place}
@@ -12,7 +14,7 @@ use Rattle.trdp_model.specs.Records.{RecordModel}
 use Rattle.trdp_model.specs.Alone.{refused_as}
 use Rattle.trdp_model.specs.NodeModels.{node_after}
 use Rattle.trdp_script.specs.SlotOrder.{by_slot}
-use Rattle.trdp_script.proofs.Orders.{by_slot_suc, by_slot_zero}
+use Rattle.trdp_script.proofs.PlayLemmas.BySlot.{by_slot_suc, by_slot_zero}
 use Rattle.trdp_daemon.specs.declared.link.Link.{Link}
 use Rattle.trdp_daemon.specs.declared.service.Service.{Service}
 use Rattle.trdp_daemon.specs.Told.{Taking, Give}

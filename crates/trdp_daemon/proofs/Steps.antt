@@ -1,4 +1,6 @@
 -- An event's way through a node, and its records slot by slot.
+-- For `step`.
+-- By induction on the slots: the records of the higher ones come behind those of the lower.
 use Rattle.std.proofs.Common.{◌≡◌, suc, ◌+◌, ◌-◌, ◌≤◌, ℕ, List, [], ◌∷◌, ◌++◌, length, Some, None}
 use Rattle.std.proofs.Common.{Ok, Err, Option, refl, sym, ◌∙◌, ap, arith, append_assoc, append-nil}
 use Rattle.std.specs.Prelude.{slice_get}
@@ -13,11 +15,11 @@ use Rattle.trdp_model.specs.Alone.{FaultIs, refused_as, records_after}
 use Rattle.trdp_model.specs.Alone.{slots_then, told_opening}
 use Rattle.trdp_model.specs.NodeModels.{NodeModel}
 use Rattle.trdp_model.specs.NodeModels.{StepsAsAlone, Appends}
-use Rattle.trdp_model.proofs.Steps.{open_outcome}
+use Rattle.trdp_model.proofs.StepLemmas.{open_outcome}
 use Rattle.trdp_script.specs.SlotOrder.{by_slot}
-use Rattle.trdp_script.proofs.Orders.{slots_own, by_slot_suc, by_slot_zero}
-use Rattle.trdp_script.proofs.Playing.{own_labelled, by_slot_past, no_fault}
-use Rattle.trdp_script.proofs.Playing.{opened_own, own_told}
+use Rattle.trdp_script.proofs.PlayLemmas.BySlot.{slots_own, by_slot_suc, by_slot_zero}
+use Rattle.trdp_script.proofs.PlayLemmas.Played.{own_labelled, by_slot_past, no_fault}
+use Rattle.trdp_script.proofs.PlayLemmas.Played.{opened_own, own_told}
 use Rattle.trdp_daemon.specs.Effects.{slots_records, records_unless, event_records}
 
 -- the records of the slots from n on come behind those of the slots before

@@ -1,4 +1,6 @@
 -- What arrives at a wire in memory.
+-- For `take_arrival`, `MemoryWire::arrive`, `take` and `rest`.
+-- By induction on the arrivals: the first at that port stands where the search ends.
 use Rattle.std.proofs.Common.{◌≡◌, ◌<◌, ◌≤◌, ◌+◌, zero, suc, ℕ, Bool, true, false}
 use Rattle.std.proofs.Common.{cond, nat_lt, List, [], ◌∷◌, ◌++◌, Some, None, refl, sym}
 use Rattle.std.proofs.Common.{◌∙◌, ap, arith, length, map, take, get_or, length-append}

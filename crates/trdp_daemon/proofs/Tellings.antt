@@ -1,4 +1,6 @@
 -- What was offered for records, one after another.
+-- For `tell_record`, `tell_text`, `tell_slot`, `tell_of_slot`, `tell_by_slot` and `tell_all`.
+-- By: what is told of two things one after another is both, and silence adds nothing.
 use Rattle.std.proofs.Common.{◌≡◌, suc, ◌+◌, ℕ, true, false, Bool, List, [], ◌∷◌}
 use Rattle.std.proofs.Common.{◌++◌, length, take, Option, Some, None, refl, sym}
 use Rattle.std.proofs.Common.{◌∙◌, ap, arith, append-nil, length-append, subst}

@@ -1,4 +1,6 @@
 -- A turn, and turns one after another.
+-- For `take_turn`, `visit_port` and `visit_ports`, and for the daemon's turns.
+-- By induction on the visits: a turn is a moment and then the takes at each port.
 use Rattle.std.proofs.Common.{◌≡◌, ◌+◌, ℕ, Bool, true, false, List, [], ◌∷◌, ◌++◌, Option}
 use Rattle.std.proofs.Common.{refl, sym, ◌∙◌, ap, subst, map, take}
 use Rattle.std.proofs.lemmas.List.{map-append}
@@ -161,6 +163,7 @@ turn_taken {W} {takings_in} {gives_in} {r} {s} {t} {a} {b} {c} ports reading p q
       reading_is = refl;
       takes_at =
           subst (λ (x : ServiceState). TakesAt ports x q.visits) p.comes.service_is q.takes_at;
-      comes = comes_both {e = event_effect (service_state r) (moment_of (uncounted r.node) reading) p.loss}
+      comes = comes_both
+          {e = event_effect (service_state r) (moment_of (uncounted r.node) reading) p.loss}
           (λ after. visits_effect after q.visits) p.comes q.comes;
     }

@@ -1,16 +1,18 @@
 -- What a datagram at a port came to.
+-- For `Service::visit`, `take_datagram`, `take_operator` and `take_control`.
+-- By cases on the port, and on whether its line was read, skipped or refused.
 use Rattle.std.proofs.Common.{◌≡◌, ℕ, true, List, [], ◌∷◌, Option, Some, None}
 use Rattle.std.proofs.Common.{Result, Ok, Err, refl, sym, ◌∙◌, ap, subst, length, take}
-use Rattle.std.specs.Prelude.{slice_set}
+use Rattle.std.specs.Prelude.{slice_set, option_map}
 use Rattle.trdp_base.specs.declared.place.Place.{Place}
-use Rattle.trdp_model.specs.Events.{EventModel, DatagramIs}
+use Rattle.trdp_model.specs.Events.{EventModel, DatagramIs, event_model}
 use Rattle.trdp_engine.specs.NodeStates.{uncounted}
 use Rattle.trdp_model.specs.declared.record.Protocol.TheVariants.{Pd as PdData, Md as MdData}
 use Rattle.trdp_script.specs.declared.fault.LineFault.{LineFault}
 use Rattle.trdp_script.specs.declared.fault.LineFault.TheVariants.{OutOfMemory}
-use Rattle.trdp_script.specs.declared.line.Line.{Line}
+use Rattle.trdp_model.specs.declared.event.Event.{Event}
 use Rattle.trdp_script.specs.EventBytes.{carries_bytes}
-use Rattle.trdp_script.specs.Lines.{Reads, event_of}
+use Rattle.trdp_script.specs.Lines.{Reads}
 use Rattle.trdp_script.specs.PortLines.{control_line_of, operator_line_of}
 use Rattle.trdp_daemon.specs.declared.link.Link.{Link}
 use Rattle.trdp_daemon.specs.declared.port.Port.{Port}
@@ -30,11 +32,12 @@ use Rattle.trdp_daemon.proofs.Tellings.{silence_both}
 
 -- what a line that was read means
 pub reads_ok :
-    (meaning : Result (Option EventModel) LineFault) (line : Line) (event : Option EventModel)
-    → Reads meaning (Ok line) → event_of line ≡ event → meaning ≡ Ok event
-reads_ok (Ok said) line event reads is =
-    ap (λ e. let r : Result (Option EventModel) LineFault = Ok e in r) (sym reads ∙ is)
-reads_ok (Err fault) line event reads is = absurd reads
+    (meaning : Result (Option EventModel) LineFault) (read known : Option Event)
+    → Reads meaning (Ok read) → read ≡ known → meaning ≡ Ok (option_map event_model known)
+reads_ok (Ok said) read known reads is =
+    ap (λ e. let r : Result (Option EventModel) LineFault = Ok e in r)
+    (sym reads ∙ ap (option_map event_model) is)
+reads_ok (Err fault) read known reads is = absurd reads
 
 -- nothing happened
 nothing_comes : {W : Type 0} (takings_in : W → Option (List Taking))

@@ -3,7 +3,7 @@ use Rattle.std.specs.Prelude.{◌≡◌, ℕ, ◌≤◌, List, Option, [], ◌�
 use Rattle.trdp_dataset.specs.Configs.{ConfigModel}
 use Rattle.trdp_engine.specs.NodeStates.{uncounted}
 use Rattle.trdp_daemon.specs.declared.port.Port.{Port}
-use Rattle.trdp_daemon.specs.declared.visit.Home.{Home}
+use Rattle.trdp_daemon.specs.declared.home.Home.{Home}
 use Rattle.trdp_daemon.specs.declared.link.Link.{Link}
 use Rattle.trdp_daemon.specs.declared.service.Service.{Service}
 use Rattle.trdp_daemon.specs.Told.{Taking, Give}
@@ -66,6 +66,6 @@ abbrev pub IsHome : ConfigModel → Home → Type 0
 IsHome config home = (home.pd ≡ own_place config config.pd_port)
     × (home.md ≡ own_place config config.md_port)
 
--- a node has at most 16 slots
+-- a node has at most 16 slots, and telegrams go to where its configuration says
 abbrev pub IsSound : Service → Type 0
-IsSound s = length s.node.slots ≤ 16
+IsSound s = (length s.node.slots ≤ 16) × IsHome s.node.config s.home

@@ -2,7 +2,6 @@
 
 ghost use Rattle.std.specs.Prelude.{◌≡◌, IfOk, length};
 ghost use Rattle.trdp_daemon.specs.Ports.{ports_of};
-ghost use Rattle.trdp_daemon.specs.Services.{IsHome};
 ghost use Rattle.trdp_daemon.specs.Turns.{datagram_room};
 
 use crate::clock::Clock;
@@ -12,11 +11,9 @@ use crate::ports::ports_of;
 use crate::service::Service;
 use crate::totals::Totals;
 use crate::turn::take_turn;
-use crate::visit::Home;
 use crate::wire::Wire;
 use std::alloc::{AllocError, Global};
 use std::marker::Model;
-use trdp_base::Place;
 use trdp_dataset::NodeConfig;
 
 /// Room for a datagram, in bytes: more than the longest over UDP.
@@ -26,18 +23,16 @@ const DATAGRAM_ROOM: usize = 65_536;
 /// the node sends.
 #[derive(Drop)]
 pub struct Daemon<W: Wire, C: Clock> {
-    /// Where lines that carry bytes take their memory from.
-    alloc: Global,
     /// The node, and where its slots' applications are.
     service: Service,
-    /// Where telegrams go to at the node.
-    home: Home,
     /// The ports of a turn, in its order.
     ports: Vec<Port>,
     /// Room for one datagram.
     room: Vec<u8>,
     /// The wire, with the totals.
     link: Link<W>,
+    /// The bytes that a line carries.
+    buffer: Vec<u8>,
     /// Where each turn has its time from.
     clock: C,
 }
@@ -46,7 +41,7 @@ impl<W: Wire, C: Clock> Model for Daemon<W, C> {
     ghost use Rattle.std.specs.Prelude.{◌≡◌, length};
     ghost use Rattle.trdp_daemon.specs.Daemons.{DaemonState};
     ghost use Rattle.trdp_daemon.specs.Ports.{ports_of};
-    ghost use Rattle.trdp_daemon.specs.Services.{IsHome, IsSound, service_state};
+    ghost use Rattle.trdp_daemon.specs.Services.{IsSound, service_state};
     ghost use Rattle.trdp_daemon.specs.Turns.{datagram_room};
 
     ghost Value = { DaemonState W C };
@@ -58,7 +53,7 @@ impl<W: Wire, C: Clock> Model for Daemon<W, C> {
       totals = d.link.totals;
     } };
 
-    ghost invariant = { λ d. IsSound d.service × IsHome d.service.node.config d.home
+    ghost invariant = { λ d. IsSound d.service
         × (d.ports.items ≡ ports_of d.service.node.config)
         × (length d.room.items ≡ datagram_room) };
 }
@@ -70,7 +65,7 @@ impl<W: Wire, C: Clock> Daemon<W, C> {
     ghost use Rattle.trdp_daemon.specs.Resting.{AttendsUntil, Rests, TakesTurnAt};
 
     /// A daemon that has taken no turn: its node is at moment 0, and no slot has a control place.
-    /// All buffers are made here.
+    /// All buffers are made here but that of the bytes of lines, which grows with them.
     ///
     /// # Errors
     /// Configuration, wire and clock come back for want of memory.
@@ -89,16 +84,14 @@ impl<W: Wire, C: Clock> Daemon<W, C> {
         match buffers(alloc, &config) {
             Err(_) => Err((config, wire, clock)),
             Ok((ports, room)) => {
-                let home = home_of(&config);
                 match Service::new(alloc, config) {
                     Err(config) => Err((config, wire, clock)),
                     Ok(service) => Ok(Daemon {
-                        alloc,
                         service,
-                        home,
                         ports,
                         room,
                         link: Link::new(wire),
+                        buffer: Vec::new(alloc),
                         clock,
                     }),
                 }
@@ -175,9 +168,8 @@ impl<W: Wire, C: Clock> Daemon<W, C> {
     {
         let reading = self.clock.now();
         take_turn(
-            self.alloc,
+            &mut self.buffer,
             &mut self.service,
-            self.home,
             &self.ports,
             &mut self.room,
             reading,
@@ -206,21 +198,4 @@ fn buffers(alloc: Global, config: &NodeConfig) -> Result<(Vec<Port>, Vec<u8>), A
     let ports = ports_of(alloc, config)?;
     let room = vec![in alloc; 0; DATAGRAM_ROOM]?;
     Ok((ports, room))
-}
-
-/// Where telegrams go to at the node of a configuration.
-fn home_of(config: &NodeConfig) -> Home
-    ensures { IsHome config.now result }
-{
-    let ip = config.address();
-    Home {
-        pd: Place {
-            ip,
-            port: config.pd_port(),
-        },
-        md: Place {
-            ip,
-            port: config.md_port(),
-        },
-    }
 }

@@ -16,6 +16,7 @@ ghost use Rattle.trdp_daemon.specs.Turns.{is_there, no_places, opened_service};
 ghost use Rattle.trdp_daemon.specs.Visits.{operator_event};
 
 use crate::answer::operator_text;
+use crate::home::{Home, home_of};
 use crate::link::Link;
 use crate::port::Port;
 use crate::telling::{SLOTS_MAX, tell_records};
@@ -30,6 +31,8 @@ use trdp_engine::{Event, Node, NodeFault, Outbox};
 #[derive(Drop)]
 pub(crate) struct Service {
     pub(crate) node: Node,
+    /// Where telegrams go to at the node.
+    pub(crate) home: Home,
     /// Where the latest datagram came from that read as a line of the slot, for each of the slots
     /// that a node has at most; None before the first.
     pub(crate) places: Vec<Option<Place>>,
@@ -54,15 +57,19 @@ impl Service {
     {
         match lists(alloc) {
             Err(_) => Err(config),
-            Ok((places, text)) => match Node::new(alloc, config) {
-                Err(config) => Err(config),
-                Ok(node) => Ok(Service {
-                    node,
-                    places,
-                    records: Outbox::new(alloc),
-                    text,
-                }),
-            },
+            Ok((places, text)) => {
+                let home = home_of(&config);
+                match Node::new(alloc, config) {
+                    Err(config) => Err(config),
+                    Ok(node) => Ok(Service {
+                        node,
+                        home,
+                        places,
+                        records: Outbox::new(alloc),
+                        text,
+                    }),
+                }
+            }
         }
     }
 
@@ -129,6 +136,7 @@ impl Service {
     /// Sets the control place of a slot, if there is such a slot.
     pub(crate) fn set_place(&mut self, slot: u16, from: Place)
         ensures node { self.new.node ≡ self.old.node }
+        ensures home { self.new.home ≡ self.old.home }
         ensures places { self.new.places.items
             ≡ slice_set self.old.places.items slot (Some from) }
     {

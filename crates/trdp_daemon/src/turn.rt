@@ -2,30 +2,26 @@
 
 ghost use Rattle.std.specs.Prelude.{◌≡◌, ◌∷◌, [], length, max, min};
 ghost use Rattle.trdp_base.specs.Moments.{last_moment};
-ghost use Rattle.trdp_daemon.specs.Services.{IsHome, IsSound, TakesAtPorts, TakesTurn};
+ghost use Rattle.trdp_daemon.specs.Services.{IsSound, TakesAtPorts, TakesTurn};
 ghost use Rattle.trdp_daemon.specs.Turns.{datagram_room};
 
 use crate::link::Link;
 use crate::port::Port;
 use crate::service::Service;
-use crate::visit::Home;
 use crate::wire::Wire;
-use std::alloc::Global;
 use trdp_base::MOMENT_MAX;
 use trdp_engine::{Event, Node};
 
 /// Takes the moment of a reading of the clock, and then at each port once that is there.
 pub(crate) fn take_turn<W: Wire>(
-    alloc: Global,
+    buffer: &mut Vec<u8>,
     service: &mut Service,
-    home: Home,
     ports: &[Port],
     room: &mut [u8],
     reading: u64,
     link: &mut Link<W>,
 )
     requires sound { IsSound service.old }
-    requires home { IsHome service.old.node.config home }
     requires room { length room.old ≡ datagram_room }
     ensures sound { IsSound service.new }
     ensures config { service.new.node.config ≡ service.old.node.config }
@@ -34,20 +30,18 @@ pub(crate) fn take_turn<W: Wire>(
 {
     let moment = moment_of(&service.node, reading);
     service.take_event(&Event::Moment(moment), link);
-    visit_ports(alloc, service, home, ports, room, link);
+    visit_ports(buffer, service, ports, room, link);
 }
 
 /// Takes at each port once that is there when its place in the order comes.
 fn visit_ports<W: Wire>(
-    alloc: Global,
+    buffer: &mut Vec<u8>,
     service: &mut Service,
-    home: Home,
     ports: &[Port],
     room: &mut [u8],
     link: &mut Link<W>,
 )
     requires sound { IsSound service.old }
-    requires home { IsHome service.old.node.config home }
     requires room { length room.old ≡ datagram_room }
     ensures sound { IsSound service.new }
     ensures config { service.new.node.config ≡ service.old.node.config }
@@ -55,21 +49,19 @@ fn visit_ports<W: Wire>(
         ports.now }
 {
     for i in 0..ports.len() {
-        visit_port(alloc, service, home, ports[i], room, link);
+        visit_port(buffer, service, ports[i], room, link);
     }
 }
 
 /// Takes at a port once, if it is there.
 fn visit_port<W: Wire>(
-    alloc: Global,
+    buffer: &mut Vec<u8>,
     service: &mut Service,
-    home: Home,
     port: Port,
     room: &mut [u8],
     link: &mut Link<W>,
 )
     requires sound { IsSound service.old }
-    requires home { IsHome service.old.node.config home }
     requires room { length room.old ≡ datagram_room }
     ensures sound { IsSound service.new }
     ensures config { service.new.node.config ≡ service.old.node.config }
@@ -77,7 +69,7 @@ fn visit_port<W: Wire>(
         (port ∷ []) }
 {
     if service.is_there(port) {
-        service.visit(alloc, home, port, room, link);
+        service.visit(buffer, port, room, link);
     }
 }
 

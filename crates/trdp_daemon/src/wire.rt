@@ -7,8 +7,8 @@ use crate::fault::WireFault;
 use crate::port::Port;
 use trdp_base::Place;
 
-/// A wire at the ports of a node. A take and a give never wait; only a rest may. It may tell what it
-/// took and gave.
+/// A wire at the ports of a node. A take and a give never wait; only a rest may. It may tell what
+/// it took and gave.
 pub trait Wire {
     ghost use Rattle.std.specs.Prelude.{ℕ, List, Option};
     ghost use Rattle.trdp_daemon.specs.Told.{Give, Taking};

@@ -1,4 +1,6 @@
 -- The lines of totals that a service writes which goes on.
+-- For `attend_lines`.
+-- By a loop's invariant: the lines so far are those of the turns so far.
 use Rattle.std.proofs.Common.{◌≡◌, ◌+◌, ℕ, List, [], ◌∷◌, ◌++◌, Option, refl, sym, ◌∙◌, ap, subst}
 use Rattle.std.proofs.Common.{arith, length, take, append-nil, Result, Ok, Err, IfErr, IsErrAnd}
 use Rattle.std.specs.Io.KnownBytes.{Appends}

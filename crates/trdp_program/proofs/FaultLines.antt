@@ -1,4 +1,6 @@
 -- The line of a fault, on its way to the error stream.
+-- For `tell_fault`.
+-- By: several writes append what they wrote together, whole or a front of it.
 use Rattle.std.proofs.Common.{◌≡◌, ℕ, List, [], ◌∷◌, ◌++◌, length, take, sym, ◌∙◌, ap, subst}
 use Rattle.std.proofs.Common.{arith, append_assoc, append-nil, true, Option, Some, None, IfSome}
 use Rattle.std.proofs.Common.{Result, Ok, Err, OnOk, OnErr, is_ok}

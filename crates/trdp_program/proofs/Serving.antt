@@ -1,4 +1,6 @@
 -- What the turns of a service come to.
+-- For `serve`.
+-- By cases: a fault before the first turn, or the totals of so many turns.
 use Rattle.std.proofs.Common.{◌≡◌, ℕ, List, Option, refl, sym, ◌∙◌, subst}
 use Rattle.std.proofs.KnownBytes.{Keeps-refl}
 use Rattle.trdp_dataset.specs.Configs.{ConfigModel}

@@ -2,7 +2,7 @@
 use Rattle.std.specs.Prelude.{◌≡◌, ◌⊎◌, ℕ, List, ◌++◌, codes, All, Option, Ok}
 use Rattle.std.specs.List.{flat_map}
 use Rattle.std.specs.Io.KnownBytes.{Appends, Keeps}
-use Rattle.trdp_dataset.specs.Configs.{ConfigModel, Reads, config_of}
+use Rattle.trdp_dataset.specs.Configs.{ConfigModel, ReadsToml, config_of}
 use Rattle.trdp_daemon.specs.declared.totals.Totals.{Totals}
 use Rattle.trdp_script.specs.Writes.{PartlyWrites}
 use Rattle.trdp_program.specs.Faults.{TellsFault, text_of_serve_fault}
@@ -46,7 +46,7 @@ WritesUpTo Write config old new = WritesFront config old new
 pub record AttendsConfig (bytes : List ℕ) (old new errors errors_then : Option (List ℕ))
     (status : ℕ) : Type 0 where
   pub config : ConfigModel
-  pub is : Reads config_of bytes (Ok config)
+  pub is : ReadsToml config_of bytes (Ok config)
   pub status_is : status ≡ 0
   pub written : WritesLines config old new
   pub faultless : Keeps errors errors_then
@@ -56,7 +56,7 @@ pub record AttendsConfig (bytes : List ℕ) (old new errors errors_then : Option
 pub record FailsToAttend (bytes : List ℕ) (old new errors errors_then : Option (List ℕ))
     (status : ℕ) : Type 0 where
   pub config : ConfigModel
-  pub is : Reads config_of bytes (Ok config)
+  pub is : ReadsToml config_of bytes (Ok config)
   pub fault : ServeFault
   pub status_is : status ≡ 4
   pub written : WritesUpTo fault config old new

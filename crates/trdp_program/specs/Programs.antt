@@ -1,7 +1,7 @@
 -- What a run of the program comes to.
 use Rattle.std.specs.Prelude.{◌≡◌, ◌⊎◌, ℕ, List, Option, Some, Result, Ok, Err}
 use Rattle.std.specs.Io.KnownBytes.{Keeps}
-use Rattle.trdp_dataset.specs.Configs.{ConfigModel, Reads, config_of}
+use Rattle.trdp_dataset.specs.Configs.{ConfigModel, ReadsToml, config_of}
 use Rattle.trdp_dataset.specs.declared.fault.ConfigFault.{ConfigFault}
 use Rattle.trdp_script.specs.ScriptRuns.{RunsScript}
 use Rattle.trdp_script.specs.declared.fault.ScriptFault.{ScriptFault}
@@ -10,12 +10,12 @@ use Rattle.trdp_program.specs.Faults.{TellsEnd, TellsFault, status_of_script}
 
 -- the bytes are a configuration
 abbrev pub IsConfig : List ℕ → Type 0
-IsConfig bytes = (config : ConfigModel) × Reads config_of bytes (Ok config)
+IsConfig bytes = (config : ConfigModel) × ReadsToml config_of bytes (Ok config)
 
 -- the fault is the one that the bytes have as a configuration, or memory ran out while they were
 -- read
 abbrev pub IsConfigFault : List ℕ → ConfigFault → Type 0
-IsConfigFault bytes fault = Reads {A = ConfigModel} config_of bytes (Err fault)
+IsConfigFault bytes fault = ReadsToml {A = ConfigModel} config_of bytes (Err fault)
 
 -- the bytes are no configuration, or memory ran out while they were read: the status is 1, nothing
 -- was written, and the error stream is told the fault
@@ -32,7 +32,7 @@ pub record TakesNoConfig (bytes : List ℕ) (old new errors errors_then : Option
 pub record RunsOverConfig (bytes : List ℕ)
     (unread left old new errors errors_then : Option (List ℕ)) (status : ℕ) : Type 0 where
   pub config : ConfigModel
-  pub is : Reads config_of bytes (Ok config)
+  pub is : ReadsToml config_of bytes (Ok config)
   pub end : Result (Unit {0}) ScriptFault
   pub status_is : status ≡ status_of_script end
   pub runs : (input : List ℕ) → unread ≡ Some input → RunsScript config input left old new end

@@ -3,7 +3,7 @@ use Rattle.std.specs.Prelude.{◌≡◌, ◌⊎◌, ℕ, List, ◌++◌, codes, 
 use Rattle.std.specs.List.{flat_map}
 use Rattle.std.specs.Io.KnownBytes.{Appends, Keeps}
 use Rattle.trdp_base.specs.NumberText.{text_of_number}
-use Rattle.trdp_dataset.specs.Configs.{ConfigModel, Reads, config_of}
+use Rattle.trdp_dataset.specs.Configs.{ConfigModel, ReadsToml, config_of}
 use Rattle.trdp_daemon.specs.declared.totals.Totals.{Totals}
 use Rattle.trdp_daemon.specs.Told.{Taking, Give}
 use Rattle.trdp_daemon.specs.Counting.{no_totals, totals_after}
@@ -62,7 +62,7 @@ FailsToWrite Write totals old new = PartlyWrites old new (text_of_totals totals 
 pub record ServesConfig (bytes : List ℕ) (n : ℕ) (old new errors errors_then : Option (List ℕ))
     (status : ℕ) : Type 0 where
   pub config : ConfigModel
-  pub is : Reads config_of bytes (Ok config)
+  pub is : ReadsToml config_of bytes (Ok config)
   pub totals : Totals
   pub counts : CountsTurns config n totals
   pub status_is : status ≡ 0
@@ -83,7 +83,7 @@ WritesNoTotals Write config n old new = (totals : Totals) × CountsTurns config 
 pub record FailsToServe (bytes : List ℕ) (n : ℕ) (old new errors errors_then : Option (List ℕ))
     (status : ℕ) : Type 0 where
   pub config : ConfigModel
-  pub is : Reads config_of bytes (Ok config)
+  pub is : ReadsToml config_of bytes (Ok config)
   pub fault : ServeFault
   pub status_is : status ≡ 4
   pub written : WritesNoTotals fault config n old new

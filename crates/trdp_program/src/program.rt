@@ -2,7 +2,7 @@
 
 ghost use Rattle.std.specs.Prelude.{◌≡◌, ◌⊎◌, Ok, IfOk, IfErr, OnOk};
 ghost use Rattle.std.specs.Io.KnownBytes.{Keeps};
-ghost use Rattle.trdp_dataset.specs.Configs.{Reads, config_of};
+ghost use Rattle.trdp_dataset.specs.Configs.{ReadsToml, config_of};
 ghost use Rattle.trdp_program.specs.ConfigNames.{text_of_config_fault};
 ghost use Rattle.trdp_program.specs.Faults.{TellsFault};
 ghost use Rattle.trdp_program.specs.Programs.{IsConfig, IsConfigFault, RunsProgram};
@@ -59,7 +59,7 @@ pub fn read_config<E: Write>(
     config: &[u8],
     errors: &mut E,
 ) -> Result<NodeConfig, ConfigFault>
-    ensures taken { IfOk result (λ taken. Reads config_of config.now (Ok taken)) }
+    ensures taken { IfOk result (λ taken. ReadsToml config_of config.now (Ok taken)) }
     ensures fault { IfErr result (IsConfigFault config.now) }
     ensures faultless { OnOk result (Keeps (E.contents errors.old) (E.contents errors.new)) }
     ensures told { IfErr result (λ fault. TellsFault (text_of_config_fault fault)

@@ -1,7 +1,6 @@
 pub mod EventBytes
 pub mod FormNames
 pub mod Forms
-pub mod LineCalls
 pub mod Lines
 pub mod Pieces
 pub mod PortLines

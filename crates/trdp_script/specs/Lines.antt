@@ -1,20 +1,16 @@
 -- What a line of a script says.
 use Rattle.std.specs.Prelude.{◌≡◌, ℕ, suc, ◌==◌, ◌&&◌, List, [], ◌∷◌, length, nat_lt, nat_le, Bool}
 use Rattle.std.specs.Prelude.{true}
-use Rattle.std.specs.Prelude.{Option, Some, None, Result, Ok, Err, if◌then◌else◌, find}
-use Rattle.trdp_model.specs.Events.{EventModel, MomentIs, TopologyIs, RoleIs, DatagramIs, CallIs}
-use Rattle.trdp_model.specs.Events.{AddSlotIs}
+use Rattle.std.specs.Prelude.{Option, Some, None, Result, Ok, Err, if◌then◌else◌, find, option_map}
+use Rattle.trdp_model.specs.Events.{EventModel, event_model}
+use Rattle.trdp_model.specs.declared.event.Event.{Event}
 use Rattle.trdp_script.specs.EventBytes.{carries_bytes}
 use Rattle.trdp_script.specs.Forms.{Part, LastNumberField, LineForm, forms, has_keywords}
 use Rattle.trdp_script.specs.Forms.{event_in}
-use Rattle.trdp_script.specs.LineCalls.{plain_call_of, bytes_call_of}
 use Rattle.trdp_script.specs.Words.{words_of}
 use Rattle.trdp_script.specs.declared.fault.LineFault.{LineFault}
 use Rattle.trdp_script.specs.declared.fault.LineFault.TheVariants.{TooLong, Unknown, Count}
 use Rattle.trdp_script.specs.declared.fault.LineFault.TheVariants.{BadWord, OutOfMemory}
-use Rattle.trdp_script.specs.declared.line.Line.{Line}
-use Rattle.trdp_script.specs.declared.line.Line.TheVariants.{Skipped, Moment, Topology, Role}
-use Rattle.trdp_script.specs.declared.line.Line.TheVariants.{Datagram, Call, BytesCall, AddSlot}
 
 -- the line is empty or begins with `#`
 abbrev pub is_skipped : List ℕ → Bool
@@ -60,21 +56,18 @@ line_among known text =
 abbrev pub line_of : List ℕ → Result (Option EventModel) LineFault
 line_of text = line_among forms text
 
--- the event of a line that was read; none where it is skipped
-abbrev pub event_of : Line → Option EventModel
-event_of Skipped = None
-event_of (Moment t) = Some (MomentIs t)
-event_of (Topology topo) = Some (TopologyIs topo)
-event_of (Role group leader) = Some (RoleIs group leader)
-event_of (Datagram protocol src dst bytes) = Some (DatagramIs protocol src dst bytes.items)
-event_of (Call slot call) = Some (CallIs slot (plain_call_of call))
-event_of (BytesCall slot call) = Some (CallIs slot (bytes_call_of call))
-event_of (AddSlot quotas) = Some (AddSlotIs quotas)
+-- what was read of words is the event that they say, or memory ran out for its bytes, if it carries
+-- some; of words of which one is bad nothing is read
+abbrev pub ReadsEvent : Option EventModel → Result Event LineFault → Type 0
+ReadsEvent (Some event) (Ok read) = event_model read ≡ event
+ReadsEvent (Some event) (Err fault) = (fault ≡ OutOfMemory) × (carries_bytes (Some event) ≡ true)
+ReadsEvent None (Ok read) = ⊥
+ReadsEvent None (Err fault) = fault ≡ BadWord
 
--- what was read is what the line says, or memory ran out for the bytes of a line that carries some,
--- where nothing else is wrong
-abbrev pub Reads : Result (Option EventModel) LineFault → Result Line LineFault → Type 0
-Reads (Ok event) (Ok line) = event_of line ≡ event
+-- what was read is the event of the line, none where it is skipped, or memory ran out for the bytes
+-- of a line that carries some, where nothing else is wrong
+abbrev pub Reads : Result (Option EventModel) LineFault → Result (Option Event) LineFault → Type 0
+Reads (Ok event) (Ok read) = option_map event_model read ≡ event
 Reads (Ok event) (Err fault) = (fault ≡ OutOfMemory) × (carries_bytes event ≡ true)
-Reads (Err fault) (Ok line) = ⊥
+Reads (Err fault) (Ok read) = ⊥
 Reads (Err fault) (Err other) = other ≡ fault

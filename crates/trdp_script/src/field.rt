@@ -1,7 +1,7 @@
 //! The values that words are the written forms of.
 
-ghost use Rattle.std.specs.Prelude.{◌≡◌, ℕ, ℤ, List, ◌<◌, ◌≤◌, ◌^◌, ◌-◌, IfOk, IfErr, IfSome};
-ghost use Rattle.std.specs.Prelude.{All, FitsSigned};
+ghost use Rattle.std.specs.Prelude.{◌≡◌, ℕ, ℤ, List, ◌<◌, ◌≤◌, ◌^◌, ◌-◌, IfErr, IfSome};
+ghost use Rattle.std.specs.Prelude.{All, FitsSigned, OnOk};
 ghost use Rattle.std.specs.Int.{w32};
 ghost use Rattle.trdp_base.specs.AddressText.{text_of_ip, text_of_place};
 ghost use Rattle.trdp_base.specs.HexText.{text_of_hex};
@@ -19,10 +19,9 @@ ghost use Rattle.trdp_script.specs.WordsLeft.{words_left};
 
 use crate::fault::LineFault;
 use crate::words::Words;
-use std::alloc::Global;
 use trdp_base::{
-    Ip, Place, QUOTA_LIMIT, SessionId, TextFault, Uri, read_hex, read_ip, read_number, read_place,
-    read_session, read_status, read_uri,
+    Ip, Place, QUOTA_LIMIT, SessionId, TextFault, Uri, read_hex_into, read_ip, read_number,
+    read_place, read_session, read_status, read_uri,
 };
 
 /// The word for a number of any value.
@@ -144,18 +143,18 @@ impl Words<'_, '_> {
         choice_of(self.next_word(), first, second)
     }
 
-    /// The bytes that the next word is.
+    /// Reads the bytes that the next word is into the buffer, in place of what it holds.
     ///
     /// # Errors
     /// `BadWord` where the word isn't the written form of bytes, which is found before memory is
-    /// taken; `OutOfMemory`.
-    pub(crate) fn next_bytes(&mut self, alloc: Global) -> Result<Vec<u8>, LineFault>
-        ensures value { IfOk result (λ bytes.
-            bytes_of_word (first_word (words_left self.old)) ≡ Some bytes.items) }
+    /// taken; `OutOfMemory` where the buffer lacks room for them, and can't have it.
+    pub(crate) fn next_bytes(&mut self, buffer: &mut Vec<u8>) -> Result<(), LineFault>
+        ensures value { OnOk result
+            (bytes_of_word (first_word (words_left self.old)) ≡ Some buffer.new.items) }
         ensures fault { IfErr result (λ fault.
             IsBytesFault (bytes_of_word (first_word (words_left self.old))) fault) }
     {
-        bytes_of(alloc, self.next_word())
+        read_bytes(self.next_word(), buffer)
     }
 }
 
@@ -262,16 +261,19 @@ fn choice_of(word: &[u8], first: &[u8], second: &[u8]) -> Option<bool>
     }
 }
 
-/// The bytes that a word is.
-pub(crate) fn bytes_of(alloc: Global, word: &[u8]) -> Result<Vec<u8>, LineFault>
-    ensures value { IfOk result (λ bytes. bytes_of_word word.now ≡ Some bytes.items) }
-    ensures written { IfOk result (λ bytes. word.now ≡ text_of_hex bytes.items) }
+/// Reads the bytes that a word is into the buffer, in place of what it holds.
+///
+/// # Errors
+/// As [`Words::next_bytes`].
+pub(crate) fn read_bytes(word: &[u8], buffer: &mut Vec<u8>) -> Result<(), LineFault>
+    ensures value { OnOk result (bytes_of_word word.now ≡ Some buffer.new.items) }
+    ensures written { OnOk result (word.now ≡ text_of_hex buffer.new.items) }
     ensures found { (bytes : List ℕ) → All (λ byte. byte < 256) bytes
-        → word.now ≡ text_of_hex bytes → IfOk result (λ read. read.items ≡ bytes) }
+        → word.now ≡ text_of_hex bytes → OnOk result (buffer.new.items ≡ bytes) }
     ensures fault { IfErr result (λ fault. IsBytesFault (bytes_of_word word.now) fault) }
 {
-    match read_hex(alloc, word) {
-        Ok(bytes) => Ok(bytes),
+    match read_hex_into(word, buffer) {
+        Ok(()) => Ok(()),
         Err(TextFault::BadText) => Err(LineFault::BadWord),
         Err(TextFault::OutOfMemory) => Err(LineFault::OutOfMemory),
     }

@@ -2,9 +2,9 @@
 //! tell of records.
 //!
 //! [`run_script`] plays a script over a node that it opens: it reads lines, lets the node take
-//! their events, and writes what each slot gets. [`read_line`] says what one line means (a
-//! [`Line`], whose [`Line::event`] is the event), [`read_control`] and [`read_operator`] what one
-//! means that came in a datagram, and [`print_record`] writes a record as its line.
+//! their events, and writes what each slot gets. [`read_line`] reads the event that one line means,
+//! [`read_control`] and [`read_operator`] that of one that came in a datagram, and [`print_record`]
+//! writes a record as its line. The bytes of an event lie in a buffer that the caller keeps.
 //!
 //! ```text
 //! call 0 publish 100 0 100000 0 0 0 10.0.0.2:17224    answers  0 handle 1
@@ -20,11 +20,10 @@
 //! `run_script` that answers it before it reads anything. A reader that always fails, and so a
 //! `read_piece` that always answers `Read`, meets the contracts too, since a reader may always
 //! fail; so does a writer that always fails, and a `write_whole` that always answers `Write`.
-//! `trdp_script_worked` shows that both work: with ample memory the lines are read and the scripts
+//! `trdp_node_tests` shows that both work: with ample memory the lines are read and the scripts
 //! played.
 #![tactic(auto)]
 
-mod calls;
 mod fault;
 mod field;
 mod form;
@@ -46,9 +45,8 @@ mod script;
 mod split;
 mod words;
 
-pub use calls::{BytesCall, PlainCall};
 pub use fault::{LineFault, ScriptFault};
-pub use line::{LINE_MAX, Line, read_line};
+pub use line::{LINE_MAX, read_line};
 pub use names::line_fault_name;
 pub use order::is_rising;
 pub use output::{WRITE_TRIES, write_whole};

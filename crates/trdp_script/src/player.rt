@@ -1,9 +1,8 @@
 //! The player of a script's lines, one by one.
 
-ghost use Rattle.std.specs.Prelude.{◌≡◌, ◌≤◌, [], length, Some, Ok, IfOk};
+ghost use Rattle.std.specs.Prelude.{◌≡◌, ◌≤◌, [], length, IfOk};
 ghost use Rattle.trdp_engine.specs.NodeStates.{uncounted};
 ghost use Rattle.trdp_model.specs.NodeModels.{opened_model};
-ghost use Rattle.trdp_model.specs.Events.{event_model};
 ghost use Rattle.trdp_script.specs.Lines.{line_of};
 ghost use Rattle.trdp_script.specs.ScriptSteps.{LineComesTo};
 
@@ -14,12 +13,14 @@ use crate::play::play;
 use std::alloc::{AllocError, Global};
 use std::io::Write;
 use trdp_dataset::NodeConfig;
-use trdp_engine::{Event, Node, Outbox};
+use trdp_engine::{Node, Outbox};
 
 /// The node of a script, with the lists that are used again from event to event.
 #[derive(Drop)]
 pub(crate) struct Player {
     pub(crate) node: Node,
+    /// The bytes that a line carries.
+    bytes: Vec<u8>,
     /// The records of one event.
     records: Outbox,
     /// The text of one event.
@@ -39,6 +40,7 @@ impl Player {
         match Node::new(alloc, config) {
             Ok(node) => Ok(Player {
                 node,
+                bytes: Vec::new(alloc),
                 records: Outbox::new(alloc),
                 text: Vec::new(alloc),
                 output,
@@ -51,7 +53,6 @@ impl Player {
     #[tactic(auto, unfolding(crate::specs::ScriptSteps::LineComesTo))]
     pub(crate) fn take_line<W: Write>(
         &mut self,
-        alloc: Global,
         line: &[u8],
         number: u64,
         writer: &mut W,
@@ -62,28 +63,16 @@ impl Player {
             (W.contents writer.old) (W.contents writer.new)
             number (line_of line.now) result }
     {
-        match read_line(alloc, line) {
-            Ok(line) => match line.event() {
-                None => Ok(()),
-                Some(event) => self.take_event(&event, writer),
-            },
+        match read_line(&mut self.bytes, line) {
+            Ok(None) => Ok(()),
+            Ok(Some(event)) => {
+                match play(&mut self.node, &event, &mut self.records, &mut self.text) {
+                    Ok(()) => put(&mut self.output, &self.text, writer),
+                    Err(_) => Err(ScriptFault::OutOfMemory),
+                }
+            }
             Err(LineFault::OutOfMemory) => Err(ScriptFault::OutOfMemory),
             Err(fault) => Err(ScriptFault::Line(number, fault)),
-        }
-    }
-
-    /// Plays an event.
-    #[tactic(auto, unfolding(crate::specs::ScriptSteps::LineComesTo))]
-    fn take_event<W: Write>(&mut self, event: &Event<'_>, writer: &mut W) -> Result<(), ScriptFault>
-        requires slots { length self.old.node.slots ≤ 16 }
-        ensures few { length self.new.node.slots ≤ 16 }
-        ensures line { LineComesTo self.old self.new
-            (W.contents writer.old) (W.contents writer.new)
-            0 (Ok (Some (event_model event.now))) result }
-    {
-        match play(&mut self.node, event, &mut self.records, &mut self.text) {
-            Ok(()) => put(&mut self.output, &self.text, writer),
-            Err(_) => Err(ScriptFault::OutOfMemory),
         }
     }
 }

@@ -93,7 +93,7 @@ pub(crate) fn put_uri(text: &mut Vec<u8>, uri: Uri)
 }
 
 /// Appends the written form of bytes to a list that has room for it.
-#[tactic(auto, using(crate::proofs::TextLengths::hex_length))]
+#[tactic(auto, using(crate::proofs::PlayLemmas::TextLengths::hex_length))]
 pub(crate) fn put_hex(text: &mut Vec<u8>, bytes: &[u8])
     requires room { vec_len text.old + (1 + 2 * length bytes.now) ≤ vec_capacity text.old }
     ensures items { text.new.items ≡ text.old.items ++ text_of_hex bytes.now }

@@ -52,7 +52,7 @@ pub fn run_script<R: Read, W: Write>(
         (W.contents writer.old) (W.contents writer.new) result }
 {
     match Script::new(alloc, config) {
-        Ok((mut script, mut piece)) => script.run_whole(alloc, &mut piece, reader, writer),
+        Ok((mut script, mut piece)) => script.run_whole(&mut piece, reader, writer),
         Err(_) => Err(ScriptFault::OutOfMemory),
     }
 }
@@ -89,7 +89,6 @@ impl Script {
     /// Runs a script from its start to its end, and writes all of its output.
     fn run_whole<R: Read, W: Write>(
         &mut self,
-        alloc: Global,
         piece: &mut [u8],
         reader: &mut R,
         writer: &mut W,
@@ -101,7 +100,7 @@ impl Script {
             → R.remaining reader.old ≡ Some input → RunsScript config input
             (R.remaining reader.new) (W.contents writer.old) (W.contents writer.new) result }
     {
-        let end = self.run(alloc, piece, reader, writer);
+        let end = self.run(piece, reader, writer);
         if is_write_fault(&end) {
             return end;
         }
@@ -115,7 +114,6 @@ impl Script {
     /// but for `Write`.
     fn run<R: Read, W: Write>(
         &mut self,
-        alloc: Global,
         piece: &mut [u8],
         reader: &mut R,
         writer: &mut W,
@@ -132,10 +130,10 @@ impl Script {
                 return Err(fault);
             }
             match read_piece(reader, piece) {
-                Ok(0) => return self.end(alloc, writer),
+                Ok(0) => return self.end(writer),
                 Ok(count) => {
                     let (front, _) = piece.split_at(count);
-                    if let Err(fault) = self.take_piece(alloc, front, writer) {
+                    if let Err(fault) = self.take_piece(front, writer) {
                         return Err(fault);
                     }
                 }
@@ -164,12 +162,7 @@ impl Script {
     }
 
     /// Plays the lines that end in these bytes, and keeps the bytes behind the last newline.
-    fn take_piece<W: Write>(
-        &mut self,
-        alloc: Global,
-        piece: &[u8],
-        writer: &mut W,
-    ) -> Result<(), ScriptFault>
+    fn take_piece<W: Write>(&mut self, piece: &[u8], writer: &mut W) -> Result<(), ScriptFault>
         requires sound { IsSound self.old }
         requires number { self.old.number + length piece.now < 2 ^ 64 }
         ensures sound { OnOk result (IsSound self.new) }
@@ -181,7 +174,7 @@ impl Script {
     {
         let mut rest = piece;
         while let Some((before, behind)) = split_at_byte(b'\n', rest) {
-            match self.take_to_newline(alloc, before, writer) {
+            match self.take_to_newline(before, writer) {
                 Ok(()) => rest = behind,
                 Err(fault) => return Err(fault),
             }
@@ -192,7 +185,6 @@ impl Script {
     /// Plays the line that ends with these bytes and a newline.
     fn take_to_newline<W: Write>(
         &mut self,
-        alloc: Global,
         before: &[u8],
         writer: &mut W,
     ) -> Result<(), ScriptFault>
@@ -207,21 +199,16 @@ impl Script {
             (W.contents writer.old) (W.contents writer.new) (before.now ++ 10 ∷ later) fault) }
     {
         if self.line.is_empty() {
-            return self.take_whole(alloc, before, writer);
+            return self.take_whole(before, writer);
         }
         match self.gather(before) {
-            Ok(()) => self.end_line(alloc, writer),
+            Ok(()) => self.end_line(writer),
             Err(fault) => Err(fault),
         }
     }
 
     /// Plays the line that is these bytes, of which none was kept, and a newline.
-    fn take_whole<W: Write>(
-        &mut self,
-        alloc: Global,
-        bytes: &[u8],
-        writer: &mut W,
-    ) -> Result<(), ScriptFault>
+    fn take_whole<W: Write>(&mut self, bytes: &[u8], writer: &mut W) -> Result<(), ScriptFault>
         requires sound { IsSound self.old }
         requires begun { vec_len self.old.line ≡ 0 }
         requires bare { IsBare bytes.now }
@@ -234,7 +221,7 @@ impl Script {
             (W.contents writer.old) (W.contents writer.new) (bytes.now ++ 10 ∷ later) fault) }
     {
         let line = without_return(bytes);
-        match self.player.take_line(alloc, line, self.number, writer) {
+        match self.player.take_line(line, self.number, writer) {
             Ok(()) => {
                 self.number += 1;
                 Ok(())
@@ -261,7 +248,7 @@ impl Script {
     }
 
     /// Plays the line that has begun, behind which a newline stands.
-    fn end_line<W: Write>(&mut self, alloc: Global, writer: &mut W) -> Result<(), ScriptFault>
+    fn end_line<W: Write>(&mut self, writer: &mut W) -> Result<(), ScriptFault>
         requires sound { IsSound self.old }
         requires number { self.old.number + 1 < 2 ^ 64 }
         ensures sound { OnOk result (IsSound self.new) }
@@ -272,7 +259,7 @@ impl Script {
             (W.contents writer.old) (W.contents writer.new) (10 ∷ later) fault) }
     {
         let line = without_return(&self.line);
-        match self.player.take_line(alloc, line, self.number, writer) {
+        match self.player.take_line(line, self.number, writer) {
             Ok(()) => {
                 self.line.clear();
                 self.number += 1;
@@ -283,7 +270,7 @@ impl Script {
     }
 
     /// Plays the last line, which has no end, if there is one.
-    fn end<W: Write>(&mut self, alloc: Global, writer: &mut W) -> Result<(), ScriptFault>
+    fn end<W: Write>(&mut self, writer: &mut W) -> Result<(), ScriptFault>
         requires sound { IsSound self.old }
         ensures ok { OnOk result
             (Ends self.old self.new (W.contents writer.old) (W.contents writer.new) []) }
@@ -293,12 +280,12 @@ impl Script {
         if self.line.is_empty() {
             Ok(())
         } else {
-            self.end_last(alloc, writer)
+            self.end_last(writer)
         }
     }
 
     /// Plays the last line, which has no end.
-    fn end_last<W: Write>(&mut self, alloc: Global, writer: &mut W) -> Result<(), ScriptFault>
+    fn end_last<W: Write>(&mut self, writer: &mut W) -> Result<(), ScriptFault>
         requires sound { IsSound self.old }
         requires some { 0 < vec_len self.old.line }
         ensures ok { OnOk result
@@ -306,8 +293,7 @@ impl Script {
         ensures err { IfErr result (λ fault. Stops self.old self.new
             (W.contents writer.old) (W.contents writer.new) [] fault) }
     {
-        self.player
-            .take_line(alloc, &self.line, self.number, writer)
+        self.player.take_line(&self.line, self.number, writer)
     }
 }
 

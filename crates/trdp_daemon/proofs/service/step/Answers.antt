@@ -1,7 +1,7 @@
 use Rattle.std.proofs.Common.{sym, ◌∙◌, arith, length}
 use Rattle.trdp_engine.specs.NodeStates.{uncounted}
 use Rattle.trdp_model.specs.Events.{event_model}
-use Rattle.trdp_script.proofs.Playing.{node_played, still_few}
+use Rattle.trdp_script.proofs.PlayLemmas.Played.{node_played, still_few}
 use Rattle.trdp_daemon.proofs.Steps.{records_played, records_refused}
 use Rattle.trdp_daemon.proofs.Services.{no_records}
 use Rattle.trdp_daemon.proofs.service.step.Goals as goal
@@ -13,7 +13,8 @@ returns-in-Ok-clause-node c =
 
 pub returns-in-Ok-clause-records : goal.returns-in-Ok-clause-records
 returns-in-Ok-clause-records c =
-    records_played 16 (uncounted c.args.node.now) (uncounted c.step.new.self) _ _ _ c.in-Ok.ensures.fault
+    records_played 16 (uncounted c.args.node.now) (uncounted c.step.new.self) _ _ _
+    c.in-Ok.ensures.fault
     (omega (
       arith,
       c.in-Ok.ensures.count,

@@ -2,7 +2,7 @@ use Rattle.std.proofs.Common.{sym, ◌∙◌, ap, subst}
 use Rattle.std.specs.Option.{option_map}
 use Rattle.trdp_model.specs.Records.{record_model}
 use Rattle.trdp_daemon.specs.declared.link.Link.{Link}
-use Rattle.trdp_script.proofs.Turns.{some_within}
+use Rattle.trdp_script.proofs.PlayLemmas.Turns.{some_within}
 use Rattle.trdp_daemon.specs.Tellings.{TellsRecord}
 use Rattle.trdp_daemon.proofs.Tellings.{tells_more}
 use Rattle.trdp_daemon.proofs.telling.tell_all.Goals as goal

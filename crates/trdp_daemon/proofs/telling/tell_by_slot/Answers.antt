@@ -1,7 +1,7 @@
 use Rattle.std.proofs.Common.{List, suc, ◌+◌, ◌≡◌, arith, sym, ◌∙◌, ap, subst}
 use Rattle.trdp_model.specs.Records.{RecordModel}
 use Rattle.trdp_script.specs.SlotOrder.{by_slot}
-use Rattle.trdp_script.proofs.Orders.{by_slot_suc, by_slot_zero}
+use Rattle.trdp_script.proofs.PlayLemmas.BySlot.{by_slot_suc, by_slot_zero}
 use Rattle.trdp_daemon.specs.Tellings.{Tells}
 use Rattle.trdp_daemon.proofs.Tellings.{tells_none, tells_both}
 use Rattle.trdp_daemon.proofs.telling.tell_by_slot.Goals as goal

@@ -1,6 +1,6 @@
 use Rattle.std.proofs.Common.{List, refl, sym, subst}
 use Rattle.trdp_model.specs.Records.{RecordModel}
-use Rattle.trdp_script.proofs.Orders.{rising_by_slot}
+use Rattle.trdp_script.proofs.PlayLemmas.BySlot.{rising_by_slot}
 use Rattle.trdp_daemon.specs.Tellings.{Tells}
 use Rattle.trdp_daemon.proofs.telling.tell_records.Goals as goal
 

@@ -1,5 +1,5 @@
 use Rattle.std.proofs.Common.{◌<◌, ◌^◌}
-use Rattle.trdp_script.proofs.FieldLemmas.{ip_found, ip_lacks, err_not_ok}
+use Rattle.trdp_script.proofs.ReadLemmas.Fields.{ip_found, ip_lacks, err_not_ok}
 use Rattle.trdp_script.proofs.field.ip_of.Goals as goal
 
 pub returns-in-Ok-clause-value : goal.returns-in-Ok-clause-value

@@ -1,5 +1,5 @@
 use Rattle.std.proofs.Common.{arith}
-use Rattle.trdp_script.proofs.FieldLemmas.{number_found, number_lacks, err_not_ok}
+use Rattle.trdp_script.proofs.ReadLemmas.Fields.{number_found, number_lacks, err_not_ok}
 use Rattle.trdp_script.proofs.field.number_of.Goals as goal
 
 pub returns-in-Ok-clause-value : goal.returns-in-Ok-clause-value

@@ -2,8 +2,8 @@ use Rattle.std.proofs.Common.{Some, ap, ◌∙◌}
 use Rattle.std.proofs.lemmas.Int.{to_z-of_z}
 use Rattle.std.specs.Prelude.{FitsSigned}
 use Rattle.std.specs.Int.{w32}
-use Rattle.trdp_script.proofs.FieldLemmas.{err_not_ok}
-use Rattle.trdp_script.proofs.StatusLemmas.{status_found, status_lacks}
+use Rattle.trdp_script.proofs.ReadLemmas.Fields.{err_not_ok}
+use Rattle.trdp_script.proofs.ReadLemmas.Statuses.{status_found, status_lacks}
 use Rattle.trdp_script.proofs.field.status_of.Goals as goal
 
 pub returns-in-Ok-clause-value : goal.returns-in-Ok-clause-value

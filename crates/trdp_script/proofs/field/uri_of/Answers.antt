@@ -1,5 +1,5 @@
 use Rattle.std.proofs.Common.{Some, ap}
-use Rattle.trdp_script.proofs.FieldLemmas.{uri_found, uri_lacks, ok_same}
+use Rattle.trdp_script.proofs.ReadLemmas.Fields.{uri_found, uri_lacks, ok_same}
 use Rattle.trdp_script.proofs.field.uri_of.Goals as goal
 
 pub returns-in-Ok-clause-value : goal.returns-in-Ok-clause-value

@@ -1,7 +1,7 @@
 use Rattle.std.proofs.Common.{ap, ◌∙◌, rules, take, ◌++◌}
 use Rattle.trdp_script.specs.Words.{words_of}
 use Rattle.trdp_script.specs.WordsLeft.{words_at}
-use Rattle.trdp_script.proofs.FormLemmas.{line_read}
+use Rattle.trdp_script.proofs.ReadLemmas.Forms.{line_read}
 use Rattle.trdp_script.proofs.line.read_among.Goals as goal
 
 pub returns : goal.returns

@@ -1,7 +1,7 @@
 use Rattle.std.proofs.Common.{inl, inr, ◌<◌, ◌≤◌, sym, ◌∙◌, ap, arith}
 use Rattle.std.specs.Option.{option_map}
 use Rattle.trdp_model.specs.Records.{record_model}
-use Rattle.trdp_script.proofs.Turns.{rising_more, rising_less}
+use Rattle.trdp_script.proofs.PlayLemmas.Turns.{rising_more, rising_less}
 use Rattle.trdp_script.proofs.order.is_rising.Goals as goal
 
 pub loop-i-preserved : goal.loop-i-preserved

@@ -1,5 +1,5 @@
 use Rattle.std.proofs.Common.{rules}
-use Rattle.trdp_script.proofs.Writing.{passes_front}
+use Rattle.trdp_script.proofs.PlayLemmas.Written.{passes_front}
 use Rattle.trdp_script.proofs.output.flush.Goals as goal
 
 pub returns-in_err-write_whole-clause-err : goal.returns-in_err-write_whole-clause-err

@@ -4,9 +4,9 @@ use Rattle.trdp_model.specs.Events.{event_model}
 use Rattle.trdp_script.specs.RecordText.{text_of_record}
 use Rattle.trdp_script.specs.SlotOrder.{by_slot}
 use Rattle.trdp_engine.specs.NodeStates.{uncounted}
-use Rattle.trdp_script.proofs.Orders.{fault_told}
-use Rattle.trdp_script.proofs.Playing.{node_played, still_few, text_played, text_refused}
-use Rattle.trdp_script.proofs.Results.{all_err, all_ok, on_err, on_ok}
+use Rattle.trdp_script.proofs.PlayLemmas.BySlot.{fault_told}
+use Rattle.trdp_script.proofs.PlayLemmas.Played.{node_played, still_few, text_played, text_refused}
+use Rattle.trdp_script.proofs.PlayLemmas.Results.{all_err, all_ok, on_err, on_ok}
 use Rattle.trdp_script.proofs.play.play.Goals as goal
 
 pub returns-in-Ok-clause-node : goal.returns-in-Ok-clause-node

@@ -1,7 +1,7 @@
 use Rattle.std.proofs.Common.{rules}
 use Rattle.trdp_model.specs.Records.{record_model}
-use Rattle.trdp_script.proofs.Orders.{own_line}
-use Rattle.trdp_script.proofs.Results.{all_err}
+use Rattle.trdp_script.proofs.PlayLemmas.BySlot.{own_line}
+use Rattle.trdp_script.proofs.PlayLemmas.Results.{all_err}
 use Rattle.trdp_script.proofs.play.print_of_slot.Goals as goal
 
 pub returns-then-record-slot-clause-err : goal.returns-then-record-slot-clause-err

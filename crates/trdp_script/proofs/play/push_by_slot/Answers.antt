@@ -1,6 +1,6 @@
 use Rattle.std.proofs.Common.{◌<◌, arith}
-use Rattle.trdp_script.proofs.Orders.{slot_among, slot_told, slots_untold}
-use Rattle.trdp_script.proofs.Results.{all_err}
+use Rattle.trdp_script.proofs.PlayLemmas.BySlot.{slot_among, slot_told, slots_untold}
+use Rattle.trdp_script.proofs.PlayLemmas.Results.{all_err}
 use Rattle.trdp_script.proofs.play.push_by_slot.Goals as goal
 
 pub loop-slot-init : goal.loop-slot-init

@@ -3,9 +3,9 @@ use Rattle.std.specs.List.{flat_map}
 use Rattle.std.specs.Option.{option_map}
 use Rattle.trdp_model.specs.Records.{record_model}
 use Rattle.trdp_script.specs.RecordText.{text_of_record}
-use Rattle.trdp_script.proofs.Orders.{own_among, own_line, rising_by_slot, slot_among}
-use Rattle.trdp_script.proofs.Results.{all_err}
-use Rattle.trdp_script.proofs.Turns.{rising_all, rising_more, told_all, told_one}
+use Rattle.trdp_script.proofs.PlayLemmas.BySlot.{own_among, own_line, rising_by_slot, slot_among}
+use Rattle.trdp_script.proofs.PlayLemmas.Results.{all_err}
+use Rattle.trdp_script.proofs.PlayLemmas.Turns.{rising_all, rising_more, told_all, told_one}
 use Rattle.trdp_script.proofs.play.push_rising.Goals as goal
 
 pub returns-in_err-print_record-clause-err : goal.returns-in_err-print_record-clause-err

@@ -2,9 +2,9 @@ use Rattle.std.proofs.Common.{◌++◌, sym, ◌∙◌, ap}
 use Rattle.std.specs.Option.{option_map}
 use Rattle.trdp_model.specs.Records.{record_model}
 use Rattle.trdp_script.specs.SlotOrder.{slot_text}
-use Rattle.trdp_script.proofs.Turns.{told_one, told_all, some_within}
-use Rattle.trdp_script.proofs.Orders.{own_among, own_text}
-use Rattle.trdp_script.proofs.Results.{all_err}
+use Rattle.trdp_script.proofs.PlayLemmas.Turns.{told_one, told_all, some_within}
+use Rattle.trdp_script.proofs.PlayLemmas.BySlot.{own_among, own_text}
+use Rattle.trdp_script.proofs.PlayLemmas.Results.{all_err}
 use Rattle.trdp_script.proofs.play.push_slot.Goals as goal
 use Rattle.trdp_script.proofs.play.push_slot.Goals.{in-Some+in_ok-print_of_slot-in-Some, in-None}
 

@@ -1,8 +1,8 @@
 use Rattle.std.proofs.Common.{refl, ◌∙◌}
 use Rattle.trdp_script.specs.Forms.{forms}
 use Rattle.trdp_script.specs.declared.form.TheConstants.{FORMS}
-use Rattle.trdp_script.proofs.FormLemmas.{words_read}
-use Rattle.trdp_script.proofs.PortLemmas.{call_cut, control_too_long, control_says}
+use Rattle.trdp_script.proofs.ReadLemmas.Forms.{words_read}
+use Rattle.trdp_script.proofs.ReadLemmas.Ports.{call_cut, control_too_long, control_says}
 use Rattle.trdp_script.proofs.port.read_control.Goals as goal
 
 pub returns-then-slot-text-gt-LINE_MAX : goal.returns-then-slot-text-gt-LINE_MAX

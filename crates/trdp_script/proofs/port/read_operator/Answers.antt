@@ -1,7 +1,7 @@
 use Rattle.std.proofs.Common.{rules}
 use Rattle.trdp_script.specs.Lines.{Reads}
 use Rattle.trdp_script.specs.PortLines.{operator_line_of}
-use Rattle.trdp_script.proofs.PortLemmas.{operators_line, operators_sure}
+use Rattle.trdp_script.proofs.ReadLemmas.Ports.{operators_line, operators_sure}
 use Rattle.trdp_script.proofs.port.read_operator.Goals as goal
 
 pub returns-clause-memory : goal.returns-clause-memory

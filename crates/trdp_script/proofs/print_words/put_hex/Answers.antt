@@ -1,6 +1,6 @@
 use Rattle.std.proofs.Common.{length, ap, arith, length-append}
 use Rattle.trdp_base.specs.HexText.{text_of_hex}
-use Rattle.trdp_script.proofs.TextLengths.{hex_length}
+use Rattle.trdp_script.proofs.PlayLemmas.TextLengths.{hex_length}
 use Rattle.trdp_script.proofs.print_words.put_hex.Goals as goal
 
 pub returns-clause-len : goal.returns-clause-len

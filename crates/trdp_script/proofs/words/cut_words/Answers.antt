@@ -1,6 +1,6 @@
 use Rattle.std.proofs.Common.{rules}
 use Rattle.std.proofs.lemmas.Bool.{eqb-true}
-use Rattle.trdp_script.proofs.WordLemmas.{more_cut, last_cut, full_cut}
+use Rattle.trdp_script.proofs.ReadLemmas.Words.{more_cut, last_cut, full_cut}
 use Rattle.trdp_script.proofs.words.cut_words.Goals as goal
 
 pub loop-rest-preserved : goal.loop-rest-preserved

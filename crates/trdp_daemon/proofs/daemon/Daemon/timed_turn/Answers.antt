@@ -10,7 +10,7 @@ returns g c =
     let one = turn_at c.self.inside.service c.take_turn.new.service
     c.self.inside.link c.take_turn.new.link
     c.self.inside.clock c.now-reading.new.self c.deref.result.now c.now-reading.result
-    (c.deref.ensures.value ∙ c.self.invariant.2) c.take_turn.ensures.config
+    (c.deref.ensures.value ∙ c.self.invariant.1) c.take_turn.ensures.config
     c.now-reading.ensures c.take_turn.ensures.turn in
     subst (λ (d : DaemonState g.row.W.Denot g.row.C.Denot).
     TakesTurnAt g.W.Wire.takings g.W.Wire.gives g.C.Clock.readings c.now-reading.result d

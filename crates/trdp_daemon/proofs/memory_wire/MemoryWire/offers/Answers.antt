@@ -9,5 +9,6 @@ new-requires c = ap bytes_in c.deref.ensures.value ∙ c.self.invariant.0
 pub returns : goal.returns
 returns c = c.new.ensures
     ∙ ap (λ l. map (λ give. give.offer) (gives_of c.deref-2.result.now l)) c.deref.ensures.value
-    ∙ ap (λ l. map (λ give. give.offer) (gives_of l c.self.inside.given.items)) c.deref-2.ensures.value
+    ∙ ap (λ l. map (λ give. give.offer) (gives_of l c.self.inside.given.items))
+    c.deref-2.ensures.value
     ∙ ap (λ w. map (λ give. give.offer) w.gives) c.self.view_is

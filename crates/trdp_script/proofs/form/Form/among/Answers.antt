@@ -1,7 +1,7 @@
 use Rattle.std.proofs.Common.{◌∙◌, sym, refl}
 use Rattle.trdp_script.specs.Lines.{form_among}
 use Rattle.trdp_script.specs.WordsLeft.{words_left}
-use Rattle.trdp_script.proofs.FormLemmas.{none_left}
+use Rattle.trdp_script.proofs.ReadLemmas.Forms.{none_left}
 use Rattle.trdp_script.proofs.form.Form.among.Goals as goal
 
 pub loop-form-init : goal.loop-form-init

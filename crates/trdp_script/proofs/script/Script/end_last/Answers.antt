@@ -1,5 +1,5 @@
 use Rattle.std.proofs.Common.{◌<◌, length, arith}
-use Rattle.trdp_script.proofs.LineSteps.{last_came, last_bad}
+use Rattle.trdp_script.proofs.ScriptLemmas.OneLine.{last_came, last_bad}
 use Rattle.trdp_script.proofs.script.Script.end_last.Goals as goal
 
 pub returns-clause-ok : goal.returns-clause-ok

@@ -1,6 +1,6 @@
 use Rattle.std.proofs.Common.{◌∙◌, ap, refl}
 use Rattle.std.specs.Str.Lines.{strip_carriage_return}
-use Rattle.trdp_script.proofs.LineSteps.{line_came, line_bad}
+use Rattle.trdp_script.proofs.ScriptLemmas.OneLine.{line_came, line_bad}
 use Rattle.trdp_script.proofs.script.Script.end_line.Goals as goal
 
 pub returns-in-Ok-clause-ok : goal.returns-in-Ok-clause-ok

@@ -1,6 +1,6 @@
 use Rattle.std.proofs.Common.{◌<◌, ◌≤◌, ◌+◌, length, arith, refl, vec_capacity, vec_len}
-use Rattle.trdp_script.proofs.Results.{when_ok}
-use Rattle.trdp_script.proofs.Steps.{gathered, too_long_stops}
+use Rattle.trdp_script.proofs.PlayLemmas.Results.{when_ok}
+use Rattle.trdp_script.proofs.ScriptLemmas.Steps.{gathered, too_long_stops}
 use Rattle.trdp_script.proofs.script.Script.gather.Goals as goal
 
 pub returns-then-len-bytes-gt-LINE_ROOM-clause-err :

@@ -2,9 +2,10 @@ use Rattle.std.proofs.Common.{◌<◌, List, ℕ, length, arith, refl, sym, subs
 use Rattle.std.specs.Io.KnownBytes.{Consumes}
 use Rattle.std.proofs.KnownBytes.{Keeps-refl}
 use Rattle.trdp_script.specs.declared.fault.ScriptFault.TheVariants.{Read}
-use Rattle.trdp_script.proofs.Readings.{comes_stopped, piece_stops, read_none, reader_stops}
-use Rattle.trdp_script.proofs.Readings.{reading_ends, reading_more, reading_starts}
-use Rattle.trdp_script.proofs.Readings.{reading_stops, reading_written}
+use Rattle.trdp_script.proofs.ScriptLemmas.Readings.{comes_stopped, piece_stops, read_none}
+use Rattle.trdp_script.proofs.ScriptLemmas.Readings.{reader_stops}
+use Rattle.trdp_script.proofs.ScriptLemmas.Readings.{reading_ends, reading_more, reading_starts}
+use Rattle.trdp_script.proofs.ScriptLemmas.Readings.{reading_stops, reading_written}
 use Rattle.trdp_script.proofs.script.Script.run.Goals as goal
 
 pub loop-read-init : goal.loop-read-init

@@ -1,5 +1,5 @@
 use Rattle.std.proofs.Common.{◌<◌, ◌≤◌, ◌+◌, ◌*◌, length}
-use Rattle.trdp_script.proofs.Readings.{Reading}
+use Rattle.trdp_script.proofs.ScriptLemmas.Readings.{Reading}
 use Rattle.trdp_script.proofs.script.Script.run.Given as goal
 
 -- what was read was played

@@ -1,4 +1,4 @@
-use Rattle.trdp_script.proofs.Endings.{run_cut, run_written, run_fails}
+use Rattle.trdp_script.proofs.ScriptLemmas.Endings.{run_cut, run_written, run_fails}
 use Rattle.trdp_script.proofs.script.Script.run_whole.Goals as goal
 
 pub returns-then-is_write_fault : goal.returns-then-is_write_fault

@@ -1,5 +1,6 @@
-use Rattle.trdp_script.proofs.Results.{on_ok, if_err}
-use Rattle.trdp_script.proofs.Pieces.{midst_more, midst_stops, midst_taken, midst_too_long}
+use Rattle.trdp_script.proofs.PlayLemmas.Results.{on_ok, if_err}
+use Rattle.trdp_script.proofs.ScriptLemmas.Pieces.{midst_more, midst_stops, midst_taken}
+use Rattle.trdp_script.proofs.ScriptLemmas.Pieces.{midst_too_long}
 use Rattle.trdp_script.proofs.script.Script.take_piece.Goals as goal
 
 pub loop-before-preserved : goal.loop-before-preserved

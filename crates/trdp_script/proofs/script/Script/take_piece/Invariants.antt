@@ -1,5 +1,5 @@
 use Rattle.std.proofs.Common.{length}
-use Rattle.trdp_script.proofs.Pieces.{Midst}
+use Rattle.trdp_script.proofs.ScriptLemmas.Pieces.{Midst}
 use Rattle.trdp_script.proofs.script.Script.take_piece.Given as goal
 
 -- the bytes before the rest were played

@@ -1,6 +1,6 @@
 use Rattle.std.proofs.Common.{◌∷◌}
-use Rattle.trdp_script.proofs.Results.{on_ok, if_err}
-use Rattle.trdp_script.proofs.Steps.{plays_both, stops_after}
+use Rattle.trdp_script.proofs.PlayLemmas.Results.{on_ok, if_err}
+use Rattle.trdp_script.proofs.ScriptLemmas.Steps.{plays_both, stops_after}
 use Rattle.trdp_script.proofs.script.Script.take_to_newline.Goals as goal
 
 pub returns-in-Ok-clause-ok : goal.returns-in-Ok-clause-ok

@@ -1,5 +1,5 @@
 use Rattle.std.proofs.Common.{◌≡◌, length, arith, refl}
-use Rattle.trdp_script.proofs.LineSteps.{whole_came, whole_bad}
+use Rattle.trdp_script.proofs.ScriptLemmas.OneLine.{whole_came, whole_bad}
 use Rattle.trdp_script.proofs.script.Script.take_whole.Goals as goal
 
 pub returns-in-Ok-clause-ok : goal.returns-in-Ok-clause-ok

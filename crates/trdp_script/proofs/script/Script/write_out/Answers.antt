@@ -1,4 +1,4 @@
-use Rattle.trdp_script.proofs.Steps.{write_stops}
+use Rattle.trdp_script.proofs.ScriptLemmas.Steps.{write_stops}
 use Rattle.trdp_script.proofs.script.Script.write_out.Goals as goal
 
 pub returns-clause-err : goal.returns-clause-err

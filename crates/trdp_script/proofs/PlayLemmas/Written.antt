@@ -1,4 +1,6 @@
 -- Text on its way to a writer.
+-- For `put` and `flush` of the output, and for `ScriptLemmas`.
+-- By: what is held back is written before what comes later, whole or a front of it.
 use Rattle.std.proofs.Common.{◌≡◌, ℕ, List, [], ◌++◌, take, drop, sym, ◌∙◌, ap}
 use Rattle.std.proofs.Common.{append_assoc, append-nil, take-append-drop, subst}
 use Rattle.std.specs.Prelude.{Option}

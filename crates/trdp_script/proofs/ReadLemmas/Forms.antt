@@ -1,7 +1,9 @@
 -- Facts on the search for the form of a line.
+-- For `Form::among`, `read_among` and `read_control`.
+-- By induction on the forms: the first whose keywords the words have is the line's.
 use Rattle.std.proofs.Common.{◌≡◌, ℕ, zero, suc, ◌+◌, ◌<◌, ◌≤◌, ◌&&◌, Bool, true, false, List, [], Result, subst}
 use Rattle.std.proofs.Common.{◌∷◌, length, get_or, take, drop, map, Some, None, refl, sym, ap, arith}
-use Rattle.std.proofs.Common.{nat_le, nat_lt, if◌then◌else◌}
+use Rattle.std.proofs.Common.{nat_le, nat_lt, if◌then◌else◌, Option}
 use Rattle.std.specs.List.{find}
 use Rattle.std.specs.Str.{bytes_eq}
 use Rattle.std.proofs.Math.ListN.{drop_of_length-le}
@@ -22,7 +24,7 @@ use Rattle.trdp_script.specs.declared.form.Form.TheVariants.{Get, Unsubscribe, O
 use Rattle.trdp_script.specs.declared.form.Form.TheVariants.{ClosePull, Listen, Unlisten}
 use Rattle.trdp_script.specs.declared.form.Form.TheVariants.{Notify, Request, Reply, Query}
 use Rattle.trdp_script.specs.declared.form.Form.TheVariants.{ReplyError, Confirm, Abort, AddSlot}
-use Rattle.trdp_script.specs.declared.line.Line.{Line}
+use Rattle.trdp_model.specs.declared.event.Event.{Event}
 
 -- a form whose keywords the words have is the first that is found
 pub found_here : (items : List Form) (index : ℕ) (words : List (List ℕ)) → index < length items
@@ -145,8 +147,9 @@ few_parts Abort = omega arith
 few_parts AddSlot = omega arith
 
 -- what was read of the first 15 words of a line is what all say
-pub words_read : (items : List Form) (line words : List (List ℕ)) (r : Result Line LineFault)
-    → words ≡ take 15 line → Reads (words_say (form_among (map line_form items) words) words) r
+pub words_read : (items : List Form) (line words : List (List ℕ))
+    (r : Result (Option Event) LineFault) → words ≡ take 15 line
+    → Reads (words_say (form_among (map line_form items) words) words) r
     → Reads (words_say (form_among (map line_form items) line) line) r
 words_read items line words r cut reads =
     subst (λ meaning. Reads meaning r) (forms_say items 15 line few_parts)
@@ -154,7 +157,7 @@ words_read items line words r cut reads =
 
 -- the same of a line that isn't too long and isn't skipped
 pub line_read : (items : List Form) (text : List ℕ) (words : List (List ℕ))
-    (r : Result Line LineFault) → length text ≤ 140000 → is_skipped text ≡ false
+    (r : Result (Option Event) LineFault) → length text ≤ 140000 → is_skipped text ≡ false
     → words ≡ take 15 (words_of text)
     → Reads (words_say (form_among (map line_form items) words) words) r
     → Reads (line_among (map line_form items) text) r

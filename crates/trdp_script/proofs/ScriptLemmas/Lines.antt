@@ -1,4 +1,6 @@
 -- The lines of an input that comes in pieces.
+-- For `ScriptLemmas.Steps` and `OneLine`.
+-- By induction on the bytes: those before a newline are the first line, whatever comes later.
 use Rattle.std.proofs.Common.{inl, inr, ◌≡◌, ◌+◌, ◌-◌, ◌<◌, ◌≤◌, ℕ, Bool, true, false, List}
 use Rattle.std.proofs.Common.{[], ◌∷◌, ◌++◌, length, take, Some, Err, refl, sym, ◌∙◌, ap}
 use Rattle.std.proofs.Common.{arith, append_assoc, append-nil, length-append, length-take}

@@ -1,4 +1,6 @@
 -- Facts on the statuses that words are the written forms of.
+-- For `status_of`.
+-- By cases: below 0 the word begins with a dash, and else it is the digits of a number.
 use Rattle.std.proofs.Common.{◌≡◌, ℕ, ℤ, pos, negsuc, neg_ℤ, int_lt, int_le, suc, ◌^◌, ◌-◌, ◌==◌}
 use Rattle.std.proofs.Common.{true, false, List, [], ◌∷◌, Some, None, refl, sym, ap, ◌∙◌, arith}
 use Rattle.std.specs.Prelude.{FitsSigned}
@@ -11,7 +13,7 @@ use Rattle.std.proofs.lemmas.Str.Parse.{digit_from_value}
 use Rattle.trdp_base.specs.NumberText.{text_of_number}
 use Rattle.trdp_base.specs.StatusText.{text_of_status}
 use Rattle.trdp_script.specs.Words.{is_status, status_of_word, status_shown}
-use Rattle.trdp_script.proofs.FieldLemmas.{number_shown, unwritten, written}
+use Rattle.trdp_script.proofs.ReadLemmas.Fields.{number_shown, unwritten, written}
 
 -- digits show a number that is not below 0
 digits_show : (word : List ℕ) → AllDigits 10 word → status_shown word ≡ pos (digits_value 10 word)

@@ -1,4 +1,6 @@
 -- A script from its start to its end.
+-- For `Script::run_whole`.
+-- By cases on the end: the input's, a fault's, or that of a write that failed.
 use Rattle.std.proofs.Common.{inr, ◌≡◌, ℕ, List, [], ◌++◌, length, take, Ok, Err}
 use Rattle.std.proofs.Common.{Option, Result, refl, sym, ◌∙◌, ap, append-nil, subst}
 use Rattle.std.proofs.Math.Seq.{take-append_seam}
@@ -17,8 +19,8 @@ use Rattle.trdp_script.specs.ScriptText.{script_events, script_fault, script_tex
 use Rattle.trdp_script.specs.ScriptSteps.{node_of, ComesTo, PlaysFirst, Starts, Stops}
 use Rattle.trdp_script.specs.Wants.{NextMayWant}
 use Rattle.trdp_script.specs.Writes.{PassesOn, PassesSome}
-use Rattle.trdp_script.proofs.LineFronts.{lines_front}
-use Rattle.trdp_script.proofs.Writing.{passes_both, passes_some_after, passes_some_of}
+use Rattle.trdp_script.proofs.ScriptLemmas.Fronts.{lines_front}
+use Rattle.trdp_script.proofs.PlayLemmas.Written.{passes_both, passes_some_after, passes_some_of}
 
 starts_fault : {config : ConfigModel} {s : Script} → Starts config s
     → (input : List ℕ) → fault_from s.number (lines (s.line.items ++ input)) ≡ script_fault input

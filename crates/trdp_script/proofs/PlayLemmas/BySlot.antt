@@ -1,4 +1,6 @@
 -- Records slot by slot.
+-- For `play`, `push_rising`, `push_by_slot`, `push_slot`, `print_of_slot`, and the daemon above.
+-- By induction on the slots: records that rise by slot are slot by slot already.
 use Rattle.std.proofs.Common.{◌≡◌, ◌⊎◌, inl, inr, zero, suc, ◌+◌, ◌<◌, ◌≤◌, ℕ, true, false, List}
 use Rattle.std.proofs.Common.{[], ◌∷◌, ◌++◌, refl, sym, ◌∙◌, ap, arith, append_assoc, append-nil}
 use Rattle.std.proofs.Common.{Some, codes, if◌then◌else◌}

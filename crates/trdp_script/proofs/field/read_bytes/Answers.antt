@@ -1,10 +1,10 @@
 use Rattle.std.proofs.Common.{refl, rules}
-use Rattle.trdp_script.proofs.FieldLemmas.{bytes_read, word_is_bad, memory_ran_out}
-use Rattle.trdp_script.proofs.field.bytes_of.Goals as goal
+use Rattle.trdp_script.proofs.ReadLemmas.Fields.{bytes_read, word_is_bad, memory_ran_out}
+use Rattle.trdp_script.proofs.field.read_bytes.Goals as goal
 
 pub returns-in-Ok-clause-value : goal.returns-in-Ok-clause-value
 returns-in-Ok-clause-value c =
-    bytes_read c.args.word.now c.in-Ok.bytes.items
+    bytes_read c.args.word.now c.read_hex_into.new.bytes.items
     c.in-Ok.ensures.found (λ bad. let e = c.in-Ok.ensures.bad.1 bad in search rules)
 
 pub returns-in-Err-BadText-clause-fault : goal.returns-in-Err-BadText-clause-fault

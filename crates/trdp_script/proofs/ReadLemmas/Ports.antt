@@ -1,4 +1,6 @@
 -- Facts on lines at the control port of a slot and at the operator's port.
+-- For `read_control` and `read_operator`, and for what the daemon above may lose.
+-- By: a control line is that of a call with two words before it; the operator has a few forms.
 use Rattle.std.proofs.Common.{◌≡◌, ℕ, ◌+◌, ◌^◌, ◌<◌, ◌≤◌, ◌==◌, nat_lt, Bool, true, false, List, []}
 use Rattle.std.proofs.Common.{◌∷◌, ◌++◌, length, Ok, Err, refl, sym, ap, ◌∙◌, inl, arith}
 use Rattle.std.proofs.Common.{length-append, take, Bor}
@@ -18,10 +20,10 @@ use Rattle.trdp_script.specs.WordsLeft.{words_at}
 use Rattle.trdp_script.specs.Lines.{Reads, event_or_fault, form_among, is_skipped, line_among}
 use Rattle.trdp_script.specs.Lines.{may_have, words_say}
 use Rattle.trdp_script.specs.PortLines.{call_line, control_line_of, operator_line_of, without_end}
-use Rattle.trdp_script.specs.declared.line.Line.{Line}
+use Rattle.trdp_model.specs.declared.event.Event.{Event}
 use Rattle.trdp_script.specs.declared.fault.LineFault.{LineFault}
 use Rattle.trdp_script.specs.declared.fault.LineFault.TheVariants.{TooLong, Count, OutOfMemory}
-use Rattle.trdp_script.proofs.FieldLemmas.{number_lacks_byte}
+use Rattle.trdp_script.proofs.ReadLemmas.Fields.{number_lacks_byte}
 
 -- the words of the line of a call
 call_words : (slot : ℕ) (text : List ℕ) → slot < 2 ^ 16
@@ -197,7 +199,7 @@ operators_never_want (Ok (Some (CallIs slot call))) fault of reads is = absurd o
 operators_never_want (Ok (Some (AddSlotIs quotas))) fault of reads is =
     let none = reads.1 in absurd (cc)
 
-pub operators_sure : (meaning : Result (Option EventModel) LineFault) (r : Result Line LineFault)
+pub operators_sure : (meaning : Result (Option EventModel) LineFault) (r : Result (Option Event) LineFault)
     → IsOperators meaning → Reads meaning r → IfErr r (λ fault. fault ≡ OutOfMemory → ⊥)
 operators_sure meaning (Ok line) of reads = tt
 operators_sure meaning (Err fault) of reads = operators_never_want meaning fault of reads

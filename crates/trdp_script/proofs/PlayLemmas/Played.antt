@@ -1,4 +1,6 @@
 -- An event's way through a node with any number of slots.
+-- For `play`, and for the daemon's `step` above.
+-- By induction on the slots: each gets its own records, and one that is opened comes last.
 use Rattle.std.proofs.Common.{inl, inr, ◌≡◌, zero, suc, ◌+◌, ◌-◌, ◌≤◌, ℕ, true, false}
 use Rattle.std.proofs.Common.{List, [], ◌∷◌, ◌++◌, length, Some, None, Ok, Err, Option}
 use Rattle.std.proofs.Common.{refl, sym, ◌∙◌, ap, arith, append_assoc, append-nil}
@@ -20,15 +22,15 @@ use Rattle.trdp_model.specs.Alone.{Standing, opened_by, slots_then, standing_aft
 use Rattle.trdp_model.specs.NodeModels.{NodeModel}
 use Rattle.trdp_model.specs.NodeModels.{StepsAsAlone, Appends}
 use Rattle.trdp_model.proofs.AddedSlots.{lists_same, opened_at, told_opened}
-use Rattle.trdp_model.proofs.Steps.{open_outcome}
-use Rattle.trdp_model.proofs.Views.{standing_open}
+use Rattle.trdp_model.proofs.StepLemmas.{open_outcome}
+use Rattle.trdp_model.proofs.ViewLemmas.{standing_open}
 use Rattle.trdp_script.specs.RecordText.{text_of_fault, text_of_record}
 use Rattle.trdp_model.specs.NodeModels.{slots_after, node_after}
 use Rattle.trdp_script.specs.ScriptText.{slots_text}
 use Rattle.trdp_script.specs.ScriptText.{event_text, text_unless}
 use Rattle.trdp_model.specs.NodeModels.{node_unless}
 use Rattle.trdp_script.specs.SlotOrder.{by_slot}
-use Rattle.trdp_script.proofs.Orders.{slots_own, by_slot_suc, by_slot_zero}
+use Rattle.trdp_script.proofs.PlayLemmas.BySlot.{slots_own, by_slot_suc, by_slot_zero}
 
 -- what stands at each number after an event that the node takes
 after_at : (setup : NodeSetup) (g : Globals) (event : EventModel) (n k : ℕ) (olds : List SlotState)

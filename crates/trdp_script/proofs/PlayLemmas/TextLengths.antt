@@ -1,4 +1,6 @@
 -- How long texts are.
+-- For `put_hex`.
+-- By induction on the bytes.
 use Rattle.std.proofs.Common.{◌≡◌, ◌≤◌, ◌+◌, ◌*◌, ℕ, List, [], ◌∷◌, length, arith}
 use Rattle.trdp_base.specs.HexText.{hex_pairs, text_of_hex}
 

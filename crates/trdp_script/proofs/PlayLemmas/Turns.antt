@@ -1,4 +1,6 @@
 -- Turns of the loops over records.
+-- For `is_rising`, `push_rising` and `push_slot`, and for the daemon's loops above.
+-- By: the element at an index and those behind it are what is left before the turn.
 use Rattle.std.proofs.Common.{◌≡◌, suc, ◌+◌, ◌<◌, ◌≤◌, ℕ, List, []}
 use Rattle.std.proofs.Common.{◌∷◌, ◌++◌, length, drop, Some, None, sym}
 use Rattle.std.proofs.Common.{◌∙◌, ap, arith, append_assoc, append-nil, subst}

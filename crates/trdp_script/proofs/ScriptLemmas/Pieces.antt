@@ -1,11 +1,13 @@
 -- A script on its way: a piece of its input.
+-- For `Script::take_piece`.
+-- By a loop's invariant: the lines of the piece that were taken, and the rest of it.
 use Rattle.std.proofs.Common.{◌≡◌, ◌+◌, ◌≤◌, ℕ, List, [], ◌∷◌, ◌++◌, length, Option, refl}
 use Rattle.std.proofs.Common.{sym, ◌∙◌, ap, arith, append_assoc, length-append, subst}
 use Rattle.trdp_script.specs.declared.script.Script.{Script}
 use Rattle.trdp_script.specs.declared.fault.ScriptFault.{ScriptFault}
 use Rattle.trdp_script.specs.Pieces.{IsSplit}
 use Rattle.trdp_script.specs.ScriptSteps.{IsSound, Plays, Stops}
-use Rattle.trdp_script.proofs.Steps.{plays_both, stops_after, plays_nothing}
+use Rattle.trdp_script.proofs.ScriptLemmas.Steps.{plays_both, stops_after, plays_nothing}
 
 -- a piece of the input, of which this rest is still to be taken
 pub record Midst (old here : Script) (v w : Option (List ℕ)) (piece rest : List ℕ) : Type 0 where

@@ -1,4 +1,6 @@
 -- The first lines of a script, and those behind them.
+-- For all other `ScriptLemmas`.
+-- By induction on the first lines, which have no fault.
 use Rattle.std.proofs.Common.{◌≡◌, suc, ◌+◌, ℕ, cond, false, List, [], ◌∷◌, ◌++◌, length}
 use Rattle.std.proofs.Common.{take, drop, Some, None, Ok, Err, Option, Result, refl, sym, ◌∙◌, ap}
 use Rattle.std.proofs.Common.{arith, append_assoc, subst, take-append-drop}

@@ -1,4 +1,6 @@
 -- Facts on the words of a line.
+-- For `cut_words`.
+-- By induction on the line: what stands before the first space is the first word.
 use Rattle.std.proofs.Common.{◌≡◌, ℕ, ◌+◌, ◌<◌, ◌≤◌, ◌==◌, false, List, [], ◌∷◌, ◌++◌, length, refl}
 use Rattle.std.proofs.Common.{arith, take, ap, ◌∙◌, sym, append_assoc, Bor, length-append}
 use Rattle.std.proofs.lemmas.List.{take_all, length-map, map-append}

@@ -1,4 +1,6 @@
 -- A script on its way: what was read of its input.
+-- For `Script::run`.
+-- By a loop's invariant: what was read so far was played, whatever the reader gives later.
 use Rattle.std.proofs.Common.{◌≡◌, ◌+◌, ◌<◌, ℕ, List, [], ◌++◌, length, take, Some, None, Ok}
 use Rattle.std.proofs.Common.{Err, Option, Result, refl, sym, ◌∙◌, ap, arith, append-nil, subst}
 use Rattle.std.specs.Prelude.{IfErr, OnOk}
@@ -11,8 +13,9 @@ use Rattle.trdp_script.specs.declared.fault.ScriptFault.TheVariants.{OutOfMemory
 use Rattle.trdp_script.specs.Pieces.{ended_lines}
 use Rattle.trdp_script.specs.ScriptSteps.{ComesTo, Ends, IsSound, Plays, PlaysFirst, Stops}
 use Rattle.trdp_script.specs.ScriptSteps.{StopsUnread}
-use Rattle.trdp_script.proofs.Steps.{ends_after, first_after, first_here, passes_nothing}
-use Rattle.trdp_script.proofs.Steps.{plays_both, plays_nothing, stops_after}
+use Rattle.trdp_script.proofs.ScriptLemmas.Steps.{ends_after, first_after, first_here}
+use Rattle.trdp_script.proofs.ScriptLemmas.Steps.{passes_nothing}
+use Rattle.trdp_script.proofs.ScriptLemmas.Steps.{plays_both, plays_nothing, stops_after}
 
 -- what was read of the input so far was played
 pub record Reading (old here : Script) (v w left left_then : Option (List ℕ)) : Type 0 where

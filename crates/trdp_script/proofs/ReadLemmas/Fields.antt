@@ -1,4 +1,6 @@
 -- Facts on the values that words are the written forms of.
+-- For `number_of`, `ip_of`, `place_of`, `bytes_of`, `uri_of` and `status_of`.
+-- By: a value that may stand is found where its written form is the word, and else none is.
 use Rattle.std.proofs.Common.{◌≡◌, ◌≢◌, ℕ, ◌+◌, ◌*◌, ◌/◌, ◌%◌, ◌^◌, ◌<◌, ◌≤◌, ◌==◌, nat_lt, nat_le}
 use Rattle.std.proofs.Common.{Bool, true, false, List, [], ◌∷◌}
 use Rattle.std.proofs.Common.{◌++◌, length, ◌&&◌, map, Option, Some}

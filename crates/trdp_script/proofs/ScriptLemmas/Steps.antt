@@ -1,4 +1,6 @@
 -- A script on its way, step after step.
+-- For `Script::gather`, `take_to_newline` and `write_out`, and for the lemmas on lines and pieces.
+-- By: what is told of some bytes and then of others is told of both, in that order.
 use Rattle.std.proofs.Common.{◌≡◌, ◌+◌, ◌<◌, ℕ, false, List, [], ◌++◌, length}
 use Rattle.std.proofs.Common.{take, Ok, Err, Option, Result, refl, sym, ◌∙◌, ap, arith}
 use Rattle.std.proofs.Common.{append_assoc, append-nil, length-append, subst}
@@ -20,10 +22,13 @@ use Rattle.trdp_script.specs.ScriptSteps.{node_of, Ends, Going, Plays, PlaysFirs
 use Rattle.trdp_script.specs.ScriptSteps.{StopsWanting, Takes}
 use Rattle.trdp_script.specs.Wants.{NextMayWant}
 use Rattle.trdp_script.specs.Writes.{PassesOn, PassesSome}
-use Rattle.trdp_script.proofs.LineFronts.{ended_append, events_append, fault_append, next_append}
-use Rattle.trdp_script.proofs.LineFronts.{nodes_append, none_ended, take_append, text_append}
-use Rattle.trdp_script.proofs.LineLists.{LongFirst, long_line, too_long_events, too_long_fault}
-use Rattle.trdp_script.proofs.Writing.{passes_both, passes_some_after, passes_some_of}
+use Rattle.trdp_script.proofs.ScriptLemmas.Fronts.{ended_append, events_append, fault_append}
+use Rattle.trdp_script.proofs.ScriptLemmas.Fronts.{next_append}
+use Rattle.trdp_script.proofs.ScriptLemmas.Fronts.{nodes_append, none_ended, take_append}
+use Rattle.trdp_script.proofs.ScriptLemmas.Fronts.{text_append}
+use Rattle.trdp_script.proofs.ScriptLemmas.Lines.{LongFirst, long_line, too_long_events}
+use Rattle.trdp_script.proofs.ScriptLemmas.Lines.{too_long_fault}
+use Rattle.trdp_script.proofs.PlayLemmas.Written.{passes_both, passes_some_after, passes_some_of}
 
 -- what comes later means the same
 pub later_fault : {old new : Going} {bytes text : List ℕ} (p : Takes old new bytes text)

@@ -1,4 +1,6 @@
 -- A script on its way: one line.
+-- For `Player::take_line`, `Script::end_line`, `end_last` and `take_whole`.
+-- By cases on what the line means: an event, nothing, a fault, or want of memory.
 use Rattle.std.proofs.Common.{inl, ◌≡◌, suc, ◌+◌, ◌<◌, ℕ, Bool, true, false, List, []}
 use Rattle.std.proofs.Common.{◌∷◌, ◌++◌, length, Some, None, Ok, Err, Option}
 use Rattle.std.proofs.Common.{Result, refl, sym, ◌∙◌, ap, arith, append-nil, append_assoc, subst}
@@ -27,10 +29,10 @@ use Rattle.trdp_script.specs.ScriptSteps.{node_of, Ends, LineComesTo, Plays}
 use Rattle.trdp_script.specs.ScriptSteps.{PlaysLine, Stops, StopsAt, StopsWanting, line_events}
 use Rattle.trdp_script.specs.Wants.{LineMayWant, NextMayWant}
 use Rattle.trdp_script.specs.Writes.{PassesOn, PassesSome}
-use Rattle.trdp_script.proofs.LineLists.{lines_first, lines_last}
-use Rattle.trdp_script.proofs.Writing.{passes_some_of}
-use Rattle.trdp_script.proofs.LineFronts.{ended_append, none_ended, text_append}
-use Rattle.trdp_script.proofs.Steps.{first_here, passes_nothing}
+use Rattle.trdp_script.proofs.ScriptLemmas.Lines.{lines_first, lines_last}
+use Rattle.trdp_script.proofs.PlayLemmas.Written.{passes_some_of}
+use Rattle.trdp_script.proofs.ScriptLemmas.Fronts.{ended_append, none_ended, text_append}
+use Rattle.trdp_script.proofs.ScriptLemmas.Steps.{first_here, passes_nothing}
 
 -- events of a line without a fault come first
 line_then : (line : List ℕ) (event : Option EventModel) (later : List (List ℕ))
@@ -272,14 +274,18 @@ never_memory text is = never_long (nat_lt 140000 (length text)) (is_skipped text
     never_long false false is = never_said (form_among forms (words_of text)) (words_of text) is
 
 -- a good line for which there is no memory
-pub memory_came : (p : Player) (w : Option (List ℕ)) (n : ℕ) (text : List ℕ) (bad : LineFault)
-    → bad ≡ NoMemory → Reads (line_of text) (Err bad)
-    → LineComesTo p p w w n (line_of text) (Err OutOfMemory)
+pub memory_came : (p q : Player) (w : Option (List ℕ)) (n : ℕ) (text : List ℕ) (bad : LineFault)
+    → bad ≡ NoMemory → Reads (line_of text) (Err bad) → q.output.items ≡ p.output.items
+    → LineComesTo p q w w n (line_of text) (Err OutOfMemory)
 unfolding LineComesTo
-memory_came p w n text bad is reads = memory_of (line_of text) (never_memory text) reads
+memory_came p q w n text bad is reads same = memory_of (line_of text) (never_memory text) reads
   where
     memory_of : (meaning : Result (Option EventModel) LineFault) → NeverMemory meaning
-        → Reads meaning (Err bad) → LineComesTo p p w w n meaning (Err OutOfMemory)
+        → Reads meaning (Err bad) → LineComesTo p q w w n meaning (Err OutOfMemory)
     memory_of (Ok None) never reads = let none = reads.1 in absurd (cc)
-    memory_of (Ok (Some event)) never reads = (passes_nothing w p.output.items, inl reads.1)
+    memory_of (Ok (Some event)) never reads = (
+      subst (λ (l : List ℕ). PassesOn w w p.output.items l []) (sym same)
+          (passes_nothing w p.output.items),
+      inl reads.1,
+    )
     memory_of (Err fault) never reads = absurd (never (ap (λ f. Err f) (sym reads ∙ is)))
