@@ -8,7 +8,7 @@ use Rattle.trdp_filter.specs.declared.globals.Globals.{Globals}
 use Rattle.trdp_dataset.specs.Configs.{ConfigModel}
 use Rattle.trdp_filter.specs.Globals.{first_globals}
 use Rattle.trdp_store.specs.declared.counts.Counts.{Counts}
-use Rattle.trdp_model.specs.Slots.{SlotState, opened_slot}
+use Rattle.trdp_model.specs.Slots.{SlotState, empty_slot}
 
 -- a node: its configuration, its globals, its slots, and what the latest event that it took cost
 pub record NodeState : Type 0 where
@@ -23,7 +23,7 @@ opened_node config =
     record {
       config = config;
       globals = first_globals;
-      slots = map (λ slot. opened_slot slot.quotas) config.slots;
+      slots = map (λ slot. empty_slot slot.quotas) config.slots;
       counts = no_counts;
     }
 

@@ -4,7 +4,7 @@ ghost use Rattle.std.specs.Prelude.{◌≡◌, ◌+◌, ◌<◌, ◌≤◌, ◌+
 ghost use Rattle.std.specs.Prelude.{IfNone};
 ghost use Rattle.trdp_base.specs.Moments.{last_moment};
 ghost use Rattle.trdp_filter.specs.Telegrams.{telegram_model, IsWithinLimit};
-ghost use Rattle.trdp_md.specs.Callers.{called as new_caller};
+ghost use Rattle.trdp_md.specs.Callers.{new_caller};
 ghost use Rattle.trdp_model.specs.declared.any_object.AnyObject.TheVariants.{Caller as Asking};
 ghost use Rattle.trdp_model.specs.Kinds.{kind_of};
 ghost use Rattle.trdp_model.specs.Records.{labelled, reply_model};

@@ -9,7 +9,7 @@ ghost use Rattle.trdp_model.specs.Events.{call_model};
 ghost use Rattle.trdp_model.specs.Calls.{called, at_object};
 ghost use Rattle.trdp_model.specs.Values.{item_bytes, item_refusal, valued};
 ghost use Rattle.trdp_engine.specs.Spelled.{IsRefusedAs};
-ghost use Rattle.trdp_model.specs.Slots.{entry_of};
+ghost use Rattle.trdp_model.specs.Slots.{entry_under};
 ghost use Rattle.trdp_outbox.specs.Rooms.{HasRoom, call_room, makes_buffer};
 ghost use Rattle.trdp_engine.specs.Asked.{asked_room};
 ghost use Rattle.trdp_outbox.specs.Rooms.{CallMayLack};
@@ -200,15 +200,15 @@ fn spelled(
     requires { s < length store.now }
     ensures bytes { IfOk result
         (λ bytes. bytes.items ≡ item_bytes (setup_of setting.now.config.now) (model_of item.now)
-        (entry_of handle (slot_at s store.now).objects)) }
+        (entry_under handle (slot_at s store.now).objects)) }
     ensures spelled { IfOk result
         (λ bytes.
         item_refusal (setup_of setting.now.config.now) (model_of item.now)
-        (entry_of handle (slot_at s store.now).objects) ≡ None) }
+        (entry_under handle (slot_at s store.now).objects) ≡ None) }
     ensures refused { IfErr result
         (IsRefusedAs
         (item_refusal (setup_of setting.now.config.now) (model_of item.now)
-        (entry_of handle (slot_at s store.now).objects))) }
+        (entry_under handle (slot_at s store.now).objects))) }
 {
     match object_of(store, s, handle) {
         None => Err(SpellFault::Refused(Refusal::NoHandle)),

@@ -9,7 +9,7 @@ ghost use Rattle.trdp_model.specs.Kinds.{kind_of};
 ghost use Rattle.trdp_table.specs.Tables.{room_of};
 ghost use Rattle.trdp_model.specs.Objects.{due_of, is_addressed};
 ghost use Rattle.trdp_model.specs.Configs.{setup_of};
-ghost use Rattle.trdp_model.specs.Slots.{SlotState, entry_at, entry_of};
+ghost use Rattle.trdp_model.specs.Slots.{SlotState, entry_at, entry_under};
 ghost use Rattle.trdp_store.specs.TableSlots.{slots_of};
 ghost use Rattle.trdp_model.specs.Records.{labelled};
 ghost use Rattle.trdp_model.specs.Datagrams.{is_valid_at, fits_object};
@@ -168,7 +168,7 @@ fn hand(
 )
     requires slot { s < length store.old }
     requires may { MayAct (slot_at s store.old) handle out.old }
-    requires addressed { IfSome (entry_of handle (slot_at s store.old).objects)
+    requires addressed { IfSome (entry_under handle (slot_at s store.old).objects)
         (λ entry. is_for_entry (telegram_model handing.now.telegram.now)
         handing.now.setting.globals.now entry ≡ true) }
     requires now { handing.now.setting.globals.now.now ≤ last_moment }

@@ -5,12 +5,12 @@ ghost use Rattle.std.specs.Prelude.{slice_get, IfSome};
 ghost use Rattle.trdp_base.specs.Moments.{last_moment};
 ghost use Rattle.trdp_head.specs.declared.pd.TheConstants.{PD_TELEGRAM_MAX};
 ghost use Rattle.trdp_head.specs.declared.md.TheConstants.{MD_TELEGRAM_MAX};
-ghost use Rattle.trdp_pd.specs.Due.{is_due_by};
+ghost use Rattle.trdp_pd.specs.Due.{has_come_by};
 ghost use Rattle.trdp_model.specs.Kinds.{kind_of};
 ghost use Rattle.trdp_table.specs.Tables.{room_of};
 ghost use Rattle.trdp_model.specs.Objects.{due_of, after_firing, fired};
 ghost use Rattle.trdp_model.specs.Records.{labelled};
-ghost use Rattle.trdp_model.specs.Slots.{SlotState, entry_of};
+ghost use Rattle.trdp_model.specs.Slots.{SlotState, entry_under};
 ghost use Rattle.trdp_store.specs.TableSlots.{slots_of};
 ghost use Rattle.trdp_model.specs.Moments.{sends_data, sends_again, firing_records, left_firing};
 ghost use Rattle.trdp_model.specs.Moments.{moved_to, is_due, firing_act};
@@ -67,7 +67,7 @@ fn fire_object(
     s: u16,
     out: &mut Outbox,
 ) -> Left
-    requires due { is_due_by globals.now.now (due_of object.old) ≡ true }
+    requires due { has_come_by globals.now.now (due_of object.old) ≡ true }
     requires now { globals.now.now ≤ last_moment }
     requires room { HasRoom out.old (kind_room (kind_of object.old)) }
     ensures left { left_of result object.new
@@ -104,7 +104,7 @@ pub struct Firing<'a> {
 impl Deed for Firing<'_> {
     ghost use Rattle.std.specs.Prelude.{◌≡◌, ◌≤◌, true};
     ghost use Rattle.trdp_base.specs.Moments.{last_moment};
-    ghost use Rattle.trdp_pd.specs.Due.{is_due_by};
+    ghost use Rattle.trdp_pd.specs.Due.{has_come_by};
     ghost use Rattle.trdp_model.specs.Kinds.{kind_of};
     ghost use Rattle.trdp_model.specs.Objects.{due_of};
     ghost use Rattle.trdp_model.specs.Moments.{firing_act};
@@ -115,7 +115,7 @@ impl Deed for Firing<'_> {
     ghost act = { λ d handle object. firing_act d.globals.now (entry_at handle object) };
 
     ghost may = { λ d _ object out.
-        (is_due_by d.globals.now.now (due_of object) ≡ true)
+        (has_come_by d.globals.now.now (due_of object) ≡ true)
         × (d.globals.now.now ≤ last_moment) × HasRoom out (kind_room (kind_of object)) };
 
     ghost spends = { λ _ object out out_then. TookWithin out out_then (kind_room (kind_of object)) };
@@ -139,7 +139,7 @@ fn fire(
 )
     requires slot { s < length store.old }
     requires may { MayAct (slot_at s store.old) handle out.old }
-    requires due { IfSome (entry_of handle (slot_at s store.old).objects)
+    requires due { IfSome (entry_under handle (slot_at s store.old).objects)
         (λ entry. is_due globals.now.now entry ≡ true) }
     requires now { globals.now.now ≤ last_moment }
     ensures acts { ActsAt s handle (firing_act globals.entry.now) store.old store.new out.old

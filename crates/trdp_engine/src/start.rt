@@ -2,7 +2,7 @@
 
 ghost use Rattle.std.specs.Prelude.{◌≡◌, ◌*◌, ◌≤◌, length, IfOk, map, vec_capacity};
 ghost use Rattle.trdp_table.specs.TableLaws.{object_limit};
-ghost use Rattle.trdp_model.specs.Slots.{opened_slot};
+ghost use Rattle.trdp_model.specs.Slots.{empty_slot};
 ghost use Rattle.trdp_store.specs.TableSlots.{slots_of};
 
 use crate::addressees::Addressee;
@@ -36,7 +36,7 @@ fn quotas_of(alloc: Global, config: &NodeConfig) -> Result<Vec<Quotas>, AllocErr
 /// Want of memory for the slots.
 fn open_slots(alloc: Global, config: &NodeConfig) -> Result<Store, AllocError>
     ensures { IfOk result
-        (λ store. slots_of store ≡ map (λ slot. opened_slot slot.quotas) config.now.slots) }
+        (λ store. slots_of store ≡ map (λ slot. empty_slot slot.quotas) config.now.slots) }
 {
     let quotas = quotas_of(alloc, config)?;
     Store::new(alloc, &quotas)
@@ -48,7 +48,7 @@ fn open_slots(alloc: Global, config: &NodeConfig) -> Result<Store, AllocError>
 /// Want of memory for one of them.
 pub fn parts(alloc: Global, config: &NodeConfig) -> Result<(Store, Vec<Addressee>), AllocError>
     ensures slots { IfOk result
-        (λ parts. slots_of parts.0 ≡ map (λ slot. opened_slot slot.quotas) config.now.slots) }
+        (λ parts. slots_of parts.0 ≡ map (λ slot. empty_slot slot.quotas) config.now.slots) }
     ensures capacity { IfOk result (λ parts. 16 * object_limit ≤ vec_capacity parts.1) }
 {
     let store = open_slots(alloc, config)?;

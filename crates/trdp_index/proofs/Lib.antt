@@ -1,5 +1,5 @@
-pub mod Halves
-pub mod Ranks
-pub mod Rows
-pub mod Searching
-pub mod Runs
+pub mod HalvingLemmas
+pub mod RankLemmas
+pub mod RowLemmas
+pub mod SearchLemmas
+pub mod RunLemmas

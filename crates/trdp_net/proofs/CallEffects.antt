@@ -1,4 +1,6 @@
 -- What a call does to one slot.
+-- For the five promises of `laws`, through Effects.
+-- By cases on the call: it acts by a handle or opens an object, each by one lemma of Slots.
 use Rattle.std.proofs.Common.{◌≡◌, ℕ, ◌≤◌, List, [], ◌∷◌, length, Option, Some}
 use Rattle.std.proofs.Common.{None, Bool, true, false, refl, arith, inl}
 use Rattle.std.proofs.Common.{slice_get, filter}
@@ -14,7 +16,7 @@ use Rattle.trdp_pd.specs.Requesters.{opened}
 use Rattle.trdp_md.specs.declared.terms.NotifyTerms.{NotifyTerms}
 use Rattle.trdp_md.specs.declared.terms.CallerTerms.{CallerTerms}
 use Rattle.trdp_md.specs.Listeners.{listening}
-use Rattle.trdp_md.specs.Callers.{called as new_caller, request_of}
+use Rattle.trdp_md.specs.Callers.{new_caller, request_of}
 use Rattle.trdp_md.specs.Notifications.{notification_of}
 use Rattle.trdp_model.specs.declared.kind.Kind.TheVariants as kinds
 use Rattle.trdp_model.specs.declared.any_object.AnyObject.TheVariants.{Publisher, Subscription}

@@ -1,15 +1,15 @@
--- A caller in one move.
-use Rattle.std.proofs.Common.{◌≡◌, ℕ, ℤ, List, [], ◌∷◌, Option}
-use Rattle.std.proofs.Common.{Some, None, Bool, true, false, refl, ap, sym, subst, arith, inl}
+-- A caller in one move: at a telegram that was made, and at its deadline.
+-- For `no_invented_reply`, `no_invented_confirm` and `no_early_done`, through Objects.
+-- What is known of a caller stays known, and each record is explained, by the rule's own tests.
+use Rattle.std.proofs.Common.{◌≡◌, ℕ, List, [], ◌∷◌}
+use Rattle.std.proofs.Common.{None, Bool, true, false, refl, ap, subst, arith, inl}
 use Rattle.std.proofs.Common.{inr}
-use Rattle.std.specs.Prelude.{not, ◌==◌, ◌&&◌, if◌then◌else◌, FitsSigned, int_lt, pos}
-use Rattle.std.specs.Int.{w32}
+use Rattle.std.specs.Prelude.{not, ◌==◌, ◌&&◌, if◌then◌else◌}
 use Rattle.std.proofs.lemmas.Bool.Decides.{nat_tests}
 use Rattle.trdp_base.specs.declared.place.Place.{Place}
 use Rattle.trdp_base.specs.declared.session.SessionId.{SessionId}
 use Rattle.trdp_head.specs.declared.md.MdHead.{MdHead}
 use Rattle.trdp_head.specs.MdTelegrams.{MdTelegram}
-use Rattle.trdp_head.specs.MdBytes.{md_bytes}
 use Rattle.trdp_filter.specs.declared.globals.Globals.{Globals}
 use Rattle.trdp_filter.specs.Counts.{topo_valid}
 use Rattle.trdp_filter.specs.Telegrams.{TelegramModel, MdIs}
@@ -18,46 +18,40 @@ use Rattle.trdp_pd.specs.declared.object.Reason.TheVariants.{Done, NoReply, NotA
 use Rattle.trdp_pd.specs.declared.object.Reason.TheVariants.{NotConfirmed, ReplyMissed, NoConfirm}
 use Rattle.trdp_pd.specs.declared.object.Taken.TheVariants as took
 use Rattle.trdp_pd.specs.declared.object.Fired.TheVariants as fires
-use Rattle.trdp_pd.specs.Effects.{Taking, Firing}
+use Rattle.trdp_pd.specs.Effects.{Reception, Firing}
 use Rattle.trdp_pd.specs.Publishers.{next_counter}
 use Rattle.trdp_md.specs.declared.caller.Caller.{Caller as AnyCaller}
-use Rattle.trdp_md.specs.Answers.{has_answered, awaits, confirmed}
-use Rattle.trdp_md.specs.Callers.{is_answer, is_for_caller, has_place, is_accepted}
-use Rattle.trdp_md.specs.Callers.{answer_of, answering, is_complete, replied}
-use Rattle.trdp_md.specs.Callers.{caller_firing, reason_of, confirming, closed_of}
-use Rattle.trdp_md.specs.Callers.{confirm_of, request_of}
+use Rattle.trdp_md.specs.Answers.{has_answered}
+use Rattle.trdp_md.specs.Callers.{is_answer, is_for_caller, has_place, is_accepted_answer}
+use Rattle.trdp_md.specs.Callers.{answer_of, answering, is_complete, answer_taken}
+use Rattle.trdp_md.specs.Callers.{caller_firing, reason_of}
+use Rattle.trdp_md.specs.Callers.{request_of}
 use Rattle.trdp_md.specs.Callers.{is_repeating, waiting_again, repeating}
-use Rattle.trdp_md.proofs.Confirming.{closed-done, fired-done, terms-confirming}
+use Rattle.trdp_md.proofs.ConfirmLemmas.{fired-done}
 use Rattle.trdp_model.specs.declared.any_object.AnyObject.TheVariants.{Caller}
 use Rattle.trdp_model.specs.declared.record.Protocol.TheVariants.{Md}
-use Rattle.trdp_model.specs.declared.fault.Refusal.{Refusal}
-use Rattle.trdp_model.specs.declared.fault.Refusal.TheVariants.{State, Status}
 use Rattle.trdp_model.specs.Configs.{NodeSetup}
-use Rattle.trdp_model.specs.Records.{Content, MessageModel, ReplyModel, DoneIs, RepliedIs, Answers, Indicates}
-use Rattle.trdp_model.specs.Records.{Sends}
+use Rattle.trdp_model.specs.Records.{Content, MessageModel, ReplyModel, RepliedIs, Indicates}
 use Rattle.trdp_model.specs.Acts.{Act}
-use Rattle.trdp_model.specs.Replies.{reply_of, closing, concluded, confirms_unless}
-use Rattle.trdp_model.specs.Replies.{confirm_refusal}
+use Rattle.trdp_model.specs.Replies.{reply_of}
 use Rattle.trdp_model.specs.Moments.{firing_act, firing_records, left_firing}
 use Rattle.trdp_model.specs.Datagrams.{taking_act, taken_records, left_taking}
-use Rattle.trdp_model.specs.Events.{ConfirmCall, CallIs}
 use Rattle.trdp_net.specs.Networks.{Move, place_of}
 use Rattle.trdp_net.specs.Provenance.{Ever, In, Spot, Gives, Held}
-use Rattle.trdp_net.specs.Provenance.{IsAnsweredBySome, IsConfirmed, IsConfirmedAs}
+use Rattle.trdp_net.specs.Provenance.{IsAnsweredBySome}
 use Rattle.trdp_net.specs.Provenance.{IsRequested, IsRequestedBySome, IsRequestedAs}
-use Rattle.trdp_net.proofs.Parts.{each_append, in_left, and_left, and_right, ever_map}
+use Rattle.trdp_net.proofs.Parts.{each_append, and_left, and_right, ever_map}
 use Rattle.trdp_net.proofs.Kept.{AnswerKept, CallerKept, answers_later}
 use Rattle.trdp_net.proofs.Kept.{object_later, ActKept, said_by}
-use Rattle.trdp_net.proofs.Heads.{confirm_head, request_head}
+use Rattle.trdp_net.proofs.Heads.{request_head}
 use Rattle.trdp_net.proofs.Sending.{sends_md}
 use Rattle.trdp_net.proofs.Callers.{answer_origin, query_owes}
-use Rattle.trdp_net.proofs.Callers.{asked_there, answers_confirmed, done_by}
-use Rattle.trdp_net.proofs.Explained.{MessageBy, ClosedBy, ToldBy}
-use Rattle.trdp_net.specs.Provenance.{Each}
+use Rattle.trdp_net.proofs.Callers.{done_by}
+use Rattle.trdp_net.proofs.Explained.{MessageBy, ClosedBy}
 use Rattle.trdp_net.proofs.TypedMoves.{IsCaller}
-use Rattle.trdp_md.proofs.Apart.{flipped, all_apart_push, all_apart_map}
-use Rattle.trdp_md.proofs.Calling.{query-is_query}
-use Rattle.trdp_md.proofs.Confirming.{IsDone-is_complete}
+use Rattle.trdp_md.proofs.AnswerLemmas.{flipped, all_apart_push}
+use Rattle.trdp_md.proofs.CallerLemmas.{query-is_query}
+use Rattle.trdp_md.proofs.ConfirmLemmas.{IsDone-is_complete}
 
 -- a request was made, whichever caller it opened
 by_some : (at : Spot) (session : SessionId) (said : MessageModel) (past : List Move)
@@ -74,7 +68,7 @@ some_request at session said past e =
     past e
 
 -- the act of a caller that took a telegram so
-abbrev took_act : NodeSetup → TelegramModel → ℕ → AnyCaller → Taking AnyCaller → Act
+abbrev took_act : NodeSetup → TelegramModel → ℕ → AnyCaller → Reception AnyCaller → Act
 took_act setup telegram handle c f = record {
   left = left_taking f.taken (Caller f.object);
   records = taken_records setup telegram handle (Caller c) f.taken;
@@ -82,12 +76,12 @@ took_act setup telegram handle c f = record {
 
 -- an answer that came makes this of the caller
 caller_answered : (past : List Move) (m : Move) (at : Spot) (src : Place) (t : MdTelegram)
-    (now : ℕ) (c : AnyCaller) → is_accepted c src t.head ≡ true
+    (now : ℕ) (c : AnyCaller) → is_accepted_answer c src t.head ≡ true
     → Ever (IsAnsweredBySome c.terms.session (reply_of src t)) past
     → Gives at.node at.slot (Indicates (RepliedIs at.handle (reply_of src t))) m
     → CallerKept past m.before.setup at c
     → CallerKept (m ∷ past) m.before.setup at (answering c src t.head now)
-unfolding is_accepted
+unfolding is_accepted_answer
 caller_answered past m at src t now c accepted answered given kept = record {
   requested = inr kept.requested;
   limit = kept.limit;
@@ -121,9 +115,9 @@ session_same a b is =
     let e : a.0 ≡ b.0 = grind (arith, nat_tests) in ap (λ (n : ℕ). record { 0 = n }) e
 
 -- an accepted telegram is an answer of the caller's session
-for_caller : (c : AnyCaller) (src : Place) (head : MdHead) → is_accepted c src head ≡ true
+for_caller : (c : AnyCaller) (src : Place) (head : MdHead) → is_accepted_answer c src head ≡ true
     → (is_answer head.kind ≡ true) × (head.session ≡ c.terms.session)
-unfolding is_accepted is_for_caller
+unfolding is_accepted_answer is_for_caller
 for_caller c src head is =
     let first = and_left (is_for_caller c head) (has_place c)
     (and_left (is_for_caller c head && has_place c) (not (has_answered c.answers src)) is) in
@@ -144,9 +138,9 @@ pub caller_takes : (past : List Move) (m : Move) (at : Spot) (setup : NodeSetup)
     → Gives at.node at.slot content m)
     → ActKept past m at (taking_act setup (MdIs src dst t) globals
     (record { handle = at.handle; object = Caller c }))
-unfolding replied
+unfolding answer_taken
 caller_takes past m at setup src dst to t globals c origin kept held given =
-    either (is_accepted c src t.head) refl given
+    either (is_accepted_answer c src t.head) refl given
   where
     after : AnyCaller
     after = answering c src t.head globals.now
@@ -162,14 +156,14 @@ caller_takes past m at setup src dst to t globals c origin kept held given =
     first_given true gives = gives (Indicates (RepliedIs at.handle told)) (inl refl)
     first_given false gives = gives (Indicates (RepliedIs at.handle told)) (inl refl)
 
-    answered : is_accepted c src t.head ≡ true
+    answered : is_accepted_answer c src t.head ≡ true
         → Ever (IsAnsweredBySome c.terms.session (reply_of src t)) past
     answered accepted =
         let for_it = for_caller c src t.head accepted in
         subst (λ (s : SessionId). Ever (IsAnsweredBySome s (reply_of src t)) past) for_it.1
         (answer_origin t.head.kind past src to t for_it.0 origin)
 
-    last : (b : Bool) → is_complete after ≡ b → is_accepted c src t.head ≡ true
+    last : (b : Bool) → is_complete after ≡ b → is_accepted_answer c src t.head ≡ true
         → CallerKept (m ∷ past) m.before.setup at after
         → ActKept past m at (took_act setup (MdIs src dst t) at.handle c
         (record { object = after; taken = if b then took.RepliedLast else took.Replied }))
@@ -198,13 +192,13 @@ caller_takes past m at setup src dst to t globals c origin kept held given =
       );
     }
 
-    either : (b : Bool) → is_accepted c src t.head ≡ b
+    either : (b : Bool) → is_accepted_answer c src t.head ≡ b
         → ((content : Content) → In content (took_act setup (MdIs src dst t) at.handle c
-        (if b then record { object = after; taken = replied after }
+        (if b then record { object = after; taken = answer_taken after }
         else record { object = c; taken = took.Nothing })).records
         → Gives at.node at.slot content m)
         → ActKept past m at (took_act setup (MdIs src dst t) at.handle c
-        (if b then record { object = after; taken = replied after }
+        (if b then record { object = after; taken = answer_taken after }
         else record { object = c; taken = took.Nothing }))
     either true accepted gives =
         last (is_complete after) refl accepted
@@ -286,117 +280,3 @@ caller_fires past m at globals c fits kept held = either (is_repeating c) refl
         else record { object = record c { deadline = None }; fired = fires.Closed (reason_of c) }))
     either true is = repeats (topo_valid c.terms.topo globals.topo)
     either false none = record { stays = tt; tells = (by_reason none (reason_of c) refl, tt) }
-
--- a confirmation that is sent
-concluded_in : (reason : Option Reason) (handle : ℕ) (c : AnyCaller) (content : Content)
-    (records : List Content) → In content records
-    → In content (concluded reason handle c records).records
-concluded_in None handle c content records is = is
-concluded_in (Some reason) handle c content records is =
-    in_left content records (closing handle reason ∷ []) is
-
--- a confirmation makes this of the caller
-confirming_is : (c : AnyCaller) (place : Place) → awaits c.answers place ≡ true
-    → confirming c place ≡ record c { answers = confirmed c.answers place }
-unfolding confirming
-confirming_is c place is = rw is refl
-
-caller_confirmed : (past : List Move) (m : Move) (at : Spot) (place : Place) (c : AnyCaller)
-    → awaits c.answers place ≡ true
-    → IsConfirmedAs at c.terms.session (place_of Md m.before.setup) place m past
-    → CallerKept past m.before.setup at c
-    → CallerKept (m ∷ past) m.before.setup at (confirming c place)
-unfolding confirmed
-caller_confirmed past m at place c is made kept =
-    subst (λ (x : AnyCaller). CallerKept (m ∷ past) m.before.setup at x)
-    (sym (confirming_is c place is))
-    (record {
-      requested = inr kept.requested;
-      limit = kept.limit;
-      answers =
-          answers_confirmed past m at c.terms.session (place_of Md m.before.setup) place c.answers
-          made kept.answers;
-      apart = all_apart_map place c.answers kept.apart;
-    })
-
--- it goes on, or closes where all has come
-concluded_kept : (past : List Move) (m : Move) (at : Spot) (c after : AnyCaller)
-    (records : List Content) (reason : Option Reason) → closed_of after ≡ reason
-    → Held at (Caller c) m → after.terms ≡ c.terms
-    → CallerKept (m ∷ past) m.before.setup at after
-    → Each (ToldBy past m at.node at.slot) records
-    → ActKept past m at (concluded reason at.handle after records)
-concluded_kept past m at c after records None closed held terms kept tells =
-    record { stays = kept; tells = tells }
-concluded_kept past m at c after records (Some reason) closed held terms kept tells = record {
-  stays = tt;
-  tells =
-      each_append (ToldBy past m at.node at.slot) records (closing at.handle reason ∷ []) tells (
-        subst (λ (r : Reason). ClosedBy past m at r) (sym (closed-done after reason closed).0)
-            (done_by past m at c after held terms (closed-done after reason closed).1 kept),
-        tt,
-      );
-}
-
-refusal_awaits : (c : AnyCaller) (place : Place) (status : ℤ)
-    → confirm_refusal c place status ≡ None → awaits c.answers place ≡ true
-refusal_awaits c place status none = either (awaits c.answers place) refl none
-  where
-    either : (b : Bool) → awaits c.answers place ≡ b
-        → (if not b then Some State else
-        if int_lt status (pos 0) then Some Status else None) ≡ None
-        → awaits c.answers place ≡ true
-    either true is none = is
-    either false is none = absurd (cc none)
-
-confirm_origin : (past : List Move) (m : Move) (at : Spot) (home place : Place) (status : ℤ)
-    (c : AnyCaller) → IsConfirmed at c.terms.session home place status m past
-    → MessageBy (confirm_of c.terms status).kind (m ∷ past) home place
-    (record { head = confirm_of c.terms status; payload = [] })
-unfolding confirm_of
-confirm_origin past m at home place status c made = inl (at, made)
-
--- a caller at a Confirm
-pub confirms_kept : (past : List Move) (m : Move) (at : Spot) (refusal : Option Refusal)
-    (place : Place) (status : ℤ) (c : AnyCaller)
-    → confirm_refusal c place status ≡ refusal
-    → m.event ≡ CallIs at.slot (ConfirmCall at.handle place status)
-    → IsCaller c → FitsSigned w32 status
-    → CallerKept past m.before.setup at c → Held at (Caller c) m
-    → ((content : Content)
-    → In content (confirms_unless refusal at.handle place status c).records
-    → Gives at.node at.slot content m)
-    → ActKept past m at (confirms_unless refusal at.handle place status c)
-confirms_kept past m at (Some refusal) place status c is event fits status_fits kept held given =
-    record { stays = object_later past m m.before.setup at (Caller c) kept; tells = (tt, tt) }
-confirms_kept past m at None place status c is event fits status_fits kept held given =
-    let owed : awaits c.answers place ≡ true = refusal_awaits c place status is in
-    let home : Place = place_of Md m.before.setup in
-    let made : IsConfirmed at c.terms.session home place status m past = record {
-      c = c;
-      makes = record {
-        event_is = event;
-        gives =
-            given (Answers DoneIs)
-            (concluded_in (closed_of (confirming c place)) at.handle (confirming c place)
-            (Answers DoneIs)
-            (Answers DoneIs ∷ Sends Md place (md_bytes (confirm_of c.terms status) []) ∷ [])
-            (inl refl));
-      };
-      held = held;
-      session_is = refl;
-      home_is = refl;
-      queried = asked_there past at c.terms.session home place c.answers kept.answers owed;
-    } in
-    concluded_kept past m at c (confirming c place)
-    (Answers DoneIs ∷ Sends Md place (md_bytes (confirm_of c.terms status) []) ∷ [])
-    (closed_of (confirming c place)) refl held (terms-confirming c place)
-    (caller_confirmed past m at place c owed (status, made) kept) (
-      tt,
-      (
-        sends_md (m ∷ past) home place (confirm_of c.terms status) []
-            (confirm_head c.terms status fits.terms status_fits) (omega arith)
-            (confirm_origin past m at home place status c made),
-        tt,
-      ),
-    )

@@ -1,4 +1,6 @@
--- A caller in one move: its answers, its confirmations, and when it closes.
+-- A caller's answers: who made them, which await a confirmation, and when all have come.
+-- For CallerMoves and CallerConfirms, which it spares the inductions on the list of answers.
+-- Each answer is kept with the move that told of it, by induction on the list.
 use Rattle.std.proofs.Common.{◌≡◌, ◌≤◌, List, [], ◌∷◌, length, map}
 use Rattle.std.proofs.Common.{Bool, true, false, refl, sym, subst, inl}
 use Rattle.std.proofs.Common.{inr}
@@ -27,8 +29,8 @@ use Rattle.trdp_net.proofs.Kept.{AnswerKept, CallerKept, answer_later}
 use Rattle.trdp_net.proofs.Explained.{MessageBy}
 use Rattle.trdp_net.specs.Promises.{IsSettled, IsDoneDue}
 use Rattle.trdp_net.specs.Provenance.{Each}
-use Rattle.trdp_md.proofs.Apart.{or_left, or_right}
-use Rattle.trdp_md.proofs.Confirming.{place-is_place}
+use Rattle.trdp_md.proofs.AnswerLemmas.{or_left, or_right}
+use Rattle.trdp_md.proofs.ConfirmLemmas.{place-is_place}
 
 -- the answer that came was made
 pub answer_origin : (kind : MdKind) (past : List Move) (from to : Place) (t : MdTelegram)

@@ -1,4 +1,6 @@
 -- Publishers, subscriptions and requesters, in one move.
+-- For `no_invented_value`, through Objects.
+-- A publisher's value was put, and a telegram carries what was put, so a subscription shows that.
 use Rattle.std.proofs.Common.{◌≡◌, ℕ, ◌≤◌, List, [], ◌∷◌, length, Option, Some, None, Bool, true}
 use Rattle.std.proofs.Common.{false, refl, ap, sym, ◌∙◌, subst, arith, inl, inr}
 use Rattle.std.specs.Prelude.{◌⊎◌, if◌then◌else◌}
@@ -16,11 +18,11 @@ use Rattle.trdp_pd.specs.declared.object.Taken.TheVariants as took
 use Rattle.trdp_pd.specs.Publishers.{PublisherState, head_as, may_send}
 use Rattle.trdp_pd.specs.Publishers.{is_answered, next_due, next_counter}
 use Rattle.trdp_pd.specs.declared.object.Fired.TheVariants as fires
-use Rattle.trdp_pd.specs.Effects.{Taking, Firing}
+use Rattle.trdp_pd.specs.Effects.{Reception, Firing}
 use Rattle.trdp_pd.specs.Requesters.{RequesterState, pull_head}
-use Rattle.trdp_pd.specs.Subscriptions.{SubscriptionState, is_accepted}
+use Rattle.trdp_pd.specs.Subscriptions.{SubscriptionState, is_accepted_value}
 use Rattle.trdp_pd.specs.Subscriptions.{HasTaken, IsOfValue, taken_in, storing}
-use Rattle.trdp_pd.proofs.Receiving.{HasTaken-taking}
+use Rattle.trdp_pd.proofs.SubscriptionLemmas.{HasTaken-taking}
 use Rattle.trdp_model.specs.declared.any_object.AnyObject.TheVariants.{Publisher, Subscription}
 use Rattle.trdp_model.specs.declared.record.Protocol.TheVariants.{Pd}
 use Rattle.trdp_model.specs.declared.fault.Refusal.{Refusal}
@@ -97,7 +99,7 @@ publisher_fires past m at globals p fits kept = either (may_send p globals)
         record { stays = value_later past m p.terms.com_id p.value kept; tells = tt }
 
 -- the act of a publisher that took a telegram so
-abbrev took_act : NodeSetup → TelegramModel → ℕ → PublisherState → Taking PublisherState → Act
+abbrev took_act : NodeSetup → TelegramModel → ℕ → PublisherState → Reception PublisherState → Act
 took_act setup telegram handle p f = record {
   left = left_taking f.taken (Publisher f.object);
   records = taken_records setup telegram handle (Publisher p) f.taken;
@@ -180,7 +182,7 @@ takes_in u = by_state u.state
 
 -- the act of a subscription that took a telegram so
 abbrev subscription_act :
-    NodeSetup → TelegramModel → ℕ → SubscriptionState → Taking SubscriptionState → Act
+    NodeSetup → TelegramModel → ℕ → SubscriptionState → Reception SubscriptionState → Act
 subscription_act setup telegram handle u f = record {
   left = left_taking f.taken (Subscription f.object);
   records = taken_records setup telegram handle (Subscription u) f.taken;
@@ -194,7 +196,7 @@ pub subscription_takes : (past : List Move) (m : Move) (at : Spot) (setup : Node
     → ActKept past m at (taking_act setup (PdIs src dst t) globals
     (record { handle = at.handle; object = Subscription u }))
 subscription_takes past m at setup src dst t globals u origin kept =
-    either (is_accepted u src dst t.head globals fits) refl
+    either (is_accepted_value u src dst t.head globals fits) refl
   where
     fits : Bool
     fits = fits_object setup (PdIs src dst t) (Subscription u)
@@ -214,7 +216,7 @@ subscription_takes past m at setup src dst t globals u origin kept =
         (subst (λ (v : List ℕ). Ever (IsPut t.head.com_id v) past) (sym has.value)
         (value_origin past src dst t has.kind origin)))
 
-    either : (b : Bool) → is_accepted u src dst t.head globals fits ≡ b
+    either : (b : Bool) → is_accepted_value u src dst t.head globals fits ≡ b
         → ActKept past m at (subscription_act setup (PdIs src dst t) at.handle u
         (if b then record { object = storing u src t globals.now; taken = taken_in u.state }
         else record { object = u; taken = took.Nothing }))

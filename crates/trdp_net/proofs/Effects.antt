@@ -1,4 +1,6 @@
 -- What an event does to one slot.
+-- For the five promises of `laws`, through Runs.
+-- By cases on the event, and on a telegram by what it is; what a datagram brings was sent before.
 use Rattle.std.proofs.Common.{◌≡◌, ℕ, List, [], ◌∷◌, Option, Some}
 use Rattle.std.proofs.Common.{None, Bool, true, false, refl, subst, arith, inl, inr}
 use Rattle.std.proofs.Common.{slice_get}

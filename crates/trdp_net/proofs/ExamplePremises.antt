@@ -1,4 +1,6 @@
 -- The premises of the promises hold in the example.
+-- For `the_promises_are_not_empty`, its clause `premises`.
+-- Row by row for the types; a run with one request at most has no two of one identifier.
 use Rattle.std.proofs.Common.{◌≡◌, ℕ, zero, suc, List, [], ◌∷◌, ◌++◌, Option, None, Some, Bool}
 use Rattle.std.proofs.Common.{true, false, ◌&&◌, refl, ap, sym, ◌∙◌, subst, inl, inr, arith, lit<}
 use Rattle.std.proofs.Common.{lit≤}

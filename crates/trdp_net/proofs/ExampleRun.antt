@@ -1,4 +1,6 @@
 -- The example's run, computed.
+-- For `the_promises_are_not_empty`, its clauses on what is sent, told and shown.
+-- Each is an equation between a computed run and a text that stands in specs/Example: `refl`.
 use Rattle.std.proofs.Common.{◌≡◌, ℕ, List, [], ◌∷◌, Some, None, true, refl, inl, slice_get, sym}
 use Rattle.std.proofs.Common.{subst}
 use Rattle.std.specs.Prelude.{replicate}
@@ -75,7 +77,8 @@ slot_at_end = record {
   quotas = replicate 6 1;
   next = 4;
   objects =
-      entry_at_end ∷ record { handle = 2; object = Listener (record { filter = any_message }) } ∷ [];
+      entry_at_end
+      ∷ record { handle = 2; object = Listener (record { filter = any_message }) } ∷ [];
 }
 
 abbrev node_at_end : NetNode

@@ -1,4 +1,6 @@
 -- By what each record of a move is explained: the invariant of a history.
+-- For all modules from Kept to Runs, which show that each move keeps it.
+-- A definition for each kind of record: the earlier move that it needs, as the promises name it.
 use Rattle.std.specs.Prelude.{◌≡◌, ℕ, List, ◌∷◌, Some}
 use Rattle.std.specs.Prelude.{slice_get}
 use Rattle.trdp_base.specs.declared.place.Place.{Place}

@@ -1,4 +1,6 @@
 -- The headers that objects and calls send fit, where their own fields do.
+-- For Sending's lemmas, which read back what was written under such a header.
+-- Field by field: each is a field of the object's terms, a constant or a counter below its limit.
 use Rattle.std.proofs.Common.{ℕ, ◌<◌, ◌^◌, ℤ, pos, arith}
 use Rattle.std.specs.Prelude.{FitsSigned}
 use Rattle.std.specs.Int.{w32}
@@ -6,7 +8,7 @@ use Rattle.trdp_head.specs.declared.pd.PdKind.{PdKind}
 use Rattle.trdp_head.specs.declared.pd.PdKind.TheVariants as data_kind
 use Rattle.trdp_head.specs.declared.md.MdKind.{MdKind}
 use Rattle.trdp_head.specs.declared.md.MdKind.TheVariants as message
-use Rattle.trdp_head.specs.PdKinds.{code_of}
+use Rattle.trdp_head.specs.PdKinds.{pd_code_of}
 use Rattle.trdp_head.specs.PdHeads.{IsPdHead}
 use Rattle.trdp_head.specs.MdKinds.{md_code_of}
 use Rattle.trdp_head.specs.MdHeads.{IsMdHead}
@@ -21,7 +23,7 @@ use Rattle.trdp_md.specs.Notifications.{notification_of}
 use Rattle.trdp_net.proofs.TypedMoves.{IsPublisher, IsRequester, IsReplier}
 use Rattle.trdp_net.specs.Typed.{IsNotifyTerms, IsCallerTerms}
 
-code_within : (kind : PdKind) → code_of kind < 2 ^ 16
+code_within : (kind : PdKind) → pd_code_of kind < 2 ^ 16
 code_within data_kind.Data = omega arith
 code_within data_kind.PullReply = omega arith
 code_within data_kind.PullRequest = omega arith

@@ -1,4 +1,6 @@
 -- What the objects of a slot were told of, and one that acts by its handle.
+-- For `no_invented_reply`, its clause `distinct`, through HeardSlots.
+-- What each handle was told of is a function beside the slot; an act changes it at one handle.
 use Rattle.std.proofs.Common.{◌≡◌, ℕ, ◌<◌, ◌≤◌, ◌+◌, List, [], ◌∷◌, ◌++◌, Option, Some, None}
 use Rattle.std.proofs.Common.{Bool, true, false, refl, ap, sym, ◌∙◌, subst, arith, inl, inr}
 use Rattle.std.proofs.Common.{filter}
@@ -13,7 +15,7 @@ use Rattle.trdp_model.specs.Records.{Content, Answers, Indicates, Sends, SilentI
 use Rattle.trdp_model.specs.Records.{NotifiedIs, AskedIs, OverrunIs, RepliedIs, ConfirmedIs}
 use Rattle.trdp_model.specs.Records.{ClosedIs}
 use Rattle.trdp_model.specs.Acts.{Act, entry_left, left_at}
-use Rattle.trdp_model.specs.Slots.{Entry, SlotState, Outcome, entry_of, with_object}
+use Rattle.trdp_model.specs.Slots.{Entry, SlotState, Outcome, entry_under, with_new_object}
 use Rattle.trdp_model.specs.Openings.{refused, opened_with}
 use Rattle.trdp_model.specs.Moments.{is_due, in_order, firing_act, after_moment}
 use Rattle.trdp_model.specs.Moments.{moved_to}
@@ -167,7 +169,7 @@ left_covers new e (Some x) covers = (covers, tt)
 -- a new object
 pub new_heard : (old : ℕ → List Place) (slot : SlotState) (object : AnyObject)
     → ((ps : List Place) → ps ≡ [] → Covers ps object) → HeardSlot old slot
-    → HeardSlot old (with_object slot object)
+    → HeardSlot old (with_new_object slot object)
 new_heard old slot object covers h = record {
   only = only_push slot.objects h.only h.below;
   below =
@@ -259,9 +261,9 @@ pub at_handle_heard : (old : ℕ → List Place) (slot : SlotState) (handle : �
     → HeardSlot old slot
     → HeardSlot (λ h. replied_in h (at_object slot handle act).records ++ old h)
     (at_object slot handle act).slot
-at_handle_heard old slot handle act rule h = found (entry_of handle slot.objects) refl
+at_handle_heard old slot handle act rule h = found (entry_under handle slot.objects) refl
   where
-    found : (o : Option Entry) → entry_of handle slot.objects ≡ o
+    found : (o : Option Entry) → entry_under handle slot.objects ≡ o
         → HeardSlot (λ n. replied_in n (at_entry o slot handle act).records ++ old n)
         (at_entry o slot handle act).slot
     found None is = quiet_outcome old (at_entry None slot handle act) (λ n. refl) h

@@ -1,4 +1,6 @@
 -- No two answers that one caller is told of come from one place.
+-- For `no_invented_reply`, its clause `distinct`.
+-- By induction on the steps: what a caller was told of is among what it knows, no place twice.
 use Rattle.std.proofs.Common.{◌≡◌, ℕ, zero, suc, ◌+◌, List, [], ◌∷◌, ◌++◌, map, Option, Some}
 use Rattle.std.proofs.Common.{None, Bool, true, false, refl, sym, ◌∙◌, subst, arith}
 use Rattle.std.proofs.Common.{slice_get, length}
@@ -12,7 +14,7 @@ use Rattle.trdp_model.specs.Configs.{NodeSetup}
 use Rattle.trdp_model.specs.Events.{EventModel, MomentIs, TopologyIs, RoleIs, DatagramIs, CallIs}
 use Rattle.trdp_model.specs.Events.{AddSlotIs}
 use Rattle.trdp_model.specs.Alone.{opened_by}
-use Rattle.trdp_model.specs.Slots.{SlotState, opened_slot}
+use Rattle.trdp_model.specs.Slots.{SlotState, empty_slot}
 use Rattle.trdp_model.specs.Alone.{refused_as, plain_effect}
 use Rattle.trdp_net.specs.Networks.{NetNode, place_of, Sent, Move, Network, Step, CallAt}
 use Rattle.trdp_net.specs.Networks.{MomentAt, TopologyAt, RoleAt, DeliveryAt, AddSlotAt}
@@ -220,7 +222,7 @@ run_heard w (step ∷ steps) heard = run_heard (network_step w step) steps (step
 
 -- nothing was told at first
 opened_slot_heard : (slots : List SlotModel) (s : ℕ)
-    → HeardAt (λ h. []) (slice_get (map (λ q. opened_slot q.quotas) slots) s)
+    → HeardAt (λ h. []) (slice_get (map (λ q. empty_slot q.quotas) slots) s)
 opened_slot_heard [] s = λ h. refl
 opened_slot_heard (q ∷ slots) zero =
     record { only = tt; below = tt; fresh = λ h above. refl; covers = tt; distinct = λ h. tt }

@@ -1,4 +1,6 @@
 -- Of which places the objects of a slot are told in one move.
+-- For `no_invented_reply`, its clause `distinct`, through HeardRuns.
+-- By cases on the event: at a telegram one more place at most for each object, and else none.
 use Rattle.std.proofs.Common.{◌≡◌, ℕ, ◌<◌, ◌≤◌, List, [], ◌∷◌, ◌++◌, Option, Some, None}
 use Rattle.std.proofs.Common.{Bool, true, false, refl, ap, sym, ◌∙◌, subst, arith, inl, inr}
 use Rattle.std.proofs.Common.{filter}
@@ -14,7 +16,7 @@ use Rattle.trdp_pd.specs.Publishers.{published}
 use Rattle.trdp_pd.specs.Subscriptions.{subscribed}
 use Rattle.trdp_pd.specs.Requesters.{opened}
 use Rattle.trdp_md.specs.Listeners.{listening}
-use Rattle.trdp_md.specs.Callers.{called as new_caller}
+use Rattle.trdp_md.specs.Callers.{new_caller}
 use Rattle.trdp_md.specs.Repliers.{asked_by}
 use Rattle.trdp_model.specs.declared.kind.Kind.TheVariants as kinds
 use Rattle.trdp_model.specs.declared.any_object.AnyObject.TheVariants.{Publisher, Subscription}

@@ -1,4 +1,6 @@
 -- Of which places an object is told at a telegram: of one more at most.
+-- For `no_invented_reply`, its clause `distinct`, through HeardSlots.
+-- Only a caller tells of an answer, and only of one whose place isn't yet among its answers.
 use Rattle.std.proofs.Common.{◌≡◌, ℕ, List, [], ◌∷◌, ◌++◌, Bool, true}
 use Rattle.std.proofs.Common.{false, refl, sym, subst, arith}
 use Rattle.std.specs.Prelude.{not, ◌==◌, ◌&&◌, ◌||◌, if◌then◌else◌}
@@ -11,20 +13,21 @@ use Rattle.trdp_filter.specs.declared.globals.Globals.{Globals}
 use Rattle.trdp_filter.specs.Telegrams.{TelegramModel, PdIs, MdIs}
 use Rattle.trdp_pd.specs.declared.object.Taken.{Taken}
 use Rattle.trdp_pd.specs.declared.object.Taken.TheVariants as took
-use Rattle.trdp_pd.specs.Effects.{Taking}
+use Rattle.trdp_pd.specs.Effects.{Reception}
 use Rattle.trdp_pd.specs.declared.terms.ValueState.{ValueState}
 use Rattle.trdp_pd.specs.declared.terms.ValueState.TheVariants.{Never, Valid, Silent}
 use Rattle.trdp_pd.specs.Publishers.{PublisherState, is_answered}
 use Rattle.trdp_pd.specs.Publishers.{next_counter, reply_head}
-use Rattle.trdp_pd.specs.Subscriptions.{SubscriptionState, is_accepted as is_stored, storing}
+use Rattle.trdp_pd.specs.Subscriptions.{SubscriptionState, is_accepted_value as is_stored, storing}
 use Rattle.trdp_pd.specs.Subscriptions.{taken_in}
 use Rattle.trdp_md.specs.declared.answers.Answer.{Answer}
 use Rattle.trdp_md.specs.declared.caller.Caller.{Caller as AnyCaller}
 use Rattle.trdp_md.specs.declared.replier.Replier.{Replier as AnyReplier}
 use Rattle.trdp_md.specs.declared.listener.Listener.{Listener as AnyListener}
 use Rattle.trdp_md.specs.Answers.{is_place, has_answered}
-use Rattle.trdp_md.specs.Callers.{is_accepted, is_for_caller, has_place, answering, answer_of}
-use Rattle.trdp_md.specs.Callers.{replied, is_complete}
+use Rattle.trdp_md.specs.Callers.{is_accepted_answer, is_for_caller, has_place, answering}
+use Rattle.trdp_md.specs.Callers.{answer_of}
+use Rattle.trdp_md.specs.Callers.{answer_taken, is_complete}
 use Rattle.trdp_md.specs.Listeners.{listener_addressed}
 use Rattle.trdp_md.specs.Repliers.{is_for_replier, ended}
 use Rattle.trdp_model.specs.declared.any_object.AnyObject.{AnyObject}
@@ -39,7 +42,7 @@ use Rattle.trdp_model.specs.Pulls.{answer_place}
 use Rattle.trdp_net.specs.Promises.{replied_in, IsNew, AreDistinct}
 use Rattle.trdp_net.proofs.Parts.{and_right}
 use Rattle.trdp_net.proofs.Heard.{Covers, CoversLeft, IsQuiet, QuietAct, value_quiet}
-use Rattle.trdp_md.proofs.Apart.{or_left, or_right, flipped}
+use Rattle.trdp_md.proofs.AnswerLemmas.{or_left, or_right, flipped}
 
 -- at a telegram
 
@@ -79,7 +82,7 @@ publisher_quiet places handle setup (MdIs src dst t) globals p =
 publisher_quiet places handle setup (PdIs src dst t) globals p =
     either (is_answered p t.head globals)
   where
-    act : Taking PublisherState → Act
+    act : Reception PublisherState → Act
     act f = took_act setup (PdIs src dst t) handle (Publisher p) f.taken (Publisher f.object)
 
     either : (b : Bool) → QuietAct places (act
@@ -105,7 +108,7 @@ subscription_quiet places handle setup (PdIs src dst t) globals u =
     either
     (is_stored u src dst t.head globals (fits_object setup (PdIs src dst t) (Subscription u)))
   where
-    act : Taking SubscriptionState → Act
+    act : Reception SubscriptionState → Act
     act f = took_act setup (PdIs src dst t) handle (Subscription u) f.taken (Subscription f.object)
 
     stored : (state : ValueState) → QuietAct places
@@ -153,7 +156,7 @@ replier_quiet places handle setup (PdIs src dst t) globals r =
 replier_quiet places handle setup (MdIs src dst t) globals r =
     either (is_for_replier r src t.head)
   where
-    act : Taking AnyReplier → Act
+    act : Reception AnyReplier → Act
     act f = took_act setup (MdIs src dst t) handle (Replier r) f.taken (Replier f.object)
 
     either : (b : Bool) → QuietAct places (act
@@ -186,32 +189,32 @@ caller_heard : (places : List Place) (handle : ℕ) (setup : NodeSetup)
     → AreDistinct places → Covers places (Caller c)
     → HeardAct places handle (taking_act setup telegram globals
     (record { handle = handle; object = Caller c }))
-unfolding replied is_accepted
+unfolding answer_taken is_accepted_answer
 caller_heard places handle setup (PdIs src dst t) globals c distinct covers =
     record { covers = covers; distinct = distinct; others = λ h other. refl }
 caller_heard places handle setup (MdIs src dst t) globals c distinct covers =
-    either (is_accepted c src t.head) refl
+    either (is_accepted_answer c src t.head) refl
   where
     after : AnyCaller
     after = answering c src t.head globals.now
 
-    act : Taking AnyCaller → Act
+    act : Reception AnyCaller → Act
     act f = took_act setup (MdIs src dst t) handle (Caller c) f.taken (Caller f.object)
 
-    fresh : is_accepted c src t.head ≡ true → IsNew src places
+    fresh : is_accepted_answer c src t.head ≡ true → IsNew src places
     fresh accepted =
         covers src (flipped (has_answered c.answers src)
         (and_right (is_for_caller c t.head && has_place c) (not (has_answered c.answers src))
         accepted))
 
-    more : (b : Bool) → b ≡ true → is_accepted c src t.head ≡ true
+    more : (b : Bool) → b ≡ true → is_accepted_answer c src t.head ≡ true
         → Covers ((if b then src ∷ [] else []) ++ places) (Caller after)
     more true is accepted =
         λ p none. let parts = answered_push c.answers (answer_of src t.head) p none in
         (parts.1, covers p parts.0)
     more false is accepted = absurd (cc is)
 
-    distinct_more : (b : Bool) → b ≡ true → is_accepted c src t.head ≡ true
+    distinct_more : (b : Bool) → b ≡ true → is_accepted_answer c src t.head ≡ true
         → AreDistinct ((if b then src ∷ [] else []) ++ places)
     distinct_more true is accepted = (fresh accepted, distinct)
     distinct_more false is accepted = absurd (cc is)
@@ -221,7 +224,7 @@ caller_heard places handle setup (MdIs src dst t) globals c distinct covers =
     none_told true is = absurd (cc is)
     none_told false is = refl
 
-    last : (b : Bool) → is_accepted c src t.head ≡ true → HeardAct places handle
+    last : (b : Bool) → is_accepted_answer c src t.head ≡ true → HeardAct places handle
         (act (record { object = after; taken = if b then took.RepliedLast else took.Replied }))
     last true accepted = record {
       covers = tt;
@@ -234,8 +237,8 @@ caller_heard places handle setup (MdIs src dst t) globals c distinct covers =
       others = λ h other. none_told (handle == h) other;
     }
 
-    either : (b : Bool) → is_accepted c src t.head ≡ b → HeardAct places handle (act
-        (if b then record { object = after; taken = replied after }
+    either : (b : Bool) → is_accepted_answer c src t.head ≡ b → HeardAct places handle (act
+        (if b then record { object = after; taken = answer_taken after }
         else record { object = c; taken = took.Nothing }))
     either true accepted = last (is_complete after) accepted
     either false accepted =

@@ -1,4 +1,6 @@
 -- What is known of each object, from the moves before.
+-- For all modules that show what one move keeps, up to Runs.
+-- A record for each kind of object; all of it speaks of earlier moves, so it stays known later.
 use Rattle.std.proofs.Common.{◌≡◌, ℕ, ◌≤◌, List, [], ◌∷◌, length, Option, Some, None, true, false}
 use Rattle.std.proofs.Common.{inr}
 use Rattle.trdp_base.specs.declared.place.Place.{Place}

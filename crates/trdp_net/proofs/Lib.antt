@@ -7,6 +7,7 @@ pub mod Heads
 pub mod DataObjects
 pub mod Callers
 pub mod CallerMoves
+pub mod CallerConfirms
 pub mod Repliers
 pub mod Objects
 pub mod Slots

@@ -1,4 +1,6 @@
 -- An object of any kind in one move.
+-- For the five promises of `laws`, through Slots and CallEffects.
+-- By cases on the kind: DataObjects, CallerMoves, CallerConfirms and Repliers have one lemma each.
 use Rattle.std.proofs.Common.{◌≡◌, ℕ, ◌<◌, ◌≤◌, ◌^◌, ℤ, List, [], ◌∷◌, length, Some, None}
 use Rattle.std.proofs.Common.{Bool, true, false, refl, arith}
 use Rattle.std.specs.Prelude.{nat_lt, not, if◌then◌else◌, FitsSigned}
@@ -40,7 +42,8 @@ use Rattle.trdp_net.specs.Provenance.{In, Spot, Gives, Held}
 use Rattle.trdp_net.proofs.Kept.{ObjectKept, object_later, ActKept, nothing_kept}
 use Rattle.trdp_net.proofs.DataObjects.{publisher_fires, publisher_takes, subscription_fires}
 use Rattle.trdp_net.proofs.DataObjects.{subscription_takes, puts_kept, pulls_kept}
-use Rattle.trdp_net.proofs.CallerMoves.{caller_takes, caller_fires, confirms_kept}
+use Rattle.trdp_net.proofs.CallerMoves.{caller_takes, caller_fires}
+use Rattle.trdp_net.proofs.CallerConfirms.{confirms_kept}
 use Rattle.trdp_net.proofs.Repliers.{replier_takes, replier_fires, replies_kept, queries_kept}
 use Rattle.trdp_net.proofs.Repliers.{errors_kept}
 use Rattle.trdp_net.proofs.Explained.{DataBy, MessageBy, ToldBy}

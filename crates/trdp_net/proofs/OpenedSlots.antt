@@ -1,4 +1,6 @@
--- What stands behind a slot of a node: the slot before the event, or nothing, where it is opened.
+-- What stands behind a slot of a node: the slot before the event; nothing, where it is opened.
+-- For Runs, TypedRuns and HeardRuns, which go from a slot to a node.
+-- By the number of the slot: below the count before, or past it, and then it is empty.
 use Rattle.std.proofs.Common.{◌≡◌, ℕ, zero, suc, ◌+◌, List, [], ◌∷◌, map, Some, refl, ap, sym}
 use Rattle.std.proofs.Common.{subst, arith, inl, inr, slice_get}
 use Rattle.trdp_dataset.specs.Configs.{ConfigModel, SlotModel}
@@ -6,7 +8,7 @@ use Rattle.trdp_filter.specs.declared.globals.Globals.{Globals}
 use Rattle.trdp_model.specs.Configs.{NodeSetup}
 use Rattle.trdp_model.specs.Events.{EventModel, MomentIs, TopologyIs, RoleIs, DatagramIs, CallIs}
 use Rattle.trdp_model.specs.Events.{AddSlotIs}
-use Rattle.trdp_model.specs.Slots.{SlotState, opened_slot}
+use Rattle.trdp_model.specs.Slots.{SlotState, empty_slot}
 use Rattle.trdp_model.specs.Alone.{opened_by, plain_effect}
 use Rattle.trdp_model.specs.NodeModels.{opened_model}
 use Rattle.trdp_net.specs.Networks.{NetNode, net_node, slots_after, opened_network}
@@ -47,10 +49,10 @@ opened_empty (CallIs r call) slot is = absurd is
 
 -- nodes that were just opened
 slots_empty : (quotas : List SlotModel) (s : ℕ) (slot : SlotState)
-    → slice_get (map (λ q. opened_slot q.quotas) quotas) s ≡ Some slot → slot.objects ≡ []
+    → slice_get (map (λ q. empty_slot q.quotas) quotas) s ≡ Some slot → slot.objects ≡ []
 slots_empty [] s slot is = absurd (cc)
 slots_empty (q ∷ quotas) zero slot is =
-    let e : opened_slot q.quotas ≡ slot = cc is in ap (λ (x : SlotState). x.objects) (sym e)
+    let e : empty_slot q.quotas ≡ slot = cc is in ap (λ (x : SlotState). x.objects) (sym e)
 slots_empty (q ∷ quotas) (suc s) slot is = slots_empty quotas s slot is
 
 -- a node that was just opened has no objects

@@ -1,4 +1,6 @@
 -- What holds of each item of a list, and tests.
+-- For all modules here: each, an item of, one of two lists, and of two tests.
+-- By induction on the list, or by cases on the test.
 use Rattle.std.proofs.Common.{◌≡◌, ℕ, zero, suc, List, [], ◌∷◌, ◌++◌, Some}
 use Rattle.std.proofs.Common.{Bool, true, false, ◌&&◌, refl, ap, sym, subst, inl, inr}
 use Rattle.std.proofs.Common.{slice_get, filter}

@@ -1,4 +1,6 @@
 -- The promises, from what is known of every run.
+-- For the five `no_..` functions of `laws`, each of whose clauses is a lemma here.
+-- What Runs keeps explains each record of each move, and a promise is that explanation, looked up.
 use Rattle.std.proofs.Common.{◌≡◌, ℕ, List, [], ◌∷◌, Option, Some, None, Bool, true, false, ap}
 use Rattle.std.proofs.Common.{sym, ◌∙◌, subst, inl, inr, slice_get}
 use Rattle.std.specs.Prelude.{◌==◌, if◌then◌else◌}
@@ -9,7 +11,7 @@ use Rattle.trdp_pd.specs.declared.object.Reason.TheVariants.{Done}
 use Rattle.trdp_pd.specs.declared.terms.ValueState.TheVariants.{Valid}
 use Rattle.trdp_pd.specs.Subscriptions.{SubscriptionState}
 use Rattle.trdp_md.specs.declared.terms.CallerTerms.{CallerTerms}
-use Rattle.trdp_md.specs.Callers.{called as new_caller}
+use Rattle.trdp_md.specs.Callers.{new_caller}
 use Rattle.trdp_filter.specs.declared.globals.Globals.{Globals}
 use Rattle.trdp_model.specs.declared.any_object.AnyObject.{AnyObject}
 use Rattle.trdp_model.specs.declared.any_object.AnyObject.TheVariants.{Subscription, Caller}

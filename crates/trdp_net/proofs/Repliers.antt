@@ -1,4 +1,6 @@
 -- A replier in one move.
+-- For `no_invented_reply` and `no_invented_confirm`, through Objects.
+-- It was asked by the request that opened it, and awaits a confirmation only once it has queried.
 use Rattle.std.proofs.Common.{◌≡◌, ℕ, ◌<◌, ◌≤◌, ◌^◌, ℤ, List, [], ◌∷◌, length, Option, Some, None}
 use Rattle.std.proofs.Common.{Bool, true, false, refl, ap, subst, arith, inl, inr}
 use Rattle.std.specs.Prelude.{nat_lt, not, if◌then◌else◌, FitsSigned, int_lt}
@@ -13,14 +15,14 @@ use Rattle.trdp_head.specs.MdTelegrams.{MdTelegram}
 use Rattle.trdp_filter.specs.declared.globals.Globals.{Globals}
 use Rattle.trdp_filter.specs.Telegrams.{TelegramModel, MdIs}
 use Rattle.trdp_pd.specs.declared.object.Taken.TheVariants as took
-use Rattle.trdp_pd.specs.Effects.{Taking}
+use Rattle.trdp_pd.specs.Effects.{Reception}
 use Rattle.trdp_md.specs.declared.replier.Replier.{Replier as AnyReplier}
 use Rattle.trdp_md.specs.declared.replier.Stage.{Stage}
 use Rattle.trdp_md.specs.declared.replier.Stage.TheVariants.{Asked, AwaitConfirm}
 use Rattle.trdp_md.specs.Repliers.{is_for_replier, replier_taking, ended, missed, queried}
 use Rattle.trdp_md.specs.Repliers.{answer_with}
 use Rattle.trdp_md.specs.Sessions.{IsItsConfirmation}
-use Rattle.trdp_md.proofs.Replying.{confirmed}
+use Rattle.trdp_md.proofs.ReplierLemmas.{confirmed}
 use Rattle.trdp_model.specs.declared.any_object.AnyObject.{AnyObject}
 use Rattle.trdp_model.specs.declared.any_object.AnyObject.TheVariants.{Replier}
 use Rattle.trdp_model.specs.declared.record.Protocol.TheVariants.{Md}
@@ -30,7 +32,7 @@ use Rattle.trdp_model.specs.Configs.{NodeSetup}
 use Rattle.trdp_model.specs.Records.{Content, DoneIs, Answers}
 use Rattle.trdp_model.specs.Acts.{Act}
 use Rattle.trdp_model.specs.Replies.{answers_unless, reply_refusal, query_refusal}
-use Rattle.trdp_model.specs.Replies.{is_asked}
+use Rattle.trdp_model.specs.Replies.{is_unanswered}
 use Rattle.trdp_model.specs.Moments.{firing_act}
 use Rattle.trdp_model.specs.Datagrams.{taking_act, taken_records, left_taking}
 use Rattle.trdp_model.specs.Events.{CallModel, ReplyCall, QueryCall, ReplyErrorCall, CallIs}
@@ -45,7 +47,7 @@ use Rattle.trdp_net.proofs.TypedMoves.{IsReplier}
 use Rattle.trdp_net.specs.Promises.{IsConfirmMade}
 
 -- the act of a replier that took a telegram so
-abbrev took_act : NodeSetup → TelegramModel → ℕ → AnyReplier → Taking AnyReplier → Act
+abbrev took_act : NodeSetup → TelegramModel → ℕ → AnyReplier → Reception AnyReplier → Act
 took_act setup telegram handle r f = record {
   left = left_taking f.taken (Replier f.object);
   records = taken_records setup telegram handle (Replier r) f.taken;
@@ -183,7 +185,7 @@ answered_kept past m at kind com_id status timeout payload None r left call limi
 pub reply_limit : (r : AnyReplier) (status : ℤ) (payload : List ℕ)
     → reply_refusal r status payload ≡ None → length payload ≤ 65388
 reply_limit r status payload none =
-    either (not (is_asked r.stage)) (int_lt status (pos 0)) (nat_lt 65388
+    either (not (is_unanswered r.stage)) (int_lt status (pos 0)) (nat_lt 65388
     (length payload)) refl none
   where
     either : (a b c : Bool) → nat_lt 65388 (length payload) ≡ c
@@ -200,7 +202,7 @@ reply_limit r status payload none =
 pub query_limit : (r : AnyReplier) (status : ℤ) (timeout : ℕ) (payload : List ℕ)
     → query_refusal r status timeout payload ≡ None → length payload ≤ 65388
 query_limit r status timeout payload none =
-    either (not (is_asked r.stage)) (nat_lt timeout 1000) none
+    either (not (is_unanswered r.stage)) (nat_lt timeout 1000) none
   where
     either : (a b : Bool)
         → (if a then Some refusals.State else

@@ -1,4 +1,6 @@
 -- A running network takes the steps of the network that it shows.
+-- For `Station::take`, `deliver_at`, `Network::take_any`, `deliver` and `faults_change_nothing`.
+-- Node by node: the one of the step moves so, the others stay, and what was sent grows at its end.
 use Rattle.std.proofs.Common.{◌≡◌, ℕ, zero, List, [], ◌∷◌, ◌++◌, length, Option, Some, None}
 use Rattle.std.proofs.Common.{Bool, true, false, refl, ap, sym, ◌∙◌, subst, slice_get, ◌+◌, arith}
 use Rattle.std.specs.Prelude.{◌==◌, if◌then◌else◌, slice_set, Result, Ok, Err, IfOk}
@@ -143,7 +145,8 @@ shows_delivery old nodes k which told d w shows =
         (shows_move old nodes k event told d.takes w shows)
 
 -- what the events show with one more
-pub pushed : (old : NetworkState) (nodes : List NetNode) (events events_then : List Told) (told : Told)
+pub pushed : (old : NetworkState) (nodes : List NetNode) (events events_then : List Told)
+    (told : Told)
     (w : Network) → events_then ≡ events ++ told ∷ [] → old.sent ≡ all_sent events
     → Shows (then_shown old nodes told) w
     → Shows (record { nodes = nodes; sent = all_sent events_then; told = latest events_then }) w

@@ -1,4 +1,6 @@
 -- The whole network, step by step.
+-- For the five promises of `laws`, through Promises.
+-- By induction on the steps: what is known of each node, telegram and move stays known.
 use Rattle.std.proofs.Common.{◌≡◌, ℕ, zero, suc, ◌+◌, List, [], ◌∷◌, Option, Some, None}
 use Rattle.std.proofs.Common.{Bool, true, false, refl, sym, ◌∙◌, subst, arith, inl, inr}
 use Rattle.std.proofs.Common.{slice_get, length, ℤ}
@@ -37,7 +39,7 @@ use Rattle.trdp_net.proofs.Effects.{IsSent, slot_kept}
 use Rattle.trdp_net.proofs.Explained.{MessageBy, SentBy, ToldBy, IsExplained}
 use Rattle.trdp_net.proofs.TypedMoves.{IsTypedMove}
 use Rattle.trdp_net.specs.Provenance.{Each}
-use Rattle.trdp_md.proofs.Confirming.{place-is_place}
+use Rattle.trdp_md.proofs.ConfirmLemmas.{place-is_place}
 
 -- what is known of a telegram that was sent
 abbrev pub SentKept : List Move → Sent → Type 0

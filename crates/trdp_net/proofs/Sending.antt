@@ -1,4 +1,6 @@
 -- What is written under a header is read as it was meant.
+-- For the modules of objects and calls, whose records send telegrams.
+-- The reader's law of `trdp_head`: what was written under fields that fit is read back.
 use Rattle.std.proofs.Common.{◌≡◌, ℕ, ◌≤◌, List, length, Some, sym, ◌∙◌}
 use Rattle.std.proofs.Common.{subst}
 use Rattle.trdp_base.specs.declared.place.Place.{Place}
@@ -10,10 +12,10 @@ use Rattle.trdp_head.specs.PdBytes.{pd_bytes}
 use Rattle.trdp_head.specs.MdHeads.{IsMdHead}
 use Rattle.trdp_head.specs.MdTelegrams.{MdTelegram, md_telegram_of}
 use Rattle.trdp_head.specs.MdBytes.{md_bytes}
-use Rattle.trdp_head.proofs.PdBytesFacts.{IsPdTelegram-pd_bytes}
-use Rattle.trdp_head.proofs.PdTelegramFacts.{telegram-is}
-use Rattle.trdp_head.proofs.MdBytesFacts.{IsMdTelegram-md_bytes}
-use Rattle.trdp_head.proofs.MdTelegramFacts.{md_telegram-is}
+use Rattle.trdp_head.proofs.PdBytesLemmas.{IsPdTelegram-pd_bytes}
+use Rattle.trdp_head.proofs.PdTelegramLemmas.{telegram-is}
+use Rattle.trdp_head.proofs.MdBytesLemmas.{IsMdTelegram-md_bytes}
+use Rattle.trdp_head.proofs.MdTelegramLemmas.{md_telegram-is}
 use Rattle.trdp_model.specs.declared.record.Protocol.TheVariants.{Pd, Md}
 use Rattle.trdp_net.specs.Networks.{Move}
 use Rattle.trdp_net.proofs.Explained.{DataBy, MessageBy, SentBy}

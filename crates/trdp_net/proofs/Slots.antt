@@ -1,4 +1,6 @@
 -- One slot in one move.
+-- For the five promises of `laws`, through Effects and CallEffects.
+-- By induction on the entries: each act keeps its own entry, and what it tells is explained.
 use Rattle.std.proofs.Common.{◌≡◌, ℕ, List, [], ◌∷◌, Option, Some}
 use Rattle.std.proofs.Common.{None, Bool, true, false, refl, subst, arith, inl, inr}
 use Rattle.std.proofs.Common.{slice_get, filter}
@@ -15,9 +17,9 @@ use Rattle.trdp_model.specs.Configs.{NodeSetup}
 use Rattle.trdp_model.specs.Records.{Content, HandleIs}
 use Rattle.trdp_model.specs.Records.{Answers}
 use Rattle.trdp_model.specs.Acts.{Act, entry_left, left_at}
-use Rattle.trdp_model.specs.Slots.{Entry, SlotState, Outcome, unchanged, entry_of}
+use Rattle.trdp_model.specs.Slots.{Entry, SlotState, Outcome, unchanged, entry_under}
 use Rattle.trdp_model.specs.Openings.{refused, opened_with}
-use Rattle.trdp_model.specs.Moments.{is_due, is_before, inserted, in_order, firing_act}
+use Rattle.trdp_model.specs.Moments.{is_due, fires_before, inserted, in_order, firing_act}
 use Rattle.trdp_model.specs.Moments.{moved_to}
 use Rattle.trdp_model.specs.Datagrams.{is_acting, acting}
 use Rattle.trdp_model.specs.Datagrams.{taking_act, handed}
@@ -131,7 +133,7 @@ acting_kept past m s slot test act order slot_is typed kept out into rule given 
 -- the order of firing has the same objects
 in_inserted : (e f : Entry) (es : List Entry) → In f (inserted e es) → (e ≡ f) ⊎ In f es
 in_inserted e f [] is = is
-in_inserted e f (g ∷ es) is = here (is_before g e) is (λ later. in_inserted e f es later)
+in_inserted e f (g ∷ es) is = here (fires_before g e) is (λ later. in_inserted e f es later)
   where
     here : (b : Bool) → In f (if b then g ∷ inserted e es else e ∷ g ∷ es)
         → (In f (inserted e es) → (e ≡ f) ⊎ In f es) → (e ≡ f) ⊎ In f (g ∷ es)
@@ -141,7 +143,7 @@ in_inserted e f (g ∷ es) is = here (is_before g e) is (λ later. in_inserted e
 
 inserted_in : (e f : Entry) (es : List Entry) → (e ≡ f) ⊎ In f es → In f (inserted e es)
 inserted_in e f [] is = is
-inserted_in e f (g ∷ es) is = here (is_before g e) is (λ later. inserted_in e f es later)
+inserted_in e f (g ∷ es) is = here (fires_before g e) is (λ later. inserted_in e f es later)
   where
     here : (b : Bool) → (e ≡ f) ⊎ In f (g ∷ es)
         → ((e ≡ f) ⊎ In f es → In f (inserted e es))
@@ -217,7 +219,7 @@ opened_kept past m s slot None object records kept new tells given =
     }
 
 -- the object of a handle
-pub find_in : (handle : ℕ) (es : List Entry) (e : Entry) → entry_of handle es ≡ Some e
+pub find_in : (handle : ℕ) (es : List Entry) (e : Entry) → entry_under handle es ≡ Some e
     → In e es × (e.handle ≡ handle)
 find_in handle [] e is = absurd (cc)
 find_in handle (f ∷ es) e is =
@@ -225,7 +227,7 @@ find_in handle (f ∷ es) e is =
   where
     here : (b : Bool) → (f.handle == handle) ≡ b
         → cond b (Some f) (find (λ entry. entry.handle == handle) es) ≡ Some e
-        → (entry_of handle es ≡ Some e → In e es × (e.handle ≡ handle))
+        → (entry_under handle es ≡ Some e → In e es × (e.handle ≡ handle))
         → In e (f ∷ es) × (e.handle ≡ handle)
     here true test found later =
         let same : f ≡ e = cc found in
@@ -244,9 +246,9 @@ pub at_handle_kept : (past : List Move) (m : Move) (s : ℕ) (slot : SlotState) 
     → AreGiven m s (at_object slot handle act).records
     → OutcomeKept past m s (at_object slot handle act)
 at_handle_kept past m s slot handle act slot_is typed kept rule given =
-    found (entry_of handle slot.objects) refl given
+    found (entry_under handle slot.objects) refl given
   where
-    found : (o : Option Entry) → entry_of handle slot.objects ≡ o
+    found : (o : Option Entry) → entry_under handle slot.objects ≡ o
         → AreGiven m s (at_entry o slot handle act).records
         → OutcomeKept past m s (at_entry o slot handle act)
     found None is by = refused_kept past m s slot refusals.NoHandle kept

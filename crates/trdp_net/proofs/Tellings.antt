@@ -1,6 +1,9 @@
 -- The telegrams of events: looked through, and those of the network.
+-- For `Told::seek_in_slot`, `Told::seek`, `find` and `latest`.
+-- A loop's invariant: number `which` of all is number `left` of the rest, which each turn shortens.
 use Rattle.std.proofs.Common.{◌≡◌, ℕ, zero, suc, ◌+◌, ◌-◌, ◌<◌, List, [], ◌∷◌, ◌++◌, length, map}
-use Rattle.std.proofs.Common.{filter, drop, Some, Bool, true, false, refl, ap, sym, ◌∙◌, subst, arith}
+use Rattle.std.proofs.Common.{filter, drop, Some, Bool, true, false, refl, ap, sym, ◌∙◌, subst}
+use Rattle.std.proofs.Common.{arith}
 use Rattle.std.proofs.Common.{slice_get, append_assoc, append-nil, Option, None, ◌≤◌}
 use Rattle.std.proofs.lemmas.List.{drop_all}
 use Rattle.std.specs.Prelude.{cond, ◌==◌, option_to_list}
@@ -141,8 +144,10 @@ sends_same home setup is (Sends protocol to bytes ∷ records) =
     (sends_of setup records) (is protocol) (sends_same home setup is records)
   where
     both : (p q : Place) (xs ys : List Sent) → p ≡ q → xs ≡ ys
-        → (let x : Sent = record { protocol = protocol; bytes = bytes; from = p; to = to } in x) ∷ xs
-        ≡ (let y : Sent = record { protocol = protocol; bytes = bytes; from = q; to = to } in y) ∷ ys
+        → (let x : Sent = record { protocol = protocol; bytes = bytes; from = p; to = to } in x)
+        ∷ xs
+        ≡ (let y : Sent = record { protocol = protocol; bytes = bytes; from = q; to = to } in y)
+        ∷ ys
     both p q xs ys pq xy = cc
 
 -- what a node sends at an event, of its records

@@ -1,4 +1,6 @@
 -- What a turn of a history says was told.
+-- For `the_promises_are_not_empty`, by ExampleRun.
+-- By induction on the history: a turn is the image of a move, which gave what it tells.
 use Rattle.std.proofs.Common.{◌≡◌, ℕ, zero, suc, List, [], ◌∷◌, ◌++◌, Option, None, Some, refl}
 use Rattle.std.proofs.Common.{ap, sym, subst, inl, inr, slice_get}
 use Rattle.std.specs.Prelude.{◌⊎◌}

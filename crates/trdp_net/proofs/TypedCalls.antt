@@ -1,4 +1,6 @@
 -- An object that fits sends what fits, at a call that fits.
+-- For the promises that need `AreTypedSteps`, through TypedSlots.
+-- By cases on the kind of object: its header's fields are its own or the call's.
 use Rattle.std.proofs.Common.{◌≡◌, ℕ, ◌<◌, ◌≤◌, ◌^◌, ℤ, List, [], ◌∷◌, length}
 use Rattle.std.proofs.Common.{Option, Some, None, Bool, true, false, refl, arith}
 use Rattle.std.specs.Prelude.{if◌then◌else◌, FitsSigned}

@@ -1,4 +1,6 @@
 -- An object that fits sends what fits, at a moment and at a telegram.
+-- For the promises that need `AreTypedSteps`, through TypedSlots.
+-- By cases on the kind of object; a counter stays below 2 ^ 32 since it wraps there.
 use Rattle.std.proofs.Common.{◌≡◌, ℕ, ◌<◌, ◌≤◌, ◌+◌, ◌^◌, List, length}
 use Rattle.std.proofs.Common.{Option, Some, None, Bool, true, false, sym, ◌∙◌, subst, arith}
 use Rattle.std.specs.Prelude.{if◌then◌else◌}
@@ -11,24 +13,25 @@ use Rattle.trdp_head.specs.declared.md.MdKind.TheVariants as message
 use Rattle.trdp_head.specs.MdHeads.{IsMdHead}
 use Rattle.trdp_head.specs.MdTelegrams.{MdTelegram, md_telegram_of}
 use Rattle.trdp_head.specs.MdBytes.{md_bytes}
-use Rattle.trdp_head.proofs.MdBytesFacts.{IsMdTelegram-md_bytes}
-use Rattle.trdp_head.proofs.MdTelegramFacts.{md_telegram-is}
+use Rattle.trdp_head.proofs.MdBytesLemmas.{IsMdTelegram-md_bytes}
+use Rattle.trdp_head.proofs.MdTelegramLemmas.{md_telegram-is}
 use Rattle.trdp_filter.specs.declared.globals.Globals.{Globals}
 use Rattle.trdp_filter.specs.Counts.{topo_valid}
 use Rattle.trdp_filter.specs.Telegrams.{TelegramModel, PdIs, MdIs}
 use Rattle.trdp_pd.specs.declared.object.Taken.{Taken}
 use Rattle.trdp_pd.specs.declared.object.Taken.TheVariants as took
 use Rattle.trdp_pd.specs.declared.object.Fired.TheVariants as fires
-use Rattle.trdp_pd.specs.Effects.{Taking, Firing}
+use Rattle.trdp_pd.specs.Effects.{Reception, Firing}
 use Rattle.trdp_pd.specs.declared.terms.ValueState.{ValueState}
 use Rattle.trdp_pd.specs.declared.terms.ValueState.TheVariants.{Never, Valid, Silent}
 use Rattle.trdp_pd.specs.Publishers.{PublisherState, may_send, is_answered, next_due, next_counter}
 use Rattle.trdp_pd.specs.Publishers.{data_head, reply_head}
-use Rattle.trdp_pd.specs.Subscriptions.{SubscriptionState, is_accepted as is_stored, storing}
+use Rattle.trdp_pd.specs.Subscriptions.{SubscriptionState, is_accepted_value as is_stored, storing}
 use Rattle.trdp_pd.specs.Subscriptions.{taken_in}
 use Rattle.trdp_md.specs.declared.caller.Caller.{Caller as AnyCaller}
 use Rattle.trdp_md.specs.declared.replier.Replier.{Replier as AnyReplier}
-use Rattle.trdp_md.specs.Callers.{is_accepted, answering, replied, is_complete, request_of}
+use Rattle.trdp_md.specs.Callers.{is_accepted_answer, answering, answer_taken, is_complete}
+use Rattle.trdp_md.specs.Callers.{request_of}
 use Rattle.trdp_md.specs.Callers.{is_repeating, waiting_again, repeating, reason_of}
 use Rattle.trdp_md.specs.Listeners.{listener_addressed}
 use Rattle.trdp_md.specs.Repliers.{is_for_replier, ended}
@@ -200,13 +203,13 @@ pub takes_typed : (handle : ℕ) (setup : NodeSetup) (telegram : TelegramModel)
     (globals : Globals) (x : AnyObject) → IsTypedObject x
     → ActTyped (taking_act setup telegram globals
     (record { handle = handle; object = x }))
-unfolding taken_in replied
+unfolding taken_in answer_taken
 takes_typed handle setup (MdIs src dst t) globals (Publisher p) fits =
     record { left = fits; sends = tt }
 takes_typed handle setup (PdIs src dst t) globals (Publisher p) fits =
     either (is_answered p t.head globals)
   where
-    act : Taking PublisherState → Act
+    act : Reception PublisherState → Act
     act f = took_act setup (PdIs src dst t) handle (Publisher p) f.taken (Publisher f.object)
 
     either : (b : Bool) → ActTyped (act
@@ -226,7 +229,7 @@ takes_typed handle setup (PdIs src dst t) globals (Subscription u) fits =
     either
     (is_stored u src dst t.head globals (fits_object setup (PdIs src dst t) (Subscription u)))
   where
-    act : Taking SubscriptionState → Act
+    act : Reception SubscriptionState → Act
     act f = took_act setup (PdIs src dst t) handle (Subscription u) f.taken (Subscription f.object)
 
     stored : (state : ValueState) → ActTyped
@@ -254,12 +257,12 @@ takes_typed handle setup (MdIs src dst t) globals (Listener l) fits =
 takes_typed handle setup (PdIs src dst t) globals (Caller c) fits =
     record { left = fits; sends = tt }
 takes_typed handle setup (MdIs src dst t) globals (Caller c) fits =
-    either (is_accepted c src t.head)
+    either (is_accepted_answer c src t.head)
   where
     after : AnyCaller
     after = answering c src t.head globals.now
 
-    act : Taking AnyCaller → Act
+    act : Reception AnyCaller → Act
     act f = took_act setup (MdIs src dst t) handle (Caller c) f.taken (Caller f.object)
 
     last : (b : Bool) → ActTyped
@@ -271,7 +274,7 @@ takes_typed handle setup (MdIs src dst t) globals (Caller c) fits =
     }
 
     either : (b : Bool) → ActTyped (act
-        (if b then record { object = after; taken = replied after }
+        (if b then record { object = after; taken = answer_taken after }
         else record { object = c; taken = took.Nothing }))
     either true = last (is_complete after)
     either false = record { left = fits; sends = tt }
@@ -280,7 +283,7 @@ takes_typed handle setup (PdIs src dst t) globals (Replier r) fits =
 takes_typed handle setup (MdIs src dst t) globals (Replier r) fits =
     either (is_for_replier r src t.head)
   where
-    act : Taking AnyReplier → Act
+    act : Reception AnyReplier → Act
     act f = took_act setup (MdIs src dst t) handle (Replier r) f.taken (Replier f.object)
 
     either : (b : Bool) → ActTyped (act

@@ -1,4 +1,6 @@
 -- What steps are made of that fits leads to nodes and telegrams that fit.
+-- For the promises that need `AreTypedSteps`: `history_typed` gives each move's premise.
+-- By induction on the steps, over TypedSlots for the node that moves.
 use Rattle.std.proofs.Common.{◌≡◌, ℕ, zero, suc, ◌+◌, List, [], ◌∷◌, length, Option, Some, None}
 use Rattle.std.proofs.Common.{Bool, true, false, refl, sym, subst, inl, inr, slice_get}
 use Rattle.std.specs.Prelude.{◌⊎◌, if◌then◌else◌}

@@ -1,4 +1,6 @@
 -- A slot that fits sends what fits, and what is sent fitting opens what fits.
+-- For the promises that need `AreTypedSteps`, through TypedRuns.
+-- By cases on the event, and by induction on the entries for a moment and a telegram.
 use Rattle.std.proofs.Common.{◌≡◌, ℕ, ◌≤◌, List, [], ◌∷◌, length}
 use Rattle.std.proofs.Common.{Option, Some, None, Bool, true, false, refl, subst, arith}
 use Rattle.std.proofs.Common.{filter}
@@ -14,7 +16,7 @@ use Rattle.trdp_pd.specs.Publishers.{published}
 use Rattle.trdp_pd.specs.Subscriptions.{subscribed}
 use Rattle.trdp_pd.specs.Requesters.{opened}
 use Rattle.trdp_md.specs.declared.terms.NotifyTerms.{NotifyTerms}
-use Rattle.trdp_md.specs.Callers.{request_of, called as new_caller}
+use Rattle.trdp_md.specs.Callers.{request_of, new_caller}
 use Rattle.trdp_md.specs.Listeners.{listening}
 use Rattle.trdp_md.specs.Notifications.{notification_of}
 use Rattle.trdp_model.specs.declared.kind.Kind.TheVariants as kinds
@@ -29,7 +31,7 @@ use Rattle.trdp_model.specs.declared.fault.Refusal.TheVariants as refusals
 use Rattle.trdp_model.specs.Configs.{NodeSetup, zero_size_of}
 use Rattle.trdp_model.specs.Records.{Content}
 use Rattle.trdp_model.specs.Acts.{Act, entry_left, left_at}
-use Rattle.trdp_model.specs.Slots.{Entry, SlotState, Outcome, unchanged, entry_of}
+use Rattle.trdp_model.specs.Slots.{Entry, SlotState, Outcome, unchanged, entry_under}
 use Rattle.trdp_model.specs.Openings.{refused, opening_refusal, opened_with}
 use Rattle.trdp_model.specs.Moments.{is_due, in_order, firing_act}
 use Rattle.trdp_model.specs.Moments.{moved_to}
@@ -141,9 +143,9 @@ opened_typed slot None object records fits new sends = record {
 at_handle_typed : (slot : SlotState) (handle : ℕ) (act : AnyObject → Act)
     → Each IsTypedEntry slot.objects → ((x : AnyObject) → IsTypedObject x → ActTyped (act x))
     → OutcomeTyped (at_object slot handle act)
-at_handle_typed slot handle act fits rule = found (entry_of handle slot.objects) refl
+at_handle_typed slot handle act fits rule = found (entry_under handle slot.objects) refl
   where
-    found : (o : Option Entry) → entry_of handle slot.objects ≡ o
+    found : (o : Option Entry) → entry_under handle slot.objects ≡ o
         → OutcomeTyped (at_entry o slot handle act)
     found None is = refused_typed slot refusals.NoHandle fits
     found (Some e) is =

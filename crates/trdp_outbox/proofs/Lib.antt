@@ -1,2 +1,2 @@
-pub mod Rooms
-pub mod Rows
+pub mod RoomLemmas
+pub mod RowLemmas

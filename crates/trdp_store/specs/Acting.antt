@@ -4,7 +4,7 @@ use Rattle.trdp_model.specs.Kinds.{kind_of}
 use Rattle.trdp_table.specs.Tables.{TableState, slot_in}
 use Rattle.trdp_outbox.specs.declared.room.Room.{Room}
 use Rattle.trdp_model.specs.Records.{labelled}
-use Rattle.trdp_model.specs.Slots.{Entry, SlotState, Outcome, entry_of}
+use Rattle.trdp_model.specs.Slots.{Entry, SlotState, Outcome, entry_under}
 use Rattle.trdp_store.specs.TableSlots.{slot_of, slots_of}
 use Rattle.trdp_model.specs.Acts.{Act, acted}
 use Rattle.trdp_outbox.specs.Outboxes.{OutboxState}
@@ -17,7 +17,7 @@ slot_at s table = slot_of (slot_in s table)
 -- the slot has an object of that handle, and the outbox has room for what it may give
 pub record MayAct (slot : SlotState) (handle : ℕ) (out : OutboxState) : Type 0 where
   pub entry : Entry
-  pub found : entry_of handle slot.objects ≡ Some entry
+  pub found : entry_under handle slot.objects ≡ Some entry
   pub room : HasRoom out (kind_room (kind_of entry.object))
 
 -- the outbox took no more than that room
@@ -43,6 +43,6 @@ act_of entry act slot = record {
 pub record ActsAt (s handle : ℕ) (act : Entry → Act) (table table_then : TableState)
     (out out_then : OutboxState) : Type 0 where
   pub entry : Entry
-  pub found : entry_of handle (slot_at s table).objects ≡ Some entry
+  pub found : entry_under handle (slot_at s table).objects ≡ Some entry
   pub becomes : Becomes s (act_of entry act (slot_at s table)) table table_then out out_then
   pub within : TookWithin out out_then (kind_room (kind_of entry.object))

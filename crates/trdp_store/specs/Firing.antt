@@ -4,13 +4,13 @@ use Rattle.std.specs.Prelude.{filter, option_map, slice_get}
 use Rattle.trdp_timers.specs.declared.order.Order.{Order}
 use Rattle.trdp_table.specs.Tables.{TableState}
 use Rattle.trdp_model.specs.Slots.{Entry}
-use Rattle.trdp_model.specs.Moments.{is_due, is_before, in_order}
+use Rattle.trdp_model.specs.Moments.{is_due, fires_before, in_order}
 use Rattle.trdp_store.specs.Acting.{slot_at}
 
 -- it fires before all of these
 abbrev pub AllAfter : Entry → List Entry → Type 0
 AllAfter entry [] = Unit {0}
-AllAfter entry (other ∷ others) = (is_before entry other ≡ true) × AllAfter entry others
+AllAfter entry (other ∷ others) = (fires_before entry other ≡ true) × AllAfter entry others
 
 -- the object fires first of all that are due
 pub record FiresFirst (t : ℕ) (objects : List Entry) (entry : Entry) : Type 0 where

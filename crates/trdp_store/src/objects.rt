@@ -1,7 +1,7 @@
 //! The objects of a slot in the table.
 
 ghost use Rattle.std.specs.Prelude.{◌≡◌, ◌<◌, length, option_copied, option_map};
-ghost use Rattle.trdp_model.specs.Slots.{entry_of};
+ghost use Rattle.trdp_model.specs.Slots.{entry_under};
 ghost use Rattle.trdp_store.specs.Acting.{slot_at};
 
 use crate::store::Store;
@@ -12,7 +12,7 @@ pub fn object_of(store: &Store, s: u16, handle: u32) -> Option<&AnyObject>
     requires { s < length store.now }
     ensures { option_copied result
         ≡ option_map (λ entry. entry.object)
-        (entry_of handle (slot_at s store.now).objects) }
+        (entry_under handle (slot_at s store.now).objects) }
 {
     store.sound();
     let key = store.find(s, handle)?;

@@ -12,7 +12,7 @@ ghost use Rattle.trdp_model.specs.Slots.{slot_limit};
 ghost use Rattle.trdp_table.specs.Tables.{by_handle, Adds, changed_at, without};
 ghost use Rattle.trdp_table.specs.Tables.{all_objects, by_key, room_of};
 ghost use Rattle.trdp_table.specs.TableLaws.{object_limit};
-ghost use Rattle.trdp_model.specs.Slots.{entry_of};
+ghost use Rattle.trdp_model.specs.Slots.{entry_under};
 ghost use Rattle.trdp_model.specs.Openings.{opening_refusal};
 ghost use Rattle.trdp_table.specs.Refusals.{table_refusal};
 ghost use Rattle.trdp_model.specs.Calls.{at_object};
@@ -255,14 +255,15 @@ impl Store {
         out: &mut Outbox,
     ) -> Option<(Left, u64)>
         requires slot { s < length self.old }
-        requires may { IfSome (entry_of handle (slot_at s self.old).objects)
+        requires may { IfSome (entry_under handle (slot_at s self.old).objects)
             (λ entry. D.may deed.now handle entry.object out.old) }
         ensures done { IfSome result (λ _. Becomes s
             (at_object (slot_at s self.old) handle (D.act deed.now handle)) self.old self.new
             out.old out.new) }
-        ensures spends { IfSome result (λ _. IfSome (entry_of handle (slot_at s self.old).objects)
+        ensures spends { IfSome result
+            (λ _. IfSome (entry_under handle (slot_at s self.old).objects)
             (λ entry. D.spends deed.now entry.object out.old out.new)) }
-        ensures found { is_some result ≡ is_some (entry_of handle (slot_at s self.old).objects) }
+        ensures found { is_some result ≡ is_some (entry_under handle (slot_at s self.old).objects) }
         ensures kept { IfNone result (self.new ≡ self.old) }
         ensures unrecorded { IfNone result (out.new ≡ out.old) }
         ensures comparisons { IfSome result (λ did. (b : ℕ) → room_of self.old < 2 ^ b

@@ -1,13 +1,3 @@
-pub mod Searching
-pub mod Slots
-pub mod Pools
-pub mod PoolChanges
-pub mod PoolGrowth
-pub mod Seen
-pub mod Keys
-pub mod Entries
-pub mod Tables
-pub mod Changes
-pub mod SeenChanges
-pub mod Known
-pub mod Opening
+pub mod SlotLemmas
+pub mod PoolLemmas
+pub mod TableLemmas

@@ -9,7 +9,7 @@
 //! What no contract says is that `set`, `clear` and `pop` count every comparison: for these the
 //! number is bounded from above alone, but that `set` counts one at least. How many there are
 //! depends on places in the heap, which are no part of what a key has. The worked example
-//! `calls_have_their_comparisons` of `trdp_parts_worked` has the number of each call. To ask for
+//! `calls_have_their_comparisons` of `trdp_parts_tests` has the number of each call. To ask for
 //! the `first` twice is as good as once.
 #![tactic(auto)]
 

@@ -5,7 +5,7 @@ ghost use Rattle.trdp_model.specs.Alone.{FaultIs, refused_as};
 ghost use Rattle.trdp_model.specs.Events.{AddSlotIs};
 ghost use Rattle.trdp_store.specs.Counting.{no_counts};
 ghost use Rattle.trdp_model.specs.Records.{Answers, OpenedIs, labelled};
-ghost use Rattle.trdp_model.specs.Slots.{opened_slot};
+ghost use Rattle.trdp_model.specs.Slots.{empty_slot};
 
 use crate::node::Node;
 use trdp_base::Quotas;
@@ -30,7 +30,7 @@ impl Node {
         ensures unrecorded { OnErr result (out.new.records ≡ out.old.records) }
         ensures config { self.new.config ≡ self.old.config }
         ensures globals { self.new.globals ≡ self.old.globals }
-        ensures slots { OnOk result (self.new.slots ≡ self.old.slots ++ opened_slot quotas ∷ []) }
+        ensures slots { OnOk result (self.new.slots ≡ self.old.slots ++ empty_slot quotas ∷ []) }
         ensures told { OnOk result (out.new.records
             ≡ out.old.records ++ labelled (length self.old.slots) (Answers OpenedIs ∷ [])) }
         ensures counts { OnOk result (self.new.counts ≡ no_counts) }

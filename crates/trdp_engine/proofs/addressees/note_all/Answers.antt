@@ -1,10 +1,10 @@
 use Rattle.std.proofs.Common.{◌∙◌, sym, ap, length, arith}
 use Rattle.trdp_filter.specs.Telegrams.{telegram_model}
 use Rattle.trdp_head.specs.PdTelegrams.{PdTelegram}
-use Rattle.trdp_engine.proofs.Costs.{data_rows, heard_rows, part_asked}
-use Rattle.trdp_engine.proofs.ListenersAlone.{unasked_part}
-use Rattle.trdp_store.proofs.Keys.{KeysTell}
-use Rattle.trdp_engine.proofs.Seeking.{run_noted, run_room}
+use Rattle.trdp_engine.proofs.CostLemmas.Telegrams.{data_rows, heard_rows, part_asked}
+use Rattle.trdp_engine.proofs.NoteLemmas.ListenersAlone.{unasked_part}
+use Rattle.trdp_store.proofs.StoreLemmas.Keys.{KeysTell}
+use Rattle.trdp_engine.proofs.NoteLemmas.ByCom.{run_noted, run_room}
 use Rattle.trdp_engine.proofs.addressees.note_all.Goals as goal
 
 pub returns-in-Pd-clause-noted : goal.returns-in-Pd-clause-noted

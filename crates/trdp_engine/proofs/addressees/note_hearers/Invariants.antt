@@ -4,7 +4,7 @@ use Rattle.trdp_filter.specs.Telegrams.{telegram_model}
 use Rattle.trdp_store.specs.TableSlots.{slots_of}
 use Rattle.trdp_engine.specs.Costs.{meant_of}
 use Rattle.trdp_outbox.specs.Rooms.{room_bytes_limit}
-use Rattle.trdp_engine.proofs.Noting.{NotesAll}
+use Rattle.trdp_engine.proofs.NoteLemmas.Noted.{NotesAll}
 use Rattle.trdp_engine.proofs.addressees.note_hearers.Given as goal
 
 -- the listeners of the slots before the number are noted, each with its room

@@ -5,8 +5,8 @@ use Rattle.trdp_model.specs.Slots.{Entry}
 use Rattle.trdp_engine.specs.Noted.{noted_as}
 use Rattle.trdp_outbox.specs.Rooms.{entries_room}
 use Rattle.trdp_engine.specs.declared.addressees.Addressee.{Addressee}
-use Rattle.trdp_engine.proofs.Costs.{part_counted}
-use Rattle.trdp_engine.proofs.Meant.{acts_none, acts_gone, acts_not, acts_it}
+use Rattle.trdp_engine.proofs.CostLemmas.Telegrams.{part_counted}
+use Rattle.trdp_engine.proofs.NoteLemmas.BySession.{acts_none, acts_gone, acts_not, acts_it}
 use Rattle.trdp_engine.proofs.addressees.note_part.Goals as goal
 
 pub returns-in_default-clause-noted : goal.returns-in_default-clause-noted

@@ -2,9 +2,10 @@ use Rattle.std.proofs.Common.{◌<◌, length, ◌∙◌, arith}
 use Rattle.trdp_filter.specs.Telegrams.{telegram_model}
 use Rattle.trdp_store.specs.TableSlots.{slots_of}
 use Rattle.trdp_store.specs.Acting.{slot_at}
-use Rattle.trdp_store.proofs.Tables.{slots_length, slot_there}
-use Rattle.trdp_engine.proofs.Costs.{meant_of-drop}
-use Rattle.trdp_engine.proofs.Noting.{notes_all_next, notes_all_end_items, notes_all_end_room}
+use Rattle.trdp_store.proofs.StoreLemmas.Slots.{slots_length, slot_there}
+use Rattle.trdp_engine.proofs.CostLemmas.Telegrams.{meant_of-drop}
+use Rattle.trdp_engine.proofs.NoteLemmas.Noted.{notes_all_next, notes_all_end_items}
+use Rattle.trdp_engine.proofs.NoteLemmas.Noted.{notes_all_end_room}
 use Rattle.trdp_engine.proofs.addressees.note_parts.Goals as goal
 
 pub loop-s-preserved : goal.loop-s-preserved

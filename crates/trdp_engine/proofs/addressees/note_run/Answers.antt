@@ -1,7 +1,7 @@
 use Rattle.std.proofs.Common.{◌<◌, length, ◌∙◌, arith}
 use Rattle.trdp_filter.specs.Telegrams.{telegram_model}
 use Rattle.std.proofs.lemmas.Option.{slice_get-get_or}
-use Rattle.trdp_engine.proofs.Seeking.{run_next, run_end_items, run_end_room}
+use Rattle.trdp_engine.proofs.NoteLemmas.ByCom.{run_next, run_end_items, run_end_room}
 use Rattle.trdp_engine.proofs.addressees.note_run.Goals as goal
 
 pub loop-row-preserved : goal.loop-row-preserved

@@ -1,7 +1,7 @@
 use Rattle.std.proofs.Common.{◌≡◌, ◌≤◌, ◌+◌, ◌*◌, vec_len, vec_capacity}
 use Rattle.trdp_filter.specs.Telegrams.{telegram_model}
 use Rattle.trdp_outbox.specs.Rooms.{room_rows_limit, room_bytes_limit}
-use Rattle.trdp_engine.proofs.Seeking.{NotesRun}
+use Rattle.trdp_engine.proofs.NoteLemmas.ByCom.{NotesRun}
 use Rattle.trdp_engine.proofs.addressees.note_run.Given as goal
 
 abbrev pub invariant-loop-row : goal.invariant-loop-row

@@ -1,6 +1,6 @@
 use Rattle.std.proofs.Common.{◌∙◌, ap}
 use Rattle.trdp_md.specs.declared.caller.Caller.{Caller}
-use Rattle.trdp_model.proofs.Confirmed.{confirming_terms}
+use Rattle.trdp_md.proofs.ConfirmLemmas.{terms-confirming as confirming_terms}
 use Rattle.trdp_engine.proofs.callers.confirm_by.Goals as goal
 
 pub returns-in-None-clause-terms : goal.returns-in-None-clause-terms

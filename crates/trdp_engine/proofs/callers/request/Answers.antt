@@ -1,6 +1,6 @@
 use Rattle.std.proofs.Common.{sym}
-use Rattle.trdp_engine.proofs.Requesting.{sends_request}
-use Rattle.trdp_store.proofs.Tables.{slots_kept}
+use Rattle.trdp_engine.proofs.DatagramLemmas.Requests.{sends_request}
+use Rattle.trdp_store.proofs.StoreLemmas.Slots.{slots_kept}
 use Rattle.trdp_engine.proofs.callers.request.Goals as goal
 
 pub returns-in-Some-clause-becomes : goal.returns-in-Some-clause-becomes

@@ -1,5 +1,5 @@
 use Rattle.std.proofs.Common.{◌∙◌, ap, not}
-use Rattle.trdp_engine.proofs.Deeds.{deed_refused}
+use Rattle.trdp_engine.proofs.ActLemmas.Deeds.{deed_refused}
 use Rattle.trdp_engine.proofs.calls.ask.Goals as goal
 
 pub returns-then-is_none : goal.returns-then-is_none

@@ -1,7 +1,7 @@
 use Rattle.trdp_marshal.specs.Items.{model_of}
 use Rattle.trdp_model.specs.Configs.{setup_of}
-use Rattle.trdp_store.proofs.Tables.{rising}
-use Rattle.trdp_engine.proofs.Asking.{asked_refused}
+use Rattle.trdp_store.proofs.StoreLemmas.Slots.{rising}
+use Rattle.trdp_engine.proofs.ActLemmas.Asked.{asked_refused}
 use Rattle.trdp_engine.proofs.calls.put_value.Goals as goal
 
 pub returns-in-Err-Refused-clause-becomes : goal.returns-in-Err-Refused-clause-becomes

@@ -1,7 +1,7 @@
 use Rattle.trdp_store.specs.Acting.{slot_at}
 use Rattle.trdp_model.specs.Notices.{notify_refusal, notice}
 use Rattle.std.proofs.Common.{◌∷◌, []}
-use Rattle.trdp_engine.proofs.Asking.{told_becomes}
+use Rattle.trdp_engine.proofs.ActLemmas.Asked.{told_becomes}
 use Rattle.trdp_engine.proofs.calls.serve_slot.Goals as goal
 
 pub returns-in-Notify-clause-becomes : goal.returns-in-Notify-clause-becomes

@@ -1,7 +1,7 @@
 use Rattle.trdp_filter.specs.Telegrams.{telegram_model}
 use Rattle.trdp_model.specs.Configs.{setup_of}
 use Rattle.trdp_model.specs.Datagrams.{taking_act}
-use Rattle.trdp_engine.proofs.Deeds.{deed_acts}
+use Rattle.trdp_engine.proofs.ActLemmas.Deeds.{deed_acts}
 use Rattle.trdp_engine.proofs.datagram.hand.Goals as goal
 
 pub returns-clause-acts : goal.returns-clause-acts

@@ -1,12 +1,14 @@
 use Rattle.std.proofs.Common.{ℕ, ◌<◌, ◌^◌, ◌∙◌, refl, sym, subst, arith}
 use Rattle.trdp_model.specs.Datagrams.{handed, taking_act}
-use Rattle.trdp_engine.proofs.Counting.{room_stays, one_taker, all_takers}
+use Rattle.trdp_engine.proofs.CostLemmas.Moments.{room_stays, one_taker, all_takers}
 use Rattle.trdp_filter.specs.Telegrams.{telegram_model}
 use Rattle.trdp_model.specs.Configs.{setup_of}
 use Rattle.trdp_store.specs.TableSlots.{slots_of}
-use Rattle.trdp_engine.proofs.NotedTurns.{goes_first, goes_next, goes_within, goes_may}
-use Rattle.trdp_engine.proofs.NotedTurns.{goes_addressed, goes_on, goes_end}
-use Rattle.trdp_engine.proofs.NotedTurns.{reached_count, reached_parts, reached_appends}
+use Rattle.trdp_engine.proofs.DatagramLemmas.HandedInTurn.{goes_first, goes_next, goes_within}
+use Rattle.trdp_engine.proofs.DatagramLemmas.HandedInTurn.{goes_may}
+use Rattle.trdp_engine.proofs.DatagramLemmas.HandedInTurn.{goes_addressed, goes_on, goes_end}
+use Rattle.trdp_engine.proofs.DatagramLemmas.HandedInTurn.{reached_count, reached_parts}
+use Rattle.trdp_engine.proofs.DatagramLemmas.HandedInTurn.{reached_appends}
 use Rattle.trdp_engine.proofs.datagram.take_all.Goals as goal
 
 pub loop-addressee-init : goal.loop-addressee-init

@@ -3,8 +3,8 @@ use Rattle.trdp_filter.specs.Telegrams.{telegram_model}
 use Rattle.trdp_model.specs.Configs.{setup_of}
 use Rattle.trdp_table.specs.Tables.{room_of}
 use Rattle.trdp_store.specs.TableSlots.{slots_of}
-use Rattle.trdp_engine.proofs.Noted.{aim_of}
-use Rattle.trdp_engine.proofs.NotedTurns.{Goes}
+use Rattle.trdp_engine.proofs.DatagramLemmas.Handed.{aim_of}
+use Rattle.trdp_engine.proofs.DatagramLemmas.HandedInTurn.{Goes}
 use Rattle.trdp_engine.proofs.datagram.take_all.Given as goal
 
 -- those that were noted and haven't had the telegram lead to what it makes of the slots

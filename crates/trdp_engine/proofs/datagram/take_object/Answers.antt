@@ -1,7 +1,7 @@
 use Rattle.std.proofs.Common.{◌∙◌, sym, arith}
 use Rattle.trdp_filter.specs.Telegrams.{telegram_model}
-use Rattle.trdp_engine.proofs.Receiving.{kind_taken}
-use Rattle.trdp_store.proofs.Over.{over_replied, over_confirmed}
+use Rattle.trdp_engine.proofs.DatagramLemmas.Taken.{kind_taken}
+use Rattle.trdp_store.proofs.OrderLemmas.Over.{over_replied, over_confirmed}
 use Rattle.trdp_engine.proofs.datagram.take_object.Goals as goal
 
 pub push_answer-requires-clause-bytes : goal.push_answer-requires-clause-bytes

@@ -1,5 +1,5 @@
 use Rattle.trdp_filter.specs.Telegrams.{telegram_model}
-use Rattle.trdp_engine.proofs.Heard.{heard_row}
+use Rattle.trdp_engine.proofs.NoteLemmas.HeardByRuns.{heard_row}
 use Rattle.trdp_engine.proofs.first_listeners.hear_row.Goals as goal
 
 pub returns-clause-heard : goal.returns-clause-heard

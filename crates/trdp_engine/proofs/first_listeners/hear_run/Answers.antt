@@ -4,7 +4,7 @@ use Rattle.std.specs.Prelude.{slice_get}
 use Rattle.std.proofs.lemmas.Option.{slice_get-get_or}
 use Rattle.trdp_index.specs.declared.com_row.ComRow.{ComRow}
 use Rattle.trdp_store.specs.Indexed.{rows_from}
-use Rattle.trdp_engine.proofs.Heard.{row_slot, hears_next, hears_end}
+use Rattle.trdp_engine.proofs.NoteLemmas.HeardByRuns.{row_slot, hears_next, hears_end}
 use Rattle.trdp_engine.proofs.first_listeners.hear_run.Goals as goal
 
 pub hear_row-requires : goal.hear_row-requires

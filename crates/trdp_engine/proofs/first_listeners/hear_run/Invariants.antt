@@ -1,6 +1,6 @@
 use Rattle.std.proofs.Common.{◌≡◌, ◌+◌, ◌≤◌, length}
 use Rattle.trdp_filter.specs.Telegrams.{telegram_model}
-use Rattle.trdp_engine.proofs.Heard.{HearsRun}
+use Rattle.trdp_engine.proofs.NoteLemmas.HeardByRuns.{HearsRun}
 use Rattle.trdp_engine.proofs.first_listeners.hear_run.Given as goal
 
 abbrev pub invariant-loop-row : goal.invariant-loop-row

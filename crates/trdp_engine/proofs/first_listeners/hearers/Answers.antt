@@ -1,8 +1,8 @@
 use Rattle.std.proofs.Common.{◌∙◌, sym, arith}
 use Rattle.trdp_store.specs.Acting.{slot_at}
-use Rattle.trdp_store.proofs.Keys.{KeysTell}
-use Rattle.trdp_engine.proofs.Seeking.{nobody_hears}
-use Rattle.trdp_engine.proofs.Heard.{sixteen, none_of_sixteen, heard_by_both}
+use Rattle.trdp_store.proofs.StoreLemmas.Keys.{KeysTell}
+use Rattle.trdp_engine.proofs.NoteLemmas.ByCom.{nobody_hears}
+use Rattle.trdp_engine.proofs.NoteLemmas.HeardByRuns.{sixteen, none_of_sixteen, heard_by_both}
 use Rattle.trdp_engine.proofs.first_listeners.hearers.Goals as goal
 
 pub returns-in-Md-clause-heard : goal.returns-in-Md-clause-heard

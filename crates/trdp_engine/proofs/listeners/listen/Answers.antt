@@ -1,5 +1,5 @@
 use Rattle.std.proofs.Common.{sym}
-use Rattle.trdp_store.proofs.Tables.{slots_kept}
+use Rattle.trdp_store.proofs.StoreLemmas.Slots.{slots_kept}
 use Rattle.trdp_engine.proofs.listeners.listen.Goals as goal
 
 pub returns-then-gt-clause-others : goal.returns-then-gt-clause-others

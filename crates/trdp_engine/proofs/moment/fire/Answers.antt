@@ -1,5 +1,5 @@
 use Rattle.trdp_model.specs.Moments.{firing_act}
-use Rattle.trdp_engine.proofs.Deeds.{deed_acts}
+use Rattle.trdp_engine.proofs.ActLemmas.Deeds.{deed_acts}
 use Rattle.trdp_engine.proofs.moment.fire.Goals as goal
 
 pub returns-clause-acts : goal.returns-clause-acts

@@ -1,10 +1,10 @@
 use Rattle.std.proofs.Common.{◌∙◌, arith}
-use Rattle.trdp_engine.proofs.Moving.{moving_first, nexts, next_is_due}
-use Rattle.trdp_engine.proofs.Moving.{moving_may, moves_on, moment_ends}
+use Rattle.trdp_engine.proofs.MomentLemmas.AllFire.{moving_first, nexts, next_is_due}
+use Rattle.trdp_engine.proofs.MomentLemmas.AllFire.{moving_may, moves_on, moment_ends}
 use Rattle.trdp_store.specs.Acting.{slot_at}
 use Rattle.trdp_model.specs.Moments.{firing_act}
-use Rattle.trdp_engine.proofs.Counting.{counting_first, counting_on, room_stays}
-use Rattle.trdp_engine.proofs.Counting.{counted_comparisons, counted_look_ups}
+use Rattle.trdp_engine.proofs.CostLemmas.Moments.{counting_first, counting_on, room_stays}
+use Rattle.trdp_engine.proofs.CostLemmas.Moments.{counted_comparisons, counted_look_ups}
 use Rattle.trdp_engine.proofs.moment.fire_all.Goals as goal
 
 pub loop-order-init : goal.loop-order-init

@@ -1,5 +1,5 @@
-use Rattle.trdp_engine.proofs.Moving.{IsMoving, due_left}
-use Rattle.trdp_engine.proofs.Counting.{IsCounting}
+use Rattle.trdp_engine.proofs.MomentLemmas.AllFire.{IsMoving, due_left}
+use Rattle.trdp_engine.proofs.CostLemmas.Moments.{IsCounting}
 use Rattle.trdp_engine.proofs.moment.fire_all.Given as goal
 
 -- what was recorded and what is left to fire give the whole moment, and so do the counts

@@ -1,5 +1,5 @@
-use Rattle.trdp_store.proofs.Tables.{slots_of_added}
-use Rattle.trdp_store.proofs.Counted.{room_added}
+use Rattle.trdp_store.proofs.StoreLemmas.Slots.{slots_of_added}
+use Rattle.trdp_store.proofs.StoreLemmas.Counts.{room_added}
 use Rattle.trdp_engine.proofs.opening.open.Goals as goal
 
 pub returns-clause-others : goal.returns-clause-others

@@ -1,5 +1,5 @@
 use Rattle.std.proofs.Common.{sym}
-use Rattle.trdp_store.proofs.Tables.{slots_kept}
+use Rattle.trdp_store.proofs.StoreLemmas.Slots.{slots_kept}
 use Rattle.trdp_engine.proofs.publishers.publish.Goals as goal
 
 pub returns-in-Some-clause-others : goal.returns-in-Some-clause-others

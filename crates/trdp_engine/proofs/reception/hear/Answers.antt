@@ -1,4 +1,4 @@
-use Rattle.trdp_engine.proofs.WithinCosts.{costs_nothing}
+use Rattle.trdp_engine.proofs.CostLemmas.Bounds.{costs_nothing}
 use Rattle.trdp_engine.proofs.reception.hear.Goals as goal
 
 pub returns-in-Ok-clause-parts : goal.returns-in-Ok-clause-parts

@@ -5,14 +5,14 @@ use Rattle.trdp_model.specs.Configs.{setup_of}
 use Rattle.trdp_store.specs.TableSlots.{slots_of}
 use Rattle.trdp_model.specs.Datagrams.{is_valid_at, is_request, requested, handed}
 use Rattle.trdp_table.specs.Tables.{room_of}
-use Rattle.trdp_store.proofs.Tables.{slots_length}
+use Rattle.trdp_store.proofs.StoreLemmas.Slots.{slots_length}
 use Rattle.trdp_engine.specs.Costs.{meant_of}
-use Rattle.trdp_engine.proofs.Costs.{total_room}
-use Rattle.trdp_engine.proofs.WithinCosts.{only_read, read_and_taken}
-use Rattle.trdp_engine.proofs.Costs.{asks_unasked}
-use Rattle.trdp_engine.proofs.WithinCosts.{costs, costs_nothing}
-use Rattle.trdp_engine.proofs.Receiving.{of_an_error, lacking_concerns}
-use Rattle.trdp_model.proofs.Steps.{has_outcome}
+use Rattle.trdp_engine.proofs.CostLemmas.Telegrams.{total_room}
+use Rattle.trdp_engine.proofs.CostLemmas.Bounds.{only_read, read_and_taken}
+use Rattle.trdp_engine.proofs.CostLemmas.Telegrams.{asks_unasked}
+use Rattle.trdp_engine.proofs.CostLemmas.Bounds.{costs, costs_nothing}
+use Rattle.trdp_engine.proofs.DatagramLemmas.Taken.{of_an_error, lacking_concerns}
+use Rattle.trdp_model.proofs.StepLemmas.{has_outcome}
 use Rattle.trdp_engine.proofs.reception.receive.Goals as goal
 
 pub returns-in_err-reserve-clause-memory : goal.returns-in_err-reserve-clause-memory

@@ -3,9 +3,9 @@ use Rattle.trdp_filter.specs.Telegrams.{telegram_model}
 use Rattle.trdp_head.specs.MdTelegrams.{MdTelegram}
 use Rattle.trdp_store.specs.Acting.{slot_at}
 use Rattle.trdp_outbox.specs.Outboxes.{OutboxState}
-use Rattle.trdp_store.proofs.Counted.{room_added}
-use Rattle.trdp_engine.proofs.Requesting.{hearing_asked, unasked, asked_again}
-use Rattle.trdp_engine.proofs.Requesting.{asked_opens, asked_overruns}
+use Rattle.trdp_store.proofs.StoreLemmas.Counts.{room_added}
+use Rattle.trdp_engine.proofs.DatagramLemmas.Requests.{hearing_asked, unasked, asked_again}
+use Rattle.trdp_engine.proofs.DatagramLemmas.Requests.{asked_opens, asked_overruns}
 use Rattle.trdp_engine.proofs.requests.ask.Goals.{in-Ok, in-Err}
 use Rattle.trdp_engine.proofs.requests.ask.Goals as goal
 

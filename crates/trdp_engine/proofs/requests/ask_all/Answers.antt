@@ -2,12 +2,15 @@ use Rattle.std.proofs.Common.{ℕ, ◌<◌, ◌^◌, ◌∙◌, refl, sym, subst
 use Rattle.trdp_filter.specs.Telegrams.{telegram_model}
 use Rattle.trdp_model.specs.Datagrams.{requested}
 use Rattle.trdp_store.specs.TableSlots.{slots_of}
-use Rattle.trdp_engine.proofs.Counting.{one_taker, all_takers}
-use Rattle.trdp_engine.proofs.Costs.{asks_unasked}
-use Rattle.trdp_store.proofs.Tables.{slots_length}
-use Rattle.trdp_engine.proofs.AskedTurns.{asks_first, asks_next, asks_within, asks_heard}
-use Rattle.trdp_engine.proofs.AskedTurns.{asks_row, asks_bytes, asks_on, asks_end, few_noted}
-use Rattle.trdp_engine.proofs.NotedTurns.{reached_count, reached_parts, reached_appends}
+use Rattle.trdp_engine.proofs.CostLemmas.Moments.{one_taker, all_takers}
+use Rattle.trdp_engine.proofs.CostLemmas.Telegrams.{asks_unasked}
+use Rattle.trdp_store.proofs.StoreLemmas.Slots.{slots_length}
+use Rattle.trdp_engine.proofs.DatagramLemmas.AskedInTurn.{asks_first, asks_next, asks_within}
+use Rattle.trdp_engine.proofs.DatagramLemmas.AskedInTurn.{asks_heard}
+use Rattle.trdp_engine.proofs.DatagramLemmas.AskedInTurn.{asks_row, asks_bytes, asks_on, asks_end}
+use Rattle.trdp_engine.proofs.DatagramLemmas.AskedInTurn.{few_noted}
+use Rattle.trdp_engine.proofs.DatagramLemmas.HandedInTurn.{reached_count, reached_parts}
+use Rattle.trdp_engine.proofs.DatagramLemmas.HandedInTurn.{reached_appends}
 use Rattle.trdp_engine.proofs.requests.ask_all.Goals as goal
 
 pub loop-listener-init : goal.loop-listener-init

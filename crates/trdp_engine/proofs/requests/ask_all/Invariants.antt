@@ -2,7 +2,7 @@ use Rattle.std.proofs.Common.{◌≡◌, ℕ, ◌+◌, ◌*◌, ◌^◌, ◌<◌
 use Rattle.trdp_filter.specs.Telegrams.{telegram_model}
 use Rattle.trdp_table.specs.Tables.{room_of}
 use Rattle.trdp_store.specs.TableSlots.{slots_of}
-use Rattle.trdp_engine.proofs.AskedTurns.{GoesAsking, request_of}
+use Rattle.trdp_engine.proofs.DatagramLemmas.AskedInTurn.{GoesAsking, request_of}
 use Rattle.trdp_engine.proofs.requests.ask_all.Given as goal
 
 -- the slots of those that were noted and haven't had the request lead to what it makes of the slots

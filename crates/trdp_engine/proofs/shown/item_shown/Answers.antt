@@ -1,8 +1,8 @@
 use Rattle.std.proofs.Common.{ap}
 use Rattle.trdp_pd.specs.Peeks.{PeekModel}
 use Rattle.trdp_model.specs.Configs.{setup_of}
-use Rattle.trdp_engine.proofs.Showing.{never_shape, never_too_long}
-use Rattle.trdp_engine.proofs.Showing.{shows_none, lacks_memory, shows_item}
+use Rattle.trdp_engine.proofs.NodeLemmas.Shown.{never_shape, never_too_long}
+use Rattle.trdp_engine.proofs.NodeLemmas.Shown.{shows_none, lacks_memory, shows_item}
 use Rattle.trdp_engine.proofs.shown.item_shown.Goals as goal
 
 pub unreachable-requires : goal.unreachable-requires

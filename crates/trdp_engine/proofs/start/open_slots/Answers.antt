@@ -1,5 +1,5 @@
 use Rattle.std.proofs.Common.{◌∙◌}
-use Rattle.trdp_engine.proofs.Parts.{opened_slots}
+use Rattle.trdp_engine.proofs.ActLemmas.OneSlot.{opened_slots}
 use Rattle.trdp_engine.proofs.start.open_slots.Goals as goal
 
 pub returns : goal.returns

@@ -1,5 +1,5 @@
 use Rattle.std.proofs.Common.{◌∙◌, sym}
-use Rattle.trdp_model.proofs.Steps.{quotas_more}
+use Rattle.trdp_model.proofs.StepLemmas.{quotas_more}
 use Rattle.trdp_engine.proofs.start.quotas_of.Goals as goal
 
 pub loop-s-preserved : goal.loop-s-preserved

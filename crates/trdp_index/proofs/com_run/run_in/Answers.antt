@@ -1,6 +1,6 @@
 use Rattle.trdp_index.specs.ComRows.{com_row_rank}
-use Rattle.trdp_index.proofs.Rows.{IsRising-drop}
-use Rattle.trdp_index.proofs.Runs.{run_is}
+use Rattle.trdp_index.proofs.RowLemmas.{IsRising-drop}
+use Rattle.trdp_index.proofs.RunLemmas.{run_is}
 use Rattle.trdp_index.proofs.com_run.run_in.Goals as goal
 
 pub lower_bound-count-requires-clause-rising : goal.lower_bound-count-requires-clause-rising

@@ -1,6 +1,6 @@
 use Rattle.std.proofs.Common.{◌∙◌, sym, arith}
 use Rattle.std.proofs.lemmas.List.{drop_all}
-use Rattle.trdp_index.proofs.Searching.{absent_past, absent_at, found_at}
+use Rattle.trdp_index.proofs.SearchLemmas.{absent_past, absent_at, found_at}
 use Rattle.trdp_index.proofs.search.index_of.Goals as goal
 
 pub returns-then-index-rows-clause-absent : goal.returns-then-index-rows-clause-absent

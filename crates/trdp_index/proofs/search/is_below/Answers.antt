@@ -1,6 +1,6 @@
 use Rattle.std.proofs.Common.{◌≡◌, ℕ, suc, ◌+◌, take, ◌∙◌, sym, subst, arith}
 use Rattle.trdp_index.specs.Rows.{AllBefore}
-use Rattle.trdp_index.proofs.Searching.{all_before, none_before}
+use Rattle.trdp_index.proofs.SearchLemmas.{all_before, none_before}
 use Rattle.trdp_index.proofs.search.is_below.Goals as goal
 
 pub returns-clause-below : goal.returns-clause-below

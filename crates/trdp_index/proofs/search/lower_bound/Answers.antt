@@ -1,7 +1,7 @@
 use Rattle.std.proofs.Common.{◌≡◌, ◌≤◌, ◌<◌, ◌-◌, ◌+◌, ◌/◌, ◌^◌, ℕ}
 use Rattle.std.proofs.Common.{length, inl, inr, arith, sym, subst}
 use Rattle.std.proofs.lemmas.Bool.{cases_lt}
-use Rattle.trdp_index.proofs.Halves.{step_bound, capped}
+use Rattle.trdp_index.proofs.HalvingLemmas.{step_bound, capped}
 use Rattle.trdp_index.proofs.search.lower_bound.Goals as goal
 
 pub loop-low-preserved-then-is_below : goal.loop-low-preserved-then-is_below

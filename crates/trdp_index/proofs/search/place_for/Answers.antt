@@ -1,7 +1,7 @@
 use Rattle.std.proofs.Common.{take, drop, sym, subst}
 use Rattle.trdp_index.specs.declared.rank.Rank.{Rank}
 use Rattle.trdp_index.specs.Rows.{AllBefore, NoneBefore}
-use Rattle.trdp_index.proofs.Searching.{insert_between}
+use Rattle.trdp_index.proofs.SearchLemmas.{insert_between}
 use Rattle.trdp_index.proofs.search.place_for.Goals as goal
 
 pub returns-clause-place : goal.returns-clause-place

@@ -14,14 +14,14 @@ returns-clause-moves c =
     (event_model c.args.event.now))
     (c.step.new.self.globals ≡ globals_after c.args.node.now.globals
     (event_model c.args.event.now))
-    ((s : ℕ) → StepsAsAlone (uncounted c.args.node.now) (uncounted c.step.new.self) c.args.out.now.records
-    c.step.new.out.records (event_model c.args.event.now) s)
-    (MovesSo (uncounted c.args.node.now) (uncounted c.step.new.self) c.args.out.now.records c.step.new.out.records
-    (event_model c.args.event.now))
+    ((s : ℕ) → StepsAsAlone (uncounted c.args.node.now) (uncounted c.step.new.self)
+    c.args.out.now.records c.step.new.out.records (event_model c.args.event.now) s)
+    (MovesSo (uncounted c.args.node.now) (uncounted c.step.new.self)
+    c.args.out.now.records c.step.new.out.records (event_model c.args.event.now))
     c.step.ensures.fault c.step.ensures.globals c.step.ensures.steps
     (λ admitted globals steps.
-    moves_so (uncounted c.args.node.now) (uncounted c.step.new.self) c.args.out.now.records c.step.new.out.records
-    (event_model c.args.event.now) (record {
+    moves_so (uncounted c.args.node.now) (uncounted c.step.new.self)
+    c.args.out.now.records c.step.new.out.records (event_model c.args.event.now) (record {
       admitted = admitted;
       config = c.step.ensures.config;
       globals = globals;

@@ -1,5 +1,5 @@
-use Rattle.std.proofs.Common.{◌≡◌, ◌+◌, ◌<◌, ◌≤◌, length, List, [], drop, Some, slice_get, rules, ap}
-use Rattle.std.proofs.Common.{sym, ◌∙◌, append-nil}
+use Rattle.std.proofs.Common.{◌≡◌, ◌+◌, ◌<◌, ◌≤◌, length, List, [], drop, Some, slice_get, rules}
+use Rattle.std.proofs.Common.{ap, sym, ◌∙◌, append-nil}
 use Rattle.std.proofs.lemmas.Option.{slice_get-get_or}
 use Rattle.trdp_net.specs.Networks.{Sent}
 use Rattle.trdp_net.specs.Tellings.{sent_in, all_sent}

@@ -1,6 +1,6 @@
 use Rattle.std.proofs.Common.{◌∙◌, sym, ap}
 use Rattle.std.specs.Prelude.{option_map, option_copied}
-use Rattle.trdp_store.proofs.Tables.{none_found, object_found}
+use Rattle.trdp_store.proofs.StoreLemmas.Slots.{none_found, object_found}
 use Rattle.trdp_store.proofs.objects.object_of.Goals as goal
 
 pub returns-in_err-key : goal.returns-in_err-key

@@ -1,6 +1,6 @@
 use Rattle.std.proofs.Common.{sym}
 use Rattle.trdp_store.specs.Acting.{slot_at}
-use Rattle.trdp_store.proofs.HasSession.{in_none}
+use Rattle.trdp_store.proofs.SessionLemmas.Open.{in_none}
 use Rattle.trdp_store.proofs.sessions.has_session.Goals as goal
 
 pub returns-in_default : goal.returns-in_default

@@ -2,8 +2,8 @@ use Rattle.std.proofs.Common.{◌≡◌, ◌++◌, ◌+◌, ◌∷◌, [], ◌�
 use Rattle.std.proofs.Common.{replicate, ap, arith}
 use Rattle.std.specs.List.{range_with_len}
 use Rattle.std.proofs.lemmas.List.{append_assoc, replicate_more, length-append, length-replicate}
-use Rattle.trdp_table.proofs.Pools.{Places}
-use Rattle.trdp_table.proofs.PoolGrowth.{keys_more}
+use Rattle.trdp_table.proofs.PoolLemmas.Places.{Places}
+use Rattle.trdp_table.proofs.PoolLemmas.Growth.{keys_more}
 use Rattle.trdp_table.proofs.pool.add_keys.Goals as goal
 
 pub loop-preserved : goal.loop-preserved

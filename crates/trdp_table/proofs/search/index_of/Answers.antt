@@ -1,6 +1,6 @@
 use Rattle.std.proofs.Common.{rules}
 use Rattle.std.proofs.lemmas.List.Sorted.{answers_always}
-use Rattle.trdp_table.proofs.Searching.{searched}
+use Rattle.trdp_table.proofs.SlotLemmas.Search.{searched}
 use Rattle.trdp_table.proofs.search.index_of.Goals as goal
 
 pub returns-clause-found : goal.returns-clause-found

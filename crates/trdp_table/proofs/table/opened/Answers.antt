@@ -1,7 +1,7 @@
 use Rattle.std.proofs.Common.{rules, ◌<◌, ℕ, List, get_or, subst, length}
 use Rattle.std.proofs.lemmas.List.Elements.{All-more}
 use Rattle.trdp_table.specs.TableLaws.{AreLimited}
-use Rattle.trdp_table.proofs.Known.{opened_more}
+use Rattle.trdp_table.proofs.TableLemmas.Known.{opened_more}
 use Rattle.trdp_table.proofs.table.opened.Goals as goal
 
 pub loop-slot_quotas-preserved : goal.loop-slot_quotas-preserved

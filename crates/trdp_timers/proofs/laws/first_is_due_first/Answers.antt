@@ -1,4 +1,4 @@
-use Rattle.trdp_timers.proofs.Fewer.{none_of_unset, none_after_first}
+use Rattle.trdp_timers.proofs.FewerLemmas.{none_of_unset, none_after_first}
 use Rattle.trdp_timers.proofs.laws.first_is_due_first.Goals as goal
 
 pub returns-clause-unset : goal.returns-clause-unset

@@ -1,6 +1,6 @@
 use Rattle.std.proofs.Common.{arith}
 use Rattle.trdp_model.specs.Configs.{setup_of}
-use Rattle.trdp_model.proofs.Steps.{opened_fit}
+use Rattle.trdp_model.proofs.StepLemmas.{opened_fit}
 use Rattle.trdp_engine.proofs.node.Node.new.Goals as goal
 
 pub invariant_of-result : goal.invariant_of-result

@@ -2,10 +2,10 @@ use Rattle.std.proofs.Common.{arith, refl, ◌∙◌, map, take}
 use Rattle.std.proofs.lemmas.Option.{slice_get-get_or, slice_get_past}
 use Rattle.trdp_model.specs.Events.{event_model}
 use Rattle.trdp_engine.specs.NodeRuns.{NoneTaken}
-use Rattle.trdp_engine.proofs.Latest.{has_come, globals_next, latest_next, slots_next}
-use Rattle.trdp_engine.proofs.Runs.{node_grows}
-use Rattle.trdp_engine.proofs.Runs.{one_event, so_far, one_more}
-use Rattle.trdp_model.proofs.Steps.{appends_none, appends_more}
+use Rattle.trdp_engine.proofs.NodeLemmas.Latest.{has_come, globals_next, latest_next, slots_next}
+use Rattle.trdp_engine.proofs.NodeLemmas.Runs.{node_grows}
+use Rattle.trdp_engine.proofs.NodeLemmas.Runs.{one_event, so_far, one_more}
+use Rattle.trdp_model.proofs.StepLemmas.{appends_none, appends_more}
 use Rattle.trdp_engine.proofs.node.Node.run.Goals as goal
 
 pub loop-event-init : goal.loop-event-init

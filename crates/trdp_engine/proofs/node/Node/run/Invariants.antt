@@ -2,7 +2,7 @@ use Rattle.std.proofs.Common.{◌≡◌, ℕ, length, map, take}
 use Rattle.trdp_model.specs.Events.{event_model}
 use Rattle.trdp_model.specs.NodeModels.{Appends}
 use Rattle.trdp_engine.specs.NodeRuns.{CountsLatest, globals_through, slots_through}
-use Rattle.trdp_engine.proofs.Runs.{RunsAsAloneSoFar}
+use Rattle.trdp_engine.proofs.NodeLemmas.Runs.{RunsAsAloneSoFar}
 use Rattle.trdp_engine.proofs.node.Node.run.Given as goal
 
 -- each slot has run as it does by itself over the events so far

@@ -1,11 +1,11 @@
 use Rattle.std.proofs.Common.{length, refl, ap, sym, ◌∙◌, arith}
 use Rattle.trdp_engine.specs.NodeStates.{uncounted}
 use Rattle.trdp_model.specs.Events.{event_model}
-use Rattle.trdp_engine.proofs.WithinCosts.{bounded_none, bounded_if}
+use Rattle.trdp_engine.proofs.CostLemmas.Bounds.{bounded_none, bounded_if}
 use Rattle.trdp_model.proofs.AddedSlots.{added_alone, added_appends, added_count}
-use Rattle.trdp_model.proofs.Steps.{steps_alone, taken_alone, appends_at, appends_none}
-use Rattle.trdp_model.proofs.Steps.{always, unchanged_each}
-use Rattle.trdp_model.proofs.Views.{slots_stay}
+use Rattle.trdp_model.proofs.StepLemmas.{steps_alone, taken_alone, appends_at, appends_none}
+use Rattle.trdp_model.proofs.StepLemmas.{always, unchanged_each}
+use Rattle.trdp_model.proofs.ViewLemmas.{slots_stay}
 use Rattle.trdp_engine.proofs.node.Node.step.Goals as goal
 
 pub returns-in-Moment-clause-steps : goal.returns-in-Moment-clause-steps

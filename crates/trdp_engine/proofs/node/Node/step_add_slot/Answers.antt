@@ -1,5 +1,5 @@
 use Rattle.trdp_model.proofs.AddedSlots.{opening_fits}
-use Rattle.trdp_store.proofs.OpenedSlots.{slots_opened}
+use Rattle.trdp_store.proofs.StoreLemmas.OpenedSlots.{slots_opened}
 use Rattle.trdp_engine.proofs.node.Node.step_add_slot.Goals as goal
 
 pub invariant_of-self-2 : goal.invariant_of-self-2

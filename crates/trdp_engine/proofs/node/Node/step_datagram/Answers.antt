@@ -1,10 +1,10 @@
 use Rattle.trdp_model.specs.Configs.{setup_of}
 use Rattle.trdp_store.specs.TableSlots.{slots_of}
 use Rattle.trdp_model.specs.Datagrams.{telegram_of, received_if}
-use Rattle.trdp_engine.proofs.WithinCosts.{within_costs}
-use Rattle.trdp_model.proofs.FittingEvents.{received_fits}
-use Rattle.trdp_engine.proofs.Parts.{same_count}
-use Rattle.trdp_model.proofs.Steps.{outcomes_fit}
+use Rattle.trdp_engine.proofs.CostLemmas.Bounds.{within_costs}
+use Rattle.trdp_model.proofs.FitEvents.{received_fits}
+use Rattle.trdp_engine.proofs.ActLemmas.OneSlot.{same_count}
+use Rattle.trdp_model.proofs.StepLemmas.{outcomes_fit}
 use Rattle.trdp_engine.proofs.node.Node.step_datagram.Goals as goal
 
 pub returns-clause-outcomes : goal.returns-clause-outcomes

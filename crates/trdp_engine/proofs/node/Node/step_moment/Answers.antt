@@ -2,16 +2,16 @@ use Rattle.std.proofs.Common.{ℕ, ◌<◌, ◌^◌, ◌∙◌, ap, subst, arith
 use Rattle.trdp_table.specs.Tables.{room_of}
 use Rattle.trdp_store.specs.declared.counts.Counts.{Counts}
 use Rattle.trdp_model.specs.NodeModels.{due_in}
-use Rattle.trdp_engine.proofs.Costs.{total_room}
-use Rattle.trdp_engine.proofs.Counting.{moment_within}
+use Rattle.trdp_engine.proofs.CostLemmas.Telegrams.{total_room}
+use Rattle.trdp_engine.proofs.CostLemmas.Moments.{moment_within}
 use Rattle.trdp_filter.specs.declared.globals.Globals.{Globals}
 use Rattle.trdp_model.specs.Configs.{setup_of}
 use Rattle.trdp_store.specs.TableSlots.{slots_of}
 use Rattle.trdp_model.specs.Moments.{moved_to}
-use Rattle.trdp_model.proofs.Fitting.{each_sound}
-use Rattle.trdp_model.proofs.FittingEvents.{moved_fits}
-use Rattle.trdp_engine.proofs.Parts.{same_count, lacks_due}
-use Rattle.trdp_model.proofs.Steps.{has_outcome, outcomes_fit}
+use Rattle.trdp_model.proofs.FitLemmas.{each_sound}
+use Rattle.trdp_model.proofs.FitEvents.{moved_fits}
+use Rattle.trdp_engine.proofs.ActLemmas.OneSlot.{same_count, lacks_due}
+use Rattle.trdp_model.proofs.StepLemmas.{has_outcome, outcomes_fit}
 use Rattle.trdp_engine.proofs.node.Node.step_moment.Goals as goal
 
 pub returns-in_err-reserve-clause-memory : goal.returns-in_err-reserve-clause-memory

@@ -1,8 +1,8 @@
 use Rattle.std.proofs.Common.{◌<◌, length, arith}
 use Rattle.trdp_model.specs.Configs.{setup_of}
 use Rattle.trdp_store.specs.Acting.{slot_at}
-use Rattle.trdp_model.proofs.FittingEvents.{subscription_fits}
-use Rattle.trdp_store.proofs.Tables.{slot_there}
+use Rattle.trdp_model.proofs.FitEvents.{subscription_fits}
+use Rattle.trdp_store.proofs.StoreLemmas.Slots.{slot_there}
 use Rattle.trdp_engine.proofs.node.Node.value_of.Goals as goal
 
 pub item_shown-requires : goal.item_shown-requires

@@ -1,7 +1,7 @@
 use Rattle.std.proofs.Common.{sym, arith, vec_capacity}
 use Rattle.trdp_index.specs.ComRows.{com_row_rank, is_same_com}
 use Rattle.trdp_index.specs.Rows.{row_of}
-use Rattle.trdp_index.proofs.Rows.{filter-with_row, IsKept-with_row, none_from_is_some}
+use Rattle.trdp_index.proofs.RowLemmas.{filter-with_row, IsKept-with_row, none_from_is_some}
 use Rattle.trdp_index.proofs.com_index.ComIndex.insert.Goals as goal
 
 pub invariant_of-self : goal.invariant_of-self

@@ -1,8 +1,8 @@
 use Rattle.std.proofs.Common.{not, refl, ◌∙◌, sym, ap}
 use Rattle.trdp_index.specs.ComRows.{com_rank, com_row_rank, is_same_com, run_of}
 use Rattle.trdp_index.specs.Ranks.{is_same}
-use Rattle.trdp_index.proofs.Rows.{filter-swap, IsKept-without}
-use Rattle.trdp_index.proofs.Searching.{has_found}
+use Rattle.trdp_index.proofs.RowLemmas.{filter-swap, IsKept-without}
+use Rattle.trdp_index.proofs.SearchLemmas.{has_found}
 use Rattle.trdp_index.proofs.com_index.ComIndex.remove.Goals as goal
 
 pub invariant_of-self : goal.invariant_of-self

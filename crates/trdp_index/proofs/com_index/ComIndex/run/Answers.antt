@@ -1,5 +1,5 @@
 use Rattle.trdp_index.specs.ComRows.{com_row_rank, is_same_com}
-use Rattle.trdp_index.proofs.Rows.{IsRising-filter}
+use Rattle.trdp_index.proofs.RowLemmas.{IsRising-filter}
 use Rattle.trdp_index.proofs.com_index.ComIndex.run.Goals as goal
 
 pub returns-clause-rising : goal.returns-clause-rising

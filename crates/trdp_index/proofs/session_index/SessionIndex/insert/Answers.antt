@@ -4,8 +4,8 @@ use Rattle.trdp_index.specs.declared.session_row.SessionRow.{SessionRow}
 use Rattle.trdp_index.specs.SessionRows.{session_rank, session_row, session_row_rank}
 use Rattle.trdp_index.specs.Ranks.{is_same}
 use Rattle.trdp_index.specs.Rows.{row_of}
-use Rattle.trdp_index.proofs.Rows.{row_of-with_row, option_map-if}
-use Rattle.trdp_index.proofs.Rows.{IsKept-with_row, none_from_option_map}
+use Rattle.trdp_index.proofs.RowLemmas.{row_of-with_row, option_map-if}
+use Rattle.trdp_index.proofs.RowLemmas.{IsKept-with_row, none_from_option_map}
 use Rattle.trdp_index.proofs.session_index.SessionIndex.insert.Goals as goal
 
 pub invariant_of-self : goal.invariant_of-self

@@ -4,9 +4,9 @@ use Rattle.trdp_index.specs.declared.session_row.SessionRow.{SessionRow}
 use Rattle.trdp_index.specs.Ranks.{is_same}
 use Rattle.trdp_index.specs.Rows.{row_of}
 use Rattle.trdp_index.specs.SessionRows.{session_rank, session_row_rank}
-use Rattle.trdp_index.proofs.Rows.{row_of-without, option_map-if}
-use Rattle.trdp_index.proofs.Rows.{IsKept-without, is_some-option_map}
-use Rattle.trdp_index.proofs.Searching.{has_found}
+use Rattle.trdp_index.proofs.RowLemmas.{row_of-without, option_map-if}
+use Rattle.trdp_index.proofs.RowLemmas.{IsKept-without, is_some-option_map}
+use Rattle.trdp_index.proofs.SearchLemmas.{has_found}
 use Rattle.trdp_index.proofs.session_index.SessionIndex.remove.Goals as goal
 
 pub invariant_of-self : goal.invariant_of-self

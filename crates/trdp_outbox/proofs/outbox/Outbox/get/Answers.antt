@@ -1,5 +1,5 @@
 use Rattle.std.proofs.Common.{sym}
-use Rattle.trdp_outbox.proofs.Rows.{AllWithin-get, no_record, some_record}
+use Rattle.trdp_outbox.proofs.RowLemmas.{AllWithin-get, no_record, some_record}
 use Rattle.trdp_outbox.proofs.outbox.Outbox.get.Goals as goal
 
 pub part-requires : goal.part-requires

@@ -1,5 +1,5 @@
 use Rattle.std.proofs.Common.{arith}
-use Rattle.trdp_outbox.proofs.Rows.{AllWithin-push}
+use Rattle.trdp_outbox.proofs.RowLemmas.{AllWithin-push}
 use Rattle.trdp_outbox.proofs.outbox.Outbox.push.Goals as goal
 
 pub invariant_of-self : goal.invariant_of-self

@@ -1,6 +1,6 @@
 use Rattle.std.proofs.Common.{◌≡◌, length, arith, ap, length-append}
 use Rattle.trdp_head.specs.PdBytes.{pd_bytes}
-use Rattle.trdp_outbox.proofs.Rows.{AllWithin-row, records-push}
+use Rattle.trdp_outbox.proofs.RowLemmas.{AllWithin-row, records-push}
 use Rattle.trdp_outbox.proofs.outbox.Outbox.push_pd.Goals as goal
 
 pub invariant_of-self : goal.invariant_of-self

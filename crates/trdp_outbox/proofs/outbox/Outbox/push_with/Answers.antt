@@ -1,5 +1,5 @@
 use Rattle.std.proofs.Common.{◌≡◌, length, arith}
-use Rattle.trdp_outbox.proofs.Rows.{AllWithin-row, records-push}
+use Rattle.trdp_outbox.proofs.RowLemmas.{AllWithin-row, records-push}
 use Rattle.trdp_outbox.proofs.outbox.Outbox.push_with.Goals as goal
 
 pub invariant_of-self : goal.invariant_of-self

@@ -1,4 +1,4 @@
-use Rattle.trdp_store.proofs.Sizes.{schedule_admits}
+use Rattle.trdp_store.proofs.OrderLemmas.Rooms.{schedule_admits}
 use Rattle.trdp_store.proofs.schedule.Schedule.admit.Goals as goal
 
 pub invariant_of-self : goal.invariant_of-self

@@ -1,7 +1,7 @@
 use Rattle.std.proofs.Common.{◌∙◌, sym, ap}
 use Rattle.std.proofs.lemmas.Bool.{false≢true}
 use Rattle.trdp_store.specs.Timed.{order_at}
-use Rattle.trdp_store.proofs.Sizes.{same_due, due_same, set_again}
+use Rattle.trdp_store.proofs.OrderLemmas.Rooms.{same_due, due_same, set_again}
 use Rattle.trdp_store.proofs.schedule.Schedule.change.Goals as goal
 
 pub returns-then-is_same_due-clause-orders : goal.returns-then-is_same_due-clause-orders

@@ -1,4 +1,4 @@
-use Rattle.trdp_store.proofs.Sizes.{rows_fit, bytes_fit}
+use Rattle.trdp_store.proofs.OrderLemmas.Rooms.{rows_fit, bytes_fit}
 use Rattle.trdp_store.proofs.schedule.Schedule.due_room.Goals as goal
 
 pub due_totals-rows-requires-clause-first_fits : goal.due_totals-rows-requires-clause-first_fits

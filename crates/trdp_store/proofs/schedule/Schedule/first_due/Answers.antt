@@ -1,5 +1,5 @@
 use Rattle.std.proofs.Common.{arith}
-use Rattle.trdp_store.proofs.NextDue.{none_due_after}
+use Rattle.trdp_store.proofs.DueLemmas.Next.{none_due_after}
 use Rattle.trdp_store.proofs.schedule.Schedule.first_due.Goals as goal
 
 pub returns-then-order-t-clause-first : goal.returns-then-order-t-clause-first

@@ -1,6 +1,6 @@
 use Rattle.std.proofs.Common.{◌-◌, length, None, is_ok}
-use Rattle.trdp_store.proofs.Grown.{padded_if, kept_schedule}
-use Rattle.trdp_store.proofs.Grown.{schedule_rows, schedule_grown}
+use Rattle.trdp_store.proofs.OrderLemmas.Grown.{padded_if, kept_schedule}
+use Rattle.trdp_store.proofs.OrderLemmas.Grown.{schedule_rows, schedule_grown}
 use Rattle.trdp_store.proofs.schedule.Schedule.grow.Goals as goal
 
 pub invariant_of-self-in_err-lengthen-2 : goal.invariant_of-self-in_err-lengthen-2

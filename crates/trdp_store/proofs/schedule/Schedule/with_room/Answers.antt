@@ -1,6 +1,6 @@
 use Rattle.std.proofs.Common.{◌∙◌, ap, length}
 use Rattle.std.proofs.lemmas.List.{length-replicate}
-use Rattle.trdp_store.proofs.Sizes.{schedule_new}
+use Rattle.trdp_store.proofs.OrderLemmas.Rooms.{schedule_new}
 use Rattle.trdp_store.proofs.schedule.Schedule.with_room.Goals as goal
 
 pub invariant_of-result : goal.invariant_of-result

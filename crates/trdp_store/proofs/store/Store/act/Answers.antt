@@ -3,15 +3,15 @@ use Rattle.std.specs.Prelude.{option_map}
 use Rattle.trdp_model.specs.Objects.{due_of}
 use Rattle.trdp_table.specs.Tables.{Keyed, room_of, exchanged}
 use Rattle.trdp_store.specs.Timed.{order_at}
-use Rattle.trdp_store.proofs.Tables.{reached, reached_entry, none_found}
-use Rattle.trdp_store.proofs.Stored.{indexed_reached}
-use Rattle.trdp_store.proofs.OfKind.{reached_kinds}
-use Rattle.trdp_store.proofs.InSession.{session_reached}
-use Rattle.trdp_store.proofs.Retimed.{room_exchanged, scheduled_reached}
-use Rattle.trdp_store.proofs.Retimed.{reached_then, reached_order}
-use Rattle.trdp_store.proofs.Sizes.{over_costs}
-use Rattle.trdp_store.proofs.OrderCounts.{reset_costs}
-use Rattle.trdp_store.proofs.ActLemmas.{asked_stays, asked_ended}
+use Rattle.trdp_store.proofs.StoreLemmas.Slots.{reached, reached_entry, none_found}
+use Rattle.trdp_store.proofs.ComLemmas.Kept.{indexed_reached}
+use Rattle.trdp_store.proofs.StoreLemmas.Kinds.{reached_kinds}
+use Rattle.trdp_store.proofs.SessionLemmas.Kept.{session_reached}
+use Rattle.trdp_store.proofs.OrderLemmas.Changed.{room_exchanged, scheduled_reached}
+use Rattle.trdp_store.proofs.OrderLemmas.Changed.{reached_then, reached_order}
+use Rattle.trdp_store.proofs.OrderLemmas.Rooms.{over_costs}
+use Rattle.trdp_store.proofs.OrderLemmas.Counts.{reset_costs}
+use Rattle.trdp_store.proofs.StoreLemmas.Acts.{asked_stays, asked_ended}
 use Rattle.trdp_store.proofs.store.Store.act.Goals as goal
 
 pub returns-in_err-key-clause-found : goal.returns-in_err-key-clause-found

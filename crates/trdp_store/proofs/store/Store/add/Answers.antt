@@ -4,13 +4,13 @@ use Rattle.trdp_model.specs.Kinds.{kind_of}
 use Rattle.trdp_table.specs.Tables.{room_of}
 use Rattle.trdp_store.specs.declared.counts.Counts.{Counts}
 use Rattle.trdp_table.specs.Refusals.{table_refusal}
-use Rattle.trdp_store.proofs.Timed.{added_scheduled, added_within}
-use Rattle.trdp_store.proofs.Sizes.{kind_rows, kind_bytes}
-use Rattle.trdp_store.proofs.OrderCounts.{orders_counted, added_costs}
-use Rattle.trdp_store.proofs.Stored.{has_spare, is_fresh, added_index, added_there}
-use Rattle.trdp_store.proofs.InSession.{session_spare, added_session}
-use Rattle.trdp_store.proofs.HasSession.{session_fresh}
-use Rattle.trdp_store.proofs.OfKind.{added_kinds, refused_alike}
+use Rattle.trdp_store.proofs.OrderLemmas.Added.{added_scheduled, added_within}
+use Rattle.trdp_store.proofs.OrderLemmas.Rooms.{kind_rows, kind_bytes}
+use Rattle.trdp_store.proofs.OrderLemmas.Counts.{orders_counted, added_costs}
+use Rattle.trdp_store.proofs.ComLemmas.Kept.{has_spare, is_fresh, added_index, added_there}
+use Rattle.trdp_store.proofs.SessionLemmas.Kept.{session_spare, added_session}
+use Rattle.trdp_store.proofs.SessionLemmas.Open.{session_fresh}
+use Rattle.trdp_store.proofs.StoreLemmas.Kinds.{added_kinds, refused_alike}
 use Rattle.trdp_store.proofs.store.Store.add.Goals as goal
 use Rattle.trdp_store.proofs.store.Store.add.Goals.{in-Some, in_default}
 

@@ -1,5 +1,5 @@
 use Rattle.std.proofs.Common.{arith}
-use Rattle.trdp_store.proofs.Weighing.{due_rooms, due_counted}
+use Rattle.trdp_store.proofs.DueLemmas.Room.{due_rooms, due_counted}
 use Rattle.trdp_store.proofs.store.Store.due_room.Goals as goal
 
 pub returns-clause-room : goal.returns-clause-room

@@ -1,6 +1,6 @@
 use Rattle.std.proofs.Common.{◌∙◌, sym, ap, Some}
 use Rattle.std.proofs.lemmas.Option.{none-some}
-use Rattle.trdp_store.proofs.SessionOwners.{key_told, owner_told, owner_there, nobody_told}
+use Rattle.trdp_store.proofs.SessionLemmas.Owners.{key_told, owner_told, owner_there, nobody_told}
 use Rattle.trdp_store.proofs.store.Store.handle_in.Goals as goal
 
 pub returns-in_err-key-clause-alone : goal.returns-in_err-key-clause-alone

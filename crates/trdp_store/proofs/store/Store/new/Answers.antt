@@ -1,9 +1,9 @@
 use Rattle.std.proofs.Common.{arith}
-use Rattle.trdp_store.proofs.Stored.{indexed_new}
-use Rattle.trdp_store.proofs.InSession.{session_new}
-use Rattle.trdp_store.proofs.Timed.{scheduled_new}
-use Rattle.trdp_store.proofs.OfKind.{new_kinds}
-use Rattle.trdp_store.proofs.Sizes.{room_limited}
+use Rattle.trdp_store.proofs.ComLemmas.Kept.{indexed_new}
+use Rattle.trdp_store.proofs.SessionLemmas.Kept.{session_new}
+use Rattle.trdp_store.proofs.OrderLemmas.Added.{scheduled_new}
+use Rattle.trdp_store.proofs.StoreLemmas.Kinds.{new_kinds}
+use Rattle.trdp_store.proofs.OrderLemmas.Rooms.{room_limited}
 use Rattle.trdp_store.proofs.store.Store.new.Goals as goal
 
 pub with_room-requires-3 : goal.with_room-requires-3

@@ -1,4 +1,4 @@
-use Rattle.trdp_store.proofs.NextDue.{comes_first}
+use Rattle.trdp_store.proofs.DueLemmas.Next.{comes_first}
 use Rattle.trdp_store.proofs.store.Store.next_due.Goals as goal
 
 pub returns-clause-next : goal.returns-clause-next

@@ -1,7 +1,7 @@
 use Rattle.std.proofs.Common.{length, ap, arith}
-use Rattle.trdp_store.proofs.AddedStores.{roomier_in_session, roomier_indexed, store_opened}
-use Rattle.trdp_store.proofs.Grown.{scheduled_kept}
-use Rattle.trdp_store.proofs.Sizes.{slots_room}
+use Rattle.trdp_store.proofs.StoreLemmas.Opened.{roomier_in_session, roomier_indexed, store_opened}
+use Rattle.trdp_store.proofs.OrderLemmas.Grown.{scheduled_kept}
+use Rattle.trdp_store.proofs.OrderLemmas.Rooms.{slots_room}
 use Rattle.trdp_store.proofs.store.Store.open_slot.Goals as goal
 
 pub overflow_add-room : goal.overflow_add-room

@@ -1,4 +1,4 @@
-use Rattle.trdp_store.proofs.OfKind.{refused_alike}
+use Rattle.trdp_store.proofs.StoreLemmas.Kinds.{refused_alike}
 use Rattle.trdp_store.proofs.store.Store.refuses.Goals as goal
 
 pub returns : goal.returns

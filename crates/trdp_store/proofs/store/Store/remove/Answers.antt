@@ -5,15 +5,15 @@ use Rattle.trdp_table.specs.Tables.{Keyed, TableState, slot_in, all_objects}
 use Rattle.trdp_table.specs.Tables.{by_handle, by_key, room_of}
 use Rattle.trdp_store.specs.Indexed.{com_found}
 use Rattle.trdp_store.specs.InSession.{session_found, session_in}
-use Rattle.trdp_store.proofs.Tables.{KeysGive, keyed_found}
+use Rattle.trdp_store.proofs.StoreLemmas.Slots.{KeysGive, keyed_found}
 use Rattle.trdp_store.specs.Timed.{order_at}
-use Rattle.trdp_store.proofs.Delisted.{com_in}
-use Rattle.trdp_store.proofs.Stored.{is_there, indexed_removed}
-use Rattle.trdp_store.proofs.InSession.{session_removed}
-use Rattle.trdp_store.proofs.Untimed.{without_order, scheduled_without}
-use Rattle.trdp_store.proofs.OrderCounts.{orders_counted}
-use Rattle.trdp_store.proofs.HasSession.{session_there}
-use Rattle.trdp_store.proofs.OfKind.{removed_kinds}
+use Rattle.trdp_store.proofs.ComLemmas.Removed.{com_in}
+use Rattle.trdp_store.proofs.ComLemmas.Kept.{is_there, indexed_removed}
+use Rattle.trdp_store.proofs.SessionLemmas.Kept.{session_removed}
+use Rattle.trdp_store.proofs.OrderLemmas.Removed.{without_order, scheduled_without}
+use Rattle.trdp_store.proofs.OrderLemmas.Counts.{orders_counted}
+use Rattle.trdp_store.proofs.SessionLemmas.Open.{session_there}
+use Rattle.trdp_store.proofs.StoreLemmas.Kinds.{removed_kinds}
 use Rattle.trdp_store.proofs.store.Store.remove.Goals as goal
 
 com_known : (table : TableState) (s h key : ℕ) → KeysGive table

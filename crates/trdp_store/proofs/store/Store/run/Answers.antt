@@ -1,6 +1,6 @@
 use Rattle.std.proofs.Common.{◌<◌, ◌^◌, arith}
 use Rattle.trdp_table.specs.Tables.{room_of}
-use Rattle.trdp_store.proofs.RowCounts.{run_few, rows_few}
+use Rattle.trdp_store.proofs.ComLemmas.Counts.{run_few, rows_few}
 use Rattle.trdp_store.proofs.store.Store.run.Goals as goal
 
 pub returns-clause-few : goal.returns-clause-few

@@ -1,5 +1,5 @@
 use Rattle.std.proofs.Common.{◌∙◌, sym, ap, is_some}
-use Rattle.trdp_store.proofs.HasSession.{part_there, looked_up}
+use Rattle.trdp_store.proofs.SessionLemmas.Open.{part_there, looked_up}
 use Rattle.trdp_store.proofs.store.Store.session.Goals as goal
 
 pub returns-clause-key : goal.returns-clause-key

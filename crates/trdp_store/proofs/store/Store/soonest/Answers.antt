@@ -1,4 +1,4 @@
-use Rattle.trdp_store.proofs.Soonest.{none_is_next, first_is_next}
+use Rattle.trdp_store.proofs.DueLemmas.Soonest.{none_is_next, first_is_next}
 use Rattle.trdp_store.proofs.store.Store.soonest.Goals as goal
 
 pub returns-in_err-order : goal.returns-in_err-order

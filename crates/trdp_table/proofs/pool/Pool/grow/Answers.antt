@@ -1,7 +1,7 @@
 use Rattle.std.proofs.Common.{◌≡◌, vec_capacity, ap, arith}
 use Rattle.slab.specs.Slab.{Slab}
 use Rattle.trdp_table.specs.declared.held.Held.{Held}
-use Rattle.trdp_table.proofs.PoolGrowth.{kept_wider, kept_keys, seen_keys}
+use Rattle.trdp_table.proofs.PoolLemmas.Growth.{kept_wider, kept_keys, seen_keys}
 use Rattle.trdp_table.proofs.pool.Pool.grow.Goals as goal
 
 pub invariant_of-self-in_err-reserve_exact-3 : goal.invariant_of-self-in_err-reserve_exact-3

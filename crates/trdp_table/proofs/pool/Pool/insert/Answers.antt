@@ -1,9 +1,9 @@
 use Rattle.std.proofs.Common.{ℕ, List, subst, [], ◌∷◌, ◌++◌, refl, vec_capacity, arith}
 use Rattle.std.proofs.lemmas.List.{length-map}
 use Rattle.trdp_table.specs.Pools.{placed, IsKeptPool}
-use Rattle.trdp_table.proofs.PoolChanges.{some_free, slab_room, last_free}
-use Rattle.trdp_table.proofs.Pools.{held_at}
-use Rattle.trdp_table.proofs.PoolChanges.{kept_insert, seen_insert}
+use Rattle.trdp_table.proofs.PoolLemmas.Changes.{some_free, slab_room, last_free}
+use Rattle.trdp_table.proofs.PoolLemmas.Places.{held_at}
+use Rattle.trdp_table.proofs.PoolLemmas.Changes.{kept_insert, seen_insert}
 use Rattle.trdp_table.proofs.pool.Pool.insert.Goals as goal
 
 pub unreachable-requires : goal.unreachable-requires

@@ -1,7 +1,7 @@
 use Rattle.std.proofs.Common.{◌≡◌, ◌∙◌, get_or, map, Some, None, refl, ap, vec_capacity}
 use Rattle.trdp_table.specs.Pools.{placed, held_in}
-use Rattle.trdp_table.proofs.Pools.{held_at}
-use Rattle.trdp_table.proofs.PoolChanges.{place_there, kept_lent, seen_lent}
+use Rattle.trdp_table.proofs.PoolLemmas.Places.{held_at}
+use Rattle.trdp_table.proofs.PoolLemmas.Changes.{place_there, kept_lent, seen_lent}
 use Rattle.trdp_table.proofs.pool.Pool.object_mut.Goals as goal
 
 pub place_of-place-requires : goal.place_of-place-requires

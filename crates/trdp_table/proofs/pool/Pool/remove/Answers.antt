@@ -1,5 +1,5 @@
 use Rattle.std.proofs.Common.{◌≡◌, get_or, Some, None, vec_capacity, arith}
-use Rattle.trdp_table.proofs.PoolChanges.{place_there, list_room, kept_remove, seen_remove}
+use Rattle.trdp_table.proofs.PoolLemmas.Changes.{place_there, list_room, kept_remove, seen_remove}
 use Rattle.trdp_table.proofs.pool.Pool.remove.Goals as goal
 
 pub place_of-place-requires : goal.place_of-place-requires

@@ -1,6 +1,6 @@
 use Rattle.std.proofs.Common.{arith}
 use Rattle.trdp_table.specs.Entries.{SlotEntries}
-use Rattle.trdp_table.proofs.Slots.{has_room, IsKept-add}
+use Rattle.trdp_table.proofs.SlotLemmas.Kept.{has_room, IsKept-add}
 use Rattle.trdp_table.proofs.slot.Slot.add.Goals as goal
 
 pub push_reserved-requires : goal.push_reserved-requires

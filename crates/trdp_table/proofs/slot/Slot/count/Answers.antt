@@ -1,6 +1,6 @@
 use Rattle.std.proofs.Common.{arith}
 use Rattle.trdp_table.specs.Entries.{SlotEntries}
-use Rattle.trdp_table.proofs.Slots.{few_objects}
+use Rattle.trdp_table.proofs.SlotLemmas.Kept.{few_objects}
 use Rattle.trdp_table.proofs.slot.Slot.count.Goals as goal
 
 pub returns-clause-within : goal.returns-clause-within

@@ -1,7 +1,7 @@
 use Rattle.std.proofs.Common.{◌≤◌, arith}
 use Rattle.trdp_table.specs.Tables.{last_handle}
 use Rattle.trdp_table.specs.Entries.{SlotEntries}
-use Rattle.trdp_table.proofs.Slots.{IsKept-next}
+use Rattle.trdp_table.proofs.SlotLemmas.Kept.{IsKept-next}
 use Rattle.trdp_table.proofs.slot.Slot.raise.Goals as goal
 
 pub invariant_of-self : goal.invariant_of-self

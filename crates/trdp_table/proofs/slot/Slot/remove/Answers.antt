@@ -1,7 +1,7 @@
 use Rattle.std.proofs.Common.{List, refl, ap}
 use Rattle.trdp_table.specs.declared.entry.Entry.{Entry}
 use Rattle.trdp_table.specs.Entries.{SlotEntries}
-use Rattle.trdp_table.proofs.Slots.{same_without, gone, some_of_kind, IsKept-remove}
+use Rattle.trdp_table.proofs.SlotLemmas.Kept.{same_without, gone, some_of_kind, IsKept-remove}
 use Rattle.trdp_table.proofs.slot.Slot.remove.Goals as goal
 
 pub returns-in_err-index-clause-slot : goal.returns-in_err-index-clause-slot

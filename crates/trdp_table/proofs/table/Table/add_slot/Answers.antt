@@ -2,7 +2,7 @@ use Rattle.std.proofs.Common.{rules, ◌<◌, ◌∙◌, length, ap}
 use Rattle.trdp_model.specs.Slots.{slot_limit}
 use Rattle.trdp_table.specs.Tables.{room_of}
 use Rattle.trdp_table.specs.TableKept.{table_seen}
-use Rattle.trdp_table.proofs.Opening.{IsKeptTable-opened, slot_opened, room_opened}
+use Rattle.trdp_table.proofs.TableLemmas.Opened.{IsKeptTable-opened, slot_opened, room_opened}
 use Rattle.trdp_table.proofs.table.Table.add_slot.Goals as goal
 
 pub invariant_of-self-2 : goal.invariant_of-self-2

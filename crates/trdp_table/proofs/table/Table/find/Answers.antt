@@ -1,6 +1,6 @@
 use Rattle.std.proofs.Common.{sym}
-use Rattle.trdp_table.proofs.Known.{within_slots}
-use Rattle.trdp_table.proofs.Tables.{slot_read, found_key}
+use Rattle.trdp_table.proofs.TableLemmas.Known.{within_slots}
+use Rattle.trdp_table.proofs.TableLemmas.Found.{slot_read, found_key}
 use Rattle.trdp_table.proofs.table.Table.find.Goals as goal
 
 pub returns : goal.returns

@@ -1,4 +1,4 @@
-use Rattle.trdp_table.proofs.Tables.{object_held}
+use Rattle.trdp_table.proofs.TableLemmas.Found.{object_held}
 use Rattle.trdp_table.proofs.table.Table.get.Goals as goal
 
 pub returns : goal.returns

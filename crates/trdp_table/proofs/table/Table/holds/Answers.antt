@@ -1,4 +1,4 @@
-use Rattle.trdp_table.proofs.Tables.{some_held}
+use Rattle.trdp_table.proofs.TableLemmas.Found.{some_held}
 use Rattle.trdp_table.proofs.table.Table.holds.Goals as goal
 
 pub returns : goal.returns

@@ -1,8 +1,8 @@
 use Rattle.trdp_model.specs.Kinds.{kind_of}
-use Rattle.trdp_table.proofs.Known.{within_slots, granted}
-use Rattle.trdp_table.proofs.Tables.{slot_read}
-use Rattle.trdp_table.proofs.Changes.{pool_room, IsKeptTable-add}
-use Rattle.trdp_table.proofs.SeenChanges.{adds}
+use Rattle.trdp_table.proofs.TableLemmas.Known.{within_slots, granted}
+use Rattle.trdp_table.proofs.TableLemmas.Found.{slot_read}
+use Rattle.trdp_table.proofs.TableLemmas.Kept.{pool_room, IsKeptTable-add}
+use Rattle.trdp_table.proofs.TableLemmas.SeenChanges.{adds}
 use Rattle.trdp_table.proofs.table.Table.install.Goals as goal
 
 pub insert-key-requires : goal.insert-key-requires

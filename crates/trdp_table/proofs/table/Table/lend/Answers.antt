@@ -1,6 +1,6 @@
 use Rattle.std.proofs.Common.{◌∙◌, refl}
-use Rattle.trdp_table.proofs.Tables.{some_held, object_held}
-use Rattle.trdp_table.proofs.Known.{some_lent}
+use Rattle.trdp_table.proofs.TableLemmas.Found.{some_held, object_held}
+use Rattle.trdp_table.proofs.TableLemmas.Known.{some_lent}
 use Rattle.trdp_table.proofs.table.Table.lend.Goals as goal
 
 pub object_mut-requires : goal.object_mut-requires

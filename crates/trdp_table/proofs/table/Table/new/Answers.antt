@@ -1,4 +1,4 @@
-use Rattle.trdp_table.proofs.Known.{opened_kept, opened_seen}
+use Rattle.trdp_table.proofs.TableLemmas.Known.{opened_kept, opened_seen}
 use Rattle.trdp_table.proofs.table.Table.new.Goals as goal
 
 pub invariant_of-result : goal.invariant_of-result

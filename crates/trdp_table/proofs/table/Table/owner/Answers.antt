@@ -1,5 +1,5 @@
 use Rattle.std.proofs.Common.{◌∙◌}
-use Rattle.trdp_table.proofs.Tables.{owner_is, owner_there, some_held}
+use Rattle.trdp_table.proofs.TableLemmas.Found.{owner_is, owner_there, some_held}
 use Rattle.trdp_table.proofs.table.Table.owner.Goals as goal
 
 pub returns-clause-owner : goal.returns-clause-owner

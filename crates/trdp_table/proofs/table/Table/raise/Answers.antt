@@ -1,9 +1,9 @@
 use Rattle.std.proofs.Common.{◌≤◌, arith}
 use Rattle.trdp_table.specs.Tables.{last_handle}
-use Rattle.trdp_table.proofs.Known.{within_slots}
-use Rattle.trdp_table.proofs.Tables.{slot_read}
-use Rattle.trdp_table.proofs.Changes.{IsKeptTable-next}
-use Rattle.trdp_table.proofs.SeenChanges.{next_seen}
+use Rattle.trdp_table.proofs.TableLemmas.Known.{within_slots}
+use Rattle.trdp_table.proofs.TableLemmas.Found.{slot_read}
+use Rattle.trdp_table.proofs.TableLemmas.Kept.{IsKeptTable-next}
+use Rattle.trdp_table.proofs.TableLemmas.SeenChanges.{next_seen}
 use Rattle.trdp_table.proofs.table.Table.raise.Goals as goal
 
 pub invariant_of-self : goal.invariant_of-self

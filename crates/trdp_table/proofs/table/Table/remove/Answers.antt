@@ -1,11 +1,11 @@
 use Rattle.std.proofs.Common.{◌≡◌, ◌∙◌, Some, None, sym}
 use Rattle.trdp_table.specs.Entries.{entries_in, key_of}
-use Rattle.trdp_table.proofs.Known.{within_slots}
-use Rattle.trdp_table.proofs.Tables.{slot_read}
-use Rattle.trdp_table.proofs.Changes.{found_is_held}
-use Rattle.trdp_table.proofs.SeenChanges.{same_slots, nothing_found, gone_seen}
-use Rattle.trdp_table.proofs.Changes.{IsKeptTable-remove}
-use Rattle.trdp_table.proofs.SeenChanges.{found_object, remove_seen}
+use Rattle.trdp_table.proofs.TableLemmas.Known.{within_slots}
+use Rattle.trdp_table.proofs.TableLemmas.Found.{slot_read}
+use Rattle.trdp_table.proofs.TableLemmas.Kept.{found_is_held}
+use Rattle.trdp_table.proofs.TableLemmas.SeenChanges.{same_slots, nothing_found, gone_seen}
+use Rattle.trdp_table.proofs.TableLemmas.Kept.{IsKeptTable-remove}
+use Rattle.trdp_table.proofs.TableLemmas.SeenChanges.{found_object, remove_seen}
 use Rattle.trdp_table.proofs.table.Table.remove.Goals as goal
 
 pub invariant_of-self : goal.invariant_of-self

@@ -1,5 +1,6 @@
-use Rattle.trdp_table.proofs.Tables.{IsTable-kept, found_by_key, listed, exchanged_alone}
-use Rattle.trdp_table.proofs.Known.{table_room, table_spare}
+use Rattle.trdp_table.proofs.TableLemmas.Found.{IsTable-kept, found_by_key, listed}
+use Rattle.trdp_table.proofs.TableLemmas.Found.{exchanged_alone}
+use Rattle.trdp_table.proofs.TableLemmas.Known.{table_room, table_spare}
 use Rattle.trdp_table.proofs.table.Table.sound.Goals as goal
 
 pub returns-clause-sound : goal.returns-clause-sound

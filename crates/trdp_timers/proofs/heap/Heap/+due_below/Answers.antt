@@ -1,7 +1,7 @@
 use Rattle.std.proofs.Common.{length, sym, arith}
-use Rattle.trdp_timers.proofs.DueSizes.{none_below, unset_size, unset_one, least_due}
-use Rattle.trdp_timers.proofs.DueSizes.{add_left, add_right, total_is, total_fits}
-use Rattle.trdp_timers.proofs.DueSizes.{count_due_left, count_due_right, costs_due}
+use Rattle.trdp_timers.proofs.DueLemmas.{none_below, unset_size, unset_one, least_due}
+use Rattle.trdp_timers.proofs.DueLemmas.{add_left, add_right, total_is, total_fits}
+use Rattle.trdp_timers.proofs.DueLemmas.{count_due_left, count_due_right, costs_due}
 use Rattle.trdp_timers.proofs.heap.Heap.+due_below.Goals as goal
 
 pub returns-then-place-len-clause-first_total : goal.returns-then-place-len-clause-first_total

@@ -1,8 +1,8 @@
 use Rattle.std.proofs.Common.{◌≤◌, ◌/◌, ◌∙◌, length, sym, arith}
 use Rattle.trdp_timers.specs.Heap.{order_at}
-use Rattle.trdp_timers.proofs.Steps.{settled, sunk}
-use Rattle.trdp_timers.proofs.Ranks.{leads_trans, leads_before}
-use Rattle.trdp_timers.proofs.Paths.{count_down, cost_down}
+use Rattle.trdp_timers.proofs.StepLemmas.{settled, sunk}
+use Rattle.trdp_timers.proofs.OrderLemmas.{leads_trans, leads_before}
+use Rattle.trdp_timers.proofs.PathLemmas.{count_down, cost_down}
 use Rattle.trdp_timers.proofs.heap.Heap.+sink.Goals as goal
 
 pub returns-then-place-len-clause-order : goal.returns-then-place-len-clause-order

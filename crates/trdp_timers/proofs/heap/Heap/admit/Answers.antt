@@ -1,6 +1,6 @@
 use Rattle.std.proofs.Common.{◌∙◌, sym, arith}
 use Rattle.std.proofs.Common.{vec_capacity}
-use Rattle.trdp_timers.proofs.Admitting.{new_fits}
+use Rattle.trdp_timers.proofs.KeyLemmas.{new_fits}
 use Rattle.trdp_timers.proofs.heap.Heap.admit.Goals as goal
 
 pub returns-clause-order : goal.returns-clause-order

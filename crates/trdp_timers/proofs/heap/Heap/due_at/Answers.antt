@@ -1,6 +1,6 @@
 use Rattle.std.proofs.Common.{◌∙◌, sym, ap}
 use Rattle.trdp_timers.specs.Orders.{is_due_by}
-use Rattle.trdp_timers.proofs.DueSizes.{weight_size}
+use Rattle.trdp_timers.proofs.DueLemmas.{weight_size}
 use Rattle.trdp_timers.proofs.heap.Heap.due_at.Goals as goal
 
 pub returns-clause-first : goal.returns-clause-first

@@ -1,7 +1,7 @@
 use Rattle.std.proofs.Common.{◌<◌, ◌+◌, ◌*◌, ◌∙◌, length, sym, arith}
 use Rattle.trdp_timers.specs.Heap.{order_at}
-use Rattle.trdp_timers.proofs.Ranks.{leads_refl, leads_before}
-use Rattle.trdp_timers.proofs.Steps.{of_two}
+use Rattle.trdp_timers.proofs.OrderLemmas.{leads_refl, leads_before}
+use Rattle.trdp_timers.proofs.StepLemmas.{of_two}
 use Rattle.trdp_timers.proofs.heap.Heap.first_below.Goals as goal
 use Rattle.trdp_timers.proofs.heap.Heap.first_below.Goals.{else-right-len-via-then-right-len+else-is_ahead}
 use Rattle.trdp_timers.proofs.heap.Heap.first_below.Goals.{else-right-len-via-else-right-len}

@@ -1,6 +1,6 @@
 use Rattle.std.proofs.Common.{◌≡◌, get_or, arith}
 use Rattle.std.proofs.lemmas.List.{get_or_read}
-use Rattle.trdp_timers.proofs.Admitting.{set_within}
+use Rattle.trdp_timers.proofs.KeyLemmas.{set_within}
 use Rattle.trdp_timers.proofs.heap.Heap.order_of.Goals as goal
 
 pub index-requires-2 : goal.index-requires-2

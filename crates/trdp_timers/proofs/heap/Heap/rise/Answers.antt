@@ -1,8 +1,8 @@
 use Rattle.std.proofs.Common.{◌-◌, ◌/◌, ◌∙◌, length, refl, sym, arith, rules}
 use Rattle.trdp_timers.specs.Heap.{order_at}
-use Rattle.trdp_timers.proofs.Steps.{settled, risen}
-use Rattle.trdp_timers.proofs.Ranks.{leads_trans, leads_before}
-use Rattle.trdp_timers.proofs.Paths.{count_up, cost_step, cost_end}
+use Rattle.trdp_timers.proofs.StepLemmas.{settled, risen}
+use Rattle.trdp_timers.proofs.OrderLemmas.{leads_trans, leads_before}
+use Rattle.trdp_timers.proofs.PathLemmas.{count_up, cost_step, cost_end}
 use Rattle.trdp_timers.proofs.heap.Heap.rise.Goals as goal
 
 pub returns-then-not-is_ahead-clause-order : goal.returns-then-not-is_ahead-clause-order

@@ -1,5 +1,5 @@
 use Rattle.std.proofs.Common.{arith}
-use Rattle.trdp_timers.proofs.Ranks.{leads_before}
+use Rattle.trdp_timers.proofs.OrderLemmas.{leads_before}
 use Rattle.trdp_timers.proofs.heap.Heap.settle.Goals as goal
 
 pub rise-requires-clause-order : goal.rise-requires-clause-order

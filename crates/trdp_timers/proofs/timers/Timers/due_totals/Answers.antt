@@ -1,7 +1,7 @@
 use Rattle.std.proofs.Common.{◌<◌, ◌≤◌, ◌^◌, ◌∙◌, length, sym, subst, arith}
 use Rattle.trdp_timers.specs.Contents.{TimersState}
-use Rattle.trdp_timers.proofs.DueSizes.{sum_sizes, count_due}
-use Rattle.trdp_timers.proofs.Totals.{sizes_weigh, ones_weigh}
+use Rattle.trdp_timers.proofs.DueLemmas.{sum_sizes, count_due}
+use Rattle.trdp_timers.proofs.TotalLemmas.{sizes_weigh, ones_weigh}
 use Rattle.trdp_timers.proofs.timers.Timers.due_totals.Goals as goal
 
 pub due_below-requires-clause-first_fits : goal.due_below-requires-clause-first_fits

@@ -2,7 +2,7 @@ use Rattle.std.proofs.Common.{◌≡◌, ◌≤◌, ◌-◌, ◌∙◌, ℕ, Lis
 use Rattle.std.proofs.Common.{◌++◌, replicate, vec_capacity}
 use Rattle.std.proofs.lemmas.List.{take_all}
 use Rattle.trdp_timers.specs.declared.order.Order.{Order}
-use Rattle.trdp_timers.proofs.Rooms.{kept_grown}
+use Rattle.trdp_timers.proofs.RoomLemmas.{kept_grown}
 use Rattle.trdp_timers.proofs.timers.Timers.grow.Goals as goal
 
 pub invariant_of-self-2 : goal.invariant_of-self-2

@@ -2,7 +2,7 @@ use Rattle.std.proofs.Common.{◌<◌, length, arith}
 use Rattle.std.proofs.Common.{vec_capacity}
 use Rattle.std.proofs.lemmas.List.{get_or_read}
 use Rattle.std.proofs.lemmas.Bool.Decides.{nat_tests}
-use Rattle.trdp_timers.proofs.Admitting.{first_is}
+use Rattle.trdp_timers.proofs.KeyLemmas.{first_is}
 use Rattle.trdp_timers.proofs.timers.Timers.peek.Goals as goal
 
 pub returns : goal.returns

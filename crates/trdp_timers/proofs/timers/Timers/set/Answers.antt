@@ -2,7 +2,7 @@ use Rattle.std.proofs.Common.{List, Option, Some, sym, subst}
 use Rattle.trdp_timers.specs.declared.order.Order.{Order}
 use Rattle.std.proofs.Common.{vec_capacity}
 use Rattle.trdp_timers.specs.Heap.{IsKept}
-use Rattle.trdp_timers.proofs.Admitting.{undone}
+use Rattle.trdp_timers.proofs.KeyLemmas.{undone}
 use Rattle.trdp_timers.proofs.timers.Timers.set.Goals as goal
 
 pub admit-place-requires-clause-kept : goal.admit-place-requires-clause-kept

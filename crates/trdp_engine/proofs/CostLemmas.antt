@@ -1,0 +1,5 @@
+-- Lemmas on what an event costs at most.
+pub mod Moments
+pub mod Telegrams
+pub mod Bounds
+pub mod Sums

@@ -1,0 +1,5 @@
+-- Lemmas on what is due: which object fires first, when, and what room all want.
+pub mod Room
+pub mod Next
+pub mod Soonest
+pub mod First

@@ -1,0 +1,8 @@
+-- Lemmas on the schedule, whose orders are those of the objects that are to fire.
+pub mod Counts
+pub mod Grown
+pub mod Added
+pub mod Removed
+pub mod Changed
+pub mod Rooms
+pub mod Over

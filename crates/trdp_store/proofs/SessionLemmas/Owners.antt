@@ -1,0 +1,68 @@
+-- The object whose key the index by session has.
+-- For `Store::handle_in`.
+-- By: the key's owner in the table is the one object of the slot in that session and role.
+use Rattle.std.proofs.Common.{◌≡◌, ◌≢◌, ℕ, zero, suc, ◌<◌, List, [], ◌∷◌, map, filter, Option, Some}
+use Rattle.std.proofs.Common.{None, Bool, true, false, is_some, refl, ◌∙◌, sym, ap, subst, arith}
+use Rattle.std.specs.Prelude.{slice_get, ◌==◌, ◌&&◌, option_map}
+use Rattle.std.proofs.lemmas.Bool.{false≢true}
+use Rattle.std.proofs.lemmas.Bool.Decides.{nat_tests}
+use Rattle.std.proofs.lemmas.List.Sums.{sum_by-cons}
+use Rattle.std.proofs.lemmas.Option.{same_Some, none-some}
+use Rattle.trdp_base.specs.declared.session.SessionId.{SessionId}
+use Rattle.trdp_head.specs.declared.md.MdKind.TheVariants as message
+use Rattle.trdp_table.specs.Tables.{Keyed, TableState, slot_in, all_objects, by_handle, by_key}
+use Rattle.trdp_index.specs.declared.session_row.Role.{Role}
+use Rattle.trdp_index.specs.SessionRows.{session_key}
+use Rattle.trdp_index.specs.SessionIndexes.{SessionIndexState}
+use Rattle.trdp_store.specs.InSession.{session_of, session_found, session_in, IsInSession}
+use Rattle.trdp_store.proofs.StoreLemmas.Slots.{KeysGive, handle_found}
+use Rattle.trdp_store.proofs.SessionLemmas.Open.{AreListed}
+
+-- the key of an object in the session is that of the index
+pub key_told : (table : TableState) (index : SessionIndexState)
+    (s i : ℕ) (own : SessionId × Role) (keyed : Keyed)
+    → IsInSession table index → AreListed table → slice_get (slot_in s table).objects i ≡ Some keyed
+    → session_of keyed.object ≡ Some own → session_key own.0 s own.1 index.rows ≡ Some keyed.key
+key_told table index s i own keyed is listed at of =
+    (is.slots s).held keyed.handle keyed own (listed s i keyed at) of
+
+pub owner_told : (table : TableState) (index : SessionIndexState)
+    (s i t h key : ℕ) (own : SessionId × Role) (keyed : Keyed) → IsInSession table index
+    → AreListed table → KeysGive table → session_key own.0 s own.1 index.rows ≡ Some key
+    → by_handle h (slot_in t table).objects ≡ by_key key (all_objects table)
+    → slice_get (slot_in s table).objects i ≡ Some keyed
+    → session_of keyed.object ≡ Some own → h ≡ keyed.handle
+owner_told table index s i t h key own keyed is listed gives got owner at of =
+    let same : key ≡ keyed.key =
+    same_Some key keyed.key (sym got ∙ key_told table index s i own keyed is listed at of) in
+    sym (handle_found h (slot_in t table).objects keyed
+    (owner ∙ (ap (λ (k : ℕ). by_key k (all_objects table)) same
+    ∙ gives s keyed.handle keyed (listed s i keyed at))))
+
+-- the owner of the key is in the session
+pub owner_there :
+    (table : TableState) (index : SessionIndexState) (s t h key : ℕ) (own : SessionId × Role)
+    → IsInSession table index → KeysGive table → session_key own.0 s own.1 index.rows ≡ Some key
+    → by_handle h (slot_in t table).objects ≡ by_key key (all_objects table)
+    → session_in s h table ≡ Some own
+owner_there table index s t h key own is gives got owner =
+    let part = (is.slots s).there key own got in
+    let there : by_handle h (slot_in t table).objects ≡ Some part.keyed =
+    owner ∙ (ap (λ (k : ℕ). by_key k (all_objects table)) (sym part.key_is)
+    ∙ gives s part.handle part.keyed part.found) in
+    let number : part.handle ≡ h =
+    sym (handle_found part.handle (slot_in s table).objects part.keyed part.found)
+    ∙ handle_found h (slot_in t table).objects part.keyed there in
+    ap (λ (n : ℕ). session_in s n table) (sym number) ∙ (ap session_found part.found ∙ part.session)
+
+pub nobody_told : (table : TableState) (index : SessionIndexState)
+    (s i key : ℕ) (own : SessionId × Role) (keyed : Keyed) → IsInSession table index
+    → AreListed table → KeysGive table → session_key own.0 s own.1 index.rows ≡ Some key
+    → is_some (by_key key (all_objects table)) ≡ false
+    → slice_get (slot_in s table).objects i ≡ Some keyed → session_of keyed.object ≢ Some own
+nobody_told table index s i key own keyed is listed gives got none at of =
+    let same : key ≡ keyed.key =
+    same_Some key keyed.key (sym got ∙ key_told table index s i own keyed is listed at of) in
+    let there = ap (λ (k : ℕ). by_key k (all_objects table)) same
+    ∙ gives s keyed.handle keyed (listed s i keyed at) in
+    false≢true (sym none ∙ ap is_some there)

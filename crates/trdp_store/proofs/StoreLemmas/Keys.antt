@@ -1,0 +1,22 @@
+-- What a store's law says of its keys.
+-- For `DueLemmas`, and for what the node above finds by rows and by sessions.
+-- By definition alone.
+use Rattle.std.proofs.Common.{◌≡◌, ℕ, suc, ◌+◌, ◌<◌, ◌≤◌, List, [], ◌∷◌, ◌++◌, length}
+use Rattle.std.proofs.Common.{map, drop, filter, not, Some, Bool, true, false, refl}
+use Rattle.std.proofs.Common.{◌∙◌, sym, ap, arith, append_assoc, append-nil, None}
+use Rattle.std.specs.Prelude.{slice_get, ◌==◌, ◌&&◌}
+use Rattle.std.proofs.lemmas.Bool.{false≢true}
+use Rattle.std.proofs.lemmas.Bool.Decides.{nat_tests}
+use Rattle.std.proofs.lemmas.List.{map-append, drop_all}
+use Rattle.std.proofs.lemmas.List.Concat.{flat_map-cons}
+use Rattle.std.proofs.lemmas.Grind.{flat_map-append}
+use Rattle.std.proofs.lemmas.List.Sums.{sum_by-append}
+use Rattle.std.proofs.lemmas.Option.{same_Some}
+use Rattle.trdp_table.specs.Tables.{Keyed, TableState, slot_in, all_objects, by_handle, by_key}
+
+-- what a store's law says of its keys
+pub record KeysTell (table : TableState) : Type 0 where
+  pub found : (s handle : ℕ) (keyed : Keyed) → by_handle handle (slot_in s table).objects
+      ≡ Some keyed → by_key keyed.key (all_objects table) ≡ Some keyed
+  pub listed : (s index : ℕ) (keyed : Keyed) → slice_get (slot_in s table).objects index
+      ≡ Some keyed → by_handle keyed.handle (slot_in s table).objects ≡ Some keyed
