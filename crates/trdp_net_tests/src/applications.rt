@@ -29,7 +29,7 @@ impl ByChance {
             handle: 1,
             bytes: &bytes,
         };
-        if self.call(node, slot, call)?.is_some() {
+        if self.call(node, &Event::Call { slot, call })?.is_some() {
             self.log.puts.push(put)?;
         }
         self.hear(node)
@@ -114,7 +114,7 @@ impl ByChance {
             terms,
             payload: &payload,
         };
-        if self.call(node, slot, call)?.is_some() {
+        if self.call(node, &Event::Call { slot, call })?.is_some() {
             self.log.notices.push(said)?;
         }
         self.hear(node)
@@ -152,7 +152,7 @@ impl ByChance {
             terms,
             payload: &payload,
         };
-        if let Some(handle) = self.call(node, slot, call)? {
+        if let Some(handle) = self.call(node, &Event::Call { slot, call })? {
             self.log.requests.push(Request {
                 caller: Spot { node, slot, handle },
                 session,
@@ -214,8 +214,9 @@ impl ByChance {
         } = asked;
         let payload = self.chance.bytes(self.alloc)?;
         let answer = self.answer_of(replier.node, &payload);
-        let call = self.answer_call(replier.handle, &answer, &payload);
-        if self.call(replier.node, replier.slot, call)?.is_some() {
+        let Spot { node, slot, handle } = replier;
+        let call = self.answer_call(handle, &answer, &payload);
+        if self.call(node, &Event::Call { slot, call })?.is_some() {
             self.log.answers.push(Answered {
                 replier,
                 session,
@@ -241,7 +242,7 @@ impl ByChance {
             place: src,
             status,
         };
-        if self.call(node, slot, call)?.is_some() {
+        if self.call(node, &Event::Call { slot, call })?.is_some() {
             self.log.confirms.push(Confirmed {
                 caller,
                 session: request.session,

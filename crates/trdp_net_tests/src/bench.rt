@@ -82,9 +82,10 @@ impl Bench {
     /// Lets the node of that number take the event of a line.
     fn take(&mut self, node: usize, line: &str) -> Result<Result<(), NetworkFault>, Fail> {
         let mut buffer = Vec::new(self.alloc);
-        match read_line(&mut buffer, line.as_bytes())? {
-            None => Ok(Ok(())),
-            Some(event) => Ok(self.network.take(node, &event)),
+        match read_line(&mut buffer, line.as_bytes()) {
+            Ok(None) => Ok(Ok(())),
+            Ok(Some(event)) => Ok(self.network.take(node, &event)),
+            Err(fault) => Err(fault.into()),
         }
     }
 

@@ -8,7 +8,7 @@ use crate::tally::Tally;
 use crate::told::told_by;
 use std::alloc::Global;
 use std::test::Fail;
-use trdp_engine::{Answer, Call, Event, Ip, Place, Protocol, What};
+use trdp_engine::{Answer, Event, Ip, Place, Protocol, What};
 use trdp_net::{Network, NetworkFault};
 use trdp_script::read_line;
 
@@ -99,15 +99,22 @@ impl ByChance {
             now: [0; 3],
             sessions: 0,
         };
-        let mut buffer = Vec::new(alloc);
         for node in 0..3 {
             for line in BEGINS {
-                if let Some(event) = read_line(&mut buffer, line.as_bytes())? {
-                    world.take(node, &event)?;
-                }
+                world.take_line(node, line)?;
             }
         }
         Ok(world)
+    }
+
+    /// Lets the node of that number take the event of a line.
+    fn take_line(&mut self, node: usize, line: &str) -> Result<(), Fail> {
+        let mut buffer = Vec::new(self.alloc);
+        match read_line(&mut buffer, line.as_bytes()) {
+            Ok(None) => Ok(()),
+            Ok(Some(event)) => self.take(node, &event),
+            Err(fault) => Err(fault.into()),
+        }
     }
 
     /// Lets the node of that number take an event.
@@ -116,10 +123,16 @@ impl ByChance {
         Ok(())
     }
 
-    /// Lets a slot make a call, and answers the handle that it was given, or 0 where it was given
-    /// none; None where it was refused.
-    pub fn call(&mut self, node: usize, slot: u16, call: Call<'_>) -> Result<Option<u32>, Fail> {
-        self.take(node, &Event::Call { slot, call })?;
+    /// Time comes to that moment at a node.
+    fn moment(&mut self, node: usize, moment: u64) -> Result<(), Fail> {
+        self.network.take(node, &Event::Moment(moment))?;
+        Ok(())
+    }
+
+    /// Lets a slot make the call of that event, and answers the handle that it was given, or 0
+    /// where it was given none; None where it was refused.
+    pub fn call(&mut self, node: usize, event: &Event<'_>) -> Result<Option<u32>, Fail> {
+        self.take(node, event)?;
         match self.network.told(0) {
             None => Err("no answer".into()),
             Some(record) => match record.what {
@@ -172,8 +185,8 @@ impl ByChance {
         let span = u64::from(self.chance.below(400));
         if let Some(now) = self.now.get_mut(node) {
             *now = now.saturating_add(span);
-            let event = Event::Moment(*now);
-            self.take(node, &event)?;
+            let moment = *now;
+            self.moment(node, moment)?;
         }
         self.hear(node)
     }

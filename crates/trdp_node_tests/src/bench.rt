@@ -28,10 +28,11 @@ impl Bench {
     /// Hands the event of a line to the node.
     pub fn take(&mut self, alloc: Global, line: &str) -> Result<(), Fail> {
         let mut buffer = Vec::new(alloc);
-        if let Some(event) = read_line(&mut buffer, line.as_bytes())? {
-            self.node.step(&event, &mut self.out)?;
+        match read_line(&mut buffer, line.as_bytes()) {
+            Ok(None) => Ok(()),
+            Ok(Some(event)) => Ok(self.node.step(&event, &mut self.out)?),
+            Err(fault) => Err(fault.into()),
         }
-        Ok(())
     }
 
     /// Time comes to that moment, in microseconds.

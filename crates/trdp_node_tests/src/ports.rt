@@ -1,7 +1,6 @@
 //! Lines that come in datagrams, at the control port of slot 0 and at the operator's port.
 
 use crate::same::same;
-use std::test::Fail;
 use trdp_base::Topo;
 use trdp_engine::{Call, Event};
 use trdp_script::{LineFault, read_control, read_operator};
@@ -101,46 +100,95 @@ static ROWS: [Row; 17] = [
     },
 ];
 
-#[test]
-fn reads_datagrams(rt: HostRuntime) -> Result<(), Fail> {
-    let alloc = rt.alloc();
-    let mut buffer = Vec::new(alloc);
-    for (index, row) in ROWS.iter().enumerate() {
-        let control = read_control(&mut buffer, 0, row.bytes).err();
-        same(&rt, index, control, row.control);
-        let operator = read_operator(&mut buffer, row.bytes).err();
-        same(&rt, index, operator, row.operator);
+/// The fault of a datagram at the control port of slot 0; None where it has none.
+fn control_fault(buffer: &mut Vec<u8>, bytes: &[u8]) -> Option<LineFault> {
+    match read_control(buffer, 0, bytes) {
+        Ok(_) => None,
+        Err(fault) => Some(fault),
     }
-    Ok(())
+}
+
+/// The fault of a datagram at the operator's port; None where it has none.
+fn operator_fault(buffer: &mut Vec<u8>, bytes: &[u8]) -> Option<LineFault> {
+    match read_operator(buffer, bytes) {
+        Ok(_) => None,
+        Err(fault) => Some(fault),
+    }
 }
 
 #[test]
-fn tells_what_datagrams_say(rt: HostRuntime) -> Result<(), Fail> {
-    let alloc = rt.alloc();
-    let mut buffer = Vec::new(alloc);
-    let event = read_operator(&mut buffer, b"topology 8 0")?;
-    assert!(rt; matches!(event, Some(Event::Topology(Topo { etb: 8, op_trn: 0 }))));
-    let event = read_control(&mut buffer, 0, b"get 1")?;
-    assert!(rt;
-        matches!(
-            event,
-            Some(Event::Call {
-                slot: 0,
-                call: Call::Get { handle: 1 }
-            })
-        )
+fn reads_datagrams(rt: HostRuntime) {
+    let mut buffer = Vec::new(rt.alloc());
+    for (index, row) in ROWS.iter().enumerate() {
+        same(
+            &rt,
+            index,
+            control_fault(&mut buffer, row.bytes),
+            row.control,
+        );
+        same(
+            &rt,
+            index,
+            operator_fault(&mut buffer, row.bytes),
+            row.operator,
+        );
+    }
+}
+
+/// The topology counts that a datagram at the operator's port tells; None where it tells none.
+fn topology(buffer: &mut Vec<u8>, bytes: &[u8]) -> Option<Topo> {
+    match read_operator(buffer, bytes) {
+        Ok(Some(Event::Topology(topo))) => Some(topo),
+        _ => None,
+    }
+}
+
+/// The slot and the handle that a datagram at the slot's control port gets, or pulls (true); None
+/// where it does neither.
+fn control(buffer: &mut Vec<u8>, slot: u16, bytes: &[u8]) -> Option<(u16, u32, bool)> {
+    match read_control(buffer, slot, bytes) {
+        Ok(
+            Some(
+                Event::Call {
+                    slot,
+                    call: Call::Get { handle },
+                },
+            ),
+        ) => Some((slot, handle, false)),
+        Ok(
+            Some(
+                Event::Call {
+                    slot,
+                    call: Call::Pull { handle },
+                },
+            ),
+        ) => Some((slot, handle, true)),
+        _ => None,
+    }
+}
+
+/// Whether a datagram at the control port of slot 0 is a line that is skipped.
+fn is_skipped(buffer: &mut Vec<u8>, bytes: &[u8]) -> bool {
+    match read_control(buffer, 0, bytes) {
+        Ok(None) => true,
+        _ => false,
+    }
+}
+
+#[test]
+fn tells_what_datagrams_say(rt: HostRuntime) {
+    let mut buffer = Vec::new(rt.alloc());
+    let counts = topology(&mut buffer, b"topology 8 0");
+    same(&rt, "topology", counts, Some(Topo { etb: 8, op_trn: 0 }));
+    let got = control(&mut buffer, 0, b"get 1");
+    same(&rt, "get", got, Some((0, 1, false)));
+    let pulled = control(&mut buffer, 65535, b"pull 7\r\n");
+    same(&rt, "pull", pulled, Some((65535, 7, true)));
+    same(&rt, "an empty line", is_skipped(&mut buffer, b"\n"), true);
+    same(
+        &rt,
+        "a remark",
+        is_skipped(&mut buffer, b"# moment 1"),
+        true,
     );
-    let event = read_control(&mut buffer, 65535, b"pull 7\r\n")?;
-    assert!(rt;
-        matches!(
-            event,
-            Some(Event::Call {
-                slot: 65535,
-                call: Call::Pull { handle: 7 }
-            })
-        )
-    );
-    assert!(rt; read_control(&mut buffer, 0, b"\n")?.is_none());
-    assert!(rt; read_operator(&mut buffer, b"# moment 1")?.is_none());
-    Ok(())
 }

@@ -303,21 +303,17 @@ fn confirmed_caller_is_done(rt: HostRuntime) -> Result<(), Fail> {
     Ok(())
 }
 
-/// A replier that was asked by the first place at 0.
-fn replier() -> Replier {
-    Replier::new(place(1), &head(MdKind::Request, 0), 0)
-}
-
-/// One that queried at 100.
+/// A replier that was asked by the first place at 0, and queried at 100.
 fn querying() -> Replier {
-    let mut replier = replier();
+    let mut replier = Replier::new(place(1), &head(MdKind::Request, 0), 0);
     replier.query(100, 1000);
     replier
 }
 
 #[test]
 fn repliers_close(rt: HostRuntime) {
-    live(&rt, &mut replier(), &ASKED);
+    let mut asked = Replier::new(place(1), &head(MdKind::Request, 0), 0);
+    live(&rt, &mut asked, &ASKED);
     live(&rt, &mut querying(), &CONFIRMED);
     live(&rt, &mut querying(), &UNCONFIRMED);
 }
