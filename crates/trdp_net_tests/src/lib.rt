@@ -1,5 +1,4 @@
-//! Networks of running nodes: worked exchanges with values from outside, and a run by chance, in
-//! which each indication is looked up in a log of what the applications did.
+//! Networks of running nodes: worked exchanges with values from outside.
 //!
 //! What no contract of `trdp_net` says is that anything is told at all: a network in which every
 //! event lacks memory keeps each promise. Here requests are answered, queries confirmed and values
@@ -7,13 +6,7 @@
 #![tactic(auto)]
 
 #[cfg(test)]
-mod applications;
-#[cfg(test)]
 mod bench;
-#[cfg(test)]
-mod by_chance;
-#[cfg(test)]
-mod chance;
 #[cfg(test)]
 mod confirmations;
 #[cfg(test)]
@@ -21,14 +14,8 @@ mod faults;
 #[cfg(test)]
 mod groups;
 #[cfg(test)]
-mod log;
-#[cfg(test)]
 mod nodes;
 #[cfg(test)]
 mod requests;
 #[cfg(test)]
 mod same;
-#[cfg(test)]
-mod tally;
-#[cfg(test)]
-mod told;

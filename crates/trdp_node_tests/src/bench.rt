@@ -4,9 +4,8 @@ use crate::same::same;
 use std::alloc::Global;
 use std::process::Abort;
 use std::test::Fail;
-use trdp_base::Place;
 use trdp_dataset::NodeConfig;
-use trdp_engine::{Event, Node, Outbox, Protocol, What};
+use trdp_engine::{Node, Outbox};
 use trdp_script::{print_record, read_line};
 
 /// A node, with the records that it has given.
@@ -35,12 +34,6 @@ impl Bench {
         }
     }
 
-    /// Time comes to that moment, in microseconds.
-    pub fn moment(&mut self, moment: u64) -> Result<(), Fail> {
-        self.node.step(&Event::Moment(moment), &mut self.out)?;
-        Ok(())
-    }
-
     /// A new node of that configuration that has taken the lines, and whose outbox is empty.
     pub fn after(alloc: Global, config: &[u8], lines: &[&str]) -> Result<Bench, Fail> {
         let mut bench = Bench::new(alloc, config)?;
@@ -49,32 +42,6 @@ impl Bench {
         }
         bench.out.clear();
         Ok(bench)
-    }
-
-    /// Hands the telegram that the record of that index is to the node itself, as from a place of
-    /// its own, and answers its length.
-    pub fn loop_back(
-        &mut self,
-        alloc: Global,
-        index: usize,
-        protocol: Protocol,
-        place: Place,
-    ) -> Result<usize, Fail> {
-        let mut bytes = Vec::new(alloc);
-        if let Some(record) = self.out.get(index) {
-            if let What::Send { telegram, .. } = record.what {
-                bytes.extend_from_slice(telegram)?;
-            }
-        }
-        let len = bytes.len();
-        let event = Event::Datagram {
-            protocol,
-            src: place,
-            dst: place,
-            bytes: &bytes,
-        };
-        self.node.step(&event, &mut self.out)?;
-        Ok(len)
     }
 
     /// The records of the outbox as lines.

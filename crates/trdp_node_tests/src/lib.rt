@@ -14,8 +14,6 @@ mod failing;
 #[cfg(test)]
 mod items;
 #[cfg(test)]
-mod limits;
-#[cfg(test)]
 mod node;
 #[cfg(test)]
 mod play;

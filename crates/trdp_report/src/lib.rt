@@ -17,8 +17,6 @@ mod find;
 mod meaning;
 mod place;
 mod refused;
-#[cfg(test)]
-mod tests;
 mod unknown;
 mod warnings;
 
