@@ -1,4 +1,4 @@
--- A dissector of the Train Real-time Data Protocol (TRDP, IEC 61375-2-3) for Wireshark and tshark: process data at UDP port
+-- A dissector of the Train Real-time Data Protocol (TRDP, IEC 61375-2-3:2015) for Wireshark and tshark: process data at UDP port
 -- 17224 and message data at UDP port 17225. Fields have the standard's names.
 --
 --     tshark -X lua_script:wireshark/trdp.lua -r capture.pcapng
