@@ -102,20 +102,25 @@ role_form = record {
   event = λ group leader. RoleIs group leader;
 }
 
+-- the word of a protocol's datagrams
+abbrev pub protocol_word : Protocol → List ℕ
+protocol_word Pd = codes "pd"
+protocol_word Md = codes "md"
+
 -- the protocol's word, SRC, DST and HEX
-abbrev pub datagram_form : List ℕ → Protocol → LineForm
-datagram_form word protocol = record {
-  parts = Keyword word ∷ PlaceField ∷ PlaceField ∷ BytesField ∷ [];
+abbrev pub datagram_form : Protocol → LineForm
+datagram_form protocol = record {
+  parts = Keyword (protocol_word protocol) ∷ PlaceField ∷ PlaceField ∷ BytesField ∷ [];
   event = λ src dst bytes. DatagramIs protocol src dst bytes;
 }
 
 -- pd SRC DST HEX
 abbrev pub pd_form : LineForm
-pd_form = datagram_form (codes "pd") Pd
+pd_form = datagram_form Pd
 
 -- md SRC DST HEX
 abbrev pub md_form : LineForm
-md_form = datagram_form (codes "md") Md
+md_form = datagram_form Md
 
 -- the word with which a call begins
 abbrev pub call_word : List ℕ

@@ -1,5 +1,5 @@
 pub mod EventBytes
-pub mod FormNames
+pub mod FormWords
 pub mod Forms
 pub mod Lines
 pub mod Pieces

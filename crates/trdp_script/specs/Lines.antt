@@ -6,7 +6,7 @@ use Rattle.trdp_model.specs.Events.{EventModel, event_model}
 use Rattle.trdp_model.specs.declared.event.Event.{Event}
 use Rattle.trdp_script.specs.EventBytes.{carries_bytes}
 use Rattle.trdp_script.specs.Forms.{Part, LastNumberField, LineForm, forms, has_keywords}
-use Rattle.trdp_script.specs.Forms.{event_in}
+use Rattle.trdp_script.specs.Forms.{event_in, event_of_words}
 use Rattle.trdp_script.specs.Words.{words_of}
 use Rattle.trdp_script.specs.declared.fault.LineFault.{LineFault}
 use Rattle.trdp_script.specs.declared.fault.LineFault.TheVariants.{TooLong, Unknown, Count}
@@ -32,17 +32,27 @@ least_words (part ∷ parts) = suc (least_words parts)
 abbrev pub may_have : List Part → ℕ → Bool
 may_have parts n = nat_le (least_words parts) n && nat_le n (length parts)
 
--- what words say that have the keywords of that form; none: of no form
-unfoldable pub words_say : Option LineForm → List (List ℕ) → Result (Option EventModel) LineFault
-words_say None words = Err Unknown
-words_say (Some form) words =
+-- what words say that have the keywords of that form
+unfoldable pub form_says : LineForm → List (List ℕ) → Result (Option EventModel) LineFault
+unfolding least_words event_of_words
+form_says form words =
     if may_have form.parts (length words)
     then event_or_fault (event_in form words)
     else Err Count
 
+-- what words say that have the keywords of that form; none: of no form
+unfoldable pub words_say : Option LineForm → List (List ℕ) → Result (Option EventModel) LineFault
+words_say None words = Err Unknown
+words_say (Some form) words = form_says form words
+
 -- the form, among these, whose keywords the words have
 unfoldable pub form_among : List LineForm → List (List ℕ) → Option LineForm
 form_among known words = find (λ form. has_keywords form.parts words) known
+
+-- what words say that can have these forms
+unfoldable pub say_among : List LineForm → List (List ℕ) → Result (Option EventModel) LineFault
+unfolding words_say form_among has_keywords
+say_among known words = words_say (form_among known words) words
 
 -- where a line can have these forms: the event of a line without its end, none where it is
 -- skipped, or the first of its faults
@@ -50,19 +60,11 @@ unfoldable pub line_among : List LineForm → List ℕ → Result (Option EventM
 line_among known text =
     if nat_lt 140000 (length text) then Err TooLong
     else (if is_skipped text then Ok None
-    else words_say (form_among known (words_of text)) (words_of text))
+    else say_among known (words_of text))
 
 -- the event of a line without its end, none where it is skipped, or the first of its faults
 abbrev pub line_of : List ℕ → Result (Option EventModel) LineFault
 line_of text = line_among forms text
-
--- what was read of words is the event that they say, or memory ran out for its bytes, if it carries
--- some; of words of which one is bad nothing is read
-abbrev pub ReadsEvent : Option EventModel → Result Event LineFault → Type 0
-ReadsEvent (Some event) (Ok read) = event_model read ≡ event
-ReadsEvent (Some event) (Err fault) = (fault ≡ OutOfMemory) × (carries_bytes (Some event) ≡ true)
-ReadsEvent None (Ok read) = ⊥
-ReadsEvent None (Err fault) = fault ≡ BadWord
 
 -- what was read is the event of the line, none where it is skipped, or memory ran out for the bytes
 -- of a line that carries some, where nothing else is wrong
@@ -71,3 +73,8 @@ Reads (Ok event) (Ok read) = option_map event_model read ≡ event
 Reads (Ok event) (Err fault) = (fault ≡ OutOfMemory) × (carries_bytes event ≡ true)
 Reads (Err fault) (Ok read) = ⊥
 Reads (Err fault) (Err other) = other ≡ fault
+
+-- the same where a line isn't skipped: what was read is its event
+abbrev pub ReadsEvent : Result (Option EventModel) LineFault → Result Event LineFault → Type 0
+ReadsEvent meaning (Ok read) = Reads meaning (Ok (Some read))
+ReadsEvent meaning (Err fault) = Reads meaning (Err fault)

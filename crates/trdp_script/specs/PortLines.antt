@@ -4,7 +4,7 @@ use Rattle.std.specs.Io.BufRead.{ends_with_byte, strip_last}
 use Rattle.std.specs.Str.Lines.{strip_carriage_return}
 use Rattle.trdp_base.specs.NumberText.{text_of_number}
 use Rattle.trdp_model.specs.Events.{EventModel}
-use Rattle.trdp_script.specs.Forms.{call_word, topology_form, role_form, add_slot_form}
+use Rattle.trdp_script.specs.Forms.{LineForm, call_word, topology_form, role_form, add_slot_form}
 use Rattle.trdp_script.specs.Lines.{is_skipped, line_among, line_of}
 use Rattle.trdp_script.specs.declared.fault.LineFault.{LineFault}
 
@@ -23,8 +23,11 @@ control_line_of slot bytes =
     let text = without_end bytes in
     if is_skipped text then Ok None else line_of (call_line slot text)
 
+-- the forms of the operator's lines
+unfoldable pub operator_forms : List LineForm
+operator_forms = topology_form ∷ role_form ∷ add_slot_form ∷ []
+
 -- at the operator's port: a line of the forms `topology`, `role` and `addslot`, any other being
 -- unknown
 unfoldable pub operator_line_of : List ℕ → Result (Option EventModel) LineFault
-operator_line_of bytes =
-    line_among (topology_form ∷ role_form ∷ add_slot_form ∷ []) (without_end bytes)
+operator_line_of bytes = line_among operator_forms (without_end bytes)

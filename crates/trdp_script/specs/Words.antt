@@ -33,6 +33,14 @@ unfoldable pub other_words : List (List ℕ) → List (List ℕ)
 other_words [] = []
 other_words (word ∷ words) = words
 
+-- the third word; an empty one where there is none
+abbrev pub third_word : List (List ℕ) → List ℕ
+third_word words = first_word (other_words (other_words words))
+
+-- the words are at least and at most so many
+abbrev pub are_between : ℕ → ℕ → List (List ℕ) → Bool
+are_between least most words = nat_le least (length words) && nat_le (length words) most
+
 -- the value, if it may stand here and the word is its written form
 unfoldable pub if_written : {A : Type 0} → (A → List ℕ) → List ℕ → Bool → A → Option A
 if_written text_of word may_stand value =

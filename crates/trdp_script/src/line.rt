@@ -1,14 +1,15 @@
 //! What one line of a script says.
 
-ghost use Rattle.std.specs.Prelude.{◌≡◌, map};
-ghost use Rattle.trdp_script.specs.FormNames.{line_form};
-ghost use Rattle.trdp_script.specs.Lines.{line_of, line_among, words_say, form_among};
+ghost use Rattle.std.specs.Prelude.{◌≡◌, ◌++◌, true, false, take, List, None, Ok, Err, IfErr, IfOk};
+ghost use Rattle.trdp_script.specs.Forms.{LineForm};
+ghost use Rattle.trdp_script.specs.Lines.{line_among, line_of, say_among, Reads};
 ghost use Rattle.trdp_script.specs.Lines.{is_skipped as skipped};
-ghost use Rattle.trdp_script.specs.Lines.{Reads};
-ghost use Rattle.trdp_script.specs.WordsLeft.{words_left};
+ghost use Rattle.trdp_script.specs.Words.{words_of};
+ghost use Rattle.trdp_script.specs.WordsLeft.{words_at};
+ghost use Rattle.trdp_script.specs.declared.words.TheConstants.{WORDS_ROOM};
 
 use crate::fault::LineFault;
-use crate::form::{FORMS, Form};
+use crate::form::read_words;
 use crate::words::{CutWords, Words, cut_words};
 use trdp_engine::Event;
 
@@ -25,31 +26,42 @@ pub const LINE_MAX: usize = 140_000;
 /// # Errors
 /// Every [`LineFault`], in their order. `OutOfMemory` comes only where the line carries bytes, and
 /// is found when nothing else is wrong.
-#[tactic(auto, unfolding(crate::specs::Forms::forms))]
 pub fn read_line<'b>(buffer: &'b mut Vec<u8>, text: &[u8]) -> Result<Option<Event<'b>>, LineFault>
     ensures meaning { Reads (line_of text.now) result }
 {
-    read_among(&FORMS, buffer, text)
+    let mut words = CutWords::new();
+    if !cut_line(&mut words, text)? {
+        return Ok(None);
+    }
+    match read_words(buffer, Words::of(&words)) {
+        Ok(event) => Ok(Some(event)),
+        Err(fault) => Err(fault),
+    }
 }
 
-/// Reads a line, which can have these forms.
+/// Cuts a line into its words, and answers true, unless the line is skipped.
+///
+/// # Errors
+/// `TooLong`.
 #[tactic(auto, unfolding(crate::specs::Lines::line_among))]
-pub(crate) fn read_among<'b>(
-    forms: &[Form],
-    buffer: &'b mut Vec<u8>,
-    text: &[u8],
-) -> Result<Option<Event<'b>>, LineFault>
-    ensures { Reads (line_among (map line_form forms.now) text.now) result }
+pub(crate) fn cut_line<'a>(words: &mut CutWords<'a>, text: &'a [u8]) -> Result<bool, LineFault>
+    ensures fault { (known : List LineForm)
+        → IfErr result (λ fault. line_among known text.now ≡ Err fault) }
+    ensures skipped { (known : List LineForm)
+        → IfOk result (λ some. some ≡ false → line_among known text.now ≡ Ok None) }
+    ensures said { (known : List LineForm) → IfOk result (λ some. some ≡ true
+        → line_among known text.now ≡ say_among known (words_of text.now)) }
+    ensures words { IfOk result (λ some. some ≡ true → words_at words.new.items
+        ≡ take WORDS_ROOM (words_at words.old.items ++ words_of text.now)) }
 {
     if text.len() > LINE_MAX {
         return Err(LineFault::TooLong);
     }
     if is_skipped(text) {
-        return Ok(None);
+        return Ok(false);
     }
-    let mut words = CutWords::new();
-    cut_words(&mut words, text);
-    read_words(forms, buffer, Words::of(&words))
+    cut_words(words, text);
+    Ok(true)
 }
 
 /// Whether a line is empty or begins with `#`.
@@ -57,25 +69,4 @@ pub(crate) fn is_skipped(text: &[u8]) -> bool
     ensures { result ≡ skipped text.now }
 {
     matches!(text, [] | [b'#', ..])
-}
-
-/// Reads the words of a line, which can have these forms.
-#[tactic(auto, unfolding(crate::specs::Lines::words_say))]
-pub(crate) fn read_words<'b>(
-    forms: &[Form],
-    buffer: &'b mut Vec<u8>,
-    words: Words<'_, '_>,
-) -> Result<Option<Event<'b>>, LineFault>
-    ensures { Reads
-        (words_say (form_among (map line_form forms.now) (words_left words.entry))
-        (words_left words.entry)) result }
-{
-    let form = Form::among(forms, words).ok_or(LineFault::Unknown)?;
-    if !form.may_have(words.count()) {
-        return Err(LineFault::Count);
-    }
-    match form.read(buffer, words) {
-        Ok(event) => Ok(Some(event)),
-        Err(fault) => Err(fault),
-    }
 }

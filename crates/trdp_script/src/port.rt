@@ -7,9 +7,9 @@ ghost use Rattle.trdp_script.specs.PortLines.{control_line_of, operator_line_of}
 ghost use Rattle.trdp_script.specs.PortLines.{without_end as line_without_end};
 
 use crate::fault::LineFault;
-use crate::form::{FORMS, OPERATOR_FORMS};
+use crate::form::{read_operators, read_words};
 use crate::input::without_return;
-use crate::line::{LINE_MAX, is_skipped, read_among, read_words};
+use crate::line::{LINE_MAX, cut_line, is_skipped};
 use crate::words::{CALL, CutWords, Words, cut_words};
 use itoa::Buffer;
 use trdp_engine::Event;
@@ -45,7 +45,10 @@ pub fn read_control<'b>(
     words.push(CALL);
     words.push(slot);
     cut_words(&mut words, text);
-    read_words(&FORMS, buffer, Words::of(&words))
+    match read_words(buffer, Words::of(&words)) {
+        Ok(event) => Ok(Some(event)),
+        Err(fault) => Err(fault),
+    }
 }
 
 /// Reads a datagram that came to the operator's port: a line that begins with `topology`, `role` or
@@ -59,13 +62,20 @@ pub fn read_control<'b>(
 /// these lines carries bytes, so that none can want memory.
 #[tactic(auto, unfolding(crate::specs::PortLines::operator_line_of))]
 pub fn read_operator<'b>(
-    buffer: &'b mut Vec<u8>,
+    _buffer: &'b mut Vec<u8>,
     bytes: &[u8],
 ) -> Result<Option<Event<'b>>, LineFault>
     ensures meaning { Reads (operator_line_of bytes.now) result }
     ensures memory { IfErr result (λ fault. fault ≢ LineFault.OutOfMemory) }
 {
-    read_among(&OPERATOR_FORMS, buffer, without_end(bytes))
+    let mut words = CutWords::new();
+    if !cut_line(&mut words, without_end(bytes))? {
+        return Ok(None);
+    }
+    match read_operators(Words::of(&words)) {
+        Ok(event) => Ok(Some(event)),
+        Err(fault) => Err(fault),
+    }
 }
 
 /// A line without its end.

@@ -1,7 +1,7 @@
 //! What the words of a call for messages say that need no answer.
 
-ghost use Rattle.trdp_script.specs.Forms.{event_in, listen_form, unlisten_form, notify_form};
-ghost use Rattle.trdp_script.specs.Lines.{ReadsEvent};
+ghost use Rattle.trdp_script.specs.Forms.{listen_form, unlisten_form, notify_form};
+ghost use Rattle.trdp_script.specs.Lines.{ReadsEvent, form_says};
 ghost use Rattle.trdp_script.specs.WordsLeft.{words_left};
 
 use crate::fault::LineFault;
@@ -13,10 +13,11 @@ use trdp_filter::MdFilter;
 use trdp_md::NotifyTerms;
 
 /// `call SLOT listen COMID|any LOW HIGH DEST URI ETB OPTRN`
-#[tactic(auto, unfolding(crate::specs::Forms::event_of_words))]
+#[tactic(auto, unfolding(crate::specs::Lines::form_says))]
 pub(crate) fn read_listen<'b>(mut words: Words<'_, '_>) -> Result<Event<'b>, LineFault>
-    ensures { ReadsEvent (event_in listen_form (words_left words.entry)) result }
+    ensures { ReadsEvent (form_says listen_form (words_left words.entry)) result }
 {
+    words.expect(10)?;
     words.next_word();
     let slot = words.next_u16().ok_or(LineFault::BadWord)?;
     words.next_word();
@@ -43,21 +44,22 @@ pub(crate) fn read_listen<'b>(mut words: Words<'_, '_>) -> Result<Event<'b>, Lin
 
 /// `call SLOT unlisten HANDLE`
 pub(crate) fn read_unlisten<'b>(words: Words<'_, '_>) -> Result<Event<'b>, LineFault>
-    ensures { ReadsEvent (event_in unlisten_form (words_left words.entry)) result }
+    ensures { ReadsEvent (form_says unlisten_form (words_left words.entry)) result }
 {
-    let (slot, handle) = slot_and_handle(words).ok_or(LineFault::BadWord)?;
+    let (slot, handle) = slot_and_handle(words)?;
     let call = Call::Unlisten { handle };
     Ok(Event::Call { slot, call })
 }
 
 /// `call SLOT notify COMID SOURCEURI DESTURI ETB OPTRN TO HEX`
-#[tactic(auto, unfolding(crate::specs::Forms::event_of_words))]
+#[tactic(auto, unfolding(crate::specs::Lines::form_says))]
 pub(crate) fn read_notify<'b>(
     buffer: &'b mut Vec<u8>,
     mut words: Words<'_, '_>,
 ) -> Result<Event<'b>, LineFault>
-    ensures { ReadsEvent (event_in notify_form (words_left words.entry)) result }
+    ensures { ReadsEvent (form_says notify_form (words_left words.entry)) result }
 {
+    words.expect(10)?;
     words.next_word();
     let slot = words.next_u16().ok_or(LineFault::BadWord)?;
     words.next_word();

@@ -1,8 +1,8 @@
 //! What the words of a call of a message session say: a request, its answers, its confirmations.
 
-ghost use Rattle.trdp_script.specs.Forms.{event_in, request_form, reply_form, query_form};
+ghost use Rattle.trdp_script.specs.Forms.{request_form, reply_form, query_form};
 ghost use Rattle.trdp_script.specs.Forms.{reply_error_form, confirm_form, abort_form};
-ghost use Rattle.trdp_script.specs.Lines.{ReadsEvent};
+ghost use Rattle.trdp_script.specs.Lines.{ReadsEvent, form_says};
 ghost use Rattle.trdp_script.specs.WordsLeft.{words_left};
 
 use crate::fault::LineFault;
@@ -15,13 +15,14 @@ use trdp_md::CallerTerms;
 
 /// `call SLOT request COMID SESSION EXPECTED TIME SOURCEURI DESTURI ETB OPTRN TO HEX
 /// [RETRIES]`: the number at the end is read before memory is taken for the bytes.
-#[tactic(auto, unfolding(crate::specs::Forms::event_of_words))]
+#[tactic(auto, unfolding(crate::specs::Lines::form_says))]
 pub(crate) fn read_request<'b>(
     buffer: &'b mut Vec<u8>,
     mut words: Words<'_, '_>,
 ) -> Result<Event<'b>, LineFault>
-    ensures { ReadsEvent (event_in request_form (words_left words.entry)) result }
+    ensures { ReadsEvent (form_says request_form (words_left words.entry)) result }
 {
+    words.expect_between(13, 14)?;
     words.next_word();
     let slot = words.next_u16().ok_or(LineFault::BadWord)?;
     words.next_word();
@@ -58,13 +59,14 @@ pub(crate) fn read_request<'b>(
 }
 
 /// `call SLOT reply HANDLE COMID STATUS HEX`
-#[tactic(auto, unfolding(crate::specs::Forms::event_of_words))]
+#[tactic(auto, unfolding(crate::specs::Lines::form_says))]
 pub(crate) fn read_reply<'b>(
     buffer: &'b mut Vec<u8>,
     mut words: Words<'_, '_>,
 ) -> Result<Event<'b>, LineFault>
-    ensures { ReadsEvent (event_in reply_form (words_left words.entry)) result }
+    ensures { ReadsEvent (form_says reply_form (words_left words.entry)) result }
 {
+    words.expect(7)?;
     words.next_word();
     let slot = words.next_u16().ok_or(LineFault::BadWord)?;
     words.next_word();
@@ -82,13 +84,14 @@ pub(crate) fn read_reply<'b>(
 }
 
 /// `call SLOT query HANDLE COMID STATUS TIME HEX`
-#[tactic(auto, unfolding(crate::specs::Forms::event_of_words))]
+#[tactic(auto, unfolding(crate::specs::Lines::form_says))]
 pub(crate) fn read_query<'b>(
     buffer: &'b mut Vec<u8>,
     mut words: Words<'_, '_>,
 ) -> Result<Event<'b>, LineFault>
-    ensures { ReadsEvent (event_in query_form (words_left words.entry)) result }
+    ensures { ReadsEvent (form_says query_form (words_left words.entry)) result }
 {
+    words.expect(8)?;
     words.next_word();
     let slot = words.next_u16().ok_or(LineFault::BadWord)?;
     words.next_word();
@@ -108,10 +111,11 @@ pub(crate) fn read_query<'b>(
 }
 
 /// `call SLOT replyerror HANDLE COMID STATUS`
-#[tactic(auto, unfolding(crate::specs::Forms::event_of_words))]
+#[tactic(auto, unfolding(crate::specs::Lines::form_says))]
 pub(crate) fn read_reply_error<'b>(mut words: Words<'_, '_>) -> Result<Event<'b>, LineFault>
-    ensures { ReadsEvent (event_in reply_error_form (words_left words.entry)) result }
+    ensures { ReadsEvent (form_says reply_error_form (words_left words.entry)) result }
 {
+    words.expect(6)?;
     words.next_word();
     let slot = words.next_u16().ok_or(LineFault::BadWord)?;
     words.next_word();
@@ -127,10 +131,11 @@ pub(crate) fn read_reply_error<'b>(mut words: Words<'_, '_>) -> Result<Event<'b>
 }
 
 /// `call SLOT confirm HANDLE PLACE STATUS`
-#[tactic(auto, unfolding(crate::specs::Forms::event_of_words))]
+#[tactic(auto, unfolding(crate::specs::Lines::form_says))]
 pub(crate) fn read_confirm<'b>(mut words: Words<'_, '_>) -> Result<Event<'b>, LineFault>
-    ensures { ReadsEvent (event_in confirm_form (words_left words.entry)) result }
+    ensures { ReadsEvent (form_says confirm_form (words_left words.entry)) result }
 {
+    words.expect(6)?;
     words.next_word();
     let slot = words.next_u16().ok_or(LineFault::BadWord)?;
     words.next_word();
@@ -147,9 +152,9 @@ pub(crate) fn read_confirm<'b>(mut words: Words<'_, '_>) -> Result<Event<'b>, Li
 
 /// `call SLOT abort HANDLE`
 pub(crate) fn read_abort<'b>(words: Words<'_, '_>) -> Result<Event<'b>, LineFault>
-    ensures { ReadsEvent (event_in abort_form (words_left words.entry)) result }
+    ensures { ReadsEvent (form_says abort_form (words_left words.entry)) result }
 {
-    let (slot, handle) = slot_and_handle(words).ok_or(LineFault::BadWord)?;
+    let (slot, handle) = slot_and_handle(words)?;
     let call = Call::Abort { handle };
     Ok(Event::Call { slot, call })
 }

@@ -1,10 +1,12 @@
 //! The words of a line, which stand apart by exactly one space.
 
-ghost use Rattle.std.specs.Prelude.{◌≡◌, ◌∷◌, ◌++◌, [], length, take, true, false};
-ghost use Rattle.trdp_script.specs.Words.{words_of, first_word, other_words};
+ghost use Rattle.std.specs.Prelude.{◌≡◌, ◌∷◌, ◌++◌, [], take, true, false, OnOk, OnErr, IfErr};
+ghost use Rattle.trdp_script.specs.Words.{words_of, first_word, other_words, third_word};
+ghost use Rattle.trdp_script.specs.Words.{are_between};
 ghost use Rattle.trdp_script.specs.WordsLeft.{words_left, words_at};
 ghost use Rattle.trdp_script.specs.declared.words.TheConstants.{WORDS_ROOM};
 
+use crate::fault::LineFault;
 use crate::split::split_at_byte;
 use arrayvec::ArrayVec;
 
@@ -54,11 +56,48 @@ impl<'w, 'a> Words<'w, 'a> {
         }
     }
 
-    /// How many words are still to be read.
-    pub(crate) fn count(&self) -> usize
-        ensures { result ≡ length (words_left self.now) }
+    /// Finds so many words still to be read.
+    ///
+    /// # Errors
+    /// `Count` at any other number of words.
+    pub(crate) fn expect(&self, count: usize) -> Result<(), LineFault>
+        ensures right { OnOk result (are_between count count (words_left self.now) ≡ true) }
+        ensures wrong { OnErr result (are_between count count (words_left self.now) ≡ false) }
+        ensures fault { IfErr result (λ fault. fault ≡ LineFault.Count) }
     {
-        self.left.len()
+        self.expect_between(count, count)
+    }
+
+    /// Finds at least and at most so many words still to be read.
+    ///
+    /// # Errors
+    /// `Count` at any other number of words.
+    pub(crate) fn expect_between(&self, least: usize, most: usize) -> Result<(), LineFault>
+        ensures right { OnOk result (are_between least most (words_left self.now) ≡ true) }
+        ensures wrong { OnErr result (are_between least most (words_left self.now) ≡ false) }
+        ensures fault { IfErr result (λ fault. fault ≡ LineFault.Count) }
+    {
+        if least <= self.left.len() && self.left.len() <= most {
+            Ok(())
+        } else {
+            Err(LineFault::Count)
+        }
+    }
+
+    /// The first word; an empty one where there is none.
+    pub(crate) fn first(mut self) -> &'a [u8]
+        ensures { result.now ≡ first_word (words_left self.entry) }
+    {
+        self.next_word()
+    }
+
+    /// The third word; an empty one where there is none.
+    pub(crate) fn third(mut self) -> &'a [u8]
+        ensures { result.now ≡ third_word (words_left self.entry) }
+    {
+        self.next_word();
+        self.next_word();
+        self.next_word()
     }
 
     /// Whether no word is left.

@@ -1,51 +1,31 @@
--- Facts on the search for the form of a line.
--- For `Form::among`, `read_among` and `read_control`.
--- By induction on the forms: the first whose keywords the words have is the line's.
+-- Facts on the forms of a line.
+-- For `read_words`, `read_line`, `read_control` and `read_operator`.
+-- By: the keywords of a form, and the number of its words, show in the first 15 words of a line.
 use Rattle.std.proofs.Common.{◌≡◌, ℕ, zero, suc, ◌+◌, ◌<◌, ◌≤◌, ◌&&◌, Bool, true, false, List, [], Result, subst}
-use Rattle.std.proofs.Common.{◌∷◌, length, get_or, take, drop, map, Some, None, refl, sym, ap, arith}
+use Rattle.std.proofs.Common.{◌∷◌, length, take, Some, None, refl, ap, arith}
 use Rattle.std.proofs.Common.{nat_le, nat_lt, if◌then◌else◌, Option}
-use Rattle.std.specs.List.{find}
+use Rattle.std.specs.List.{find, list_all}
 use Rattle.std.specs.Str.{bytes_eq}
-use Rattle.std.proofs.Math.ListN.{drop_of_length-le}
-use Rattle.std.proofs.lemmas.Bool.{and_right}
+use Rattle.std.proofs.lemmas.Bool.{and_right, and_parts}
 use Rattle.std.proofs.lemmas.Bool.Decides.{nat_tests}
-use Rattle.std.proofs.lemmas.List.{drop_more, length-take-le, take_all}
-use Rattle.trdp_script.specs.FormNames.{line_form}
-use Rattle.trdp_script.specs.Forms.{has_keywords, LineForm, Part, Keyword, NumberField}
+use Rattle.std.proofs.lemmas.List.{length-take-le, take_all}
+use Rattle.std.proofs.lemmas.Slice.Eq.{bytes_eq-Decides}
+use Rattle.trdp_script.specs.FormWords.{form_of_call}
+use Rattle.trdp_script.specs.Forms.{call_word, forms, has_keywords, LineForm, Part, Keyword, NumberField}
 use Rattle.trdp_script.specs.Forms.{LastNumberField, AnyOrNumberField, AddressField, PlaceField}
 use Rattle.trdp_script.specs.Forms.{BytesField, UriField, StatusField, SessionField, ChoiceField}
-use Rattle.trdp_script.specs.Lines.{form_among, is_skipped, line_among, may_have, words_say, Reads}
-use Rattle.trdp_script.specs.Words.{first_word, other_words, words_of}
+use Rattle.trdp_script.specs.Lines.{form_says, line_among, may_have, say_among}
+use Rattle.trdp_script.specs.Lines.{words_say, Reads}
+use Rattle.trdp_script.specs.PortLines.{operator_forms}
+use Rattle.trdp_script.specs.Words.{first_word, other_words, third_word, words_of}
 use Rattle.trdp_script.specs.declared.fault.LineFault.{LineFault}
-use Rattle.trdp_script.specs.declared.form.Form.{Form}
-use Rattle.trdp_script.specs.declared.form.Form.TheVariants.{Moment, Topology, Role, Pd, Md}
-use Rattle.trdp_script.specs.declared.form.Form.TheVariants.{Publish, Put, Unpublish, Subscribe}
-use Rattle.trdp_script.specs.declared.form.Form.TheVariants.{Get, Unsubscribe, OpenPull, Pull}
-use Rattle.trdp_script.specs.declared.form.Form.TheVariants.{ClosePull, Listen, Unlisten}
-use Rattle.trdp_script.specs.declared.form.Form.TheVariants.{Notify, Request, Reply, Query}
-use Rattle.trdp_script.specs.declared.form.Form.TheVariants.{ReplyError, Confirm, Abort, AddSlot}
 use Rattle.trdp_model.specs.declared.event.Event.{Event}
 
--- a form whose keywords the words have is the first that is found
-pub found_here : (items : List Form) (index : ℕ) (words : List (List ℕ)) → index < length items
-    → true ≡ has_keywords (line_form (get_or items index Moment)).parts words
-    → find (λ form. has_keywords form.parts words) (map line_form (drop index items))
-    ≡ Some (line_form (get_or items index Moment))
-found_here items index words inside told =
-    rw (drop_more items index Moment inside, sym told) refl
-
--- a form whose keywords the words don't have is passed over
-pub passed_here : (items : List Form) (index : ℕ) (words : List (List ℕ)) → index < length items
-    → false ≡ has_keywords (line_form (get_or items index Moment)).parts words
-    → find (λ form. has_keywords form.parts words) (map line_form (drop index items))
-    ≡ find (λ form. has_keywords form.parts words) (map line_form (drop (index + 1) items))
-passed_here items index words inside told =
-    rw (drop_more items index Moment inside, sym told) refl
-
--- behind the last form none is found
-pub none_left : (items : List Form) (index : ℕ) (words : List (List ℕ)) → length items ≤ index
-    → find (λ form. has_keywords form.parts words) (map line_form (drop index items)) ≡ None
-none_left items index words past = rw (drop_of_length-le items {i = index} past) refl
+-- the form of a call is told by the call's own word
+pub call_told : (words : List (List ℕ)) → bytes_eq (first_word words) call_word ≡ true
+    → say_among forms words ≡ words_say (form_of_call (third_word words)) words
+unfolding say_among form_of_call
+call_told words is = rw ((bytes_eq-Decides (first_word words) call_word).0 is) refl
 
 -- keywords are looked for among as many words as the parts are
 keywords_among : (parts : List Part) (n : ℕ) (words : List (List ℕ)) → length parts ≤ n
@@ -78,13 +58,13 @@ keywords_among (ChoiceField one other ∷ parts) (suc n) (first ∷ words) few =
     keywords_among parts n words (omega (arith, few))
 
 -- a form says the same of the first words, if these are more than it has parts
-form_says : (form : LineForm) (n : ℕ) (words : List (List ℕ)) → length form.parts < n
-    → words_say (Some form) (take n words) ≡ words_say (Some form) words
-unfolding words_say
-form_says form n words few = by_length (nat_le (length words) n) refl
+same_says : (form : LineForm) (n : ℕ) (words : List (List ℕ)) → length form.parts < n
+    → form_says form (take n words) ≡ form_says form words
+unfolding form_says
+same_says form n words few = by_length (nat_le (length words) n) refl
   where
     by_length : (fits : Bool) → nat_le (length words) n ≡ fits
-        → words_say (Some form) (take n words) ≡ words_say (Some form) words
+        → form_says form (take n words) ≡ form_says form words
     by_length true fits =
         let within : length words ≤ n = grind (arith, nat_tests, fits) in
         rw (take_all n words within) refl
@@ -99,69 +79,52 @@ form_says form n words few = by_length (nat_le (length words) n) refl
         let not_all : may_have form.parts (length words) ≡ false = and_right _ _ all in
         rw (not_cut, not_all) refl
 
--- forms say the same of the first words, if these are more than any of them has parts
-pub forms_say : (items : List Form) (n : ℕ) (words : List (List ℕ))
-    → ((form : Form) → length (line_form form).parts < n)
-    → words_say (form_among (map line_form items) (take n words)) (take n words)
-    ≡ words_say (form_among (map line_form items) words) words
-unfolding form_among words_say
-forms_say [] n words few = refl
-forms_say (form ∷ items) n words few =
-    let same = keywords_among (line_form form).parts n words (omega (arith, few form)) in
-    rw same (by_first (forms_say items n words few) (has_keywords (line_form form).parts words))
-  where
-    by_first : words_say (form_among (map line_form items) (take n words)) (take n words)
-        ≡ words_say (form_among (map line_form items) words) words → (told : Bool)
-        → words_say (if told then Some (line_form form)
-        else find (λ it. has_keywords it.parts (take n words)) (map line_form items)) (take n words)
-        ≡ words_say (if told then Some (line_form form)
-        else find (λ it. has_keywords it.parts words) (map line_form items)) words
-    by_first others true = form_says (line_form form) n words (few form)
-    by_first others false = others
+-- no form among these has so many parts
+abbrev pub have_fewer : ℕ → List LineForm → Bool
+have_fewer n known = list_all (λ form. nat_lt (length form.parts) n) known
 
--- no form has more than 14 parts
-pub few_parts : (form : Form) → length (line_form form).parts < 15
-few_parts Moment = omega arith
-few_parts Topology = omega arith
-few_parts Role = omega arith
-few_parts Pd = omega arith
-few_parts Md = omega arith
-few_parts Publish = omega arith
-few_parts Put = omega arith
-few_parts Unpublish = omega arith
-few_parts Subscribe = omega arith
-few_parts Get = omega arith
-few_parts Unsubscribe = omega arith
-few_parts OpenPull = omega arith
-few_parts Pull = omega arith
-few_parts ClosePull = omega arith
-few_parts Listen = omega arith
-few_parts Unlisten = omega arith
-few_parts Notify = omega arith
-few_parts Request = omega arith
-few_parts Reply = omega arith
-few_parts Query = omega arith
-few_parts ReplyError = omega arith
-few_parts Confirm = omega arith
-few_parts Abort = omega arith
-few_parts AddSlot = omega arith
+-- forms say the same of the first words, if these are more than any of them has parts
+forms_say : (known : List LineForm) (n : ℕ) (words : List (List ℕ)) → have_fewer n known ≡ true
+    → say_among known (take n words) ≡ say_among known words
+unfolding say_among
+forms_say [] n words few = refl
+forms_say (form ∷ known) n words few =
+    let both = and_parts (nat_lt (length form.parts) n) (have_fewer n known) few in
+    let fewer : length form.parts < n = grind (arith, nat_tests, both.0) in
+    let same = keywords_among form.parts n words (omega (arith, fewer)) in
+    rw same (by_first (forms_say known n words both.1) fewer (has_keywords form.parts words))
+  where
+    by_first : say_among known (take n words) ≡ say_among known words → length form.parts < n → (told : Bool)
+        → words_say (if told then Some form
+        else find (λ it. has_keywords it.parts (take n words)) known) (take n words)
+        ≡ words_say (if told then Some form
+        else find (λ it. has_keywords it.parts words) known) words
+    by_first others fewer true = same_says form n words fewer
+    by_first others fewer false = others
+
+-- all forms have fewer than 15
+pub few_parts : have_fewer 15 forms ≡ true
+unfolding forms
+few_parts = refl
+
+-- those of the operator too
+pub operators_few_parts : have_fewer 15 operator_forms ≡ true
+unfolding operator_forms
+operators_few_parts = refl
 
 -- what was read of the first 15 words of a line is what all say
-pub words_read : (items : List Form) (line words : List (List ℕ))
-    (r : Result (Option Event) LineFault) → words ≡ take 15 line
-    → Reads (words_say (form_among (map line_form items) words) words) r
-    → Reads (words_say (form_among (map line_form items) line) line) r
-words_read items line words r cut reads =
-    subst (λ meaning. Reads meaning r) (forms_say items 15 line few_parts)
-    (subst (λ ws. Reads (words_say (form_among (map line_form items) ws) ws) r) cut reads)
+pub words_read : (known : List LineForm) (line words : List (List ℕ))
+    (r : Result (Option Event) LineFault) → have_fewer 15 known ≡ true → words ≡ take 15 line
+    → Reads (say_among known words) r
+    → Reads (say_among known line) r
+words_read known line words r few cut reads =
+    subst (λ meaning. Reads meaning r) (forms_say known 15 line few)
+    (subst (λ ws. Reads (say_among known ws) r) cut reads)
 
--- the same of a line that isn't too long and isn't skipped
-pub line_read : (items : List Form) (text : List ℕ) (words : List (List ℕ))
-    (r : Result (Option Event) LineFault) → length text ≤ 140000 → is_skipped text ≡ false
-    → words ≡ take 15 (words_of text)
-    → Reads (words_say (form_among (map line_form items) words) words) r
-    → Reads (line_among (map line_form items) text) r
-unfolding line_among
-line_read items text words r short some cut reads =
-    let tells : nat_lt 140000 (length text) ≡ false = grind (arith, nat_tests, short) in
-    rw (tells, some) (words_read items (words_of text) words r cut reads)
+-- the same of a line whose words say it
+pub line_read : (known : List LineForm) (text : List ℕ) (words : List (List ℕ))
+    (r : Result (Option Event) LineFault) → have_fewer 15 known ≡ true
+    → line_among known text ≡ say_among known (words_of text) → words ≡ take 15 (words_of text)
+    → Reads (say_among known words) r → Reads (line_among known text) r
+line_read known text words r few said cut reads =
+    rw said (words_read known (words_of text) words r few cut reads)

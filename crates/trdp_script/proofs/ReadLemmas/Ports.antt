@@ -13,13 +13,14 @@ use Rattle.trdp_base.specs.NumberText.{text_of_number}
 use Rattle.trdp_base.specs.QuotaLimits.{quota_limit}
 use Rattle.trdp_model.specs.Events.{EventModel, MomentIs, TopologyIs, RoleIs, DatagramIs}
 use Rattle.trdp_model.specs.Events.{CallIs, AddSlotIs}
-use Rattle.trdp_script.specs.Forms.{call_word, event_in, event_of_words, forms, has_keywords}
+use Rattle.trdp_script.specs.Forms.{call_word, event_in, forms, has_keywords}
 use Rattle.trdp_script.specs.Forms.{role_form, topology_form, add_slot_form}
 use Rattle.trdp_script.specs.Words.{words_of, first_word, other_words, number_of_word}
 use Rattle.trdp_script.specs.WordsLeft.{words_at}
-use Rattle.trdp_script.specs.Lines.{Reads, event_or_fault, form_among, is_skipped, line_among}
-use Rattle.trdp_script.specs.Lines.{may_have, words_say}
-use Rattle.trdp_script.specs.PortLines.{call_line, control_line_of, operator_line_of, without_end}
+use Rattle.trdp_script.specs.Lines.{Reads, event_or_fault, form_says, is_skipped, line_among}
+use Rattle.trdp_script.specs.Lines.{may_have, say_among, words_say}
+use Rattle.trdp_script.specs.PortLines.{call_line, control_line_of, operator_forms}
+use Rattle.trdp_script.specs.PortLines.{operator_line_of, without_end}
 use Rattle.trdp_model.specs.declared.event.Event.{Event}
 use Rattle.trdp_script.specs.declared.fault.LineFault.{LineFault}
 use Rattle.trdp_script.specs.declared.fault.LineFault.TheVariants.{TooLong, Count, OutOfMemory}
@@ -62,8 +63,8 @@ control_too_long slot digits text bytes shown is some long =
 -- another line that isn't skipped
 pub control_says : (slot : ℕ) (digits text bytes : List ℕ) → digits ≡ text_of_number slot
     → slot < 2 ^ 16 → text ≡ without_end bytes → is_skipped text ≡ false
-    → 5 + length digits + 1 + length text ≤ 140000 → control_line_of slot bytes ≡ words_say
-    (form_among forms (call_word ∷ digits ∷ words_of text)) (call_word ∷ digits ∷ words_of text)
+    → 5 + length digits + 1 + length text ≤ 140000 → control_line_of slot bytes
+    ≡ say_among forms (call_word ∷ digits ∷ words_of text)
 unfolding control_line_of line_among
 control_says slot digits text bytes shown small is some short =
     let tells : nat_lt 140000 (length (call_line slot text)) ≡ false =
@@ -123,14 +124,14 @@ counted_said : (right : Bool) (event : Option EventModel) → IsOperators (event
 counted_said true event is = is
 counted_said false event is = λ same. absurd (cc)
 
-topology_words : (words : List (List ℕ)) → IsOperators (words_say (Some topology_form) words)
-unfolding words_say event_of_words
+topology_words : (words : List (List ℕ)) → IsOperators (form_says topology_form words)
+unfolding form_says
 topology_words words =
     counted_said (may_have topology_form.parts (length words)) (event_in topology_form words)
     (topology_said _ _)
 
-role_words : (words : List (List ℕ)) → IsOperators (words_say (Some role_form) words)
-unfolding words_say event_of_words
+role_words : (words : List (List ℕ)) → IsOperators (form_says role_form words)
+unfolding form_says
 role_words words = counted_said (may_have role_form.parts (length words)) (event_in role_form words)
     (role_said _ _)
 
@@ -141,8 +142,8 @@ quota_next words = number_of_word quota_limit (first_word (other_words words))
 abbrev past_two : List (List ℕ) → List (List ℕ)
 past_two words = other_words (other_words words)
 
-add_slot_words : (words : List (List ℕ)) → IsOperators (words_say (Some add_slot_form) words)
-unfolding words_say event_of_words
+add_slot_words : (words : List (List ℕ)) → IsOperators (form_says add_slot_form words)
+unfolding form_says
 add_slot_words words =
     counted_said (may_have add_slot_form.parts (length words)) (event_in add_slot_form words)
     (add_slot_said (quota_next words) (quota_next (other_words words))
@@ -155,9 +156,8 @@ unfolding words_say
 other_words_said words = λ is. absurd (cc)
 
 operators_words : (words : List (List ℕ))
-    → IsOperators (words_say (form_among (topology_form ∷ role_form ∷ add_slot_form ∷ []) words)
-    words)
-unfolding form_among
+    → IsOperators (say_among operator_forms words)
+unfolding say_among operator_forms
 operators_words words = by_form (has_keywords topology_form.parts words)
     (has_keywords role_form.parts words) (has_keywords add_slot_form.parts words)
   where
@@ -178,8 +178,7 @@ operators_line bytes = by_text (nat_lt 140000 (length (without_end bytes)))
   where
     by_text : (long skipped : Bool) → IsOperators (if long then Err TooLong
         else (if skipped then Ok None
-        else words_say (form_among (topology_form ∷ role_form ∷ add_slot_form ∷ [])
-        (words_of (without_end bytes))) (words_of (without_end bytes))))
+        else say_among operator_forms (words_of (without_end bytes))))
     by_text true skipped = λ is. absurd (cc)
     by_text false true = tt
     by_text false false = operators_words (words_of (without_end bytes))

@@ -20,7 +20,7 @@ use Rattle.trdp_script.specs.Forms.{LineForm, forms, event_in}
 use Rattle.trdp_script.specs.Words.{words_of}
 use Rattle.trdp_script.specs.Lines.{Reads, event_or_fault, form_among}
 use Rattle.trdp_script.specs.Lines.{is_skipped, line_among, line_of, may_have}
-use Rattle.trdp_script.specs.Lines.{words_say}
+use Rattle.trdp_script.specs.Lines.{form_says, say_among, words_say}
 use Rattle.trdp_script.specs.Pieces.{IsBare}
 use Rattle.trdp_script.specs.ScriptText.{after_line, events_of, events_text}
 use Rattle.trdp_script.specs.ScriptText.{fault_from, fault_or}
@@ -252,7 +252,7 @@ abbrev NeverMemory : Result (Option EventModel) LineFault → Type 0
 NeverMemory meaning = meaning ≡ Err NoMemory → ⊥
 
 never_said : (form : Option LineForm) (words : List (List ℕ)) → NeverMemory (words_say form words)
-unfolding words_say
+unfolding words_say form_says
 never_said None words is = absurd (cc)
 never_said (Some form) words is =
     never_counted (may_have form.parts (length words)) (event_in form words) is
@@ -264,11 +264,11 @@ never_said (Some form) words is =
     never_counted false event is = absurd (cc)
 
 never_memory : (text : List ℕ) → NeverMemory (line_of text)
-unfolding line_among
+unfolding line_among say_among
 never_memory text is = never_long (nat_lt 140000 (length text)) (is_skipped text) is
   where
     never_long : (a b : Bool) → NeverMemory (if a then Err TooLong
-        else (if b then Ok None else words_say (form_among forms (words_of text)) (words_of text)))
+        else (if b then Ok None else say_among forms (words_of text)))
     never_long true b is = absurd (cc)
     never_long false true is = absurd (cc)
     never_long false false is = never_said (form_among forms (words_of text)) (words_of text) is

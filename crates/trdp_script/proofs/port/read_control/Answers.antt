@@ -1,7 +1,6 @@
-use Rattle.std.proofs.Common.{refl, ◌∙◌}
+use Rattle.std.proofs.Common.{refl, ◌∙◌, Ok, Err, Some}
 use Rattle.trdp_script.specs.Forms.{forms}
-use Rattle.trdp_script.specs.declared.form.TheConstants.{FORMS}
-use Rattle.trdp_script.proofs.ReadLemmas.Forms.{words_read}
+use Rattle.trdp_script.proofs.ReadLemmas.Forms.{words_read, few_parts}
 use Rattle.trdp_script.proofs.ReadLemmas.Ports.{call_cut, control_too_long, control_says}
 use Rattle.trdp_script.proofs.port.read_control.Goals as goal
 
@@ -13,13 +12,22 @@ returns-then-slot-text-gt-LINE_MAX c =
     c.args.bytes.now shown c.without_end-text.ensures some c.if-slot-text-gt-LINE_MAX.true in
     record { meaning = rw is refl }
 
-pub returns : goal.returns
-unfolding forms
-returns c =
+pub returns-in-Ok : goal.returns-in-Ok
+returns-in-Ok c =
     let shown = c.as_bytes-slot.ensures.value ∙ c.format.ensures.text in
     let some = rw c.is_skipped.ensures at c.if-is_skipped.false in
     let is = control_says c.args.slot _ _ c.args.bytes.now
     shown c.ranges.slot.fits c.without_end-text.ensures some c.if-slot-text-gt-LINE_MAX.false in
     let cut = c.of.ensures ∙ call_cut _ _ _ _ _ _ c.without_end-text.result.now
     c.new-words.ensures c.push.ensures.items c.push-2.ensures.items c.cut_words.ensures in
-    record { meaning = rw is (words_read FORMS _ _ c.read_words.result cut c.read_words.ensures) }
+    record { meaning = rw is (words_read forms _ _ (Ok (Some c.in-Ok.event)) few_parts cut c.in-Ok.ensures) }
+
+pub returns-in-Err : goal.returns-in-Err
+returns-in-Err c =
+    let shown = c.as_bytes-slot.ensures.value ∙ c.format.ensures.text in
+    let some = rw c.is_skipped.ensures at c.if-is_skipped.false in
+    let is = control_says c.args.slot _ _ c.args.bytes.now
+    shown c.ranges.slot.fits c.without_end-text.ensures some c.if-slot-text-gt-LINE_MAX.false in
+    let cut = c.of.ensures ∙ call_cut _ _ _ _ _ _ c.without_end-text.result.now
+    c.new-words.ensures c.push.ensures.items c.push-2.ensures.items c.cut_words.ensures in
+    record { meaning = rw is (words_read forms _ _ (Err c.in-Err.fault) few_parts cut c.in-Err.ensures) }

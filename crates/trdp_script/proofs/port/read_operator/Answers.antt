@@ -1,12 +1,40 @@
-use Rattle.std.proofs.Common.{rules}
-use Rattle.trdp_script.specs.Lines.{Reads}
-use Rattle.trdp_script.specs.PortLines.{operator_line_of}
+use Rattle.std.proofs.Common.{◌≡◌, true, ap, ◌∙◌, rules, subst, take, ◌++◌, Ok, Err, Some}
+use Rattle.trdp_script.specs.Lines.{line_among, Reads}
+use Rattle.trdp_script.specs.PortLines.{operator_forms, operator_line_of}
+use Rattle.trdp_script.specs.Words.{words_of}
+use Rattle.trdp_script.specs.WordsLeft.{words_at}
+use Rattle.trdp_script.proofs.ReadLemmas.Forms.{line_read, operators_few_parts}
 use Rattle.trdp_script.proofs.ReadLemmas.Ports.{operators_line, operators_sure}
 use Rattle.trdp_script.proofs.port.read_operator.Goals as goal
 
-pub returns-clause-memory : goal.returns-clause-memory
+pub returns-in-Ok-clause-meaning : goal.returns-in-Ok-clause-meaning
 unfolding operator_line_of
-returns-clause-memory c =
-    let meaning : Reads (operator_line_of c.args.bytes.now) c.read_among.result = search rules in
-    operators_sure (operator_line_of c.args.bytes.now) c.read_among.result
+returns-in-Ok-clause-meaning c =
+    let told : c.in_ok-cut_line.field-0 ≡ true = search rules in
+    let cut = c.of.ensures ∙ c.in_ok-cut_line.ensures.words told
+    ∙ ap (λ items. take 15 (words_at items ++ words_of c.without_end.result.now)) c.new-words.ensures in
+    subst (λ text. Reads (line_among operator_forms text) (Ok (Some c.in-Ok.event))) c.without_end.ensures
+    (line_read operator_forms c.without_end.result.now _ (Ok (Some c.in-Ok.event)) operators_few_parts
+    (c.in_ok-cut_line.ensures.said operator_forms told) cut c.in-Ok.ensures)
+
+pub returns-in-Err-clause-meaning : goal.returns-in-Err-clause-meaning
+unfolding operator_line_of
+returns-in-Err-clause-meaning c =
+    let told : c.in_ok-cut_line.field-0 ≡ true = search rules in
+    let cut = c.of.ensures ∙ c.in_ok-cut_line.ensures.words told
+    ∙ ap (λ items. take 15 (words_at items ++ words_of c.without_end.result.now)) c.new-words.ensures in
+    subst (λ text. Reads (line_among operator_forms text) (Err c.in-Err.fault)) c.without_end.ensures
+    (line_read operator_forms c.without_end.result.now _ (Err c.in-Err.fault) operators_few_parts
+    (c.in_ok-cut_line.ensures.said operator_forms told) cut c.in-Err.ensures)
+
+pub returns-in-Err-clause-memory : goal.returns-in-Err-clause-memory
+returns-in-Err-clause-memory c =
+    operators_sure (operator_line_of c.args.bytes.now) (Err c.in-Err.fault)
+    (operators_line c.args.bytes.now) (returns-in-Err-clause-meaning c)
+
+pub returns-in_err-cut_line-clause-memory : goal.returns-in_err-cut_line-clause-memory
+unfolding operator_line_of
+returns-in_err-cut_line-clause-memory c =
+    let meaning : Reads (operator_line_of c.args.bytes.now) c.from_residual.result = search rules in
+    operators_sure (operator_line_of c.args.bytes.now) c.from_residual.result
     (operators_line c.args.bytes.now) meaning
