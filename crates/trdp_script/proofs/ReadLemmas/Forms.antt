@@ -1,8 +1,8 @@
 -- Facts on the forms of a line.
 -- For `read_words`, `read_line`, `read_control` and `read_operator`.
 -- By: the keywords of a form, and the number of its words, show in the first 15 words of a line.
-use Rattle.std.proofs.Common.{◌≡◌, ℕ, zero, suc, ◌+◌, ◌<◌, ◌≤◌, ◌&&◌, Bool, true, false, List, [], Result, subst}
-use Rattle.std.proofs.Common.{◌∷◌, length, take, Some, None, refl, ap, arith}
+use Rattle.std.proofs.Common.{◌≡◌, ℕ, zero, suc, ◌+◌, ◌<◌, ◌≤◌, ◌&&◌, Bool, true, false, List, []}
+use Rattle.std.proofs.Common.{◌∷◌, length, take, Some, None, Result, refl, ap, arith, subst}
 use Rattle.std.proofs.Common.{nat_le, nat_lt, if◌then◌else◌, Option}
 use Rattle.std.specs.List.{find, list_all}
 use Rattle.std.specs.Str.{bytes_eq}
@@ -11,8 +11,8 @@ use Rattle.std.proofs.lemmas.Bool.Decides.{nat_tests}
 use Rattle.std.proofs.lemmas.List.{length-take-le, take_all}
 use Rattle.std.proofs.lemmas.Slice.Eq.{bytes_eq-Decides}
 use Rattle.trdp_script.specs.FormWords.{form_of_call}
-use Rattle.trdp_script.specs.Forms.{call_word, forms, has_keywords, LineForm, Part, Keyword, NumberField}
-use Rattle.trdp_script.specs.Forms.{LastNumberField, AnyOrNumberField, AddressField, PlaceField}
+use Rattle.trdp_script.specs.Forms.{call_word, forms, has_keywords, LineForm, Part, Keyword}
+use Rattle.trdp_script.specs.Forms.{NumberField, LastNumberField, AnyOrNumberField, AddressField, PlaceField}
 use Rattle.trdp_script.specs.Forms.{BytesField, UriField, StatusField, SessionField, ChoiceField}
 use Rattle.trdp_script.specs.Lines.{form_says, line_among, may_have, say_among}
 use Rattle.trdp_script.specs.Lines.{words_say, Reads}
@@ -94,8 +94,8 @@ forms_say (form ∷ known) n words few =
     let same = keywords_among form.parts n words (omega (arith, fewer)) in
     rw same (by_first (forms_say known n words both.1) fewer (has_keywords form.parts words))
   where
-    by_first : say_among known (take n words) ≡ say_among known words → length form.parts < n → (told : Bool)
-        → words_say (if told then Some form
+    by_first : say_among known (take n words) ≡ say_among known words → length form.parts < n
+        → (told : Bool) → words_say (if told then Some form
         else find (λ it. has_keywords it.parts (take n words)) known) (take n words)
         ≡ words_say (if told then Some form
         else find (λ it. has_keywords it.parts words) known) words

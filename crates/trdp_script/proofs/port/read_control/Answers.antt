@@ -20,7 +20,8 @@ returns-in-Ok c =
     shown c.ranges.slot.fits c.without_end-text.ensures some c.if-slot-text-gt-LINE_MAX.false in
     let cut = c.of.ensures ∙ call_cut _ _ _ _ _ _ c.without_end-text.result.now
     c.new-words.ensures c.push.ensures.items c.push-2.ensures.items c.cut_words.ensures in
-    record { meaning = rw is (words_read forms _ _ (Ok (Some c.in-Ok.event)) few_parts cut c.in-Ok.ensures) }
+    let read = words_read forms _ _ (Ok (Some c.in-Ok.event)) few_parts cut c.in-Ok.ensures in
+    record { meaning = rw is read }
 
 pub returns-in-Err : goal.returns-in-Err
 returns-in-Err c =
@@ -30,4 +31,5 @@ returns-in-Err c =
     shown c.ranges.slot.fits c.without_end-text.ensures some c.if-slot-text-gt-LINE_MAX.false in
     let cut = c.of.ensures ∙ call_cut _ _ _ _ _ _ c.without_end-text.result.now
     c.new-words.ensures c.push.ensures.items c.push-2.ensures.items c.cut_words.ensures in
-    record { meaning = rw is (words_read forms _ _ (Err c.in-Err.fault) few_parts cut c.in-Err.ensures) }
+    let read = words_read forms _ _ (Err c.in-Err.fault) few_parts cut c.in-Err.ensures in
+    record { meaning = rw is read }
