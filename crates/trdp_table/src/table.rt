@@ -161,6 +161,20 @@ impl Table {
         self.slots[usize::from(slot)].find(handle)
     }
 
+    /// What [`Table::find`] answers. The object is looked for under that key first, and is searched
+    /// for only where it stands under another one.
+    pub fn find_near(&self, slot: u16, handle: u32, key: usize) -> Option<usize>
+        requires { slot < length self.now }
+        ensures { result
+            ≡ option_map (λ keyed. keyed.key)
+            (by_handle handle (slot_in slot self.now).objects) }
+    {
+        if self.pool.owner(key) == Some((slot, handle)) {
+            return Some(key);
+        }
+        self.find(slot, handle)
+    }
+
     /// Whether a slot has an object of that key.
     fn holds(&self, key: usize) -> bool
         ensures { result ≡ is_some (by_key key (all_objects self.now)) }
