@@ -16,11 +16,10 @@ use Rattle.trdp_table.specs.Tables.{Keyed, TableState, all_objects, by_key}
 use Rattle.trdp_index.specs.declared.com_row.ComRow.{ComRow}
 use Rattle.trdp_index.specs.declared.session_row.Role.{Role}
 use Rattle.trdp_index.specs.declared.session_row.Role.TheVariants.{Caller, Replier}
-use Rattle.trdp_engine.specs.declared.addressees.Addressee.{Addressee}
 use Rattle.trdp_outbox.specs.declared.room.Room.{Room}
 use Rattle.trdp_model.specs.Slots.{Entry}
 use Rattle.trdp_store.specs.Indexed.{rows_from}
-use Rattle.trdp_engine.specs.Noted.{noted_as}
+use Rattle.trdp_engine.specs.Noted.{Addressed, noted_as}
 
 -- the comId of the objects that a header of this type may be for
 abbrev pub sought_as : PdKind → PdHead → ℕ
@@ -50,7 +49,7 @@ abbrev pub hits : TelegramModel → Globals → TableState → List ComRow → L
 hits telegram globals table rows = flat_map (hit telegram globals table) rows
 
 -- the same, each with its slot
-abbrev pub noted_rows : TelegramModel → Globals → TableState → List ComRow → List Addressee
+abbrev pub noted_rows : TelegramModel → Globals → TableState → List ComRow → List Addressed
 noted_rows telegram globals table rows =
     flat_map (λ row. noted_as row.slot (hit telegram globals table row)) rows
 
@@ -83,7 +82,7 @@ rows_heard (MdIs src dst telegram) table =
     length (rows_from 0 (Some telegram.head.com_id) table) + length (rows_from 0 None table)
 
 -- the listener of slot s that hears, if one does
-abbrev pub noted_listener : ℕ → Option ℕ → List Addressee
+abbrev pub noted_listener : ℕ → Option ℕ → List Addressed
 noted_listener s None = []
 noted_listener s (Some handle) = record { slot = s; handle = handle } ∷ []
 

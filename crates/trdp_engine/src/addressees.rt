@@ -2,7 +2,7 @@
 //! first alone.
 
 ghost use Rattle.std.specs.Prelude.{◌≡◌, ◌+◌, ◌*◌, ◌<◌, ◌≤◌, ◌++◌, length};
-ghost use Rattle.std.specs.Prelude.{vec_len, vec_capacity, Some, true};
+ghost use Rattle.std.specs.Prelude.{vec_len, vec_capacity, Some, None, true, slice_index_or};
 ghost use Rattle.std.specs.Prelude.{ℕ, ◌^◌};
 ghost use Rattle.std.specs.List.{flat_map};
 ghost use Rattle.trdp_filter.specs.Telegrams.{telegram_model};
@@ -21,23 +21,15 @@ ghost use Rattle.trdp_engine.specs.Sought.{comes_unasked, noted_listener, listen
 ghost use Rattle.trdp_engine.specs.Sought.{rows_heard};
 ghost use Rattle.trdp_engine.specs.Costs.{meant_in, meant_of};
 
+use crate::addressee::Addressee;
 use crate::filter_test::is_for;
-use crate::first_listeners::hearers;
+use crate::first_listeners::{Heard, hearers};
 use trdp_base::SessionId;
 use trdp_filter::{Globals, Telegram};
 use trdp_head::{MD_PAYLOAD_MAX, MdKind, PdHead, PdKind};
 use trdp_index::{ComRow, Role};
 use trdp_outbox::Room;
-use trdp_store::{Counts, Store, object_of};
-
-/// An object that is to act.
-#[derive(Clone, Copy)]
-pub struct Addressee {
-    /// The number of its slot.
-    pub slot: u16,
-    /// Its handle there.
-    pub handle: u32,
-}
+use trdp_store::{Counts, Store};
 
 /// The session of the telegram, if it is a message that one of its objects awaits, and what that
 /// object is there.
@@ -107,16 +99,16 @@ fn note_part(
     } = *awaited;
     store.sound();
     counts.looked_up();
-    let Some(handle) = store.handle_in(s, session, role) else {
+    let Some((handle, key)) = store.find_in(s, session, role) else {
         return Room::none();
     };
-    let Some(object) = object_of(store, s, handle) else {
+    let Some(object) = store.get(key) else {
         return Room::none();
     };
     if !is_for(object, telegram, globals, counts) {
         return Room::none();
     }
-    noted.push_reserved(Addressee { slot: s, handle });
+    noted.push_reserved(Addressee::new(s, handle, key));
     Room::of(object)
 }
 
@@ -165,10 +157,7 @@ fn note_row(
     if !is_for(object, telegram, globals, counts) {
         return Room::none();
     }
-    noted.push_reserved(Addressee {
-        slot: row.slot,
-        handle: row.handle,
-    });
+    noted.push_reserved(Addressee::new(row.slot, row.handle, row.key));
     Room::of(object)
 }
 
@@ -245,19 +234,20 @@ fn note_parts(
 
 /// Notes the listener of slot `s` that hears a message, if one does, and answers the room for what
 /// it may give.
-fn note_listener(s: u16, listener: Option<u32>, noted: &mut Vec<Addressee>) -> Room
+fn note_listener(heard: &Heard, s: u16, noted: &mut Vec<Addressee>) -> Room
     requires { vec_len noted.old < vec_capacity noted.old }
-    ensures noted { noted.new.items ≡ noted.old.items ++ noted_listener s listener }
-    ensures room { result ≡ listener_room listener }
+    ensures noted { noted.new.items
+        ≡ noted.old.items ++ noted_listener s (slice_index_or heard.now s None) }
+    ensures room { result ≡ listener_room (slice_index_or heard.now s None) }
     ensures rows { result.rows ≤ 1 }
     ensures bytes { result.bytes ≤ 65388 }
     ensures capacity { vec_capacity noted.new ≡ vec_capacity noted.old }
     ensures length { vec_len noted.new ≤ vec_len noted.old + 1 }
 {
-    match listener {
+    match heard.first(s) {
         None => Room::none(),
-        Some(handle) => {
-            noted.push_reserved(Addressee { slot: s, handle });
+        Some(listener) => {
+            noted.push_reserved(listener);
             Room {
                 rows: 1,
                 bytes: MD_PAYLOAD_MAX,
@@ -296,7 +286,7 @@ fn note_hearers(
     noted.clear();
     let mut room = Room::none();
     for s in 0..store.slots() {
-        room = room.plus(note_listener(s as u16, heard[s], noted));
+        room = room.plus(note_listener(&heard, s as u16, noted));
     }
     room
 }

@@ -30,7 +30,7 @@ use trdp_head::PD_PAYLOAD_MAX;
 use trdp_marshal::Item;
 use trdp_model::{Call, Kind, Refusal};
 use trdp_outbox::{Outbox, PlainAnswer, Room};
-use trdp_store::{Store, object_of};
+use trdp_store::{Sought, Store, object_of};
 
 /// Which object a call concerns, by its handle, and what it asks of it; None where it concerns none
 /// that there is.
@@ -146,7 +146,12 @@ fn ask(store: &mut Store, s: u16, handle: u32, asking: &Asking<'_, '_>, out: &mu
         (asked_act (setup_of asking.now.setting.config.now) asking.now.setting.globals.now handle
         asking.now.asked.now)) store.old store.new out.old out.new }
 {
-    if store.act(s, handle, asking, out).is_none() {
+    let sought = Sought {
+        slot: s,
+        handle,
+        key: None,
+    };
+    if store.act(sought, asking, out).is_none() {
         out.push_plain_answer(s, PlainAnswer::Refused(Refusal::NoHandle));
     }
 }

@@ -23,7 +23,7 @@ ghost use Rattle.trdp_engine.specs.Noted.{noted_from};
 ghost use Rattle.trdp_store.specs.Indexed.{com_of};
 ghost use Rattle.trdp_store.specs.InSession.{session_of};
 
-use crate::addressees::Addressee;
+use crate::addressee::Addressee;
 use crate::callers::push_replied;
 use crate::notices::push_heard;
 use crate::pull::{answer_place, push_answer};
@@ -34,7 +34,7 @@ use trdp_marshal::fits;
 use trdp_model::AnyObject;
 use trdp_outbox::{Form, Outbox};
 use trdp_pd::{Object, Reason, Taken};
-use trdp_store::{Counts, Deed, Left, Store, count_act};
+use trdp_store::{Counts, Deed, Left, Sought, Store, count_act};
 
 /// Whether the telegram's topology counts match the node's.
 pub fn is_valid_at(telegram: &Telegram<'_>, globals: &Globals) -> bool
@@ -156,24 +156,23 @@ impl Deed for Handing<'_, '_> {
     }
 }
 
-/// Hands the telegram to the object of that handle in slot `s`, which it is for. An object that
-/// ends leaves the store, which counts as a look-up.
+/// Hands the telegram to the object that is sought, which it is for. An object that ends leaves the
+/// store, which counts as a look-up.
 fn hand(
     store: &mut Store,
-    s: u16,
-    handle: u32,
+    sought: Sought,
     handing: &Handing<'_, '_>,
     out: &mut Outbox,
     counts: &mut Counts,
 )
-    requires slot { s < length store.old }
-    requires may { MayAct (slot_at s store.old) handle out.old }
-    requires addressed { IfSome (entry_under handle (slot_at s store.old).objects)
+    requires slot { sought.slot < length store.old }
+    requires may { MayAct (slot_at sought.slot store.old) sought.handle out.old }
+    requires addressed { IfSome (entry_under sought.handle (slot_at sought.slot store.old).objects)
         (λ entry. is_for_entry (telegram_model handing.now.telegram.now)
         handing.now.setting.globals.now entry ≡ true) }
     requires now { handing.now.setting.globals.now.now ≤ last_moment }
     requires limit { IsWithinLimit (telegram_model handing.now.telegram.now) }
-    ensures acts { ActsAt s handle
+    ensures acts { ActsAt sought.slot sought.handle
         (taking_act (setup_of handing.now.setting.config.now)
         (telegram_model handing.now.telegram.now) handing.now.setting.globals.now)
         store.old store.new out.old out.new }
@@ -182,7 +181,7 @@ fn hand(
     ensures tests { counts.new.tests ≡ counts.old.tests }
     ensures look_ups { counts.new.look_ups ≤ counts.old.look_ups + 1 }
 {
-    count_act(store.act(s, handle, handing, out), counts);
+    count_act(store.act(sought, handing, out), counts);
 }
 
 /// Hands the telegram to each object that was noted, in turn. That it tests it by itself is
@@ -221,13 +220,6 @@ pub fn take_all(
     };
     for addressee in noted {
         counts.tested();
-        hand(
-            store,
-            addressee.slot,
-            addressee.handle,
-            &handing,
-            out,
-            counts,
-        );
+        hand(store, addressee.sought(), &handing, out, counts);
     }
 }

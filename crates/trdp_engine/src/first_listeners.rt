@@ -1,7 +1,7 @@
 //! The listener of each slot that hears a message: the first that it is for.
 
 ghost use Rattle.std.specs.Prelude.{◌≡◌, ℕ, ◌<◌, ◌≤◌, length, None, slice_index_or};
-ghost use Rattle.std.specs.Prelude.{◌+◌, ◌*◌, ◌^◌};
+ghost use Rattle.std.specs.Prelude.{◌+◌, ◌*◌, ◌^◌, slice_set, option_map, replicate};
 ghost use Rattle.trdp_filter.specs.Telegrams.{telegram_model};
 ghost use Rattle.trdp_table.specs.Tables.{room_of};
 ghost use Rattle.trdp_model.specs.Datagrams.{hearing};
@@ -10,7 +10,9 @@ ghost use Rattle.trdp_store.specs.Indexed.{rows_from};
 ghost use Rattle.trdp_engine.specs.Sought.{hit, earlier, first_handle, hit_in, first_in};
 ghost use Rattle.trdp_engine.specs.Sought.{rows_heard};
 
+use crate::addressee::Addressee;
 use crate::filter_test::is_for;
+use std::marker::Model;
 use trdp_filter::{Globals, Telegram};
 use trdp_index::ComRow;
 use trdp_store::{Counts, Store};
@@ -54,27 +56,81 @@ fn handle_hit(
     }
 }
 
+/// For each of sixteen slots the first object that was found to hear a telegram, if one was. It is
+/// seen as their handles.
+#[derive(Drop)]
+pub struct Heard {
+    /// The handle of each.
+    handles: [Option<u32>; 16],
+    /// The key of each as it was found; where there is no handle it says nothing.
+    keys: [usize; 16],
+}
+
+impl Model for Heard {
+    ghost use Rattle.std.specs.Prelude.{ℕ, List, Option};
+
+    ghost Value = { List (Option ℕ) };
+
+    ghost view = { λ h. h.handles };
+}
+
+impl Heard {
+    /// No slot has one.
+    fn none() -> Heard
+        ensures { result ≡ replicate 16 None }
+    {
+        Heard {
+            handles: [None; 16],
+            keys: [0; 16],
+        }
+    }
+
+    /// Notes for a slot what was found under that key, if it comes before what is noted.
+    fn note(&mut self, slot: u16, found: Option<u32>, key: usize)
+        requires { slot < 16 }
+        ensures { self.new ≡ slice_set self.old slot
+            (earlier (slice_index_or self.old slot None) found) }
+    {
+        let slot = usize::from(slot);
+        let first = earlier(self.handles[slot], found);
+        if first != self.handles[slot] {
+            self.keys[slot] = key;
+        }
+        self.handles[slot] = first;
+    }
+
+    /// What is noted for a slot.
+    pub fn first(&self, slot: u16) -> Option<Addressee>
+        ensures { result ≡ option_map (λ handle. record { slot = slot; handle = handle })
+            (slice_index_or self.now slot None) }
+    {
+        let index = usize::from(slot);
+        let handle = (*self.handles.get(index)?)?;
+        Some(Addressee::new(slot, handle, self.keys[index]))
+    }
+}
+
 /// Notes the object of a row for its slot, if the telegram is for it and none before it is noted.
 fn hear_row(
     store: &Store,
     row: &ComRow,
     telegram: &Telegram<'_>,
     globals: &Globals,
-    heard: &mut [Option<u32>],
+    heard: &mut Heard,
     counts: &mut Counts,
 )
-    requires { row.now.slot < length heard.old }
+    requires slot { row.now.slot < 16 }
+    requires length { length heard.old ≡ 16 }
     ensures heard { (s : ℕ) → slice_index_or heard.new s None
         ≡ earlier (slice_index_or heard.old s None)
         (hit_in (telegram_model telegram.now) globals.entry.now store.now s row.now) }
-    ensures length { length heard.new ≡ length heard.old }
+    ensures length { length heard.new ≡ 16 }
     ensures comparisons { counts.new.comparisons ≡ counts.old.comparisons }
     ensures tests { counts.new.tests ≤ counts.old.tests + 1 }
     ensures look_ups { counts.new.look_ups ≡ counts.old.look_ups }
 {
-    let slot = usize::from(row.slot);
     let found = handle_hit(store, row, telegram, globals, counts);
-    heard[slot] = earlier(heard[slot], found);
+    heard.note(row.slot, found, row.key);
 }
 
 /// Notes for each slot the first of the objects that telegrams look for under a comId, or under
@@ -84,7 +140,7 @@ fn hear_run(
     com_id: Option<u32>,
     telegram: &Telegram<'_>,
     globals: &Globals,
-    heard: &mut [Option<u32>],
+    heard: &mut Heard,
     counts: &mut Counts,
 )
     requires { length heard.old ≡ 16 }
@@ -107,14 +163,14 @@ fn hear_run(
     counts.compared(comparisons);
 }
 
-/// For each slot the handle of its listener that hears the telegram; None where none does. They
-/// stand in the runs of the message's comId and of any.
+/// For each slot its listener that hears the telegram, if one does. They stand in the runs of the
+/// message's comId and of any.
 pub fn hearers(
     store: &Store,
     telegram: &Telegram<'_>,
     globals: &Globals,
     counts: &mut Counts,
-) -> [Option<u32>; 16]
+) -> Heard
     ensures heard { (s : ℕ) → s < length store.now → slice_index_or result s None
         ≡ hearing (telegram_model telegram.now) globals.entry.now (slot_at s store.now).objects }
     ensures comparisons { (b : ℕ) → room_of store.now < 2 ^ b
@@ -124,7 +180,7 @@ pub fn hearers(
     ensures look_ups { counts.new.look_ups ≡ counts.old.look_ups }
 {
     store.sound();
-    let mut heard = [None; 16];
+    let mut heard = Heard::none();
     if let Telegram::Md { view, .. } = telegram {
         hear_run(
             store,

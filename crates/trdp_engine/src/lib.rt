@@ -31,6 +31,7 @@
 //! memory every event is taken and every item shown.
 #![tactic(auto)]
 
+mod addressee;
 mod addressees;
 mod asked;
 mod callers;

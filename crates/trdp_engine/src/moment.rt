@@ -27,7 +27,7 @@ use trdp_head::{MD_TELEGRAM_MAX, MdHead, PD_TELEGRAM_MAX, PdHead};
 use trdp_model::AnyObject;
 use trdp_outbox::{Form, Outbox};
 use trdp_pd::{Fired, Object};
-use trdp_store::{Counts, Deed, Left, Store, count_act};
+use trdp_store::{Counts, Deed, Left, Sought, Store, count_act};
 
 /// Records the data of a publisher, with its value, under this header.
 fn push_data(object: &AnyObject, head: &PdHead, s: u16, out: &mut Outbox)
@@ -127,29 +127,22 @@ impl Deed for Firing<'_> {
     }
 }
 
-/// Fires the object of that handle in slot `s`, which is due. One that ends leaves the store, which
-/// counts as a look-up.
-fn fire(
-    store: &mut Store,
-    s: u16,
-    handle: u32,
-    globals: &Globals,
-    out: &mut Outbox,
-    counts: &mut Counts,
-)
-    requires slot { s < length store.old }
-    requires may { MayAct (slot_at s store.old) handle out.old }
-    requires due { IfSome (entry_under handle (slot_at s store.old).objects)
+/// Fires the object that is sought, which is due. One that ends leaves the store, which counts as a
+/// look-up.
+fn fire(store: &mut Store, sought: Sought, globals: &Globals, out: &mut Outbox, counts: &mut Counts)
+    requires slot { sought.slot < length store.old }
+    requires may { MayAct (slot_at sought.slot store.old) sought.handle out.old }
+    requires due { IfSome (entry_under sought.handle (slot_at sought.slot store.old).objects)
         (λ entry. is_due globals.now.now entry ≡ true) }
     requires now { globals.now.now ≤ last_moment }
-    ensures acts { ActsAt s handle (firing_act globals.entry.now) store.old store.new out.old
-        out.new }
+    ensures acts { ActsAt sought.slot sought.handle (firing_act globals.entry.now) store.old
+        store.new out.old out.new }
     ensures comparisons { (b : ℕ) → room_of store.old < 2 ^ b
         → counts.new.comparisons ≤ counts.old.comparisons + (4 * b + 4) }
     ensures tests { counts.new.tests ≡ counts.old.tests }
     ensures look_ups { counts.new.look_ups ≤ counts.old.look_ups + 1 }
 {
-    count_act(store.act(s, handle, &Firing { globals }, out), counts);
+    count_act(store.act(sought, &Firing { globals }, out), counts);
 }
 
 /// Fires the objects of all slots that are due, once each, each slot's in the order of their due
@@ -172,8 +165,8 @@ pub fn fire_all(store: &mut Store, globals: &Globals, out: &mut Outbox, counts: 
 {
     store.sound();
     counts.compared(1);
-    while let Some(order) = store.next_due(globals.now) {
-        fire(store, order.slot, order.handle, globals, out, counts);
+    while let Some(next) = store.next_due(globals.now) {
+        fire(store, next, globals, out, counts);
         counts.compared(1);
     }
 }

@@ -15,7 +15,8 @@ ghost use Rattle.trdp_model.specs.NodeModels.{HasOutcome, Appends};
 ghost use Rattle.trdp_outbox.specs.Rooms.{LacksRoom, datagram_room};
 ghost use Rattle.trdp_engine.specs.Costs.{quota_total, datagram_bounds, CostsAtMost};
 
-use crate::addressees::{Addressee, note_all};
+use crate::addressee::Addressee;
+use crate::addressees::note_all;
 use crate::datagram::{is_valid_at, take_all};
 use crate::requests::{ask_all, is_request};
 use crate::setting::Setting;

@@ -14,14 +14,14 @@ ghost use Rattle.trdp_outbox.specs.Rooms.{HasRoom, entries_room};
 ghost use Rattle.trdp_store.specs.Acting.{slot_at, Becomes};
 ghost use Rattle.trdp_engine.specs.Noted.{noted_from};
 
-use crate::addressees::Addressee;
+use crate::addressee::Addressee;
 use crate::notices::message;
 use trdp_filter::{Globals, Telegram};
 use trdp_head::MdKind;
 use trdp_md::Replier;
 use trdp_model::{AnyObject, Kind};
 use trdp_outbox::{Form, Outbox};
-use trdp_store::{Counts, Store, has_session};
+use trdp_store::{Counts, Sought, Store, has_session};
 
 /// Whether the telegram is a request.
 pub fn is_request(telegram: &Telegram<'_>) -> bool
@@ -37,21 +37,21 @@ pub fn is_request(telegram: &Telegram<'_>) -> bool
 /// of the session is open, or tells that it takes none.
 fn ask(
     store: &mut Store,
-    listener: &Addressee,
+    listener: Sought,
     telegram: &Telegram<'_>,
     globals: &Globals,
     out: &mut Outbox,
     counts: &mut Counts,
 )
-    requires slot { listener.now.slot < length store.old }
+    requires slot { listener.slot < length store.old }
     requires heard { hearing (telegram_model telegram.now) globals.now
-        (slot_at listener.now.slot store.old).objects ≡ Some listener.now.handle }
+        (slot_at listener.slot store.old).objects ≡ Some listener.handle }
     requires now { globals.now.now ≤ last_moment }
     requires limit { IsWithinLimit (telegram_model telegram.now) }
     requires row { 1 ≤ out.old.row_room }
     requires bytes { 65388 ≤ out.old.byte_room }
-    ensures becomes { Becomes listener.now.slot
-        (requested (slot_at listener.now.slot store.old) globals.entry.now
+    ensures becomes { Becomes listener.slot
+        (requested (slot_at listener.slot store.old) globals.entry.now
         (telegram_model telegram.now)) store.old store.new out.old out.new }
     ensures row_room { out.old.row_room ≤ out.new.row_room + 1 }
     ensures byte_room { out.old.byte_room ≤ out.new.byte_room + 65388 }
@@ -110,6 +110,6 @@ pub fn ask_all(
 {
     store.sound();
     for listener in noted {
-        ask(store, listener, telegram, globals, out, counts);
+        ask(store, listener.sought(), telegram, globals, out, counts);
     }
 }

@@ -1,10 +1,10 @@
 -- Words of the loop that fires what is due: the object that comes next.
 use Rattle.std.specs.Prelude.{◌≡◌, ℕ, ◌<◌, ◌++◌, List, [], ◌∷◌, length, Option, Some, None, true}
 use Rattle.std.specs.Prelude.{filter, option_map, slice_get}
-use Rattle.trdp_timers.specs.declared.order.Order.{Order}
 use Rattle.trdp_table.specs.Tables.{TableState}
 use Rattle.trdp_model.specs.Slots.{Entry}
 use Rattle.trdp_model.specs.Moments.{is_due, fires_before, in_order}
+use Rattle.trdp_store.specs.declared.sought.Sought.{Sought}
 use Rattle.trdp_store.specs.Acting.{slot_at}
 
 -- it fires before all of these
@@ -27,8 +27,9 @@ IsNext t objects handle =
     Some handle
     ≡ option_map (λ entry. entry.handle) (slice_get (in_order (filter (is_due t) objects)) 0)
 
--- nothing is due by t, or the object of this slot and handle fires next of those of its slot
-abbrev pub ComesNext : ℕ → TableState → Option Order → Type 0
+-- nothing is due by t, or the object that is sought fires next of those of its slot
+abbrev pub ComesNext : ℕ → TableState → Option Sought → Type 0
 ComesNext t table None = (s : ℕ) → filter (is_due t) (slot_at s table).objects ≡ []
-ComesNext t table (Some order) =
-    (order.slot < length table) × IsNext t (slot_at order.slot table).objects order.handle
+ComesNext t table (Some sought) =
+    (sought.slot < length table)
+    × IsNext t (slot_at sought.slot table).objects sought.handle

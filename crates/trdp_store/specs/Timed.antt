@@ -115,8 +115,8 @@ pub record IsSoonest (orders : List (Option Order)) (order : Order) : Type 0 whe
   pub key : ℕ
   pub first : IsFirst orders key order
 
--- a key has this order, which is due by t, and none is sooner
-pub record IsFirstDue (t : ℕ) (orders : List (Option Order)) (order : Order) : Type 0 where
-  pub key : ℕ
+-- the key has this order, which is due by t, and none is sooner
+pub record IsFirstDue (t : ℕ) (orders : List (Option Order)) (key : ℕ) (order : Order)
+    : Type 0 where
   pub first : IsFirst orders key order
   pub due : order.due ≤ t

@@ -10,7 +10,8 @@
 //! let mut store = Store::new(alloc, &quotas)?;                 // a slot for each of the quotas
 //! let handle = store.add(0, object, &mut counts)?;             // its handle in slot 0
 //! let rows = store.run(Some(com_id), &mut comparisons);        // whom a telegram may be for
-//! count_act(store.act(0, handle, &deed, &mut out), &mut counts);
+//! let sought = Sought { slot: 0, handle, key: None };           // by its handle alone
+//! count_act(store.act(sought, &deed, &mut out), &mut counts);
 //! ```
 //!
 //! No contract can say how often a body looks: to ask twice for what is due next, or for its room,
@@ -26,6 +27,7 @@ mod deed;
 mod objects;
 mod schedule;
 mod sessions;
+mod sought;
 mod store;
 
 pub use by_com::com_of;
@@ -34,4 +36,5 @@ pub use counts::Counts;
 pub use deed::{Deed, Left};
 pub use objects::object_of;
 pub use sessions::has_session;
+pub use sought::Sought;
 pub use store::{SLOTS_MAX, Store, count_act};

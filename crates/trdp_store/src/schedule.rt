@@ -188,18 +188,19 @@ impl Schedule {
         self.timers.probes()
     }
 
-    /// The first order of those that are due by `t`, in microseconds: the least by due moment,
-    /// slot and handle. None where no order is due by then. It compares one due moment with `t`.
-    pub fn first_due(&mut self, t: u64) -> Option<Order>
+    /// The key of the first order of those that are due by `t`, in microseconds, and the order: the
+    /// least by due moment, slot and handle. None where no order is due by then. It compares one
+    /// due moment with `t`.
+    pub fn first_due(&mut self, t: u64) -> Option<(usize, Order)>
         ensures first { MatchOption result (IsNoneDue t self.old.orders)
-            (λ order. IsFirstDue t self.old.orders order) }
+            (λ found. IsFirstDue t self.old.orders found.0 found.1) }
         ensures kept { self.new ≡ self.old }
     {
-        let (_, order) = self.timers.first()?;
+        let (key, order) = self.timers.first()?;
         if order.due > t {
             return None;
         }
-        Some(order)
+        Some((key, order))
     }
 
     /// The order that comes first of all: the least by due moment, slot and handle. None where no

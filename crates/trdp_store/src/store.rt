@@ -34,6 +34,7 @@ use crate::by_session::{enter, leave, session_of};
 use crate::counts::Counts;
 use crate::deed::{Deed, Left};
 use crate::schedule::Schedule;
+use crate::sought::Sought;
 use std::alloc::{AllocError, Global};
 use std::marker::Model;
 use trdp_base::{Quotas, SessionId};
@@ -42,7 +43,6 @@ use trdp_model::AnyObject;
 use trdp_outbox::{Outbox, Room};
 use trdp_pd::Object;
 use trdp_table::{Table, TableFault};
-use trdp_timers::Order;
 
 mod added;
 mod reads;
@@ -122,19 +122,23 @@ impl Store {
         self.sessions.get(session, slot, role)
     }
 
-    /// The handle of a slot's object that is in a session in that role; None where there is none.
-    pub fn handle_in(&self, slot: u16, session: SessionId, role: Role) -> Option<u32>
+    /// The handle and the key of a slot's object that is in a session in that role; None where
+    /// there is none.
+    pub fn find_in(&self, slot: u16, session: SessionId, role: Role) -> Option<(u32, usize)>
         ensures found { IfSome result
-            (λ handle. session_in slot handle self.now ≡ Some (session, role)) }
+            (λ found. session_in slot found.0 self.now ≡ Some (session, role)) }
+        ensures key { IfSome result (λ found. Some found.1
+            ≡ option_map (λ keyed. keyed.key)
+            (by_handle found.0 (slot_in slot self.now).objects)) }
         ensures alone { (index : ℕ) (keyed : Keyed)
             → slice_get (slot_in slot self.now).objects index ≡ Some keyed
             → session_of keyed.object ≡ Some (session, role)
-            → result ≡ Some keyed.handle }
+            → option_map (λ found. found.0) result ≡ Some keyed.handle }
     {
         self.table.sound();
         let key = self.sessions.get(session, slot, role)?;
-        let owner = self.table.owner(key)?;
-        Some(owner.1)
+        let (_, handle) = self.table.owner(key)?;
+        Some((handle, key))
     }
 
     /// Adds an object to a slot, last under the slot's next handle, and answers that handle. It
@@ -223,14 +227,22 @@ impl Store {
 }
 
 impl Store {
-    /// When the object acts that fires next of those that are due by `t`, in microseconds, of all
-    /// slots. None where nothing is due by then.
-    pub fn next_due(&mut self, t: u64) -> Option<Order>
+    /// The object that fires next of those that are due by `t`, in microseconds, of all slots, with
+    /// the key of its order. None where nothing is due by then.
+    pub fn next_due(&mut self, t: u64) -> Option<Sought>
         ensures next { ComesNext t self.old result }
+        ensures key { IfSome result (λ sought. sought.key
+            ≡ option_map (λ keyed. keyed.key)
+            (by_handle sought.handle (slot_in sought.slot self.old).objects)) }
         ensures kept { self.new ≡ self.old }
     {
         self.table.sound();
-        self.schedule.first_due(t)
+        let (key, order) = self.schedule.first_due(t)?;
+        Some(Sought {
+            slot: order.slot,
+            handle: order.handle,
+            key: Some(key),
+        })
     }
 
     /// Room for what fires in all slots by `t`, in microseconds, and how often an order was
@@ -244,26 +256,26 @@ impl Store {
         self.schedule.due_room(t)
     }
 
-    /// Does a deed to the object of that handle in slot `s`, if it has one; one that ends leaves the
-    /// store. It answers what became of the object, and how often two orders were compared; None
-    /// where there is no such object, and nothing was done.
+    /// Does a deed to the object that is sought, if there is one; one that ends leaves the store.
+    /// It answers what became of the object, and how often two orders were compared; None where
+    /// there is no such object, and nothing was done.
     pub fn act<D: Deed>(
         &mut self,
-        s: u16,
-        handle: u32,
+        sought: Sought,
         deed: &D,
         out: &mut Outbox,
     ) -> Option<(Left, u64)>
-        requires slot { s < length self.old }
-        requires may { IfSome (entry_under handle (slot_at s self.old).objects)
-            (λ entry. D.may deed.now handle entry.object out.old) }
-        ensures done { IfSome result (λ _. Becomes s
-            (at_object (slot_at s self.old) handle (D.act deed.now handle)) self.old self.new
-            out.old out.new) }
+        requires slot { sought.slot < length self.old }
+        requires may { IfSome (entry_under sought.handle (slot_at sought.slot self.old).objects)
+            (λ entry. D.may deed.now sought.handle entry.object out.old) }
+        ensures done { IfSome result (λ _. Becomes sought.slot
+            (at_object (slot_at sought.slot self.old) sought.handle
+            (D.act deed.now sought.handle)) self.old self.new out.old out.new) }
         ensures spends { IfSome result
-            (λ _. IfSome (entry_under handle (slot_at s self.old).objects)
+            (λ _. IfSome (entry_under sought.handle (slot_at sought.slot self.old).objects)
             (λ entry. D.spends deed.now entry.object out.old out.new)) }
-        ensures found { is_some result ≡ is_some (entry_under handle (slot_at s self.old).objects) }
+        ensures found { is_some result
+            ≡ is_some (entry_under sought.handle (slot_at sought.slot self.old).objects) }
         ensures kept { IfNone result (self.new ≡ self.old) }
         ensures unrecorded { IfNone result (out.new ≡ out.old) }
         ensures comparisons { IfSome result (λ did. (b : ℕ) → room_of self.old < 2 ^ b
@@ -271,16 +283,17 @@ impl Store {
         ensures still { IfSome result (λ did. D.ends_still deed.now → (b : ℕ)
             → room_of self.old < 2 ^ b → did.1 ≤ 2 * b + 2) }
     {
+        let Sought { slot, handle, .. } = sought;
         self.table.sound();
-        let key = self.table.find(s, handle)?;
+        let key = sought.key_in(&self.table)?;
         let object = self.table.get_mut(key)?;
         let before = object.due();
-        let left = deed.on(object, handle, s, out);
+        let left = deed.on(object, handle, slot, out);
         let due = object.due();
-        let changed = self.schedule.change(key, s, handle, before, due);
+        let changed = self.schedule.change(key, slot, handle, before, due);
         match left {
             Left::Stays => Some((left, changed)),
-            Left::Ended => Some((left, changed.saturating_add(self.remove(s, handle, key)))),
+            Left::Ended => Some((left, changed.saturating_add(self.remove(slot, handle, key)))),
         }
     }
 }

@@ -12,7 +12,7 @@ use Rattle.trdp_filter.specs.declared.globals.Globals.{Globals}
 use Rattle.trdp_filter.specs.Telegrams.{TelegramModel, PdIs, MdIs}
 use Rattle.trdp_table.specs.Tables.{TableState}
 use Rattle.trdp_table.specs.TableLaws.{IsTable}
-use Rattle.trdp_engine.specs.declared.addressees.Addressee.{Addressee}
+use Rattle.trdp_engine.specs.Noted.{Addressed}
 use Rattle.trdp_outbox.specs.declared.room.Room.{Room}
 use Rattle.trdp_model.specs.Records.{RecordModel, labelled}
 use Rattle.trdp_model.specs.Slots.{SlotState, Outcome, unchanged}
@@ -52,7 +52,7 @@ unheard slot globals (MdIs src dst telegram) none =
     ap (λ (listener : Option ℕ). asked_by_hearing listener slot globals src telegram) none
 
 -- the listener that was noted hears it in its slot, and of the room more than its own is left
-pub record IsHeard (request : Request) (slots : List SlotState) (a : Addressee) (room : Room)
+pub record IsHeard (request : Request) (slots : List SlotState) (a : Addressed) (room : Room)
     (slot : SlotState) (more : Room) : Type 0 where
   pub at : slice_get slots a.slot ≡ Some slot
   pub heard : hearing request.telegram request.globals slot.objects ≡ Some a.handle
@@ -61,7 +61,7 @@ pub record IsHeard (request : Request) (slots : List SlotState) (a : Addressee) 
 
 -- the slots of those that were noted get it in turn, within the room, and all come to what it is
 -- to lead to
-abbrev pub Asks : Request → List SlotState → List RecordModel → Room → List Addressee → Type 0
+abbrev pub Asks : Request → List SlotState → List RecordModel → Room → List Addressed → Type 0
 Asks request slots records room [] = (slots ≡ request.slots) × (records ≡ request.records)
 Asks request slots records room (a ∷ rest) =
     (slot : SlotState) × (more : Room) × IsHeard request slots a room slot more
@@ -70,7 +70,7 @@ Asks request slots records room (a ∷ rest) =
 
 -- one slot, and then the rest
 asks_slot : (request : Request) (front slots : List SlotState) (x : SlotState) (s : ℕ)
-    (records : List RecordModel) (room later : Room) (rest : List Addressee) → length front ≡ s
+    (records : List RecordModel) (room later : Room) (rest : List Addressed) → length front ≡ s
     → (l : Option ℕ) → hearing request.telegram request.globals x.objects ≡ l
     → room.rows ≡ (listener_room l).rows + later.rows
     → room.bytes ≡ (listener_room l).bytes + later.bytes
@@ -129,7 +129,7 @@ asks_from request (x ∷ slots) s front records room unasked at rising within sl
     let others = asks_from request slots (s + 1) (front ++ then ∷ [])
     (records ++ labelled s (outcome_of request x).records) later unasked count
     (λ i slot is. rising (suc i) slot is) refl slots_then records_then in
-    subst (λ (noted : List Addressee). Asks request (front ++ x ∷ slots) records room
+    subst (λ (noted : List Addressed). Asks request (front ++ x ∷ slots) records room
     (noted ++ noted_from (s + 1) request.telegram request.globals slots))
     (noted_heard request.telegram request.globals s x.objects unasked up)
     (asks_slot request front slots x s records room later
@@ -150,37 +150,37 @@ request_of telegram globals slots records = record {
 
 -- what is left to do leads there, within the outbox's room
 pub record GoesAsking (request : Request) (table : TableState) (out : OutboxState)
-    (rest : List Addressee) : Type 0 where
+    (rest : List Addressed) : Type 0 where
   pub room : Room
   pub has : HasRoom out room
   pub asks : Asks request (slots_of table) out.records room rest
 
 pub asks_within : (request : Request) (table : TableState) (out : OutboxState)
-    (a : Addressee) (rest : List Addressee)
+    (a : Addressed) (rest : List Addressed)
     → GoesAsking request table out (a ∷ rest) → a.slot < length table
 asks_within request table out a rest goes =
     slot_within table a.slot goes.asks.0 goes.asks.2.at
 
 pub asks_heard : (request : Request) (table : TableState) (out : OutboxState)
-    (a : Addressee) (rest : List Addressee) → GoesAsking request table out (a ∷ rest)
+    (a : Addressed) (rest : List Addressed) → GoesAsking request table out (a ∷ rest)
     → hearing request.telegram request.globals (slot_at a.slot table).objects ≡ Some a.handle
 asks_heard request table out a rest goes =
     ap (λ (slot : SlotState). hearing request.telegram request.globals slot.objects)
     (sym (slot_is table a.slot goes.asks.0 goes.asks.2.at)) ∙ goes.asks.2.heard
 
 pub asks_row : (request : Request) (table : TableState) (out : OutboxState)
-    (a : Addressee) (rest : List Addressee)
+    (a : Addressed) (rest : List Addressed)
     → GoesAsking request table out (a ∷ rest) → 1 ≤ out.row_room
 asks_row request table out a rest goes = omega (arith, goes.asks.2.rows, goes.has.rows)
 
 pub asks_bytes : (request : Request) (table : TableState) (out : OutboxState)
-    (a : Addressee) (rest : List Addressee)
+    (a : Addressed) (rest : List Addressed)
     → GoesAsking request table out (a ∷ rest) → 65388 ≤ out.byte_room
 asks_bytes request table out a rest goes = omega (arith, goes.asks.2.bytes, goes.has.bytes)
 
 -- one turn
 pub asks_on : (request : Request) (table table_then : TableState) (out out_then : OutboxState)
-    (a : Addressee) (rest : List Addressee) → GoesAsking request table out (a ∷ rest)
+    (a : Addressed) (rest : List Addressed) → GoesAsking request table out (a ∷ rest)
     → Becomes a.slot (outcome_of request (slot_at a.slot table)) table table_then out out_then
     → out.row_room ≤ out_then.row_room + 1 → out.byte_room ≤ out_then.byte_room + 65388
     → GoesAsking request table_then out_then rest
@@ -201,17 +201,18 @@ asks_on request table table_then out out_then a rest goes becomes row_room byte_
 
 -- the first of those that are left
 pub asks_next : (request : Request) (table : TableState) (out : OutboxState)
-    (noted : List Addressee) (i : ℕ) (a : Addressee) → i < length noted
-    → GoesAsking request table out (drop i noted)
-    → GoesAsking request table out (get_or noted i a ∷ drop (i + 1) noted)
-asks_next request table out noted i a lt goes =
-    let split : drop i noted ≡ get_or noted i a ∷ drop (suc i) noted = drop-cons noted i a lt in
+    (noted : List Addressed) (i : ℕ) (a : Addressed) → i < length noted
+    → a ≡ get_or noted i a → GoesAsking request table out (drop i noted)
+    → GoesAsking request table out (a ∷ drop (i + 1) noted)
+asks_next request table out noted i a lt is goes =
+    let split : drop i noted ≡ a ∷ drop (suc i) noted =
+    drop-cons noted i a lt ∙ ap (λ (x : Addressed). x ∷ drop (suc i) noted) (sym is) in
     let one : i + 1 ≡ suc i = omega arith in
     rw one (rw split at goes)
 
 -- at the end all have come there
 pub asks_end : (request : Request) (table : TableState) (out : OutboxState)
-    (noted : List Addressee) (i : ℕ)
+    (noted : List Addressed) (i : ℕ)
     → length noted ≤ i → GoesAsking request table out (drop i noted)
     → (slots_of table ≡ request.slots) × (out.records ≡ request.records)
 asks_end request table out noted i past goes =
@@ -224,7 +225,7 @@ rising_slots table sound = λ i slot at. subst (λ (x : SlotState). IsRising x.o
 
 -- at the start all that were noted are left
 pub asks_first : (telegram : TelegramModel) (globals : Globals) (table : TableState)
-    (out : OutboxState) (noted : List Addressee)
+    (out : OutboxState) (noted : List Addressed)
     → IsTable table → comes_unasked telegram ≡ true
     → noted ≡ noted_from 0 telegram globals (slots_of table) → HasRoom out
     (entries_room (flat_map (λ slot. acting telegram globals slot.objects) (slots_of table)))
@@ -250,7 +251,7 @@ few_from telegram globals s (x ∷ slots) unasked rising =
     let others = few_from telegram globals (s + 1) slots unasked
     (λ i slot is. rising (suc i) slot is) in
     let own : length (noted_as s (acting telegram globals x.objects)) ≤ 1 =
-    subst (λ (noted : List Addressee). length noted ≤ 1)
+    subst (λ (noted : List Addressed). length noted ≤ 1)
     (noted_heard telegram globals s x.objects unasked (rising 0 x refl))
     (one_listener s (hearing telegram globals x.objects)) in
     omega (
@@ -262,7 +263,7 @@ few_from telegram globals s (x ∷ slots) unasked rising =
     )
 
 pub few_noted : (telegram : TelegramModel) (globals : Globals) (table : TableState)
-    (noted : List Addressee) → IsTable table → comes_unasked telegram ≡ true
+    (noted : List Addressed) → IsTable table → comes_unasked telegram ≡ true
     → noted ≡ noted_from 0 telegram globals (slots_of table)
     → length noted ≤ length (slots_of table)
 few_noted telegram globals table noted sound unasked is =

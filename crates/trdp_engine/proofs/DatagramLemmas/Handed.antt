@@ -4,7 +4,7 @@
 use Rattle.std.proofs.Common.{zero, suc, ◌≡◌, ℕ, ◌+◌, ◌<◌, List, [], ◌∷◌, ◌++◌}
 use Rattle.std.proofs.Common.{length, map, filter, Option, Some, None, Bool, true}
 use Rattle.std.proofs.Common.{false, refl, ◌∙◌, sym, ap, arith, append_assoc}
-use Rattle.std.specs.Prelude.{slice_get, slice_set, ◌==◌, ◌&&◌}
+use Rattle.std.specs.Prelude.{slice_get, slice_set, ◌==◌}
 use Rattle.std.specs.List.{flat_map}
 use Rattle.std.proofs.lemmas.List.{map-append, append-nil, length-append}
 use Rattle.std.proofs.lemmas.List.Concat.{flat_map-cons}
@@ -15,7 +15,7 @@ use Rattle.trdp_filter.specs.Telegrams.{TelegramModel}
 use Rattle.trdp_model.specs.declared.any_object.AnyObject.{AnyObject}
 use Rattle.trdp_model.specs.Kinds.{kind_of}
 use Rattle.trdp_model.specs.Configs.{NodeSetup}
-use Rattle.trdp_engine.specs.declared.addressees.Addressee.{Addressee}
+use Rattle.trdp_engine.specs.Noted.{Addressed}
 use Rattle.trdp_outbox.specs.declared.room.Room.{Room}
 use Rattle.trdp_model.specs.Records.{Content, RecordModel, labelled}
 use Rattle.trdp_model.specs.Slots.{Entry, SlotState, Outcome, entry_under}
@@ -139,7 +139,7 @@ after_in aim all entries = flat_map (after_telegram aim.setup aim.telegram aim.g
 -- the object that was noted is there, the telegram is for it, and of the room more than its own
 -- is left
 pub record IsNext (aim : Aim) (slots : List SlotState)
-    (a : Addressee) (room : Room) (slot : SlotState) (entry : Entry) (more : Room) : Type 0 where
+    (a : Addressed) (room : Room) (slot : SlotState) (entry : Entry) (more : Room) : Type 0 where
   pub at : slice_get slots a.slot ≡ Some slot
   pub found : entry_under a.handle slot.objects ≡ Some entry
   pub is_for : is_for_entry aim.telegram aim.globals entry ≡ true
@@ -147,7 +147,7 @@ pub record IsNext (aim : Aim) (slots : List SlotState)
   pub bytes : room.bytes ≡ (kind_room (kind_of entry.object)).bytes + more.bytes
 
 -- those that were noted take the telegram in turn, within the room, and reach the aim
-abbrev pub Leads : Aim → List SlotState → List RecordModel → Room → List Addressee → Type 0
+abbrev pub Leads : Aim → List SlotState → List RecordModel → Room → List Addressed → Type 0
 Leads aim slots records room [] = (slots ≡ aim.slots) × (records ≡ aim.records)
 Leads aim slots records room (a ∷ rest) =
     (slot : SlotState) × (entry : Entry) × (more : Room)
@@ -167,7 +167,7 @@ record Place : Type 0 where
   slot : SlotState
   back : List SlotState
   at : length front ≡ s
-  rest : List Addressee
+  rest : List Addressed
   room : Room
 
 -- the slots, where the slot has these objects

@@ -13,7 +13,7 @@ use Rattle.trdp_filter.specs.Telegrams.{TelegramModel}
 use Rattle.trdp_table.specs.Tables.{TableState}
 use Rattle.trdp_table.specs.TableLaws.{IsTable}
 use Rattle.trdp_model.specs.Configs.{NodeSetup}
-use Rattle.trdp_engine.specs.declared.addressees.Addressee.{Addressee}
+use Rattle.trdp_engine.specs.Noted.{Addressed}
 use Rattle.trdp_outbox.specs.declared.room.Room.{Room}
 use Rattle.trdp_model.specs.Records.{RecordModel}
 use Rattle.trdp_model.specs.Slots.{SlotState, Outcome, entry_under}
@@ -31,26 +31,26 @@ use Rattle.trdp_model.proofs.SweepLemmas.{all_records, each_part, each_appends}
 use Rattle.trdp_engine.proofs.DatagramLemmas.Handed.{Aim, act_in, Leads, aim_of, all_led}
 
 -- what is left to do reaches the aim, within the outbox's room
-pub record Goes (aim : Aim) (table : TableState) (out : OutboxState) (rest : List Addressee)
+pub record Goes (aim : Aim) (table : TableState) (out : OutboxState) (rest : List Addressed)
     : Type 0 where
   pub room : Room
   pub has : HasRoom out room
   pub leads : Leads aim (slots_of table) out.records room rest
 
 pub goes_within :
-    (aim : Aim) (table : TableState) (out : OutboxState) (a : Addressee) (rest : List Addressee)
+    (aim : Aim) (table : TableState) (out : OutboxState) (a : Addressed) (rest : List Addressed)
     → Goes aim table out (a ∷ rest) → a.slot < length table
 goes_within aim table out a rest goes = slot_within table a.slot goes.leads.0 goes.leads.3.at
 
 found_next : (aim : Aim) (table : TableState) (out : OutboxState)
-    (a : Addressee) (rest : List Addressee) (goes : Goes aim table out (a ∷ rest))
+    (a : Addressed) (rest : List Addressed) (goes : Goes aim table out (a ∷ rest))
     → entry_under a.handle (slot_at a.slot table).objects ≡ Some goes.leads.1
 found_next aim table out a rest goes =
     ap (λ (slot : SlotState). entry_under a.handle slot.objects)
     (sym (slot_is table a.slot goes.leads.0 goes.leads.3.at)) ∙ goes.leads.3.found
 
 pub goes_may :
-    (aim : Aim) (table : TableState) (out : OutboxState) (a : Addressee) (rest : List Addressee)
+    (aim : Aim) (table : TableState) (out : OutboxState) (a : Addressed) (rest : List Addressed)
     → Goes aim table out (a ∷ rest) → MayAct (slot_at a.slot table) a.handle out
 goes_may aim table out a rest goes =
     let rows = goes.leads.3.rows in
@@ -65,7 +65,7 @@ goes_may aim table out a rest goes =
     }
 
 pub goes_addressed :
-    (aim : Aim) (table : TableState) (out : OutboxState) (a : Addressee) (rest : List Addressee)
+    (aim : Aim) (table : TableState) (out : OutboxState) (a : Addressed) (rest : List Addressed)
     → Goes aim table out (a ∷ rest) → IfSome (entry_under a.handle (slot_at a.slot table).objects)
     (λ entry. is_for_entry aim.telegram aim.globals entry ≡ true)
 goes_addressed aim table out a rest goes =
@@ -73,7 +73,7 @@ goes_addressed aim table out a rest goes =
 
 -- one turn
 pub goes_on : (aim : Aim) (table table_then : TableState) (out out_then : OutboxState)
-    (a : Addressee) (rest : List Addressee) → Goes aim table out (a ∷ rest)
+    (a : Addressed) (rest : List Addressed) → Goes aim table out (a ∷ rest)
     → ActsAt a.slot a.handle (act_in aim) table table_then out out_then
     → Goes aim table_then out_then rest
 goes_on aim table table_then out out_then a rest goes acts =
@@ -101,16 +101,17 @@ goes_on aim table table_then out out_then a rest goes acts =
     }
 
 -- the first of those that are left
-pub goes_next : (aim : Aim) (table : TableState) (out : OutboxState) (noted : List Addressee)
-    (i : ℕ) (a : Addressee) → i < length noted
-    → Goes aim table out (drop i noted) → Goes aim table out (get_or noted i a ∷ drop (i + 1) noted)
-goes_next aim table out noted i a lt goes =
-    let split : drop i noted ≡ get_or noted i a ∷ drop (suc i) noted = drop-cons noted i a lt in
+pub goes_next : (aim : Aim) (table : TableState) (out : OutboxState) (noted : List Addressed)
+    (i : ℕ) (a : Addressed) → i < length noted → a ≡ get_or noted i a
+    → Goes aim table out (drop i noted) → Goes aim table out (a ∷ drop (i + 1) noted)
+goes_next aim table out noted i a lt is goes =
+    let split : drop i noted ≡ a ∷ drop (suc i) noted =
+    drop-cons noted i a lt ∙ ap (λ (x : Addressed). x ∷ drop (suc i) noted) (sym is) in
     let one : i + 1 ≡ suc i = omega arith in
     rw one (rw split at goes)
 
 -- at the end the aim is reached
-pub goes_end : (aim : Aim) (table : TableState) (out : OutboxState) (noted : List Addressee) (i : ℕ)
+pub goes_end : (aim : Aim) (table : TableState) (out : OutboxState) (noted : List Addressed) (i : ℕ)
     → length noted ≤ i → Goes aim table out (drop i noted)
     → (slots_of table ≡ aim.slots) × (out.records ≡ aim.records)
 goes_end aim table out noted i past goes =
@@ -119,7 +120,7 @@ goes_end aim table out noted i past goes =
 
 -- at the start all that were noted are left
 pub goes_first : (setup : NodeSetup) (telegram : TelegramModel)
-    (globals : Globals) (table : TableState) (out : OutboxState) (noted : List Addressee)
+    (globals : Globals) (table : TableState) (out : OutboxState) (noted : List Addressed)
     → IsTable table → noted ≡ noted_from 0 telegram globals (slots_of table) → HasRoom out
     (entries_room (flat_map (λ slot. acting telegram globals slot.objects) (slots_of table)))
     → Goes (aim_of setup telegram globals (slots_of table) out.records) table out noted

@@ -13,7 +13,7 @@ use Rattle.std.proofs.lemmas.Option.{same_Some, none-some}
 use Rattle.trdp_filter.specs.declared.globals.Globals.{Globals}
 use Rattle.trdp_table.specs.Tables.{TableState}
 use Rattle.trdp_table.specs.TableLaws.{IsTable}
-use Rattle.trdp_timers.specs.declared.order.Order.{Order}
+use Rattle.trdp_store.specs.declared.sought.Sought.{Sought}
 use Rattle.trdp_model.specs.Records.{Content, RecordModel, labelled, records_of}
 use Rattle.trdp_model.specs.Slots.{Entry, SlotState, Outcome, unchanged, entry_under}
 use Rattle.trdp_store.specs.TableSlots.{slots_of}
@@ -206,18 +206,18 @@ moving_first globals table out is sound room = record {
 }
 
 -- what comes next
-abbrev pub Nexts : Globals → TableState → Order → Type 0
-Nexts globals table order = (order.slot < length table)
-    × HasNext globals.now (slot_at order.slot table).objects order.handle
+abbrev pub Nexts : Globals → TableState → Sought → Type 0
+Nexts globals table sought = (sought.slot < length table)
+    × HasNext globals.now (slot_at sought.slot table).objects sought.handle
 
 pub nexts : (globals : Globals) (start table : TableState) (records : List RecordModel)
-    (out : OutboxState) (order : Order) → IsMoving globals start records table out
-    → ComesNext globals.now table (Some order) → Nexts globals table order
-nexts globals start table records out order moving next =
-    let lt : order.slot < length start = omega (arith, next.0, moving.count) in (
+    (out : OutboxState) (sought : Sought) → IsMoving globals start records table out
+    → ComesNext globals.now table (Some sought) → Nexts globals table sought
+nexts globals start table records out sought moving next =
+    let lt : sought.slot < length start = omega (arith, next.0, moving.count) in (
       next.0,
-      next_is globals.now (slot_at order.slot table).objects
-          order.handle (moving.rising order.slot lt) (moving.sound order.slot lt) next.1,
+      next_is globals.now (slot_at sought.slot table).objects
+          sought.handle (moving.rising sought.slot lt) (moving.sound sought.slot lt) next.1,
     )
 
 -- there is room for what one slot gives
@@ -232,15 +232,15 @@ one_of_all f g (z ∷ slots) (suc s) x at =
     omega (arith, one_of_all f g slots s x at, sum_by-append f (g z) (flat_map g slots))
 
 pub moving_may : (globals : Globals) (start table : TableState) (records : List RecordModel)
-    (out : OutboxState) (order : Order) → IsMoving globals start records table out
-    → Nexts globals table order → MayAct (slot_at order.slot table) order.handle out
-moving_may globals start table records out order moving next =
-    let there = slot_there table order.slot next.0 in
+    (out : OutboxState) (sought : Sought) → IsMoving globals start records table out
+    → Nexts globals table sought → MayAct (slot_at sought.slot table) sought.handle out
+moving_may globals start table records out sought moving next =
+    let there = slot_there table sought.slot next.0 in
     let rows = one_of_all entry_rows (due_of_slot globals)
-    (slots_of table) order.slot (slot_at order.slot table) there in
+    (slots_of table) sought.slot (slot_at sought.slot table) there in
     let bytes = one_of_all entry_bytes (due_of_slot globals)
-    (slots_of table) order.slot (slot_at order.slot table) there in
-    next_may globals (slot_at order.slot table) order.handle out next.1
+    (slots_of table) sought.slot (slot_at sought.slot table) there in
+    next_may globals (slot_at sought.slot table) sought.handle out next.1
     (record {
       rows = omega (arith, rows, moving.room.rows);
       bytes = omega (arith, bytes, moving.room.bytes);
@@ -253,11 +253,11 @@ pub record MovesOn (globals : Globals) (start : TableState) (records : List Reco
   pub fewer : due_left globals table_then < due_left globals table
 
 pub moves_on : (globals : Globals) (start table table_then : TableState)
-    (records : List RecordModel) (out out_then : OutboxState) (order : Order)
-    → IsMoving globals start records table out → Nexts globals table order
-    → ActsAt order.slot order.handle (firing_act globals) table table_then out out_then
+    (records : List RecordModel) (out out_then : OutboxState) (sought : Sought)
+    → IsMoving globals start records table out → Nexts globals table sought
+    → ActsAt sought.slot sought.handle (firing_act globals) table table_then out out_then
     → MovesOn globals start records table table_then out_then
-moves_on globals start table table_then records out out_then order moving next acts =
+moves_on globals start table table_then records out out_then sought moving next acts =
     record {
       moving = record {
         count = count;
@@ -292,7 +292,7 @@ moves_on globals start table table_then records out out_then order moving next a
     }
   where
     s : ℕ
-    s = order.slot
+    s = sought.slot
 
     here : s < length start
     here = omega (arith, next.0, moving.count)
@@ -301,7 +301,7 @@ moves_on globals start table table_then records out out_then order moving next a
     there = slot_there table s next.0
 
     f : Fires globals s table table_then out out_then
-    f = fires_one globals s order.handle table
+    f = fires_one globals s sought.handle table
         table_then out out_then next.0 (moving.rising s here) (moving.sound s here) next.1 acts
 
     count : length table_then ≡ length start

@@ -31,7 +31,7 @@ use Rattle.trdp_model.specs.declared.any_object.AnyObject.TheVariants.{Caller, R
 use Rattle.trdp_model.specs.Objects.{is_addressed}
 use Rattle.trdp_table.specs.Tables.{Keyed, TableState, slot_in, all_objects, by_key}
 use Rattle.trdp_index.specs.declared.com_row.ComRow.{ComRow}
-use Rattle.trdp_engine.specs.declared.addressees.Addressee.{Addressee}
+use Rattle.trdp_engine.specs.Noted.{Addressed}
 use Rattle.trdp_outbox.specs.declared.room.Room.{Room}
 use Rattle.trdp_model.specs.Slots.{Entry}
 use Rattle.trdp_store.specs.TableSlots.{entry_of_keyed, slot_of, slots_of}
@@ -212,7 +212,7 @@ slot_notes table s c telegram globals (k ∷ ks) =
         rw listed
         (flat_map-cons (λ row. noted_as row.slot (hit telegram globals table row))
         (listed_as s (Some c) k) (rows_in s (Some c) ks)
-        ∙ (ap (λ (xs : List Addressee).
+        ∙ (ap (λ (xs : List Addressed).
         noted_as s (hit telegram globals table (listed_as s (Some c) k)) ++ xs) rest
         ∙ (sym (map-append _ (hit telegram globals table (listed_as s (Some c) k))
         (hits telegram globals table (rows_in s (Some c) ks)))
@@ -255,12 +255,12 @@ all_noted table b src dst t globals [] keyed = refl
 all_noted table b src dst t globals (x ∷ xs) keyed =
     flat_map-append (λ row. noted_as row.slot (hit (PdIs src dst t) globals table row)) (rows_in b
     (Some (sought_by t.head)) x.objects) (rows_from (b + 1) (Some (sought_by t.head)) xs)
-    ∙ (ap (λ (ys : List Addressee). ys ++ noted_rows (PdIs src dst t)
+    ∙ (ap (λ (ys : List Addressed). ys ++ noted_rows (PdIs src dst t)
     globals table (rows_from (b + 1) (Some (sought_by t.head)) xs))
     (slot_notes table b (sought_by t.head) (PdIs src dst t) globals x.objects
     ∙ ap (noted_as b) (sym (acting_is src dst t globals (slot_of x).objects
     ∙ slot_hits table b src dst t globals x.objects keyed.0)))
-    ∙ ap (λ (ys : List Addressee). noted_as b (acting (PdIs src dst t) globals (slot_of x).objects)
+    ∙ ap (λ (ys : List Addressed). noted_as b (acting (PdIs src dst t) globals (slot_of x).objects)
     ++ ys) (all_noted table (b + 1) src dst t globals xs keyed.1))
 
 keyed_slots : (table : TableState) → KeysTell table → AllSlotsKeyed table table
@@ -287,21 +287,21 @@ run_room table src dst t globals tell =
 
 -- those of the rows from an index on are still to come
 abbrev pub NotesRun : TelegramModel → Globals
-    → TableState → List ComRow → List Addressee → List Addressee → Room → ℕ → Type 0
+    → TableState → List ComRow → List Addressed → List Addressed → Room → ℕ → Type 0
 NotesRun telegram globals table rows before noted room i =
     Notes before noted room (noted_rows telegram globals table (drop i rows))
     (entries_room (hits telegram globals table (drop i rows)))
     (noted_rows telegram globals table rows) (entries_room (hits telegram globals table rows))
 
 pub run_first : (telegram : TelegramModel) (globals : Globals)
-    (table : TableState) (rows : List ComRow) (before : List Addressee)
+    (table : TableState) (rows : List ComRow) (before : List Addressed)
     → NotesRun telegram globals table rows before before (record { rows = 0; bytes = 0 }) 0
 run_first telegram globals table rows before =
     record { items = refl; rows = omega arith; bytes = omega arith }
 
 pub run_next :
     (telegram : TelegramModel) (globals : Globals) (table : TableState) (rows : List ComRow)
-    (row : ComRow) (before noted noted_then : List Addressee) (room more : Room) (i : ℕ)
+    (row : ComRow) (before noted noted_then : List Addressed) (room more : Room) (i : ℕ)
     → i < length rows → slice_get rows i ≡ Some row
     → NotesRun telegram globals table rows before noted room i
     → noted_then ≡ noted ++ noted_as row.slot (hit telegram globals table row)
@@ -341,7 +341,7 @@ run_next telegram globals table rows row before
     }
 
 pub run_end_items : (telegram : TelegramModel) (globals : Globals)
-    (table : TableState) (rows : List ComRow) (before noted : List Addressee) (room : Room) (i : ℕ)
+    (table : TableState) (rows : List ComRow) (before noted : List Addressed) (room : Room) (i : ℕ)
     → length rows ≤ i → NotesRun telegram globals table rows before noted room i
     → noted ≡ before ++ noted_rows telegram globals table rows
 run_end_items telegram globals table rows before noted room i past notes =
@@ -349,7 +349,7 @@ run_end_items telegram globals table rows before noted room i past notes =
     sym (append-nil noted) ∙ items
 
 pub run_end_room : (telegram : TelegramModel) (globals : Globals)
-    (table : TableState) (rows : List ComRow) (before noted : List Addressee) (room : Room) (i : ℕ)
+    (table : TableState) (rows : List ComRow) (before noted : List Addressed) (room : Room) (i : ℕ)
     → length rows ≤ i → NotesRun telegram globals table rows before noted room i
     → room ≡ entries_room (hits telegram globals table rows)
 run_end_room telegram globals table rows before noted room i past notes =

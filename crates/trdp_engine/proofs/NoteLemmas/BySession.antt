@@ -2,7 +2,7 @@
 -- For `note_part`, and for `ActLemmas.Deeds`.
 -- By cases on the kind of message: who awaits it is in its session, in the role that it names.
 use Rattle.std.proofs.Common.{◌≡◌, ◌≢◌, ℕ, zero, suc, ◌<◌, List, [], ◌∷◌, map, filter, Option, Some}
-use Rattle.std.proofs.Common.{None, Bool, true, false, is_some, refl, ◌∙◌, sym, ap, subst, arith}
+use Rattle.std.proofs.Common.{None, Bool, true, false, refl, ◌∙◌, sym, ap, subst, arith}
 use Rattle.std.specs.Prelude.{slice_get, ◌==◌, ◌&&◌, option_map}
 use Rattle.std.proofs.lemmas.Bool.{false≢true}
 use Rattle.std.proofs.lemmas.Bool.Decides.{nat_tests}
@@ -36,7 +36,7 @@ use Rattle.trdp_model.specs.Slots.{Entry, entry_under}
 use Rattle.trdp_store.specs.TableSlots.{entry_of_keyed}
 use Rattle.trdp_store.specs.Acting.{slot_at}
 use Rattle.trdp_model.specs.Datagrams.{is_for_entry, is_listening, acting}
-use Rattle.trdp_engine.specs.declared.addressees.Addressee.{Addressee}
+use Rattle.trdp_engine.specs.Noted.{Addressed}
 use Rattle.trdp_engine.specs.Noted.{noted_as}
 use Rattle.trdp_outbox.specs.Rooms.{kind_room, entries_room}
 use Rattle.trdp_store.specs.InSession.{session_of}
@@ -301,7 +301,7 @@ acts_it table s h telegram globals own object sound part tells there for =
         let bytes = sum_by-cons entry_bytes e [] in
         let one : IsOne s h object (e ∷ []) = record {
           noted =
-              ap (λ (n : ℕ). let a : Addressee = record { slot = s; handle = n } in a ∷ []) number;
+              ap (λ (n : ℕ). let a : Addressed = record { slot = s; handle = n } in a ∷ []) number;
           room =
               same_room (entries_room (e ∷ [])) (kind_room (kind_of e.object))
               (omega (arith, rows)) (omega (arith, bytes))

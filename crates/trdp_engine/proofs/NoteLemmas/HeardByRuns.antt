@@ -4,7 +4,7 @@
 use Rattle.std.proofs.Common.{◌≡◌, inl, inr, ℕ, zero, suc, ◌+◌, ◌<◌, ◌≤◌, List, []}
 use Rattle.std.proofs.Common.{◌∷◌, ◌++◌, length, map, drop, Option, Some, None}
 use Rattle.std.proofs.Common.{Bool, true, false, refl, ◌∙◌, sym, ap, arith}
-use Rattle.std.specs.Prelude.{slice_get, ◌==◌, not, get_or, set}
+use Rattle.std.specs.Prelude.{slice_get, slice_index_or, ◌==◌, not, get_or, set, replicate}
 use Rattle.std.proofs.lemmas.Bool.Decides.{nat_tests}
 use Rattle.std.proofs.lemmas.List.{drop_all, get_or-set_same, get_or-set_other}
 use Rattle.std.proofs.lemmas.Bool.{cases_eq}
@@ -210,30 +210,14 @@ hears_end telegram globals table rows before heard i past run s =
     ∙ (ap (λ (rs : List ComRow). earlier (get_or heard s None)
     (first_in telegram globals table s rs)) (sym (drop_all i rows past)) ∙ run s)
 
--- no slot is noted
-abbrev pub AllNone : List (Option ℕ) → Type 0
-AllNone [] = Unit {0}
-AllNone (x ∷ xs) = (x ≡ None) × AllNone xs
+-- no listener, and no slot that has one
+abbrev pub no_handle : Option ℕ
+no_handle = None
 
-pub none_heard : (xs : List (Option ℕ)) (s : ℕ) → AllNone xs → get_or xs s None ≡ None
-none_heard [] s none = refl
-none_heard (x ∷ xs) zero none = none.0
-none_heard (x ∷ xs) (suc s) none = none_heard xs s none.1
-
--- eight more, none of them noted
-abbrev eight : List (Option ℕ) → List (Option ℕ)
-eight xs = None ∷ None ∷ None ∷ None ∷ None ∷ None ∷ None ∷ None ∷ xs
-
-none_with_eight : (xs : List (Option ℕ)) → AllNone xs → AllNone (eight xs)
-none_with_eight xs none = (refl, (refl, (refl, (refl, (refl, (refl, (refl, (refl, none))))))))
-
--- none of sixteen slots
-abbrev pub sixteen : List (Option ℕ)
-sixteen = eight (eight [])
-
-pub none_of_sixteen : (s : ℕ) → get_or sixteen s None ≡ None
-none_of_sixteen s =
-    none_heard sixteen s (none_with_eight (eight []) (none_with_eight [] tt))
+pub none_noted : (n s : ℕ) → slice_index_or (replicate n no_handle) s None ≡ None
+none_noted zero s = refl
+none_noted (suc n) zero = refl
+none_noted (suc n) (suc s) = none_noted n s
 
 -- both runs tell who hears
 pub heard_by_both : (table : TableState) (s : ℕ)

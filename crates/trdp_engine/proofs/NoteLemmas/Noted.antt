@@ -11,7 +11,7 @@ use Rattle.std.proofs.lemmas.Option.{same_Some}
 use Rattle.trdp_filter.specs.declared.globals.Globals.{Globals}
 use Rattle.trdp_filter.specs.Telegrams.{TelegramModel}
 use Rattle.trdp_model.specs.Kinds.{kind_of}
-use Rattle.trdp_engine.specs.declared.addressees.Addressee.{Addressee}
+use Rattle.trdp_engine.specs.Noted.{Addressed}
 use Rattle.trdp_outbox.specs.declared.room.Room.{Room}
 use Rattle.trdp_model.specs.Slots.{Entry, SlotState}
 use Rattle.trdp_outbox.specs.Rooms.{kind_room, entries_room}
@@ -50,8 +50,8 @@ same_room a b rows bytes =
     ∙ ap (λ (n : ℕ). let r : Room = record { rows = b.rows; bytes = n } in r) bytes
 
 -- these and these entries still to come are all, noted behind what was noted and with their room
-pub record Notes (before noted : List Addressee) (room : Room) (next : List Addressee)
-    (later : Room) (last : List Addressee) (all : Room) : Type 0 where
+pub record Notes (before noted : List Addressed) (room : Room) (next : List Addressed)
+    (later : Room) (last : List Addressed) (all : Room) : Type 0 where
   pub items : noted ++ next ≡ before ++ last
   pub rows : room.rows + later.rows ≡ all.rows
   pub bytes : room.bytes + later.bytes ≡ all.bytes
@@ -61,21 +61,21 @@ abbrev pub acting_in : TelegramModel → Globals → List SlotState → List Ent
 acting_in telegram globals slots = flat_map (λ slot. acting telegram globals slot.objects) slots
 
 -- those of the slots from a number on are still to come
-abbrev pub NotesAll : TelegramModel → Globals → List SlotState → List Addressee → Room → ℕ → Type 0
+abbrev pub NotesAll : TelegramModel → Globals → List SlotState → List Addressed → Room → ℕ → Type 0
 NotesAll telegram globals slots noted room s =
     Notes [] noted room (noted_from s telegram globals (drop s slots))
     (entries_room (acting_in telegram globals (drop s slots)))
     (noted_from 0 telegram globals slots) (entries_room (acting_in telegram globals slots))
 
 pub notes_all_first :
-    (telegram : TelegramModel) (globals : Globals) (slots : List SlotState) (noted : List Addressee)
+    (telegram : TelegramModel) (globals : Globals) (slots : List SlotState) (noted : List Addressed)
     → noted ≡ [] → NotesAll telegram globals slots noted (record { rows = 0; bytes = 0 }) 0
 notes_all_first telegram globals slots noted empty =
     rw empty (record { items = refl; rows = omega arith; bytes = omega arith })
 
 -- one turn over the slots
 pub notes_all_next : (telegram : TelegramModel) (globals : Globals) (slots : List SlotState)
-    (slot : SlotState) (noted noted_then : List Addressee) (room more : Room) (s : ℕ) → s
+    (slot : SlotState) (noted noted_then : List Addressed) (room more : Room) (s : ℕ) → s
     < length slots → slice_get slots s ≡ Some slot → NotesAll telegram globals slots noted room s
     → noted_then ≡ noted ++ noted_as s (acting telegram globals slot.objects)
     → more ≡ entries_room (acting telegram globals slot.objects)
@@ -97,14 +97,14 @@ notes_all_next telegram globals slots slot noted noted_then room more s lt there
     }
 
 pub notes_all_end_items : (telegram : TelegramModel) (globals : Globals) (slots : List SlotState)
-    (noted : List Addressee) (room : Room) (s : ℕ) → length slots ≤ s
+    (noted : List Addressed) (room : Room) (s : ℕ) → length slots ≤ s
     → NotesAll telegram globals slots noted room s → noted ≡ noted_from 0 telegram globals slots
 notes_all_end_items telegram globals slots noted room s past notes =
     let items = rw (drop_all s slots past) at notes.items in
     sym (append-nil noted) ∙ items
 
 pub notes_all_end_room : (telegram : TelegramModel) (globals : Globals) (slots : List SlotState)
-    (noted : List Addressee) (room : Room) (s : ℕ)
+    (noted : List Addressed) (room : Room) (s : ℕ)
     → length slots ≤ s → NotesAll telegram globals slots noted room s
     → room ≡ entries_room (acting_in telegram globals slots)
 notes_all_end_room telegram globals slots noted room s past notes =

@@ -4,7 +4,7 @@
 use Rattle.std.proofs.Common.{◌≡◌, ◌≢◌, ℕ, suc, ◌<◌, ◌≤◌, List, [], ◌∷◌, map, filter, Option}
 use Rattle.std.proofs.Common.{Some, None, true, false, refl, ◌∙◌, sym, ap, subst, arith}
 use Rattle.std.specs.Prelude.{◌==◌, ◌&&◌, ◌||◌, nat_lt, slice_get}
-use Rattle.std.specs.Prelude.{slice_index_or, option_map, MatchOption}
+use Rattle.std.specs.Prelude.{slice_index_or, option_map}
 use Rattle.std.proofs.lemmas.Bool.{false≢true}
 use Rattle.std.proofs.lemmas.Bool.Decides.{nat_tests}
 use Rattle.trdp_pd.specs.Due.{has_come_by}
@@ -75,12 +75,12 @@ module _ (table : TableState) (schedule : ScheduleState) (t : ℕ) (is : IsSched
       ∙ due_as t s e.handle (due_of e.object)) ∙ none e.key in
       rw not (none_of s es none all.1)
 
-  module _ (order : Order) (first : IsFirstDue t schedule.orders order) where
+  module _ (key : ℕ) (order : Order) (first : IsFirstDue t schedule.orders key order) where
     abbrev owner : Keyed
-    owner = (is.owned first.key order first.first.its_order).keyed
+    owner = (is.owned key order first.first.its_order).keyed
 
     found : by_handle order.handle (slot_in order.slot table).objects ≡ Some owner
-    found = (is.owned first.key order first.first.its_order).found
+    found = (is.owned key order first.first.its_order).found
 
     under : owner.handle ≡ order.handle
     under = handle_found order.handle (slot_in order.slot table).objects owner found
@@ -90,7 +90,7 @@ module _ (table : TableState) (schedule : ScheduleState) (t : ℕ) (is : IsSched
         (is_order order.slot owner.handle (due_of owner.object) order
         (sym (is.timed order.slot order.handle owner found).order
         ∙ (ap (λ (k : ℕ). slice_index_or schedule.orders k None)
-        (is.owned first.key order first.first.its_order).key_is
+        (is.owned key order first.first.its_order).key_is
         ∙ first.first.its_order))).due_is
 
     comes : (x : Keyed) → by_handle x.handle (slot_in order.slot table).objects ≡ Some x
@@ -127,11 +127,22 @@ module _ (table : TableState) (schedule : ScheduleState) (t : ℕ) (is : IsSched
         subst (IsNext t (slot_at order.slot table).objects)
         under (comes_next t (slot_at order.slot table).objects (entry_of_keyed owner) f)
 
-  pub comes_first : (result : Option Order) → MatchOption result (IsNoneDue t schedule.orders)
-      (λ order. IsFirstDue t schedule.orders order) → ComesNext t table result
-  comes_first None none = λ s. none_of s (slot_in s table).objects none (listed s)
-  comes_first (Some order) first = (
+  pub none_comes : IsNoneDue t schedule.orders → ComesNext t table None
+  none_comes none = λ s. none_of s (slot_in s table).objects none (listed s)
+
+  pub first_comes : (key : ℕ) (order : Order) (known : Option ℕ)
+      → IsFirstDue t schedule.orders key order
+      → ComesNext t table (Some (record { slot = order.slot; handle = order.handle; key = known }))
+  first_comes key order known first = (
     slot_filled order.slot
-        order.handle table (owner order first) (found order first),
-    next_of order first,
+        order.handle table (owner key order first) (found key order first),
+    next_of key order first,
   )
+
+  pub first_key : (key : ℕ) (order : Order) → IsFirstDue t schedule.orders key order
+      → Some key ≡ option_map (λ keyed. keyed.key)
+      (by_handle order.handle (slot_in order.slot table).objects)
+  first_key key order first =
+      rw (found key order first)
+      (ap (λ (k : ℕ). let some : Option ℕ = Some k in some)
+      (sym (is.owned key order first.first.its_order).key_is))

@@ -1,15 +1,12 @@
 -- The object whose key the index by session has.
--- For `Store::handle_in`.
+-- For `Store::find_in`.
 -- By: the key's owner in the table is the one object of the slot in that session and role.
-use Rattle.std.proofs.Common.{◌≡◌, ◌≢◌, ℕ, zero, suc, ◌<◌, List, [], ◌∷◌, map, filter, Option, Some}
-use Rattle.std.proofs.Common.{None, Bool, true, false, is_some, refl, ◌∙◌, sym, ap, subst, arith}
-use Rattle.std.specs.Prelude.{slice_get, ◌==◌, ◌&&◌, option_map}
+use Rattle.std.proofs.Common.{◌≡◌, ◌≢◌, ℕ, Option, Some}
+use Rattle.std.proofs.Common.{false, is_some, ◌∙◌, sym, ap}
+use Rattle.std.specs.Prelude.{slice_get, option_map}
 use Rattle.std.proofs.lemmas.Bool.{false≢true}
-use Rattle.std.proofs.lemmas.Bool.Decides.{nat_tests}
-use Rattle.std.proofs.lemmas.List.Sums.{sum_by-cons}
-use Rattle.std.proofs.lemmas.Option.{same_Some, none-some}
+use Rattle.std.proofs.lemmas.Option.{same_Some}
 use Rattle.trdp_base.specs.declared.session.SessionId.{SessionId}
-use Rattle.trdp_head.specs.declared.md.MdKind.TheVariants as message
 use Rattle.trdp_table.specs.Tables.{Keyed, TableState, slot_in, all_objects, by_handle, by_key}
 use Rattle.trdp_index.specs.declared.session_row.Role.{Role}
 use Rattle.trdp_index.specs.SessionRows.{session_key}
@@ -39,6 +36,20 @@ owner_told table index s i t h key own keyed is listed gives got owner at of =
     (owner ∙ (ap (λ (k : ℕ). by_key k (all_objects table)) same
     ∙ gives s keyed.handle keyed (listed s i keyed at))))
 
+-- the owner of the key is that of the object which is in the session
+part_owner : (table : TableState) (index : SessionIndexState) (s t h key : ℕ)
+    (own : SessionId × Role) (is : IsInSession table index) → KeysGive table
+    → (got : session_key own.0 s own.1 index.rows ≡ Some key)
+    → by_handle h (slot_in t table).objects ≡ by_key key (all_objects table)
+    → ((is.slots s).there key own got).handle ≡ h
+part_owner table index s t h key own is gives got owner =
+    let part = (is.slots s).there key own got in
+    let there : by_handle h (slot_in t table).objects ≡ Some part.keyed =
+    owner ∙ (ap (λ (k : ℕ). by_key k (all_objects table)) (sym part.key_is)
+    ∙ gives s part.handle part.keyed part.found) in
+    sym (handle_found part.handle (slot_in s table).objects part.keyed part.found)
+    ∙ handle_found h (slot_in t table).objects part.keyed there
+
 -- the owner of the key is in the session
 pub owner_there :
     (table : TableState) (index : SessionIndexState) (s t h key : ℕ) (own : SessionId × Role)
@@ -47,13 +58,21 @@ pub owner_there :
     → session_in s h table ≡ Some own
 owner_there table index s t h key own is gives got owner =
     let part = (is.slots s).there key own got in
-    let there : by_handle h (slot_in t table).objects ≡ Some part.keyed =
-    owner ∙ (ap (λ (k : ℕ). by_key k (all_objects table)) (sym part.key_is)
-    ∙ gives s part.handle part.keyed part.found) in
-    let number : part.handle ≡ h =
-    sym (handle_found part.handle (slot_in s table).objects part.keyed part.found)
-    ∙ handle_found h (slot_in t table).objects part.keyed there in
+    let number = part_owner table index s t h key own is gives got owner in
     ap (λ (n : ℕ). session_in s n table) (sym number) ∙ (ap session_found part.found ∙ part.session)
+
+-- the owner has the key in the slot
+pub owner_key :
+    (table : TableState) (index : SessionIndexState) (s t h key : ℕ) (own : SessionId × Role)
+    → IsInSession table index → KeysGive table → session_key own.0 s own.1 index.rows ≡ Some key
+    → by_handle h (slot_in t table).objects ≡ by_key key (all_objects table)
+    → Some key ≡ option_map (λ keyed. keyed.key) (by_handle h (slot_in s table).objects)
+owner_key table index s t h key own is gives got owner =
+    let part = (is.slots s).there key own got in
+    let number = part_owner table index s t h key own is gives got owner in
+    ap (λ (k : ℕ). let some : Option ℕ = Some k in some) (sym part.key_is)
+    ∙ sym (ap (option_map (λ (keyed : Keyed). keyed.key))
+    (ap (λ (n : ℕ). by_handle n (slot_in s table).objects) (sym number) ∙ part.found))
 
 pub nobody_told : (table : TableState) (index : SessionIndexState)
     (s i key : ℕ) (own : SessionId × Role) (keyed : Keyed) → IsInSession table index

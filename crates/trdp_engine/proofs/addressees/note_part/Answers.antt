@@ -4,8 +4,9 @@ use Rattle.trdp_filter.specs.Telegrams.{telegram_model}
 use Rattle.trdp_model.specs.Slots.{Entry}
 use Rattle.trdp_engine.specs.Noted.{noted_as}
 use Rattle.trdp_outbox.specs.Rooms.{entries_room}
-use Rattle.trdp_engine.specs.declared.addressees.Addressee.{Addressee}
+use Rattle.trdp_engine.specs.Noted.{Addressed}
 use Rattle.trdp_engine.proofs.CostLemmas.Telegrams.{part_counted}
+use Rattle.trdp_store.proofs.StoreLemmas.Slots.{object_found}
 use Rattle.trdp_engine.proofs.NoteLemmas.BySession.{acts_none, acts_gone, acts_not, acts_it}
 use Rattle.trdp_engine.proofs.addressees.note_part.Goals as goal
 
@@ -28,23 +29,29 @@ returns-in_default-clause-room c =
     (c.args.awaited.now.session, c.args.awaited.now.role) c.requires.part
     c.in_default.ensures.alone))
 
-pub returns-in_default-object_of-clause-noted : goal.returns-in_default-object_of-clause-noted
-returns-in_default-object_of-clause-noted c =
+pub returns-in_default-get-clause-noted : goal.returns-in_default-get-clause-noted
+returns-in_default-get-clause-noted c =
     sym (append-nil c.args.noted.now.items)
     ∙ ap (λ (es : List Entry). c.args.noted.now.items ++ noted_as c.args.s es)
     (sym (acts_gone c.args.store.now c.args.s c.in-Some.handle
     (telegram_model c.args.awaited.now.telegram.now)
     c.args.awaited.now.globals.now (c.args.awaited.now.session, c.args.awaited.now.role)
     c.sound.ensures.sound
-    c.requires.part c.in-Some.ensures.alone c.in_default-object_of.ensures))
+    c.requires.part c.in-Some.ensures.alone
+    (c.in_default-get.ensures
+    ∙ object_found c.args.store.now c.args.s c.in-Some.handle c.in-Some.key
+    c.sound.ensures.found c.in-Some.ensures.key)))
 
-pub returns-in_default-object_of-clause-room : goal.returns-in_default-object_of-clause-room
-returns-in_default-object_of-clause-room c =
-    c.none-in_default-object_of.ensures
+pub returns-in_default-get-clause-room : goal.returns-in_default-get-clause-room
+returns-in_default-get-clause-room c =
+    c.none-in_default-get.ensures
     ∙ ap entries_room (sym (acts_gone c.args.store.now c.args.s c.in-Some.handle
     (telegram_model c.args.awaited.now.telegram.now) c.args.awaited.now.globals.now
     (c.args.awaited.now.session, c.args.awaited.now.role) c.sound.ensures.sound
-    c.requires.part c.in-Some.ensures.alone c.in_default-object_of.ensures))
+    c.requires.part c.in-Some.ensures.alone
+    (c.in_default-get.ensures
+    ∙ object_found c.args.store.now c.args.s c.in-Some.handle c.in-Some.key
+    c.sound.ensures.found c.in-Some.ensures.key)))
 
 pub returns-then-not-is_for-clause-noted : goal.returns-then-not-is_for-clause-noted
 returns-then-not-is_for-clause-noted c =
@@ -53,8 +60,11 @@ returns-then-not-is_for-clause-noted c =
     (sym (acts_not c.args.store.now c.args.s c.in-Some.handle
     (telegram_model c.args.awaited.now.telegram.now) c.args.awaited.now.globals.now
     (c.args.awaited.now.session, c.args.awaited.now.role)
-    c.in-Some-object_of.object.now c.sound.ensures.sound c.requires.part c.in-Some.ensures.alone
-    c.in-Some-object_of.ensures (sym c.is_for.ensures.answer ∙ c.if-not-is_for.true)))
+    c.in-Some-get.object.now c.sound.ensures.sound c.requires.part c.in-Some.ensures.alone
+    (c.in-Some-get.ensures
+    ∙ object_found c.args.store.now c.args.s c.in-Some.handle c.in-Some.key
+    c.sound.ensures.found c.in-Some.ensures.key)
+    (sym c.is_for.ensures.answer ∙ c.if-not-is_for.true)))
 
 pub returns-then-not-is_for-clause-room : goal.returns-then-not-is_for-clause-room
 returns-then-not-is_for-clause-room c =
@@ -62,18 +72,24 @@ returns-then-not-is_for-clause-room c =
     ∙ ap entries_room (sym (acts_not c.args.store.now c.args.s c.in-Some.handle
     (telegram_model c.args.awaited.now.telegram.now) c.args.awaited.now.globals.now
     (c.args.awaited.now.session, c.args.awaited.now.role)
-    c.in-Some-object_of.object.now c.sound.ensures.sound c.requires.part c.in-Some.ensures.alone
-    c.in-Some-object_of.ensures (sym c.is_for.ensures.answer ∙ c.if-not-is_for.true)))
+    c.in-Some-get.object.now c.sound.ensures.sound c.requires.part c.in-Some.ensures.alone
+    (c.in-Some-get.ensures
+    ∙ object_found c.args.store.now c.args.s c.in-Some.handle c.in-Some.key
+    c.sound.ensures.found c.in-Some.ensures.key)
+    (sym c.is_for.ensures.answer ∙ c.if-not-is_for.true)))
 
 pub returns-clause-noted : goal.returns-clause-noted
 returns-clause-noted c =
-    c.push_reserved.ensures.items
-    ∙ ap (λ (xs : List Addressee). c.args.noted.now.items ++ xs)
+    (rw c.new.ensures at c.push_reserved.ensures.items)
+    ∙ ap (λ (xs : List Addressed). c.args.noted.now.items ++ xs)
     (sym (acts_it c.args.store.now c.args.s c.in-Some.handle
     (telegram_model c.args.awaited.now.telegram.now) c.args.awaited.now.globals.now
     (c.args.awaited.now.session, c.args.awaited.now.role)
-    c.in-Some-object_of.object.now c.sound.ensures.sound c.requires.part c.in-Some.ensures.alone
-    c.in-Some-object_of.ensures (sym c.is_for.ensures.answer ∙ c.if-not-is_for.false)).noted)
+    c.in-Some-get.object.now c.sound.ensures.sound c.requires.part c.in-Some.ensures.alone
+    (c.in-Some-get.ensures
+    ∙ object_found c.args.store.now c.args.s c.in-Some.handle c.in-Some.key
+    c.sound.ensures.found c.in-Some.ensures.key)
+    (sym c.is_for.ensures.answer ∙ c.if-not-is_for.false)).noted)
 
 pub returns-clause-room : goal.returns-clause-room
 returns-clause-room c =
@@ -81,8 +97,11 @@ returns-clause-room c =
     ∙ sym (acts_it c.args.store.now c.args.s c.in-Some.handle
     (telegram_model c.args.awaited.now.telegram.now) c.args.awaited.now.globals.now
     (c.args.awaited.now.session, c.args.awaited.now.role)
-    c.in-Some-object_of.object.now c.sound.ensures.sound c.requires.part c.in-Some.ensures.alone
-    c.in-Some-object_of.ensures (sym c.is_for.ensures.answer ∙ c.if-not-is_for.false)).room
+    c.in-Some-get.object.now c.sound.ensures.sound c.requires.part c.in-Some.ensures.alone
+    (c.in-Some-get.ensures
+    ∙ object_found c.args.store.now c.args.s c.in-Some.handle c.in-Some.key
+    c.sound.ensures.found c.in-Some.ensures.key)
+    (sym c.is_for.ensures.answer ∙ c.if-not-is_for.false)).room
 
 pub returns-then-not-is_for-clause-tests : goal.returns-then-not-is_for-clause-tests
 returns-then-not-is_for-clause-tests c =
@@ -107,5 +126,5 @@ returns-clause-few c =
     (telegram_model c.args.awaited.now.telegram.now)
     (c.args.awaited.now.session, c.args.awaited.now.role) c.requires.part c.in-Some.ensures.found in
     let pushed = ap length c.push_reserved.ensures.items in
-    let last : Addressee = record { slot = c.args.s; handle = c.in-Some.handle } in
+    let last : Addressed = record { slot = c.args.s; handle = c.in-Some.handle } in
     omega (arith, one, pushed, length-append c.args.noted.now.items (last ∷ []))

@@ -24,34 +24,38 @@ loop-addressee-init c = record {
 
 pub hand-requires-clause-slot : goal.hand-requires-clause-slot
 hand-requires-clause-slot c =
-    goes_within _ _ _ _ _ (goes_next _ _ _ c.args.noted.now c.loop-addressee.addressee-index
-    (record { slot = 0; handle = 0 })
-    c.loop-addressee-test.true c.loop-addressee.invariant.goes)
+    rw c.sought.ensures.slot
+    (goes_within _ _ _ _ _ (goes_next _ _ _ c.args.noted.now c.loop-addressee.addressee-index
+    c.addressee-item.result
+    c.loop-addressee-test.true c.addressee-item.is c.loop-addressee.invariant.goes))
 
 pub hand-requires-clause-may : goal.hand-requires-clause-may
 hand-requires-clause-may c =
-    goes_may _ _ _ _ _ (goes_next _ _ _ c.args.noted.now c.loop-addressee.addressee-index
-    (record { slot = 0; handle = 0 })
-    c.loop-addressee-test.true c.loop-addressee.invariant.goes)
+    rw (c.sought.ensures.slot, c.sought.ensures.handle)
+    (goes_may _ _ _ _ _ (goes_next _ _ _ c.args.noted.now c.loop-addressee.addressee-index
+    c.addressee-item.result
+    c.loop-addressee-test.true c.addressee-item.is c.loop-addressee.invariant.goes))
 
 pub hand-requires-clause-addressed : goal.hand-requires-clause-addressed
 hand-requires-clause-addressed c =
-    goes_addressed _ _ _ _ _ (goes_next _ _ _
-    c.args.noted.now c.loop-addressee.addressee-index (record { slot = 0; handle = 0 })
-    c.loop-addressee-test.true c.loop-addressee.invariant.goes)
+    rw (c.sought.ensures.slot, c.sought.ensures.handle)
+    (goes_addressed _ _ _ _ _ (goes_next _ _ _
+    c.args.noted.now c.loop-addressee.addressee-index c.addressee-item.result
+    c.loop-addressee-test.true c.addressee-item.is c.loop-addressee.invariant.goes))
 
 pub loop-addressee-preserved : goal.loop-addressee-preserved
 loop-addressee-preserved c =
     let next = goes_next _ _ _ c.args.noted.now
-    c.loop-addressee.addressee-index (record { slot = 0; handle = 0 })
-    c.loop-addressee-test.true c.loop-addressee.invariant.goes in
+    c.loop-addressee.addressee-index c.addressee-item.result
+    c.loop-addressee-test.true c.addressee-item.is c.loop-addressee.invariant.goes in
     let lt = goes_within _ _ _ _ _ next in
+    let acts = rw (c.sought.ensures.slot, c.sought.ensures.handle) at c.hand.ensures.acts in
     record {
-      goes = goes_on _ _ _ _ _ _ _ next c.hand.ensures.acts;
+      goes = goes_on _ _ _ _ _ _ _ next acts;
       room_is = room_stays (taking_act (setup_of c.args.setting.now.config.now)
           (telegram_model c.args.telegram.now) c.args.setting.now.globals.now) _ _
           c.loop-addressee.store c.hand.new.store c.loop-addressee.out c.hand.new.out lt
-          c.hand.ensures.acts
+          acts
           ∙ c.loop-addressee.invariant.room_is;
       comparisons = λ b within.
           one_taker c.hand.new.counts.comparisons

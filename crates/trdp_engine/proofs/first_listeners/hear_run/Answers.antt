@@ -7,8 +7,8 @@ use Rattle.trdp_store.specs.Indexed.{rows_from}
 use Rattle.trdp_engine.proofs.NoteLemmas.HeardByRuns.{row_slot, hears_next, hears_end}
 use Rattle.trdp_engine.proofs.first_listeners.hear_run.Goals as goal
 
-pub hear_row-requires : goal.hear_row-requires
-hear_row-requires c =
+pub hear_row-requires-clause-slot : goal.hear_row-requires-clause-slot
+hear_row-requires-clause-slot c =
     let lt : c.loop-row.row-index < length c.run-rows.result.now = c.loop-row-test.true in
     let none : ComRow = record { com_id = None; slot = 0; handle = 0; key = 0 } in
     let read : slice_get c.run-rows.result.now c.loop-row.row-index
@@ -17,8 +17,7 @@ hear_row-requires c =
     let there = rw c.run-rows.ensures.rows at read in
     let below = row_slot 0 c.args.com_id c.args.store.now c.loop-row.row-index
     (get_or (rows_from 0 c.args.com_id c.args.store.now) c.loop-row.row-index none) there in
-    rw c.run-rows.ensures.rows
-    (omega (arith, below, c.sound.ensures.sound.few, c.loop-row.invariant.length))
+    rw c.run-rows.ensures.rows (omega (arith, below, c.sound.ensures.sound.few))
 
 pub loop-row-preserved : goal.loop-row-preserved
 loop-row-preserved c =
@@ -28,7 +27,7 @@ loop-row-preserved c =
           c.run-rows.result.now _ c.args.heard.now c.loop-row.heard c.hear_row.new.heard
           c.loop-row.row-index lt (slice_get-get_or c.run-rows.result.now c.loop-row.row-index _ lt)
           c.loop-row.invariant.heard c.hear_row.ensures.heard;
-      length = c.hear_row.ensures.length ∙ c.loop-row.invariant.length;
+      length = c.hear_row.ensures.length;
       comparisons = c.hear_row.ensures.comparisons ∙ c.loop-row.invariant.comparisons;
       tests = omega (arith, c.hear_row.ensures.tests, c.loop-row.invariant.tests);
       look_ups = c.hear_row.ensures.look_ups ∙ c.loop-row.invariant.look_ups;

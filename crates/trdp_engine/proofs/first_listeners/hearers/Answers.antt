@@ -2,7 +2,7 @@ use Rattle.std.proofs.Common.{◌∙◌, sym, arith}
 use Rattle.trdp_store.specs.Acting.{slot_at}
 use Rattle.trdp_store.proofs.StoreLemmas.Keys.{KeysTell}
 use Rattle.trdp_engine.proofs.NoteLemmas.ByCom.{nobody_hears}
-use Rattle.trdp_engine.proofs.NoteLemmas.HeardByRuns.{sixteen, none_of_sixteen, heard_by_both}
+use Rattle.trdp_engine.proofs.NoteLemmas.HeardByRuns.{none_noted, heard_by_both}
 use Rattle.trdp_engine.proofs.first_listeners.hearers.Goals as goal
 
 pub returns-in-Md-clause-heard : goal.returns-in-Md-clause-heard
@@ -14,11 +14,12 @@ returns-in-Md-clause-heard c = λ s lt.
     rw c.in-Md.is
     (heard_by_both c.args.store.now s c.in-Md.src
     c.in-Md.dst _ c.args.globals.now tell (c.sound.ensures.sound.slots s).rising
-    sixteen c.hear_run.new.heard c.hear_run-in-Md.new.heard (none_of_sixteen s) first second)
+    c.none-heard.result c.hear_run.new.heard c.hear_run-in-Md.new.heard
+    (rw c.none-heard.ensures (none_noted 16 s)) first second)
 
 pub returns-in_default-clause-heard : goal.returns-in_default-clause-heard
 returns-in_default-clause-heard c = λ s lt.
-    rw c.in_default.is (none_of_sixteen s
+    rw (c.in_default.is, c.none-heard.ensures) (none_noted 16 s
     ∙ sym (nobody_hears _ _ _ c.args.globals.now (slot_at s c.args.store.now).objects))
 
 pub returns-in-Md-clause-comparisons : goal.returns-in-Md-clause-comparisons

@@ -7,8 +7,8 @@ use Rattle.trdp_engine.proofs.CostLemmas.Moments.{counting_first, counting_on, r
 use Rattle.trdp_engine.proofs.CostLemmas.Moments.{counted_comparisons, counted_look_ups}
 use Rattle.trdp_engine.proofs.moment.fire_all.Goals as goal
 
-pub loop-order-init : goal.loop-order-init
-loop-order-init c = record {
+pub loop-next-init : goal.loop-next-init
+loop-next-init c = record {
   moving = moving_first c.args.globals.now c.args.store.now
       c.args.out.now c.sound.ensures.sound c.requires.sound c.requires.room;
   counting =
@@ -18,43 +18,43 @@ loop-order-init c = record {
 
 pub fire-requires-clause-may : goal.fire-requires-clause-may
 fire-requires-clause-may c =
-    let next = nexts c.args.globals.now c.args.store.now c.loop-order.store c.args.out.now.records
-    c.loop-order.out c.in-Some.order c.loop-order.invariant.moving c.in-Some.ensures.next in
-    rw c.in-Some.ensures.kept (moving_may c.args.globals.now c.args.store.now c.loop-order.store
-    c.args.out.now.records c.loop-order.out c.in-Some.order c.loop-order.invariant.moving next)
+    let next = nexts c.args.globals.now c.args.store.now c.loop-next.store c.args.out.now.records
+    c.loop-next.out c.in-Some.next c.loop-next.invariant.moving c.in-Some.ensures.next in
+    rw c.in-Some.ensures.kept (moving_may c.args.globals.now c.args.store.now c.loop-next.store
+    c.args.out.now.records c.loop-next.out c.in-Some.next c.loop-next.invariant.moving next)
 
 pub fire-requires-clause-due : goal.fire-requires-clause-due
 fire-requires-clause-due c =
-    let next = nexts c.args.globals.now c.args.store.now c.loop-order.store c.args.out.now.records
-    c.loop-order.out c.in-Some.order c.loop-order.invariant.moving c.in-Some.ensures.next in
+    let next = nexts c.args.globals.now c.args.store.now c.loop-next.store c.args.out.now.records
+    c.loop-next.out c.in-Some.next c.loop-next.invariant.moving c.in-Some.ensures.next in
     rw c.in-Some.ensures.kept (next_is_due c.args.globals.now.now
-    (slot_at c.in-Some.order.slot c.loop-order.store).objects c.in-Some.order.handle next.1)
+    (slot_at c.in-Some.next.slot c.loop-next.store).objects c.in-Some.next.handle next.1)
 
-pub loop-order-smaller : goal.loop-order-smaller
-loop-order-smaller c =
-    let next = nexts c.args.globals.now c.args.store.now c.loop-order.store c.args.out.now.records
-    c.loop-order.out c.in-Some.order c.loop-order.invariant.moving c.in-Some.ensures.next in
-    (moves_on c.args.globals.now c.args.store.now c.loop-order.store
-    c.fire.new.store c.args.out.now.records c.loop-order.out c.fire.new.out c.in-Some.order
-    c.loop-order.invariant.moving next (rw c.in-Some.ensures.kept at c.fire.ensures.acts)).fewer
+pub loop-next-smaller : goal.loop-next-smaller
+loop-next-smaller c =
+    let next = nexts c.args.globals.now c.args.store.now c.loop-next.store c.args.out.now.records
+    c.loop-next.out c.in-Some.next c.loop-next.invariant.moving c.in-Some.ensures.next in
+    (moves_on c.args.globals.now c.args.store.now c.loop-next.store
+    c.fire.new.store c.args.out.now.records c.loop-next.out c.fire.new.out c.in-Some.next
+    c.loop-next.invariant.moving next (rw c.in-Some.ensures.kept at c.fire.ensures.acts)).fewer
 
-pub loop-order-preserved : goal.loop-order-preserved
-loop-order-preserved c =
-    let next = nexts c.args.globals.now c.args.store.now c.loop-order.store c.args.out.now.records
-    c.loop-order.out c.in-Some.order c.loop-order.invariant.moving c.in-Some.ensures.next in
+pub loop-next-preserved : goal.loop-next-preserved
+loop-next-preserved c =
+    let next = nexts c.args.globals.now c.args.store.now c.loop-next.store c.args.out.now.records
+    c.loop-next.out c.in-Some.next c.loop-next.invariant.moving c.in-Some.ensures.next in
     let acts = rw c.in-Some.ensures.kept at c.fire.ensures.acts in
     let moves = moves_on c.args.globals.now c.args.store.now
-    c.loop-order.store c.fire.new.store c.args.out.now.records
-    c.loop-order.out c.fire.new.out c.in-Some.order c.loop-order.invariant.moving next acts in
+    c.loop-next.store c.fire.new.store c.args.out.now.records
+    c.loop-next.out c.fire.new.out c.in-Some.next c.loop-next.invariant.moving next acts in
     let comparisons = rw c.in-Some.ensures.kept at c.fire.ensures.comparisons in
     record {
       moving = moves.moving;
       counting =
           counting_on c.args.globals.now c.args.store.now
-          c.loop-order.store c.fire.new.store c.args.counts.now
-          c.loop-order.counts c.compared-in-Some.new.self c.loop-order.invariant.counting
-          (room_stays (firing_act c.args.globals.now) c.in-Some.order.slot c.in-Some.order.handle
-          c.loop-order.store c.fire.new.store c.loop-order.out c.fire.new.out next.0 acts)
+          c.loop-next.store c.fire.new.store c.args.counts.now
+          c.loop-next.counts c.compared-in-Some.new.self c.loop-next.invariant.counting
+          (room_stays (firing_act c.args.globals.now) c.in-Some.next.slot c.in-Some.next.handle
+          c.loop-next.store c.fire.new.store c.loop-next.out c.fire.new.out next.0 acts)
           moves.fewer
           (λ b lt. omega (arith, comparisons b lt, c.compared-in-Some.ensures.comparisons))
           (c.compared-in-Some.ensures.tests ∙ c.fire.ensures.tests)
@@ -64,15 +64,15 @@ loop-order-preserved c =
 pub returns-clause-comparisons : goal.returns-clause-comparisons
 returns-clause-comparisons c =
     counted_comparisons c.args.globals.now c.args.store.now
-    c.loop-order.store c.args.counts.now c.loop-order.counts c.loop-order.invariant.counting
+    c.loop-next.store c.args.counts.now c.loop-next.counts c.loop-next.invariant.counting
 
 pub returns-clause-look_ups : goal.returns-clause-look_ups
 returns-clause-look_ups c =
     counted_look_ups c.args.globals.now c.args.store.now
-    c.loop-order.store c.args.counts.now c.loop-order.counts c.loop-order.invariant.counting
+    c.loop-next.store c.args.counts.now c.loop-next.counts c.loop-next.invariant.counting
 
 pub returns-clause-parts : goal.returns-clause-parts
 returns-clause-parts c =
     rw c.in_default.ensures.kept
-    (moment_ends c.args.globals.now c.args.store.now c.loop-order.store c.args.out.now.records
-    c.loop-order.out c.loop-order.invariant.moving c.in_default.ensures.next)
+    (moment_ends c.args.globals.now c.args.store.now c.loop-next.store c.args.out.now.records
+    c.loop-next.out c.loop-next.invariant.moving c.in_default.ensures.next)

@@ -27,35 +27,38 @@ loop-listener-init c = record {
 
 pub ask-requires-clause-slot : goal.ask-requires-clause-slot
 ask-requires-clause-slot c =
-    asks_within _ _ _ _ _ (asks_next _ _ _ c.args.noted.now c.loop-listener.listener-index
-    (record { slot = 0; handle = 0 })
-    c.loop-listener-test.true c.loop-listener.invariant.goes)
+    rw c.sought.ensures.slot
+    (asks_within _ _ _ _ _ (asks_next _ _ _ c.args.noted.now c.loop-listener.listener-index
+    c.listener-item.result
+    c.loop-listener-test.true c.listener-item.is c.loop-listener.invariant.goes))
 
 pub ask-requires-clause-heard : goal.ask-requires-clause-heard
 ask-requires-clause-heard c =
-    asks_heard _ _ _ _ _ (asks_next _ _ _ c.args.noted.now c.loop-listener.listener-index
-    (record { slot = 0; handle = 0 })
-    c.loop-listener-test.true c.loop-listener.invariant.goes)
+    rw (c.sought.ensures.slot, c.sought.ensures.handle)
+    (asks_heard _ _ _ _ _ (asks_next _ _ _ c.args.noted.now c.loop-listener.listener-index
+    c.listener-item.result
+    c.loop-listener-test.true c.listener-item.is c.loop-listener.invariant.goes))
 
 pub ask-requires-clause-row : goal.ask-requires-clause-row
 ask-requires-clause-row c =
     asks_row _ _ _ _ _ (asks_next _ _ _ c.args.noted.now c.loop-listener.listener-index
-    (record { slot = 0; handle = 0 })
-    c.loop-listener-test.true c.loop-listener.invariant.goes)
+    c.listener-item.result
+    c.loop-listener-test.true c.listener-item.is c.loop-listener.invariant.goes)
 
 pub ask-requires-clause-bytes : goal.ask-requires-clause-bytes
 ask-requires-clause-bytes c =
     asks_bytes _ _ _ _ _ (asks_next _ _ _ c.args.noted.now c.loop-listener.listener-index
-    (record { slot = 0; handle = 0 })
-    c.loop-listener-test.true c.loop-listener.invariant.goes)
+    c.listener-item.result
+    c.loop-listener-test.true c.listener-item.is c.loop-listener.invariant.goes)
 
 pub loop-listener-preserved : goal.loop-listener-preserved
 loop-listener-preserved c =
     let next = asks_next _ _ _ c.args.noted.now
-    c.loop-listener.listener-index (record { slot = 0; handle = 0 })
-    c.loop-listener-test.true c.loop-listener.invariant.goes in
+    c.loop-listener.listener-index c.listener-item.result
+    c.loop-listener-test.true c.listener-item.is c.loop-listener.invariant.goes in
+    let becomes = rw c.sought.ensures.slot at c.ask.ensures.becomes in
     record {
-      goes = asks_on _ _ _ _ _ _ _ next c.ask.ensures.becomes c.ask.ensures.row_room
+      goes = asks_on _ _ _ _ _ _ _ next becomes c.ask.ensures.row_room
           c.ask.ensures.byte_room;
       room_is = c.ask.ensures.room ∙ c.loop-listener.invariant.room_is;
       comparisons = λ b within.

@@ -18,47 +18,48 @@ pub returns-in_err-key-clause-found : goal.returns-in_err-key-clause-found
 returns-in_err-key-clause-found g c =
     rw (
       ← c.self.view_is,
-      none_found c.self.inside.table c.args.s c.args.handle c.in_err-key.ensures,
+      none_found c.self.inside.table c.args.sought.slot c.args.sought.handle c.in_err-key.ensures,
       c.from_residual.ensures,
     ) refl
 
 pub on-left-requires : goal.on-left-requires
 on-left-requires g c =
-    let r = reached c.self.inside.table c.args.s c.args.handle c.in_ok-key.key
+    let r = reached c.self.inside.table c.args.sought.slot c.args.sought.handle c.in_ok-key.key
     c.in_ok-object.object.now c.sound.ensures.found c.in_ok-key.ensures
     c.in_ok-object.ensures.value in
     let may = rw (
       ← c.self.view_is,
-      reached_entry c.self.inside.table c.args.s c.args.handle c.in_ok-key.key
+      reached_entry c.self.inside.table c.args.sought.slot c.args.sought.handle c.in_ok-key.key
           c.in_ok-object.object.now r,
     ) at c.requires.may in
     record { may = rw r.object_is may }
 
 pub change-changed-requires-clause-before : goal.change-changed-requires-clause-before
 change-changed-requires-clause-before g c =
-    let r = reached c.self.inside.table c.args.s c.args.handle c.in_ok-key.key
+    let r = reached c.self.inside.table c.args.sought.slot c.args.sought.handle c.in_ok-key.key
     c.in_ok-object.object.now c.sound.ensures.found c.in_ok-key.ensures
     c.in_ok-object.ensures.value in
-    reached_order c.self.inside.table c.self.inside.schedule c.args.s c.args.handle
+    reached_order c.self.inside.table c.self.inside.schedule c.args.sought.slot c.args.sought.handle
     c.in_ok-key.key c.in_ok-object.object.now c.self.invariant.by_moment r
-    ∙ ap (order_at c.args.s c.args.handle) (sym c.due-before.ensures)
+    ∙ ap (order_at c.args.sought.slot c.args.sought.handle) (sym c.due-before.ensures)
 
 pub invariant_of-self-in-Stays : goal.invariant_of-self-in-Stays
 invariant_of-self-in-Stays g c =
-    let r = reached c.self.inside.table c.args.s c.args.handle c.in_ok-key.key
+    let r = reached c.self.inside.table c.args.sought.slot c.args.sought.handle c.in_ok-key.key
     c.in_ok-object.object.now c.sound.ensures.found c.in_ok-key.ensures
     c.in_ok-object.ensures.value in
     let slot = rw (← c.self.view_is) at c.requires.slot in
     record {
-      by_com = indexed_reached c.self.inside.table c.self.inside.coms c.args.s c.args.handle
+      by_com = indexed_reached c.self.inside.table c.self.inside.coms
+          c.args.sought.slot c.args.sought.handle
           c.in_ok-key.key c.in_ok-object.object.now c.on-left.new.object c.self.invariant.by_com
           c.sound.ensures.sound slot c.sound.ensures.exchanged r c.on-left.ensures.sought;
-      by_session = session_reached c.self.inside.table c.self.inside.sessions c.args.s
-          c.args.handle c.in_ok-key.key c.in_ok-object.object.now c.on-left.new.object
+      by_session = session_reached c.self.inside.table c.self.inside.sessions c.args.sought.slot
+          c.args.sought.handle c.in_ok-key.key c.in_ok-object.object.now c.on-left.new.object
           c.self.invariant.by_session c.sound.ensures.sound slot c.sound.ensures.exchanged r
           c.on-left.ensures.session;
       by_moment = scheduled_reached c.self.inside.table c.self.inside.schedule
-          c.change-changed.new.self c.args.s c.args.handle c.in_ok-key.key
+          c.change-changed.new.self c.args.sought.slot c.args.sought.handle c.in_ok-key.key
           c.in_ok-object.object.now c.on-left.new.object c.self.invariant.by_moment
           c.sound.ensures.sound c.sound.ensures.found slot c.sound.ensures.exchanged r
           c.on-left.ensures.kind
@@ -67,38 +68,40 @@ invariant_of-self-in-Stays g c =
             rows = c.change-changed.ensures.rows;
             bytes = c.change-changed.ensures.bytes;
           });
-      kinds = reached_kinds c.self.inside.table c.args.s c.args.handle c.in_ok-key.key
+      kinds = reached_kinds c.self.inside.table
+          c.args.sought.slot c.args.sought.handle c.in_ok-key.key
           c.in_ok-object.object.now c.on-left.new.object c.self.invariant.kinds
           c.sound.ensures.sound slot c.sound.ensures.exchanged r c.on-left.ensures.kind;
     }
 
 pub remove-requires-clause-key : goal.remove-requires-clause-key
 remove-requires-clause-key g c =
-    let r = reached c.self.inside.table c.args.s c.args.handle c.in_ok-key.key
+    let r = reached c.self.inside.table c.args.sought.slot c.args.sought.handle c.in_ok-key.key
     c.in_ok-object.object.now c.sound.ensures.found c.in_ok-key.ensures
     c.in_ok-object.ensures.value in
     ap (option_map (λ (k : Keyed). k.key))
-    (reached_then c.self.inside.table c.args.s c.args.handle c.in_ok-key.key
+    (reached_then c.self.inside.table c.args.sought.slot c.args.sought.handle c.in_ok-key.key
     c.in_ok-object.object.now c.on-left.new.object (rw (← c.self.view_is) at c.requires.slot)
     c.sound.ensures.exchanged r)
     ∙ ap (λ (n : ℕ). let some : Option ℕ = Some n in some) (sym r.key_is)
 
 pub invariant_of-self-in-Ended : goal.invariant_of-self-in-Ended
 invariant_of-self-in-Ended g c =
-    let r = reached c.self.inside.table c.args.s c.args.handle c.in_ok-key.key
+    let r = reached c.self.inside.table c.args.sought.slot c.args.sought.handle c.in_ok-key.key
     c.in_ok-object.object.now c.sound.ensures.found c.in_ok-key.ensures
     c.in_ok-object.ensures.value in
     let slot = rw (← c.self.view_is) at c.requires.slot in
     record {
-      by_com = indexed_reached c.self.inside.table c.self.inside.coms c.args.s c.args.handle
+      by_com = indexed_reached c.self.inside.table c.self.inside.coms
+          c.args.sought.slot c.args.sought.handle
           c.in_ok-key.key c.in_ok-object.object.now c.on-left.new.object c.self.invariant.by_com
           c.sound.ensures.sound slot c.sound.ensures.exchanged r c.on-left.ensures.sought;
-      by_session = session_reached c.self.inside.table c.self.inside.sessions c.args.s
-          c.args.handle c.in_ok-key.key c.in_ok-object.object.now c.on-left.new.object
+      by_session = session_reached c.self.inside.table c.self.inside.sessions c.args.sought.slot
+          c.args.sought.handle c.in_ok-key.key c.in_ok-object.object.now c.on-left.new.object
           c.self.invariant.by_session c.sound.ensures.sound slot c.sound.ensures.exchanged r
           c.on-left.ensures.session;
       by_moment = scheduled_reached c.self.inside.table c.self.inside.schedule
-          c.change-changed.new.self c.args.s c.args.handle c.in_ok-key.key
+          c.change-changed.new.self c.args.sought.slot c.args.sought.handle c.in_ok-key.key
           c.in_ok-object.object.now c.on-left.new.object c.self.invariant.by_moment
           c.sound.ensures.sound c.sound.ensures.found slot c.sound.ensures.exchanged r
           c.on-left.ensures.kind
@@ -107,7 +110,8 @@ invariant_of-self-in-Ended g c =
             rows = c.change-changed.ensures.rows;
             bytes = c.change-changed.ensures.bytes;
           });
-      kinds = reached_kinds c.self.inside.table c.args.s c.args.handle c.in_ok-key.key
+      kinds = reached_kinds c.self.inside.table
+          c.args.sought.slot c.args.sought.handle c.in_ok-key.key
           c.in_ok-object.object.now c.on-left.new.object c.self.invariant.kinds
           c.sound.ensures.sound slot c.sound.ensures.exchanged r c.on-left.ensures.kind;
     }
@@ -115,45 +119,45 @@ invariant_of-self-in-Ended g c =
 pub returns-in-Stays-clause-done : goal.returns-in-Stays-clause-done
 returns-in-Stays-clause-done g c =
     rw (← c.self.view_is)
-    (asked_stays c.self.inside.table c.args.s c.args.handle c.in_ok-key.key
+    (asked_stays c.self.inside.table c.args.sought.slot c.args.sought.handle c.in_ok-key.key
     c.in_ok-object.object.now c.on-left.new.object _ c.args.out.now c.on-left.new.out
     c.sound.ensures.exchanged
-    (reached c.self.inside.table c.args.s c.args.handle c.in_ok-key.key
+    (reached c.self.inside.table c.args.sought.slot c.args.sought.handle c.in_ok-key.key
     c.in_ok-object.object.now c.sound.ensures.found c.in_ok-key.ensures
     c.in_ok-object.ensures.value)
     c.in-Stays.ensures.left c.on-left.ensures.records)
 
 pub returns-in-Stays-clause-spends : goal.returns-in-Stays-clause-spends
 returns-in-Stays-clause-spends g c =
-    let r = reached c.self.inside.table c.args.s c.args.handle c.in_ok-key.key
+    let r = reached c.self.inside.table c.args.sought.slot c.args.sought.handle c.in_ok-key.key
     c.in_ok-object.object.now c.sound.ensures.found c.in_ok-key.ensures
     c.in_ok-object.ensures.value in
     rw (
       ← c.self.view_is,
-      reached_entry c.self.inside.table c.args.s c.args.handle c.in_ok-key.key
+      reached_entry c.self.inside.table c.args.sought.slot c.args.sought.handle c.in_ok-key.key
           c.in_ok-object.object.now r,
       ← r.object_is,
     ) c.on-left.ensures.spends
 
 pub returns-in-Stays-clause-found : goal.returns-in-Stays-clause-found
 returns-in-Stays-clause-found g c =
-    let r = reached c.self.inside.table c.args.s c.args.handle c.in_ok-key.key
+    let r = reached c.self.inside.table c.args.sought.slot c.args.sought.handle c.in_ok-key.key
     c.in_ok-object.object.now c.sound.ensures.found c.in_ok-key.ensures
     c.in_ok-object.ensures.value in
     rw (
       ← c.self.view_is,
-      reached_entry c.self.inside.table c.args.s c.args.handle c.in_ok-key.key
+      reached_entry c.self.inside.table c.args.sought.slot c.args.sought.handle c.in_ok-key.key
           c.in_ok-object.object.now r,
     ) refl
 
 pub returns-in-Stays-clause-comparisons : goal.returns-in-Stays-clause-comparisons
 returns-in-Stays-clause-comparisons g c = λ b lt.
-    let r = reached c.self.inside.table c.args.s c.args.handle c.in_ok-key.key
+    let r = reached c.self.inside.table c.args.sought.slot c.args.sought.handle c.in_ok-key.key
     c.in_ok-object.object.now c.sound.ensures.found c.in_ok-key.ensures
     c.in_ok-object.ensures.value in
     let within : room_of c.self.inside.table < 2 ^ b = rw (← c.self.view_is) at lt in
     let set = reset_costs c.self.inside.table c.self.inside.schedule c.change-changed.new.self
-    c.args.s c.args.handle c.in_ok-key.key c.in_ok-object.object.now _ b
+    c.args.sought.slot c.args.sought.handle c.in_ok-key.key c.in_ok-object.object.now _ b
     c.change-changed.result c.self.invariant.by_moment c.sound.ensures.found
     c.sound.ensures.room r c.change-changed.ensures.orders within
     (c.change-changed.ensures.cost b) in
@@ -161,12 +165,12 @@ returns-in-Stays-clause-comparisons g c = λ b lt.
 
 pub returns-in-Stays-clause-still : goal.returns-in-Stays-clause-still
 returns-in-Stays-clause-still g c = λ ends b lt.
-    let r = reached c.self.inside.table c.args.s c.args.handle c.in_ok-key.key
+    let r = reached c.self.inside.table c.args.sought.slot c.args.sought.handle c.in_ok-key.key
     c.in_ok-object.object.now c.sound.ensures.found c.in_ok-key.ensures
     c.in_ok-object.ensures.value in
     let within : room_of c.self.inside.table < 2 ^ b = rw (← c.self.view_is) at lt in
     reset_costs c.self.inside.table c.self.inside.schedule c.change-changed.new.self
-    c.args.s c.args.handle c.in_ok-key.key c.in_ok-object.object.now _ b
+    c.args.sought.slot c.args.sought.handle c.in_ok-key.key c.in_ok-object.object.now _ b
     c.change-changed.result c.self.invariant.by_moment c.sound.ensures.found
     c.sound.ensures.room r c.change-changed.ensures.orders within
     (c.change-changed.ensures.cost b)
@@ -174,45 +178,45 @@ returns-in-Stays-clause-still g c = λ ends b lt.
 pub returns-in-Ended-clause-done : goal.returns-in-Ended-clause-done
 returns-in-Ended-clause-done g c =
     rw (← c.self.view_is, c.remove.ensures.table)
-    (asked_ended c.self.inside.table c.args.s c.args.handle c.in_ok-key.key
+    (asked_ended c.self.inside.table c.args.sought.slot c.args.sought.handle c.in_ok-key.key
     c.in_ok-object.object.now c.on-left.new.object _ c.args.out.now c.on-left.new.out
     (rw (← c.self.view_is) at c.requires.slot) c.sound.ensures.exchanged
-    (reached c.self.inside.table c.args.s c.args.handle c.in_ok-key.key
+    (reached c.self.inside.table c.args.sought.slot c.args.sought.handle c.in_ok-key.key
     c.in_ok-object.object.now c.sound.ensures.found c.in_ok-key.ensures
     c.in_ok-object.ensures.value)
     c.in-Ended.ensures.left c.on-left.ensures.records)
 
 pub returns-in-Ended-clause-spends : goal.returns-in-Ended-clause-spends
 returns-in-Ended-clause-spends g c =
-    let r = reached c.self.inside.table c.args.s c.args.handle c.in_ok-key.key
+    let r = reached c.self.inside.table c.args.sought.slot c.args.sought.handle c.in_ok-key.key
     c.in_ok-object.object.now c.sound.ensures.found c.in_ok-key.ensures
     c.in_ok-object.ensures.value in
     rw (
       ← c.self.view_is,
-      reached_entry c.self.inside.table c.args.s c.args.handle c.in_ok-key.key
+      reached_entry c.self.inside.table c.args.sought.slot c.args.sought.handle c.in_ok-key.key
           c.in_ok-object.object.now r,
       ← r.object_is,
     ) c.on-left.ensures.spends
 
 pub returns-in-Ended-clause-found : goal.returns-in-Ended-clause-found
 returns-in-Ended-clause-found g c =
-    let r = reached c.self.inside.table c.args.s c.args.handle c.in_ok-key.key
+    let r = reached c.self.inside.table c.args.sought.slot c.args.sought.handle c.in_ok-key.key
     c.in_ok-object.object.now c.sound.ensures.found c.in_ok-key.ensures
     c.in_ok-object.ensures.value in
     rw (
       ← c.self.view_is,
-      reached_entry c.self.inside.table c.args.s c.args.handle c.in_ok-key.key
+      reached_entry c.self.inside.table c.args.sought.slot c.args.sought.handle c.in_ok-key.key
           c.in_ok-object.object.now r,
     ) refl
 
 pub returns-in-Ended-clause-comparisons : goal.returns-in-Ended-clause-comparisons
 returns-in-Ended-clause-comparisons g c = λ b lt.
-    let r = reached c.self.inside.table c.args.s c.args.handle c.in_ok-key.key
+    let r = reached c.self.inside.table c.args.sought.slot c.args.sought.handle c.in_ok-key.key
     c.in_ok-object.object.now c.sound.ensures.found c.in_ok-key.ensures
     c.in_ok-object.ensures.value in
     let within : room_of c.self.inside.table < 2 ^ b = rw (← c.self.view_is) at lt in
     let set = reset_costs c.self.inside.table c.self.inside.schedule c.change-changed.new.self
-    c.args.s c.args.handle c.in_ok-key.key c.in_ok-object.object.now _ b
+    c.args.sought.slot c.args.sought.handle c.in_ok-key.key c.in_ok-object.object.now _ b
     c.change-changed.result c.self.invariant.by_moment c.sound.ensures.found
     c.sound.ensures.room r c.change-changed.ensures.orders within
     (c.change-changed.ensures.cost b) in
@@ -228,13 +232,13 @@ returns-in-Ended-clause-comparisons g c = λ b lt.
 
 pub returns-in-Ended-clause-still : goal.returns-in-Ended-clause-still
 returns-in-Ended-clause-still g c = λ ends b lt.
-    let r = reached c.self.inside.table c.args.s c.args.handle c.in_ok-key.key
+    let r = reached c.self.inside.table c.args.sought.slot c.args.sought.handle c.in_ok-key.key
     c.in_ok-object.object.now c.sound.ensures.found c.in_ok-key.ensures
     c.in_ok-object.ensures.value in
     let over = c.in-Ended.ensures.over refl ends in
     let within : room_of c.self.inside.table < 2 ^ b = rw (← c.self.view_is) at lt in
     let set = reset_costs c.self.inside.table c.self.inside.schedule c.change-changed.new.self
-    c.args.s c.args.handle c.in_ok-key.key c.in_ok-object.object.now _ b
+    c.args.sought.slot c.args.sought.handle c.in_ok-key.key c.in_ok-object.object.now _ b
     c.change-changed.result c.self.invariant.by_moment c.sound.ensures.found
     c.sound.ensures.room r c.change-changed.ensures.orders within
     (c.change-changed.ensures.cost b) in
@@ -247,7 +251,7 @@ returns-in-Ended-clause-still g c = λ ends b lt.
     ) in
     let gone = c.remove.ensures.cost b there in
     let idle = c.remove.ensures.idle (record r.keyed { object = c.on-left.new.object })
-    (reached_then c.self.inside.table c.args.s c.args.handle c.in_ok-key.key
+    (reached_then c.self.inside.table c.args.sought.slot c.args.sought.handle c.in_ok-key.key
     c.in_ok-object.object.now c.on-left.new.object (rw (← c.self.view_is) at c.requires.slot)
     c.sound.ensures.exchanged r) in
     let both = over_costs c.change-changed.result c.remove.result b
