@@ -1,5 +1,5 @@
 -- What a call asks of one object.
-use Rattle.std.specs.Prelude.{◌≡◌, ℕ, Option, Some, None, Bool, true, false}
+use Rattle.std.specs.Prelude.{◌≡◌, ℕ, Bool, true, false, not, ◌||◌}
 use Rattle.trdp_filter.specs.declared.globals.Globals.{Globals}
 use Rattle.trdp_model.specs.declared.any_object.AnyObject.{AnyObject}
 use Rattle.trdp_engine.specs.declared.asked.Asked.{Asked}
@@ -9,8 +9,9 @@ use Rattle.trdp_model.specs.Configs.{NodeSetup}
 use Rattle.trdp_model.specs.Acts.{Act}
 use Rattle.trdp_model.specs.Pulls.{pulls}
 use Rattle.trdp_model.specs.Calls.{puts, shows, ends, at_object, called}
-use Rattle.trdp_model.specs.Events.{CallModel, PublishCall, SubscribeCall, OpenPullCall}
-use Rattle.trdp_model.specs.Events.{ListenCall, NotifyCall, RequestCall}
+use Rattle.trdp_model.specs.Events.{CallModel, PutCall, GetCall, PullCall, UnpublishCall}
+use Rattle.trdp_model.specs.Events.{UnsubscribeCall, ClosePullCall, UnlistenCall, ReplyCall}
+use Rattle.trdp_model.specs.Events.{QueryCall, ReplyErrorCall, ConfirmCall, AbortCall}
 use Rattle.trdp_model.specs.Slots.{SlotState}
 use Rattle.trdp_outbox.specs.Rooms.{call_room, message_room, confirm_room, answer_room}
 use Rattle.trdp_outbox.specs.declared.room.Room.{Room}
@@ -33,15 +34,33 @@ asked_act setup globals handle (Confirm place status) object =
     confirms handle place status object
 asked_act setup globals handle Abort object = aborts object
 
+-- the call asks something of an object of process data
+abbrev pub concerns_data : CallModel → Bool
+concerns_data (PutCall handle bytes) = true
+concerns_data (GetCall handle) = true
+concerns_data (PullCall handle) = true
+concerns_data (UnpublishCall handle) = true
+concerns_data (UnsubscribeCall handle) = true
+concerns_data (ClosePullCall handle) = true
+concerns_data _ = false
+
+-- the call answers a request
+abbrev pub answers_request : CallModel → Bool
+answers_request (ReplyCall handle com_id status payload) = true
+answers_request (QueryCall handle com_id status timeout payload) = true
+answers_request (ReplyErrorCall handle com_id status) = true
+answers_request _ = false
+
+-- the call asks something else of an object of message data
+abbrev pub concerns_messages : CallModel → Bool
+concerns_messages (UnlistenCall handle) = true
+concerns_messages (ConfirmCall handle place status) = true
+concerns_messages (AbortCall handle) = true
+concerns_messages _ = false
+
 -- the call makes an object, or sends a message without one
 abbrev pub concerns_no_object : CallModel → Bool
-concerns_no_object (PublishCall terms) = true
-concerns_no_object (SubscribeCall terms) = true
-concerns_no_object (OpenPullCall terms) = true
-concerns_no_object (ListenCall filter) = true
-concerns_no_object (NotifyCall terms payload) = true
-concerns_no_object (RequestCall terms payload) = true
-concerns_no_object _ = false
+concerns_no_object call = not (concerns_data call || answers_request call || concerns_messages call)
 
 -- room for the records of what is asked of an object
 abbrev pub asked_room : Asked → Room

@@ -1,7 +1,7 @@
 //! What a call does to the slot that makes it.
 
 ghost use Rattle.std.specs.Prelude.{◌≡◌, ◌<◌, ◌≤◌, length, OnOk, OnErr, IfOk, IfErr};
-ghost use Rattle.std.specs.Prelude.{None, true, IfSome, IfNone};
+ghost use Rattle.std.specs.Prelude.{None, true, false, IfSome, IfNone};
 ghost use Rattle.trdp_base.specs.Moments.{last_moment};
 ghost use Rattle.trdp_marshal.specs.Items.{model_of};
 ghost use Rattle.trdp_model.specs.Configs.{setup_of};
@@ -13,7 +13,8 @@ ghost use Rattle.trdp_model.specs.Slots.{entry_under};
 ghost use Rattle.trdp_outbox.specs.Rooms.{HasRoom, call_room, makes_buffer};
 ghost use Rattle.trdp_engine.specs.Asked.{asked_room};
 ghost use Rattle.trdp_outbox.specs.Rooms.{CallMayLack};
-ghost use Rattle.trdp_engine.specs.Asked.{asked_act, concerns_no_object, IsAskedBy};
+ghost use Rattle.trdp_engine.specs.Asked.{asked_act, IsAskedBy, concerns_no_object};
+ghost use Rattle.trdp_engine.specs.Asked.{concerns_data, answers_request, concerns_messages};
 ghost use Rattle.trdp_store.specs.Acting.{slot_at, Becomes};
 
 use crate::asked::{Asked, Asking};
@@ -32,11 +33,11 @@ use trdp_model::{Call, Kind, Refusal};
 use trdp_outbox::{Outbox, PlainAnswer, Room};
 use trdp_store::{Sought, Store, object_of};
 
-/// Which object a call concerns, by its handle, and what it asks of it; None where it concerns none
-/// that there is.
-fn asked_of<'a>(call: &Call<'a>) -> Option<(u32, Asked<'a>)>
+/// Which object of process data a call concerns, by its handle, and what it asks of it; None where
+/// it concerns none.
+fn asked_of_data<'a>(call: &Call<'a>) -> Option<(u32, Asked<'a>)>
     ensures asks { IfSome result (λ of. IsAskedBy (call_model call.now) of.0 of.1) }
-    ensures none { IfNone result (concerns_no_object (call_model call.now) ≡ true) }
+    ensures none { IfNone result (concerns_data (call_model call.now) ≡ false) }
 {
     match *call {
         Call::Put { handle, bytes } => Some((handle, Asked::Put(bytes))),
@@ -45,7 +46,17 @@ fn asked_of<'a>(call: &Call<'a>) -> Option<(u32, Asked<'a>)>
         Call::Unpublish { handle } => Some((handle, Asked::End(Kind::Publisher))),
         Call::Unsubscribe { handle } => Some((handle, Asked::End(Kind::Subscription))),
         Call::ClosePull { handle } => Some((handle, Asked::End(Kind::Requester))),
-        Call::Unlisten { handle } => Some((handle, Asked::End(Kind::Listener))),
+        _ => None,
+    }
+}
+
+/// Which object a call concerns that answers a request, by its handle, and what it asks of it; None
+/// where the call answers none.
+fn asked_of_answer<'a>(call: &Call<'a>) -> Option<(u32, Asked<'a>)>
+    ensures asks { IfSome result (λ of. IsAskedBy (call_model call.now) of.0 of.1) }
+    ensures none { IfNone result (answers_request (call_model call.now) ≡ false) }
+{
+    match *call {
         Call::Reply {
             handle,
             com_id,
@@ -79,6 +90,18 @@ fn asked_of<'a>(call: &Call<'a>) -> Option<(u32, Asked<'a>)>
             com_id,
             status,
         } => Some((handle, Asked::ReplyError { com_id, status })),
+        _ => None,
+    }
+}
+
+/// Which object of message data a call concerns that answers no request, by its handle, and what it
+/// asks of it; None where it concerns none.
+fn asked_of_messages<'a>(call: &Call<'a>) -> Option<(u32, Asked<'a>)>
+    ensures asks { IfSome result (λ of. IsAskedBy (call_model call.now) of.0 of.1) }
+    ensures none { IfNone result (concerns_messages (call_model call.now) ≡ false) }
+{
+    match *call {
+        Call::Unlisten { handle } => Some((handle, Asked::End(Kind::Listener))),
         Call::Confirm {
             handle,
             place,
@@ -87,6 +110,21 @@ fn asked_of<'a>(call: &Call<'a>) -> Option<(u32, Asked<'a>)>
         Call::Abort { handle } => Some((handle, Asked::Abort)),
         _ => None,
     }
+}
+
+/// Which object a call concerns, by its handle, and what it asks of it; None where it concerns none
+/// that there is.
+fn asked_of<'a>(call: &Call<'a>) -> Option<(u32, Asked<'a>)>
+    ensures asks { IfSome result (λ of. IsAskedBy (call_model call.now) of.0 of.1) }
+    ensures none { IfNone result (concerns_no_object (call_model call.now) ≡ true) }
+{
+    if let Some(asked) = asked_of_data(call) {
+        return Some(asked);
+    }
+    if let Some(asked) = asked_of_answer(call) {
+        return Some(asked);
+    }
+    asked_of_messages(call)
 }
 
 /// Serves a call of slot `s` that concerns no object that there is, and records its answer.
