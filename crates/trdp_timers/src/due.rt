@@ -37,7 +37,7 @@ impl Heap {
             (is_due_by t (order_at orders.now.items self.now.keys.items place) ≡ false) }
         ensures counted { probes.new ≡ probes.old + 1 }
     {
-        if !is_due(self.order_of(orders, place), t, probes) {
+        if !is_due(Some(self.order_of(orders, place)), t, probes) {
             return None;
         }
         let key = self.keys[place];

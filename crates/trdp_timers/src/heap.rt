@@ -4,8 +4,8 @@
 //! sooner than what stands at half of it, `(place - 1) / 2`.
 
 ghost use Rattle.std.specs.Prelude.{◌≡◌, ◌≢◌, ◌<◌, ◌≤◌, ◌+◌, ◌-◌, ◌*◌, ◌/◌, ◌^◌, ℕ, List, length};
-ghost use Rattle.std.specs.Prelude.{Option, slice_index, vec_capacity};
-ghost use Rattle.trdp_timers.specs.Orders.{goes_before, Leads};
+ghost use Rattle.std.specs.Prelude.{Option, Some, slice_index, vec_capacity};
+ghost use Rattle.trdp_timers.specs.Orders.{Leads};
 ghost use Rattle.trdp_timers.specs.Heap.{order_at, IsHeap, FitsAt, CanRise, CanSink};
 ghost use Rattle.trdp_timers.specs.Heap.{IsSwapped, IsPlaced};
 ghost use Rattle.trdp_timers.specs.Costs.{CanCountUp, CanCountDown};
@@ -19,6 +19,15 @@ pub struct Heap {
     pub keys: Vec<usize>,
     /// The place of each key that has an order; a number without meaning for any other key.
     pub places: Vec<usize>,
+}
+
+/// What stands at a place.
+#[derive(Clone, Copy)]
+struct Standing {
+    /// The place.
+    place: usize,
+    /// The order of the key there.
+    order: Order,
 }
 
 impl Heap {
@@ -48,42 +57,19 @@ impl Heap {
     }
 
     /// The order of the key at a place.
-    pub fn order_of(&self, orders: &Vec<Option<Order>>, place: usize) -> Option<Order>
+    pub fn order_of(&self, orders: &Vec<Option<Order>>, place: usize) -> Order
         requires placed { IsPlaced orders.now.items self.now.keys.items self.now.places.items }
         requires place { place < length self.now.keys.items }
-        ensures { result ≡ order_at orders.now.items self.now.keys.items place }
+        ensures { Some result ≡ order_at orders.now.items self.now.keys.items place }
     {
-        orders[self.keys[place]]
-    }
-
-    /// Whether the key at the first place acts before that at the second.
-    fn is_ahead(
-        &self,
-        orders: &Vec<Option<Order>>,
-        first: usize,
-        second: usize,
-        probes: &mut u64,
-    ) -> bool
-        requires placed { IsPlaced orders.now.items self.now.keys.items self.now.places.items }
-        requires first { first < length self.now.keys.items }
-        requires second { second < length self.now.keys.items }
-        requires probes { probes.old + 1 < 2 ^ 64 }
-        ensures answer { result
-            ≡ goes_before (order_at orders.now.items self.now.keys.items first)
-            (order_at orders.now.items self.now.keys.items second) }
-        ensures counted { probes.new ≡ probes.old + 1 }
-    {
-        acts_before(
-            self.order_of(orders, first),
-            self.order_of(orders, second),
-            probes,
-        )
+        orders[self.keys[place]].unwrap()
     }
 
     /// Exchanges the key at a place with the one above it, as long as it acts before that.
-    fn rise(&mut self, orders: &Vec<Option<Order>>, place: usize, probes: &mut u64)
+    fn rise(&mut self, orders: &Vec<Option<Order>>, place: usize, own: Order, probes: &mut u64)
         requires place { place < length self.old.keys.items }
         requires placed { IsPlaced orders.now.items self.old.keys.items self.old.places.items }
+        requires own { Some own ≡ order_at orders.now.items self.old.keys.items place }
         requires order { CanRise (length self.old.keys.items)
             (order_at orders.now.items self.old.keys.items) place }
         requires probes { CanCountUp place probes.old }
@@ -99,7 +85,8 @@ impl Heap {
         let mut place = place;
         while place > 0 {
             let above = (place - 1) / 2;
-            if !self.is_ahead(orders, place, above, probes) {
+            let order = self.order_of(orders, above);
+            if !acts_before(Some(own), Some(order), probes) {
                 return;
             }
             self.exchange(place, above);
@@ -107,23 +94,42 @@ impl Heap {
         }
     }
 
-    /// That one of the two places below a place whose key acts first.
-    fn first_below(&self, orders: &Vec<Option<Order>>, place: usize, probes: &mut u64) -> usize
+    /// A place, with the order of the key there.
+    fn standing(&self, orders: &Vec<Option<Order>>, place: usize) -> Standing
+        requires placed { IsPlaced orders.now.items self.now.keys.items self.now.places.items }
+        requires place { place < length self.now.keys.items }
+        ensures place { result.place ≡ place }
+        ensures order { Some result.order
+            ≡ order_at orders.now.items self.now.keys.items place }
+    {
+        Standing {
+            place,
+            order: self.order_of(orders, place),
+        }
+    }
+
+    /// That one of the two places below a place whose key acts first, with its order.
+    fn first_below(&self, orders: &Vec<Option<Order>>, place: usize, probes: &mut u64) -> Standing
         requires placed { IsPlaced orders.now.items self.now.keys.items self.now.places.items }
         requires place { 2 * place + 1 < length self.now.keys.items }
         requires probes { probes.old + 1 < 2 ^ 64 }
-        ensures within { result < length self.now.keys.items }
-        ensures below { 2 * place + 1 ≤ result }
-        ensures child { result ≤ 2 * place + 2 }
+        ensures within { result.place < length self.now.keys.items }
+        ensures below { 2 * place + 1 ≤ result.place }
+        ensures child { result.place ≤ 2 * place + 2 }
+        ensures order { Some result.order
+            ≡ order_at orders.now.items self.now.keys.items result.place }
         ensures first { (i : ℕ) → 0 < i → i < length self.now.keys.items → (i - 1) / 2 ≡ place
-            → Leads (order_at orders.now.items self.now.keys.items result)
+            → Leads (order_at orders.now.items self.now.keys.items result.place)
             (order_at orders.now.items self.now.keys.items i) }
         ensures cost { probes.new ≤ probes.old + 1 }
         ensures least { probes.old ≤ probes.new }
     {
-        let left = 2 * place + 1;
-        let right = left + 1;
-        if right < self.keys.len() && self.is_ahead(orders, right, left, probes) {
+        let left = self.standing(orders, 2 * place + 1);
+        if left.place + 1 >= self.keys.len() {
+            return left;
+        }
+        let right = self.standing(orders, left.place + 1);
+        if acts_before(Some(right.order), Some(left.order), probes) {
             return right;
         }
         left
@@ -131,9 +137,10 @@ impl Heap {
 
     /// Exchanges the key at a place with the first of those below it, as long as that acts before
     /// it.
-    fn sink(&mut self, orders: &Vec<Option<Order>>, place: usize, probes: &mut u64)
+    fn sink(&mut self, orders: &Vec<Option<Order>>, place: usize, own: Order, probes: &mut u64)
         requires place { place < length self.old.keys.items }
         requires placed { IsPlaced orders.now.items self.old.keys.items self.old.places.items }
+        requires own { Some own ≡ order_at orders.now.items self.old.keys.items place }
         requires order { CanSink (length self.old.keys.items)
             (order_at orders.now.items self.old.keys.items) place }
         requires probes { CanCountDown (length self.old.keys.items) place probes.old }
@@ -151,11 +158,11 @@ impl Heap {
             return;
         }
         let below = self.first_below(orders, place, probes);
-        if !self.is_ahead(orders, below, place, probes) {
+        if !acts_before(Some(below.order), Some(own), probes) {
             return;
         }
-        self.exchange(place, below);
-        self.sink(orders, below, probes);
+        self.exchange(place, below.place);
+        self.sink(orders, below.place, own, probes);
     }
 
     /// Makes it a heap again once the key at a place has another order than `was`, which fitted
@@ -181,10 +188,11 @@ impl Heap {
         ensures cost { (b : ℕ) → length self.old.keys.items < 2 ^ b → probes.new ≤ 2 * b + 1 }
         ensures least { 1 ≤ probes.new }
     {
-        if acts_before(self.order_of(orders, place), was, probes) {
-            self.rise(orders, place, probes);
+        let own = self.order_of(orders, place);
+        if acts_before(Some(own), was, probes) {
+            self.rise(orders, place, own, probes);
         } else {
-            self.sink(orders, place, probes);
+            self.sink(orders, place, own, probes);
         }
     }
 }

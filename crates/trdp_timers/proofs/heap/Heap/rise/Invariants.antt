@@ -1,4 +1,4 @@
-use Rattle.std.proofs.Common.{◌≡◌, ◌≤◌, ◌<◌, ◌+◌, ◌^◌, ℕ, length, vec_capacity}
+use Rattle.std.proofs.Common.{◌≡◌, ◌≤◌, ◌<◌, ◌+◌, ◌^◌, ℕ, Some, length, vec_capacity}
 use Rattle.trdp_timers.specs.Heap.{order_at, IsPlaced, CanRise}
 use Rattle.trdp_timers.specs.Costs.{CanCountUp}
 use Rattle.trdp_timers.proofs.heap.Heap.rise.Given as goal
@@ -7,6 +7,7 @@ abbrev pub invariant-loop-place : goal.invariant-loop-place
 invariant-loop-place l = record {
   within : l.place < length l.self.keys.items;
   placed : IsPlaced l.orders.items l.self.keys.items l.self.places.items;
+  own : Some l.own ≡ order_at l.orders.items l.self.keys.items l.place;
   order : CanRise (length l.self.keys.items) (order_at l.orders.items l.self.keys.items) l.place;
   probes : CanCountUp l.place l.probes;
   count : length l.self.keys.items ≡ length l.fn.self.keys.items;
