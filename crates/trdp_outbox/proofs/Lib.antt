@@ -1,2 +1,3 @@
+pub mod SlotOrderLemmas
 pub mod RoomLemmas
 pub mod RowLemmas

@@ -1,2 +1,4 @@
 pub mod Outboxes
 pub mod Rooms
+pub mod SlotOrder
+pub mod SlotWalk

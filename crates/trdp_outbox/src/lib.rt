@@ -4,10 +4,12 @@
 //! act may give at most ([`Room`]); no push takes memory.
 #![tactic(auto)]
 
+mod by_slot;
 mod outbox;
 mod room;
 mod row;
 
+pub use by_slot::BySlot;
 pub use outbox::Outbox;
 pub use room::Room;
 pub use row::{Form, Heading, PlainAnswer, ReplyHeading};

@@ -12,6 +12,7 @@ ghost use Rattle.trdp_model.specs.Records.{RepliedIs, Sends, message_model};
 ghost use Rattle.trdp_model.specs.Records.{reply_model, record_model};
 ghost use Rattle.trdp_outbox.specs.Outboxes.{plain_answer_model, row_content, headed};
 
+use crate::by_slot::BySlot;
 use crate::row::{Form, Heading, PlainAnswer, ReplyHeading, Row, push_row, record};
 use std::alloc::{AllocError, Global};
 use std::marker::Model;
@@ -47,7 +48,9 @@ impl Model for Outbox {
 }
 
 impl Outbox {
+    ghost use Rattle.std.specs.Prelude.{Some};
     ghost use Rattle.trdp_outbox.specs.Outboxes.{OutboxState};
+    ghost use Rattle.trdp_outbox.specs.SlotOrder.{by_slot};
 
     /// An outbox without records. It takes no memory yet.
     pub fn new(alloc: Global) -> Outbox
@@ -81,6 +84,21 @@ impl Outbox {
             None => None,
             Some(row) => Some(record(row, part(&self.bytes, row))),
         }
+    }
+
+    /// The slot that the i-th record is for.
+    pub(crate) fn slot_at(&self, i: usize) -> u16
+        requires { i < length self.now.records }
+        ensures { Some result ≡ option_map (λ r. r.slot) (slice_get self.now.records i) }
+    {
+        self.rows[i].slot
+    }
+
+    /// The records slot by slot, slots rising, each slot's in their order.
+    pub fn by_slot(&self) -> BySlot<'_>
+        ensures { result ≡ by_slot self.now.records }
+    {
+        BySlot::new(self)
     }
 
     /// Drops all records, and keeps the memory: what they took is room again.

@@ -1,0 +1,4 @@
+-- Lemmas on records slot by slot.
+pub mod Rising
+pub mod Slots
+pub mod Walk

@@ -1,0 +1,146 @@
+//! The order in which the records of an event go out: slot by slot.
+
+ghost use Rattle.std.specs.Prelude.{◌≡◌, ◌+◌, ◌^◌, ◌<◌, ◌++◌, ◌∷◌, [], List, true, drop};
+ghost use Rattle.std.specs.Prelude.{IfSome, IfNone};
+ghost use Rattle.trdp_model.specs.Records.{RecordModel};
+ghost use Rattle.trdp_outbox.specs.SlotOrder.{by_slot, slots_own};
+ghost use Rattle.trdp_outbox.specs.SlotWalk.{IsNext, NextSlotIs, left_of};
+
+use crate::outbox::Outbox;
+use std::marker::Model;
+use trdp_model::Record;
+
+/// The records of an outbox that are still to come, slot by slot, slots rising, each slot's in
+/// their order.
+#[derive(Drop)]
+pub struct BySlot<'a> {
+    outbox: &'a Outbox,
+    /// Whether they stand in that order, so that each comes behind the one before.
+    rising: bool,
+    /// The slot whose records are coming, if they don't.
+    slot: u16,
+    /// The index of the first record that may come next: of any slot, or of this one.
+    at: usize,
+}
+
+impl<'a> Model for BySlot<'a> {
+    ghost use Rattle.std.specs.Prelude.{List};
+    ghost use Rattle.trdp_model.specs.Records.{RecordModel};
+    ghost use Rattle.trdp_outbox.specs.SlotWalk.{left_of};
+
+    ghost Value = { List RecordModel };
+
+    ghost view = { λ w. left_of w.rising w.slot w.at w.outbox.now.records };
+}
+
+impl<'a> BySlot<'a> {
+    /// All records of the outbox.
+    pub(crate) fn new(outbox: &'a Outbox) -> BySlot<'a>
+        ensures { result ≡ by_slot outbox.now.records }
+    {
+        BySlot {
+            outbox,
+            rising: is_rising(outbox),
+            slot: 0,
+            at: 0,
+        }
+    }
+}
+
+impl<'a> Iterator for BySlot<'a> {
+    ghost use Rattle.std.specs.Iterator.{YieldsFirstBy, item_count};
+    ghost use Rattle.trdp_model.specs.Records.{record_model};
+
+    type Item = Record<'a>;
+
+    ghost next_gives = { YieldsFirstBy record_model (λ records. records) };
+
+    ghost remaining = { item_count (λ records. records) };
+
+    fn next(&mut self) -> Option<Record<'a>> {
+        let outbox = self.outbox;
+        let (slot, at) = place_of_next(outbox, self.rising, self.slot, self.at)?;
+        self.slot = slot;
+        self.at = at + 1;
+        outbox.get(at)
+    }
+}
+
+/// The slot and the index of the record that comes next: in their order, or slot by slot.
+fn place_of_next(outbox: &Outbox, rising: bool, slot: u16, at: usize) -> Option<(u16, usize)>
+    ensures some { IfSome result (λ place. IsNext place.1
+        (left_of rising slot at outbox.now.records)
+        (left_of rising place.0 (place.1 + 1) outbox.now.records) outbox.now.records) }
+    ensures none { IfNone result (left_of rising slot at outbox.now.records ≡ []) }
+    ensures room { IfSome result (λ place. place.1 + 1 < 2 ^ 64) }
+{
+    if rising {
+        return if at < outbox.len() {
+            Some((slot, at))
+        } else {
+            None
+        };
+    }
+    if let Some(own) = next_of_slot(outbox, slot, at) {
+        return Some((slot, own));
+    }
+    let above = slot_above(outbox, slot)?;
+    let first = next_of_slot(outbox, above, 0)?;
+    Some((above, first))
+}
+
+/// The index of a slot's next record from an index on.
+fn next_of_slot(outbox: &Outbox, slot: u16, at: usize) -> Option<usize>
+    ensures some { IfSome result (λ next. IsNext next
+        (slots_own slot (drop at outbox.now.records))
+        (slots_own slot (drop (next + 1) outbox.now.records)) outbox.now.records) }
+    ensures none { IfNone result (slots_own slot (drop at outbox.now.records) ≡ []) }
+    ensures room { IfSome result (λ next. next + 1 < 2 ^ 64) }
+{
+    for i in at..outbox.len() {
+        if outbox.slot_at(i) == slot {
+            return Some(i);
+        }
+    }
+    None
+}
+
+/// The least slot above that has a record, if one has.
+fn slot_above(outbox: &Outbox, slot: u16) -> Option<u16>
+    ensures { NextSlotIs slot outbox.now.records result }
+{
+    let mut least = None;
+    for i in 0..outbox.len() {
+        least = nearer(slot, least, outbox.slot_at(i));
+    }
+    least
+}
+
+/// The least slot above that has a record, of some records and one more of that slot.
+fn nearer(slot: u16, least: Option<u16>, other: u16) -> Option<u16>
+    ensures { (records : List RecordModel) (r : RecordModel) → r.slot ≡ other
+        → NextSlotIs slot records least → NextSlotIs slot (records ++ r ∷ []) result }
+{
+    if other <= slot {
+        return least;
+    }
+    match least {
+        Some(near) if near <= other => least,
+        _ => Some(other),
+    }
+}
+
+/// Whether no record is of a lower slot than the one before it: such records go out as they stand.
+fn is_rising(outbox: &Outbox) -> bool
+    ensures { result ≡ true → by_slot outbox.now.records ≡ outbox.now.records }
+{
+    let mut slot = 0;
+    for i in 0..outbox.len() {
+        let next = outbox.slot_at(i);
+        if next < slot {
+            return false;
+        }
+        slot = next;
+    }
+    true
+}
