@@ -1,4 +1,5 @@
 -- Lemmas on records slot by slot.
+pub mod Labels
 pub mod Rising
 pub mod Slots
 pub mod Walk

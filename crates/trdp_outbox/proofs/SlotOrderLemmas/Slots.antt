@@ -2,7 +2,7 @@
 -- For the walk over an outbox's records, and for what is played and told of them in crates above.
 -- By induction on the slots: a slot without records adds nothing, and none past the last has one.
 use Rattle.std.proofs.Common.{◌≡◌, zero, suc, ◌+◌, ◌<◌, ◌≤◌, ℕ, true, false, List, [], ◌∷◌, ◌++◌}
-use Rattle.std.proofs.Common.{refl, sym, ◌∙◌, ap, arith}
+use Rattle.std.proofs.Common.{refl, sym, ◌∙◌, ap, arith, append_assoc, append-nil}
 use Rattle.std.specs.Prelude.{◌==◌}
 use Rattle.std.proofs.Math.Nat.{le-max_left, le-max_right}
 use Rattle.std.proofs.lemmas.Bool.Decides.{nat_tests}
@@ -88,6 +88,22 @@ from_bound (suc n) (suc m) s records none more =
     ∙ ap (λ l. slots_own s records ++ l) (from_bound n m (suc s) records (λ t past.
     let higher : s + suc n ≤ t = omega (arith, past) in none t higher) fewer)
     ∙ sym (from_suc s n records)
+
+-- the records of the last slot come last
+pub from_last : (n s : ℕ) (records : List RecordModel)
+    → slots_from s (suc n) records ≡ slots_from s n records ++ slots_own (s + n) records
+from_last zero s records =
+    let here : s ≡ s + zero = omega arith in
+    from_suc s zero records ∙ ap (λ l. slots_own s records ++ l) (from_zero (suc s) records)
+    ∙ append-nil (slots_own s records) ∙ ap (λ t. slots_own t records) here
+    ∙ ap (λ l. l ++ slots_own (s + zero) records) (sym (from_zero s records))
+from_last (suc n) s records =
+    let there : suc s + n ≡ s + suc n = omega arith in
+    from_suc s (suc n) records ∙ ap (λ l. slots_own s records ++ l) (from_last n (suc s) records)
+    ∙ sym (append_assoc (slots_own s records) (slots_from (suc s) n records)
+    (slots_own (suc s + n) records))
+    ∙ ap (λ l. l ++ slots_own (suc s + n) records) (sym (from_suc s n records))
+    ∙ ap (λ t. slots_from s (suc n) records ++ slots_own t records) there
 
 -- the records of the first slots are all, if the others have none
 pub by_slot_within : (n : ℕ) (records : List RecordModel)

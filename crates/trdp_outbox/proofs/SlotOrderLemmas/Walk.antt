@@ -3,7 +3,7 @@
 -- By: what is left is a slot's records from an index on, and then the records of all slots above.
 use Rattle.std.proofs.Common.{◌≡◌, ◌⊎◌, inl, inr, zero, suc, ◌+◌, ◌-◌, ◌<◌, ◌≤◌, ℕ, true, false}
 use Rattle.std.proofs.Common.{List, [], ◌∷◌, ◌++◌, length, drop, take, Some, None, Option}
-use Rattle.std.proofs.Common.{refl, sym, ◌∙◌, ap, arith, append-nil, Bool, get_or}
+use Rattle.std.proofs.Common.{refl, sym, ◌∙◌, ap, arith, append_assoc, append-nil, Bool, get_or}
 use Rattle.std.specs.Prelude.{◌==◌, slice_get, IfNone}
 use Rattle.std.proofs.Math.Seq.{take-suc}
 use Rattle.std.proofs.lemmas.Bool.{cases_lt}
@@ -207,6 +207,15 @@ all_left false rs rises = by_end (slots_end rs) refl
         let fewer : slots_end rs - suc 0 ≡ end = omega (arith, is) in
         ap (λ n. slots_own 0 rs ++ slots_from 1 n rs) fewer ∙ sym (from_suc 0 end rs)
         ∙ ap (λ n. slots_from 0 n rs) (sym is)
+
+-- one more record was come to, of those that were still to come
+pub walked_one : (all done left : List RecordModel) (r : RecordModel)
+    → all ≡ done ++ r ∷ left → all ≡ (done ++ r ∷ []) ++ left
+walked_one all done left r is = is ∙ sym (append_assoc done (r ∷ []) left)
+
+-- none was still to come
+pub walked_all : (all done left : List RecordModel) → all ≡ done ++ left → left ≡ [] → all ≡ done
+walked_all all done left is none = is ∙ ap (λ l. done ++ l) none ∙ append-nil done
 
 -- what holds of any result holds where there is none
 pub if_none : {A P : Type 0} (r : Option A) → P → IfNone r P
