@@ -7,8 +7,9 @@ use Rattle.std.proofs.Common.{zero, map}
 use Rattle.std.specs.Prelude.{slice_get}
 use Rattle.std.specs.Option.{option_map}
 use Rattle.std.proofs.lemmas.List.{drop_all}
+use Rattle.std.proofs.lemmas.Option.{slice_get-get_or}
 use Rattle.trdp_dataset.specs.Configs.{SlotModel, ConfigModel}
-use Rattle.trdp_script.proofs.PlayLemmas.Turns.{drop_get, some_within}
+use Rattle.trdp_outbox.proofs.SlotOrderLemmas.Rising.{drop_get}
 use Rattle.trdp_daemon.specs.declared.port.Port.{Port}
 use Rattle.trdp_daemon.specs.declared.port.Port.TheVariants.{Control, Pd, Md, Operator}
 use Rattle.trdp_daemon.specs.Ports.{port_unless_0, control_numbers, control_ports, ports_of}
@@ -41,7 +42,10 @@ ports_next numbers i number before after here more =
 -- below how many there are there is one
 pub no_slot : (numbers : List ℕ) (i : ℕ)
     → i < length numbers → slice_get numbers i ≡ None → ⊥
-no_slot numbers i below none = some_within numbers i (length numbers) below refl none
+no_slot [] i below none = omega (arith, below)
+no_slot (number ∷ numbers) i below none =
+    let some = slice_get-get_or (number ∷ numbers) i number below in
+    cc
 
 -- the number of a control port stands among those of the slots, or behind them
 pub number_among : (slots : List SlotModel) (spare : List ℕ) (i : ℕ) → i < length slots

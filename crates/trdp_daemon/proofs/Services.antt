@@ -2,7 +2,7 @@
 -- For `step`, `take_event` and `take_operator_event`, and for `lost_only_where_memory_is_taken`.
 -- By cases: the node takes the event, refuses it, or has no memory for it.
 use Rattle.std.proofs.Common.{◌≡◌, ℕ, List, [], Option, refl, sym, ◌∙◌, ap, subst}
-use Rattle.std.proofs.Common.{Bool, true, false, if◌then◌else◌, length, suc, zero, append-nil}
+use Rattle.std.proofs.Common.{Bool, true, false, if◌then◌else◌, length}
 use Rattle.trdp_base.specs.declared.place.Place.{Place}
 use Rattle.trdp_model.specs.Events.{EventModel, MomentIs, TopologyIs, RoleIs, DatagramIs, CallIs}
 use Rattle.trdp_model.specs.Events.{AddSlotIs}
@@ -13,8 +13,8 @@ use Rattle.std.proofs.lemmas.Bool.{lt-ltb, ltb-true}
 use Rattle.trdp_model.specs.Records.{RecordModel}
 use Rattle.trdp_model.specs.Alone.{refused_as}
 use Rattle.trdp_model.specs.NodeModels.{node_after}
-use Rattle.trdp_script.specs.SlotOrder.{by_slot}
-use Rattle.trdp_script.proofs.PlayLemmas.BySlot.{by_slot_suc, by_slot_zero}
+use Rattle.trdp_outbox.specs.SlotOrder.{by_slot, slots_end, slots_from}
+use Rattle.trdp_outbox.proofs.SlotOrderLemmas.Slots.{from_zero}
 use Rattle.trdp_daemon.specs.declared.link.Link.{Link}
 use Rattle.trdp_daemon.specs.declared.service.Service.{Service}
 use Rattle.trdp_daemon.specs.Told.{Taking, Give}
@@ -30,10 +30,10 @@ use Rattle.trdp_daemon.proofs.Links.{carries_both}
 use Rattle.trdp_daemon.specs.Services.{Comes, ComesWith, service_state}
 
 -- no records are of any slot
-pub no_records : (n : ℕ) (records : List RecordModel) → records ≡ [] → by_slot n records ≡ []
-no_records zero records none = by_slot_zero records
-no_records (suc n) records none = by_slot_suc n records
-    ∙ rw none (append-nil (by_slot n []) ∙ no_records n [] refl)
+pub no_records : (records : List RecordModel) → records ≡ [] → by_slot records ≡ []
+unfolding by_slot
+no_records records none =
+    ap (λ rs. slots_from 0 (slots_end rs) rs) none ∙ from_zero 0 []
 
 -- an event was taken, or refused, and its records were told but for these texts
 pub comes_event : {W : Type 0} {takings_in : W → Option (List Taking)}

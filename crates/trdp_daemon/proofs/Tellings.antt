@@ -1,15 +1,10 @@
 -- What was offered for records, one after another.
--- For `tell_record`, `tell_text`, `tell_slot`, `tell_of_slot`, `tell_by_slot` and `tell_all`.
+-- For `tell_records`, `tell_record` and `tell_text`.
 -- By: what is told of two things one after another is both, and silence adds nothing.
-use Rattle.std.proofs.Common.{◌≡◌, suc, ◌+◌, ℕ, true, false, Bool, List, [], ◌∷◌}
-use Rattle.std.proofs.Common.{◌++◌, length, take, Option, Some, None, refl, sym}
+use Rattle.std.proofs.Common.{◌≡◌, ◌+◌, ℕ, true, false, Bool, List, [], ◌∷◌}
+use Rattle.std.proofs.Common.{◌++◌, length, Option, Some, None, refl, sym}
 use Rattle.std.proofs.Common.{◌∙◌, ap, arith, append-nil, length-append, subst}
-use Rattle.std.specs.Prelude.{◌==◌, filter, slice_get}
-use Rattle.std.proofs.lemmas.Bool.Decides.{nat_tests}
-use Rattle.std.proofs.lemmas.List.Elements.{filter-append}
-use Rattle.std.proofs.Math.Seq.{take-suc}
 use Rattle.trdp_base.specs.declared.place.Place.{Place}
-use Rattle.std.proofs.lemmas.Option.{slice_get_within, get_or_from_slice_get}
 use Rattle.trdp_model.specs.declared.record.Protocol.{Protocol}
 use Rattle.trdp_model.specs.Records.{RecordModel, Content, Answers, Indicates}
 use Rattle.trdp_model.specs.Records.{Sends, AnswerModel, IndicationModel}
@@ -21,7 +16,7 @@ use Rattle.trdp_daemon.specs.Effects.{Telling, silence, both, missing, offering}
 use Rattle.trdp_daemon.specs.Effects.{text_telling, content_telling, port_of}
 use Rattle.trdp_daemon.specs.Effects.{place_of, record_telling, records_telling}
 use Rattle.trdp_daemon.specs.Links.{Carries}
-use Rattle.trdp_daemon.specs.Tellings.{Tells, TellsRecord, TellsText, if_of_slot}
+use Rattle.trdp_daemon.specs.Tellings.{Tells, TellsRecord, TellsText}
 use Rattle.trdp_daemon.proofs.Links.{carries_none, carries_both}
 use Rattle.std.proofs.Common.{append_assoc}
 
@@ -152,49 +147,10 @@ record_indicated {W} {takings_in} {gives_in} {a} {b} places r indication is told
           takings_in gives_in a b [] (content_telling places told.lost r x)) (sym is) told.carried;
     }
 
-next_taken : (i : ℕ) (rs : List RecordModel) (r : RecordModel)
-    → slice_get rs i ≡ Some r → take (i + 1) rs ≡ take i rs ++ r ∷ []
-next_taken i rs r here =
-    let next : i + 1 ≡ suc i = omega arith in
-    ap (λ m. take m rs) next ∙ take-suc rs i r (slice_get_within rs i r here)
-    ∙ ap (λ x. take i rs ++ x ∷ []) (get_or_from_slice_get rs i r r here)
-
 -- one more record is told
 pub tells_more : {W : Type 0} {takings_in : W → Option (List Taking)}
     {gives_in : W → Option (List Give)} {places : List (Option Place)}
-    {a b c : Link W} (i : ℕ) (rs : List RecordModel) (r : RecordModel)
-    → slice_get rs i ≡ Some r → Tells takings_in gives_in places a b (take i rs)
-    → TellsRecord takings_in gives_in places b c r
-    → Tells takings_in gives_in places a c (take (i + 1) rs)
-tells_more {W} {takings_in} {gives_in} {places} {a} {b} {c} i rs r here p q =
-    subst (λ (l : List RecordModel). Tells takings_in gives_in places a c l)
-    (sym (next_taken i rs r here)) (tells_both p (tells_one q))
-
-own_next : (n i : ℕ) (rs : List RecordModel) (r : RecordModel)
-    → slice_get rs i ≡ Some r → filter (λ x. x.slot == n) (take (i + 1) rs)
-    ≡ filter (λ x. x.slot == n) (take i rs) ++ if_of_slot n r
-own_next n i rs r here = ap (filter (λ x. x.slot == n)) (next_taken i rs r here)
-    ∙ filter-append (λ x. x.slot == n) (take i rs) (r ∷ [])
-
--- one more record is told if it is of the slot
-pub tells_next : {W : Type 0} {takings_in : W → Option (List Taking)}
-    {gives_in : W → Option (List Give)} {places : List (Option Place)}
-    {a b c : Link W} (n i : ℕ) (rs : List RecordModel) (r : RecordModel) → slice_get rs i ≡ Some r
-    → Tells takings_in gives_in places a b (filter (λ x. x.slot == n) (take i rs))
-    → Tells takings_in gives_in places b c (if_of_slot n r)
-    → Tells takings_in gives_in places a c (filter (λ x. x.slot == n) (take (i + 1) rs))
-tells_next {W} {takings_in} {gives_in} {places} {a} {b} {c} n i rs r here p q =
-    subst (λ (l : List RecordModel). Tells takings_in gives_in places a c l)
-    (sym (own_next n i rs r here)) (tells_both p q)
-
-own_is : (n : ℕ) (r : RecordModel) → r.slot ≡ n → if_of_slot n r ≡ r ∷ []
-own_is n r is = let same : (r.slot == n) ≡ true = grind (arith, nat_tests) in rw same refl
-
--- a record of the slot is told
-pub tells_own : {W : Type 0} {takings_in : W → Option (List Taking)}
-    {gives_in : W → Option (List Give)} {places : List (Option Place)} {a b : Link W}
-    (n : ℕ) (r : RecordModel) → r.slot ≡ n → TellsRecord takings_in gives_in places a b r
-    → Tells takings_in gives_in places a b (if_of_slot n r)
-tells_own {W} {takings_in} {gives_in} {places} {a} {b} n r is told =
-    subst (λ (l : List RecordModel). Tells takings_in gives_in places a b l)
-    (sym (own_is n r is)) (tells_one told)
+    {a b c : Link W} {rs : List RecordModel} {r : RecordModel}
+    → Tells takings_in gives_in places a b rs → TellsRecord takings_in gives_in places b c r
+    → Tells takings_in gives_in places a c (rs ++ r ∷ [])
+tells_more p q = tells_both p (tells_one q)

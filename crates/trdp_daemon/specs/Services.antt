@@ -1,5 +1,5 @@
 -- A service on its way.
-use Rattle.std.specs.Prelude.{◌≡◌, ℕ, ◌≤◌, List, Option, [], ◌∷◌, length, map}
+use Rattle.std.specs.Prelude.{◌≡◌, ℕ, List, Option, [], ◌∷◌, map}
 use Rattle.trdp_dataset.specs.Configs.{ConfigModel}
 use Rattle.trdp_engine.specs.NodeStates.{uncounted}
 use Rattle.trdp_daemon.specs.declared.port.Port.{Port}
@@ -66,6 +66,6 @@ abbrev pub IsHome : ConfigModel → Home → Type 0
 IsHome config home = (home.pd ≡ own_place config config.pd_port)
     × (home.md ≡ own_place config config.md_port)
 
--- a node has at most 16 slots, and telegrams go to where its configuration says
+-- telegrams go to where the node's configuration says
 abbrev pub IsSound : Service → Type 0
-IsSound s = (length s.node.slots ≤ 16) × IsHome s.node.config s.home
+IsSound s = IsHome s.node.config s.home

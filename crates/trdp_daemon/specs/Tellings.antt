@@ -1,5 +1,5 @@
 -- What was offered for the records of an event.
-use Rattle.std.specs.Prelude.{◌≡◌, ◌==◌, if◌then◌else◌, ℕ, List, [], ◌∷◌, length, Bool, Option}
+use Rattle.std.specs.Prelude.{◌≡◌, ℕ, List, [], length, Bool, Option}
 use Rattle.trdp_base.specs.declared.place.Place.{Place}
 use Rattle.trdp_model.specs.Records.{RecordModel}
 use Rattle.trdp_daemon.specs.declared.link.Link.{Link}
@@ -20,10 +20,6 @@ pub record TellsRecord {W : Type 0} (takings_in : W → Option (List Taking))
     (r : RecordModel) : Type 0 where
   pub lost : Bool
   pub carried : Carries takings_in gives_in old new [] (record_telling places lost r)
-
--- a record of the slot, and none of another
-abbrev pub if_of_slot : ℕ → RecordModel → List RecordModel
-if_of_slot slot r = if r.slot == slot then r ∷ [] else []
 
 -- records were told in their order, but for those that lost their text
 pub record Tells {W : Type 0} (takings_in : W → Option (List Taking))

@@ -1,6 +1,6 @@
 //! A node, and where its slots' applications are.
 
-ghost use Rattle.std.specs.Prelude.{◌≡◌, ◌≢◌, ◌≤◌, length, slice_set, IfSome, IfNone, IfOk};
+ghost use Rattle.std.specs.Prelude.{◌≡◌, ◌≢◌, length, slice_set, IfSome, IfNone, IfOk};
 ghost use Rattle.std.specs.Prelude.{IfErr};
 ghost use Rattle.std.specs.Prelude.{OnOk, OnErr, Some};
 ghost use Rattle.trdp_model.specs.Alone.{refused_as};
@@ -8,7 +8,7 @@ ghost use Rattle.trdp_model.specs.Events.{event_model};
 ghost use Rattle.trdp_model.specs.NodeModels.{MayTakeMemory};
 ghost use Rattle.trdp_engine.specs.NodeStates.{uncounted};
 ghost use Rattle.trdp_model.specs.NodeModels.{node_after};
-ghost use Rattle.trdp_script.specs.SlotOrder.{by_slot};
+ghost use Rattle.trdp_outbox.specs.SlotOrder.{by_slot};
 ghost use Rattle.trdp_daemon.specs.Effects.{event_records, event_effect};
 ghost use Rattle.trdp_daemon.specs.Resting.{IsIdleTime};
 ghost use Rattle.trdp_daemon.specs.Services.{ComesWith, IsSound, service_state};
@@ -19,7 +19,7 @@ use crate::answer::operator_text;
 use crate::home::{Home, home_of};
 use crate::link::Link;
 use crate::port::Port;
-use crate::telling::{SLOTS_MAX, tell_records};
+use crate::telling::tell_records;
 use crate::wire::Wire;
 use std::alloc::{AllocError, Global};
 use trdp_base::Place;
@@ -44,6 +44,9 @@ pub(crate) struct Service {
 
 /// Room for a record's line, in bytes: more than the longest of a node.
 const TEXT_ROOM: usize = 140_000;
+
+/// The number of slots that a node has at most (profile).
+const SLOTS_MAX: usize = 16;
 
 impl Service {
     /// The service of a configuration before its first event.
@@ -151,7 +154,7 @@ impl Service {
 fn lists(alloc: Global) -> Result<(Vec<Option<Place>>, Vec<u8>), AllocError>
     ensures { IfOk result (λ made. made.0.items ≡ no_places) }
 {
-    let places = vec![in alloc; None; usize::from(SLOTS_MAX)]?;
+    let places = vec![in alloc; None; SLOTS_MAX]?;
     let text = Vec::with_capacity(alloc, TEXT_ROOM)?;
     Ok((places, text))
 }
@@ -175,16 +178,14 @@ fn step(
     event: &Event<'_>,
     records: &mut Outbox,
 ) -> Result<Option<NodeFault>, AllocError>
-    requires slots { length node.old.slots ≤ 16 }
     ensures fault { IfOk result (λ fault. fault
         ≡ refused_as (length node.old.slots) node.old.globals (event_model event.now)) }
     ensures node { OnOk result
         (uncounted node.new ≡ node_after (uncounted node.old) (event_model event.now)) }
-    ensures records { OnOk result (by_slot 16 records.new.records
+    ensures records { OnOk result (by_slot records.new.records
         ≡ event_records (uncounted node.old) (event_model event.now)) }
     ensures kept { OnErr result (node.new ≡ node.old) }
     ensures memory { OnErr result (MayTakeMemory (uncounted node.old) (event_model event.now)) }
-    ensures few { length node.new.slots ≤ 16 }
     ensures config { node.new.config ≡ node.old.config }
 {
     records.clear();

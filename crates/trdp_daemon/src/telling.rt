@@ -1,21 +1,18 @@
 //! What the records of an event send.
 
-ghost use Rattle.std.specs.Prelude.{◌≡◌, ◌==◌, filter};
+ghost use Rattle.std.specs.Prelude.{◌≡◌};
 ghost use Rattle.trdp_model.specs.Records.{record_model};
+ghost use Rattle.trdp_outbox.specs.SlotOrder.{by_slot};
 ghost use Rattle.trdp_script.specs.RecordText.{text_of_record};
-ghost use Rattle.trdp_script.specs.SlotOrder.{by_slot};
 ghost use Rattle.trdp_daemon.specs.Effects.{place_of, port_of};
-ghost use Rattle.trdp_daemon.specs.Tellings.{Tells, TellsRecord, TellsText, if_of_slot};
+ghost use Rattle.trdp_daemon.specs.Tellings.{Tells, TellsRecord, TellsText};
 
 use crate::link::Link;
 use crate::port::Port;
 use crate::wire::Wire;
 use trdp_base::Place;
 use trdp_engine::{Outbox, Protocol, Record, What};
-use trdp_script::{is_rising, print_record};
-
-/// The number of slots that a node has at most (profile).
-pub(crate) const SLOTS_MAX: u16 = 16;
+use trdp_script::print_record;
 
 /// Offers what the records send, slot by slot, slots rising, each slot's in their order.
 pub(crate) fn tell_records<W: Wire>(
@@ -25,79 +22,10 @@ pub(crate) fn tell_records<W: Wire>(
     link: &mut Link<W>,
 )
     ensures { Tells W.takings W.gives places.now link.old link.new
-        (by_slot 16 records.now.records) }
+        (by_slot records.now.records) }
 {
-    if is_rising(records) {
-        tell_all(records, places, text, link);
-    } else {
-        tell_by_slot(records, places, text, link);
-    }
-}
-
-/// Offers what all records send, in their order.
-fn tell_all<W: Wire>(
-    records: &Outbox,
-    places: &[Option<Place>],
-    text: &mut Vec<u8>,
-    link: &mut Link<W>,
-)
-    ensures { Tells W.takings W.gives places.now link.old link.new records.now.records }
-{
-    for i in 0..records.len() {
-        match records.get(i) {
-            Some(record) => tell_record(&record, places, text, link),
-            None => {}
-        }
-    }
-}
-
-/// Offers what all records send slot by slot, slots rising, each slot's in their order.
-fn tell_by_slot<W: Wire>(
-    records: &Outbox,
-    places: &[Option<Place>],
-    text: &mut Vec<u8>,
-    link: &mut Link<W>,
-)
-    ensures { Tells W.takings W.gives places.now link.old link.new
-        (by_slot 16 records.now.records) }
-{
-    for slot in 0..SLOTS_MAX {
-        tell_slot(records, slot, places, text, link);
-    }
-}
-
-/// Offers what the records of one slot send, in their order.
-fn tell_slot<W: Wire>(
-    records: &Outbox,
-    slot: u16,
-    places: &[Option<Place>],
-    text: &mut Vec<u8>,
-    link: &mut Link<W>,
-)
-    ensures { Tells W.takings W.gives places.now link.old link.new
-        (filter (λ r. r.slot == slot) records.now.records) }
-{
-    for i in 0..records.len() {
-        match records.get(i) {
-            Some(record) => tell_of_slot(&record, slot, places, text, link),
-            None => {}
-        }
-    }
-}
-
-/// Offers what a record sends, if it is one of the slot.
-fn tell_of_slot<W: Wire>(
-    record: &Record<'_>,
-    slot: u16,
-    places: &[Option<Place>],
-    text: &mut Vec<u8>,
-    link: &mut Link<W>,
-)
-    ensures { Tells W.takings W.gives places.now link.old link.new
-        (if_of_slot slot (record_model «record».now)) }
-{
-    if record.slot == slot {
-        tell_record(record, places, text, link);
+    for record in records.by_slot() {
+        tell_record(&record, places, text, link);
     }
 }
 

@@ -8,7 +8,6 @@ pub mod RecordText
 pub mod ScriptRuns
 pub mod ScriptSteps
 pub mod ScriptText
-pub mod SlotOrder
 pub mod Wants
 pub mod Words
 pub mod WordsLeft

@@ -129,11 +129,10 @@ Stops old new v w rest Write = PassesSome v w old.player.output.items
 Stops old new v w rest OutOfMemory = StopsWanting old new v w rest
 
 -- no newline is among the bytes of the line that has begun, which has room for the longest line and
--- a carriage return, and the node has at most 16 slots
+-- a carriage return
 pub record IsSound (s : Script) : Type 0 where
   pub bare : IsBare s.line.items
   pub room : 140001 ≤ vec_capacity s.line
-  pub slots : length s.player.node.slots ≤ 16
 
 -- how the rest of a script is run, of which the reader has this left in the end
 unfoldable pub ComesTo : Script → Script → Option (List ℕ) → Option (List ℕ) → List ℕ

@@ -1,6 +1,6 @@
 //! The player of a script's lines, one by one.
 
-ghost use Rattle.std.specs.Prelude.{◌≡◌, ◌≤◌, [], length, IfOk};
+ghost use Rattle.std.specs.Prelude.{◌≡◌, [], IfOk};
 ghost use Rattle.trdp_engine.specs.NodeStates.{uncounted};
 ghost use Rattle.trdp_model.specs.NodeModels.{opened_model};
 ghost use Rattle.trdp_script.specs.Lines.{line_of};
@@ -33,7 +33,6 @@ impl Player {
     /// A node of the configuration that was just opened.
     pub(crate) fn new(alloc: Global, config: NodeConfig) -> Result<Player, AllocError>
         ensures node { IfOk result (λ player. uncounted player.node ≡ opened_model config) }
-        ensures slots { IfOk result (λ player. length player.node.slots ≤ 16) }
         ensures output { IfOk result (λ player. player.output.items ≡ []) }
     {
         let output = output_buffer(alloc)?;
@@ -57,8 +56,6 @@ impl Player {
         number: u64,
         writer: &mut W,
     ) -> Result<(), ScriptFault>
-        requires slots { length self.old.node.slots ≤ 16 }
-        ensures few { length self.new.node.slots ≤ 16 }
         ensures line { LineComesTo self.old self.new
             (W.contents writer.old) (W.contents writer.new)
             number (line_of line.now) result }

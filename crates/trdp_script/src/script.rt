@@ -71,7 +71,6 @@ impl Script {
     /// A script before its first byte, and a list for the pieces of its input.
     fn new(alloc: Global, config: NodeConfig) -> Result<(Script, Vec<u8>), AllocError>
         ensures start { IfOk result (λ made. Starts config made.0) }
-        ensures slots { IfOk result (λ made. length made.0.player.node.slots ≤ 16) }
         ensures room { IfOk result (λ made. 140001 ≤ vec_capacity made.0.line) }
         ensures piece { IfOk result (λ made. length made.1.items ≡ PIECE_ROOM) }
     {

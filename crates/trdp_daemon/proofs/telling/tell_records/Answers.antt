@@ -1,12 +1,35 @@
-use Rattle.std.proofs.Common.{List, refl, sym, subst}
-use Rattle.trdp_model.specs.Records.{RecordModel}
-use Rattle.trdp_script.proofs.PlayLemmas.BySlot.{rising_by_slot}
+use Rattle.std.proofs.Common.{List, [], ◌∷◌, ◌++◌, ◌∙◌, ap, rules, subst, sym}
+use Rattle.trdp_model.specs.Records.{RecordModel, record_model}
+use Rattle.trdp_outbox.proofs.SlotOrderLemmas.Walk.{walked_all, walked_one}
 use Rattle.trdp_daemon.specs.Tellings.{Tells}
+use Rattle.trdp_daemon.proofs.Tellings.{tells_more, tells_none}
 use Rattle.trdp_daemon.proofs.telling.tell_records.Goals as goal
 
-pub returns-then-is_rising : goal.returns-then-is_rising
-returns-then-is_rising g c =
-    let order =
-    sym (rising_by_slot 16 0 c.args.records.now.records (c.if-is_rising.ensures.0 refl)) in
+pub loop-record-init : goal.loop-record-init
+loop-record-init g c = record {
+  can = search rules;
+  ends = search rules;
+  came = (
+    [],
+    tells_none _ _ c.args.places.now c.args.link.now,
+    sym (c.into_iter-record-iterator.ensures.into_iter_gives ∙ c.by_slot-record-items.ensures),
+  );
+}
+
+pub loop-record-preserved : goal.loop-record-preserved
+loop-record-preserved g c =
+    let (done, told, left) = c.loop-record.invariant.came in
+    let r = record_model c.in-Some.record in
+    let here = left ∙ ap (λ l. done ++ l) c.in-Some.ensures.steps in
+    record {
+      can = search rules;
+      ends = search rules;
+      came = (done ++ r ∷ [], tells_more told c.tell_record.ensures, walked_one _ done _ r here);
+    }
+
+pub returns : goal.returns
+returns g c =
+    let (done, told, left) = c.loop-record.invariant.came in
     subst (λ (rs : List RecordModel). Tells g.W.Wire.takings g.W.Wire.gives
-    c.args.places.now c.args.link.now c.tell_all.new.link rs) order c.tell_all.ensures
+    c.args.places.now c.args.link.now c.loop-record.link rs)
+    (sym (walked_all _ done _ left c.in-None.ensures.steps.0)) told

@@ -1,0 +1,16 @@
+use Rattle.std.proofs.Common.{◌≡◌, ◌++◌, List}
+use Rattle.std.specs.List.{flat_map}
+use Rattle.trdp_model.specs.Records.{RecordModel}
+use Rattle.trdp_outbox.specs.SlotOrder.{by_slot}
+use Rattle.trdp_script.specs.RecordText.{text_of_record}
+use Rattle.trdp_script.proofs.play.push_records.Given as goal
+
+-- the text of the records that came, behind which the others are still to come
+abbrev pub invariant-loop-record : goal.invariant-loop-record
+invariant-loop-record l = record {
+  can : (goal.iterator-loop-record).can_next l.record-iterator;
+  ends : (goal.iterator-loop-record).is_finite l.record-iterator;
+  came : (done : List RecordModel)
+      × (l.text.items ≡ l.fn.text.items ++ flat_map text_of_record done)
+      × (by_slot l.records.records ≡ done ++ l.record-iterator);
+}
