@@ -11,7 +11,7 @@ use Rattle.trdp_dataset.specs.Configs.{ConfigModel}
 use Rattle.trdp_daemon.specs.declared.link.Link.{Link}
 use Rattle.trdp_daemon.specs.declared.port.Port.{Port}
 use Rattle.trdp_daemon.specs.declared.service.Service.{Service}
-use Rattle.trdp_daemon.specs.Told.{Adds, Taking, Give}
+use Rattle.trdp_daemon.specs.Told.{TellsMore, Taking, Give}
 use Rattle.trdp_daemon.specs.Counting.{no_totals, totals_after}
 use Rattle.trdp_daemon.specs.Daemons.{DaemonState, TakesTurns, HasServed, opened_daemon}
 use Rattle.trdp_daemon.specs.Effects.{ServiceState, Telling, then_effect}
@@ -37,7 +37,7 @@ unfoldable pub one_turn : {W C : Type 0} {takings_in : W → Option (List Taking
     {gives_in : W → Option (List Give)} {readings_in : C → Option (List ℕ)}
     (s t : Service) (a b : Link W) (x y : C) (ports : List Port) (reading : ℕ)
     → ports ≡ ports_of s.node.config → t.node.config ≡ s.node.config
-    → Adds (readings_in x) (readings_in y) (reading ∷ [])
+    → TellsMore (readings_in x) (readings_in y) (reading ∷ [])
     → TakesTurn takings_in gives_in s t a b ports reading
     → TakesTurns takings_in gives_in readings_in 1 (daemon_of s a x) (daemon_of t b y)
 one_turn {W} {C} {takings_in} {gives_in} {readings_in} s
@@ -58,7 +58,8 @@ one_turn {W} {C} {takings_in} {gives_in} {readings_in} s
         tt,
       );
       read =
-          subst (λ (r : ℕ). Adds (readings_in x) (readings_in y) (r ∷ [])) (sym p.reading_is) read;
+          subst (λ (r : ℕ). TellsMore (readings_in x) (readings_in y) (r ∷ [])) (sym p.reading_is)
+          read;
       took = whole.takes;
       gave = whole.given;
       offers = whole.offers;
@@ -110,12 +111,13 @@ turns_both {W} {C} {takings_in} {gives_in} {readings_in} {m} {n} {a} {b} {c} p q
           (subst (λ (s : ServiceState). AllTakeAt (ports_of a.service.node.config) s q.turns)
           p.service (subst (λ (l : List Port). AllTakeAt l b.service q.turns)
           (ap ports_of p.config) q.ports));
-      read = subst (λ (l : List ℕ). Adds (readings_in a.clock) (readings_in c.clock) l)
+      read = subst (λ (l : List ℕ). TellsMore (readings_in a.clock) (readings_in c.clock) l)
           (sym (map-append (λ t. t.reading) p.turns q.turns))
           (adds_both (readings_in a.clock) (readings_in b.clock) (readings_in c.clock)
           (map (λ t. t.reading) p.turns) (map (λ t. t.reading) q.turns) p.read q.read);
       took =
-          subst (λ (l : List Taking). Adds (takings_in a.wire) (takings_in c.wire) l) both_takings
+          subst (λ (l : List Taking). TellsMore (takings_in a.wire) (takings_in c.wire) l)
+          both_takings
           (adds_both (takings_in a.wire) (takings_in b.wire)
           (takings_in c.wire) takings takings_then p.took q.took);
       gave = adds_both (gives_in a.wire) (gives_in b.wire)

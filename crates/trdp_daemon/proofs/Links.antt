@@ -9,17 +9,17 @@ use Rattle.std.proofs.lemmas.List.{map-append}
 use Rattle.std.proofs.lemmas.List.Elements.{filter-append}
 use Rattle.trdp_daemon.specs.declared.link.Link.{Link}
 use Rattle.trdp_daemon.specs.declared.totals.Totals.{Totals}
-use Rattle.trdp_daemon.specs.Told.{Adds, Taking, Give}
+use Rattle.trdp_daemon.specs.Told.{TellsMore, Taking, Give}
 use Rattle.trdp_daemon.specs.Counting.{counted, totals_after, has_come, has_failed}
 use Rattle.trdp_daemon.specs.Effects.{Telling, silence, both}
 use Rattle.trdp_daemon.specs.Links.{Carries}
 
-pub adds_none : {X : Type 0} (told : Option (List X)) → Adds told told []
+pub adds_none : {X : Type 0} (told : Option (List X)) → TellsMore told told []
 adds_none None = tt
 adds_none (Some xs) = sym (append-nil xs)
 
 pub adds_both : {X : Type 0} (a b c : Option (List X)) (xs ys : List X)
-    → Adds a b xs → Adds b c ys → Adds a c (xs ++ ys)
+    → TellsMore a b xs → TellsMore b c ys → TellsMore a c (xs ++ ys)
 adds_both a b None xs ys p q = tt
 adds_both a None (Some zs) xs ys p q = absurd q
 adds_both None (Some ws) (Some zs) xs ys p q = absurd p

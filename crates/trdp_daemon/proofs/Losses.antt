@@ -13,7 +13,7 @@ use Rattle.trdp_script.specs.RecordText.{text_of_record}
 use Rattle.trdp_daemon.specs.declared.port.Port.{Port}
 use Rattle.trdp_daemon.specs.declared.port.Port.TheVariants.{Pd, Md, Operator, Control}
 use Rattle.trdp_daemon.specs.Told.{Arrived, Failed, Nothing, Came}
-use Rattle.trdp_daemon.specs.Effects.{both, text_telling, place_of, content_telling}
+use Rattle.trdp_daemon.specs.Effects.{both, text_telling, control_place, content_telling}
 use Rattle.trdp_daemon.specs.Effects.{record_telling, is_first_lost, later_marks, records_telling}
 use Rattle.trdp_daemon.specs.Effects.{event_records, ServiceState, Loss, LineLost, EventLost}
 use Rattle.trdp_daemon.specs.Effects.{TextsLost, then_effect, telling_only, event_effect}
@@ -38,9 +38,9 @@ record_kept : (places : List (Option Place)) (lost : Bool) (r : RecordModel) (co
     → content_telling places lost r content ≡ content_telling places false r content
 unfolding content_telling
 record_kept places lost r (Answers answer) none =
-    text_kept r.slot (place_of places r.slot) lost (text_of_record r) none
+    text_kept r.slot (control_place places r.slot) lost (text_of_record r) none
 record_kept places lost r (Indicates indication) none =
-    text_kept r.slot (place_of places r.slot) lost (text_of_record r) none
+    text_kept r.slot (control_place places r.slot) lost (text_of_record r) none
 record_kept places lost r (Sends protocol to telegram) none = refl
 
 records_kept : (places : List (Option Place)) (marks : List Bool) (records : List RecordModel)

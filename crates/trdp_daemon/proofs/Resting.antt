@@ -7,7 +7,7 @@ use Rattle.std.specs.List.{list_any, flat_map}
 use Rattle.std.proofs.lemmas.List.{map-append}
 use Rattle.std.proofs.lemmas.List.Folds.{list_any-append}
 use Rattle.trdp_dataset.specs.Configs.{ConfigModel}
-use Rattle.trdp_daemon.specs.Told.{Adds, Taking, Give}
+use Rattle.trdp_daemon.specs.Told.{TellsMore, Taking, Give}
 use Rattle.trdp_daemon.specs.Daemons.{DaemonState, TakesTurns, HasServed}
 use Rattle.trdp_daemon.specs.Turns.{takings_of}
 use Rattle.trdp_daemon.specs.Resting.{Rests, TakesTurnAt, TakesEarly, TakesLast, AttendsUntil}
@@ -23,7 +23,7 @@ pub turn_at : {W C : Type 0} {takings_in : W → Option (List Taking)}
     {gives_in : W → Option (List Give)} {readings_in : C → Option (List ℕ)}
     (s t : Service) (a b : Link W) (x y : C) (ports : List Port) (reading : ℕ)
     → ports ≡ ports_of s.node.config → t.node.config ≡ s.node.config
-    → Adds (readings_in x) (readings_in y) (reading ∷ [])
+    → TellsMore (readings_in x) (readings_in y) (reading ∷ [])
     → TakesTurn takings_in gives_in s t a b ports reading
     → TakesTurnAt takings_in gives_in readings_in reading (daemon_of s a x) (daemon_of t b y)
 unfolding one_turn
@@ -42,11 +42,11 @@ turns_rest {W} {C} {takings_in} {gives_in} {readings_in} {n} {a} {b} {c} p q = r
   gives = p.gives;
   count = p.count;
   ports = p.ports;
-  read = subst (λ (k : C). Adds (readings_in a.clock) (readings_in k)
+  read = subst (λ (k : C). TellsMore (readings_in a.clock) (readings_in k)
       (map (λ t. t.reading) p.turns)) (sym q.clock) p.read;
   took = subst (λ (l : Option (List Taking)).
-      Adds (takings_in a.wire) l (flat_map takings_of p.turns)) (sym q.takes_nothing) p.took;
-  gave = subst (λ (l : Option (List Give)). Adds (gives_in a.wire) l p.gives)
+      TellsMore (takings_in a.wire) l (flat_map takings_of p.turns)) (sym q.takes_nothing) p.took;
+  gave = subst (λ (l : Option (List Give)). TellsMore (gives_in a.wire) l p.gives)
       (sym q.gives_nothing) p.gave;
   offers = p.offers;
   service = q.service ∙ p.service;

@@ -19,7 +19,7 @@ use Rattle.trdp_daemon.specs.declared.rows.TakeAnswer.TheVariants.{Nothing as Ro
 use Rattle.trdp_daemon.specs.declared.rows.TakeAnswer.TheVariants.{Came as RowCame}
 use Rattle.trdp_daemon.specs.MemoryWires.{ArrivalModel, arrives_at, arrival_for, cut_to, takes_at}
 use Rattle.trdp_daemon.specs.Ports.{is_port}
-use Rattle.trdp_daemon.specs.Rows.{arrived_of, row_taking, IsWithin, AllWithin}
+use Rattle.trdp_daemon.specs.Rows.{arrived_of, row_taking, IsLaidDown, AreLaidDown}
 use Rattle.trdp_daemon.specs.Told.{Arrived, Nothing, Came, Taking}
 
 -- the first element that passes stands at the first index at which one does
@@ -82,7 +82,7 @@ get_more (a ∷ arrivals) arrival zero below = refl
 get_more (a ∷ arrivals) arrival (suc i) below = get_more arrivals arrival i (omega (arith, below))
 
 arrived_more : (arrivals : List ArrivalModel) (arrival : ArrivalModel) (answer : TakeAnswer)
-    → IsWithin (length arrivals) answer
+    → IsLaidDown (length arrivals) answer
     → arrived_of (arrivals ++ arrival ∷ []) answer ≡ arrived_of arrivals answer
 arrived_more arrivals arrival RowFailed within = refl
 arrived_more arrivals arrival RowNothing within = refl
@@ -90,7 +90,7 @@ arrived_more arrivals arrival (RowCame index len) within =
     ap (cut_to len) (get_more arrivals arrival index within)
 
 pub takings_more : (arrivals : List ArrivalModel) (arrival : ArrivalModel) (rows : List TakeRow)
-    → AllWithin (length arrivals) rows
+    → AreLaidDown (length arrivals) rows
     → map (row_taking (arrivals ++ arrival ∷ [])) rows ≡ map (row_taking arrivals) rows
 takings_more arrivals arrival [] within = refl
 takings_more arrivals arrival (row ∷ rows) within =
@@ -99,19 +99,19 @@ takings_more arrivals arrival (row ∷ rows) within =
     (arrived_more arrivals arrival row.answer within.0)
     ∙ ap (λ l. row_taking arrivals row ∷ l) (takings_more arrivals arrival rows within.1)
 
-answer_more : (m n : ℕ) (answer : TakeAnswer) → m ≤ n → IsWithin m answer → IsWithin n answer
+answer_more : (m n : ℕ) (answer : TakeAnswer) → m ≤ n → IsLaidDown m answer → IsLaidDown n answer
 answer_more m n RowFailed le within = tt
 answer_more m n RowNothing le within = tt
 answer_more m n (RowCame index len) le within = omega (arith, le, within)
 
-rows_more : (m n : ℕ) (rows : List TakeRow) → m ≤ n → AllWithin m rows → AllWithin n rows
+rows_more : (m n : ℕ) (rows : List TakeRow) → m ≤ n → AreLaidDown m rows → AreLaidDown n rows
 rows_more m n [] le within = tt
 rows_more m n (row ∷ rows) le within =
     (answer_more m n row.answer le within.0, rows_more m n rows le within.1)
 
 pub within_more : (arrivals more : List ArrivalModel) (arrival : ArrivalModel) (rows : List TakeRow)
-    → more ≡ arrivals ++ arrival ∷ [] → AllWithin (length arrivals) rows
-    → AllWithin (length more) rows
+    → more ≡ arrivals ++ arrival ∷ [] → AreLaidDown (length arrivals) rows
+    → AreLaidDown (length more) rows
 within_more arrivals more arrival rows is within =
     let long : length more ≡ length arrivals + 1 = ap length is
     ∙ length-append arrivals (arrival ∷ []) in
@@ -119,12 +119,12 @@ within_more arrivals more arrival rows is within =
 
 -- one more take was made
 within_push : (n : ℕ) (rows : List TakeRow) (row : TakeRow)
-    → AllWithin n rows → IsWithin n row.answer → AllWithin n (rows ++ row ∷ [])
+    → AreLaidDown n rows → IsLaidDown n row.answer → AreLaidDown n (rows ++ row ∷ [])
 within_push n [] row all own = (own, tt)
 within_push n (r ∷ rows) row all own = (all.0, within_push n rows row all.1 own)
 
 pub within_row : (n : ℕ) (rows new : List TakeRow) (row : TakeRow)
-    → new ≡ rows ++ row ∷ [] → AllWithin n rows → IsWithin n row.answer → AllWithin n new
+    → new ≡ rows ++ row ∷ [] → AreLaidDown n rows → IsLaidDown n row.answer → AreLaidDown n new
 within_row n rows new row is all own = rw is (within_push n rows row all own)
 
 pub takings_push : (arrivals : List ArrivalModel)

@@ -14,7 +14,7 @@ use Rattle.trdp_daemon.specs.declared.link.Link.{Link}
 use Rattle.trdp_daemon.specs.Told.{Taking, Give}
 use Rattle.trdp_daemon.specs.Effects.{Telling, silence, both, missing, offering}
 use Rattle.trdp_daemon.specs.Effects.{text_telling, content_telling, port_of}
-use Rattle.trdp_daemon.specs.Effects.{place_of, record_telling, records_telling}
+use Rattle.trdp_daemon.specs.Effects.{control_place, record_telling, records_telling}
 use Rattle.trdp_daemon.specs.Links.{Carries}
 use Rattle.trdp_daemon.specs.Tellings.{Tells, TellsRecord, TellsText}
 use Rattle.trdp_daemon.proofs.Links.{carries_none, carries_both}
@@ -124,7 +124,7 @@ record_sent {W} {takings_in} {gives_in} {a} {b} places r protocol to telegram is
 pub record_answered : {W : Type 0} {takings_in : W → Option (List Taking)}
     {gives_in : W → Option (List Give)} {a b : Link W} (places : List (Option Place))
     (r : RecordModel) (answer : AnswerModel) → r.content ≡ Answers answer
-    → TellsText takings_in gives_in a b r.slot (place_of places r.slot) (text_of_record r)
+    → TellsText takings_in gives_in a b r.slot (control_place places r.slot) (text_of_record r)
     → TellsRecord takings_in gives_in places a b r
 unfolding content_telling
 record_answered {W} {takings_in} {gives_in} {a} {b} places r answer is told =
@@ -137,7 +137,7 @@ record_answered {W} {takings_in} {gives_in} {a} {b} places r answer is told =
 pub record_indicated : {W : Type 0} {takings_in : W → Option (List Taking)}
     {gives_in : W → Option (List Give)} {a b : Link W} (places : List (Option Place))
     (r : RecordModel) (indication : IndicationModel) → r.content ≡ Indicates indication
-    → TellsText takings_in gives_in a b r.slot (place_of places r.slot) (text_of_record r)
+    → TellsText takings_in gives_in a b r.slot (control_place places r.slot) (text_of_record r)
     → TellsRecord takings_in gives_in places a b r
 unfolding content_telling
 record_indicated {W} {takings_in} {gives_in} {a} {b} places r indication is told =

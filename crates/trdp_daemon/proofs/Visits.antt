@@ -23,7 +23,7 @@ use Rattle.trdp_daemon.specs.Effects.{ServiceState, Loss, LineLost, EventLost, T
 use Rattle.trdp_daemon.specs.Effects.{Effect, Telling, silence, missing, event_effect, still}
 use Rattle.trdp_daemon.specs.Links.{Carries, IsFound, Takes}
 use Rattle.trdp_daemon.specs.Services.{Comes, ComesWith, TakesOnce, service_state}
-use Rattle.trdp_daemon.specs.Turns.{Visit, datagram_room}
+use Rattle.trdp_daemon.specs.Turns.{Visit, udp_room}
 use Rattle.trdp_daemon.specs.Visits.{fault_telling, operator_event, operator_effect}
 use Rattle.trdp_daemon.specs.Visits.{line_lost_or, control_effect, control_event}
 use Rattle.trdp_daemon.specs.Visits.{datagram_effect, taking_effect, with_place, own_place}
@@ -216,7 +216,7 @@ at_control old new port slot from bytes is comes =
 -- one take, and what came of it
 visited : {W : Type 0} {takings_in : W → Option (List Taking)} {gives_in : W → Option (List Give)}
     {a b c : Link W} (old new : Service) (port : Port) (room : ℕ) (arrived : Arrived)
-    → room ≡ datagram_room → Carries takings_in gives_in a b (let taking : Taking =
+    → room ≡ udp_room → Carries takings_in gives_in a b (let taking : Taking =
     record { port = port; room = room; arrived = arrived } in taking ∷ []) silence
     → ComesWith takings_in gives_in old new b c (taking_effect (service_state old) port arrived)
     → TakesOnce takings_in gives_in old new a c port
@@ -237,7 +237,7 @@ visited {W} {takings_in} {gives_in} {a} {b} {c} old new port room arrived whole 
 pub visited_nothing :
     {W : Type 0} {takings_in : W → Option (List Taking)} {gives_in : W → Option (List Give)}
     {a b : Link W} (s : Service) (port : Port) (found : Option (Place × ℕ)) (room : List ℕ)
-    → found ≡ None → length room ≡ datagram_room → Takes takings_in gives_in a b port found room
+    → found ≡ None → length room ≡ udp_room → Takes takings_in gives_in a b port found room
     → TakesOnce takings_in gives_in s s a b port
 unfolding taking_effect
 visited_nothing {W} {takings_in} {gives_in} {a} {b} s port found room none roomy p =
@@ -259,7 +259,7 @@ visited_nothing {W} {takings_in} {gives_in} {a} {b} s port found room none roomy
 pub visited_datagram : {W : Type 0} {takings_in : W → Option (List Taking)}
     {gives_in : W → Option (List Give)} {a b c : Link W} (old new : Service) (port : Port)
     (found : Option (Place × ℕ)) (from : Place) (len : ℕ) (room bytes : List ℕ) → found
-    ≡ Some (from, len) → bytes ≡ take len room → length room ≡ datagram_room
+    ≡ Some (from, len) → bytes ≡ take len room → length room ≡ udp_room
     → Takes takings_in gives_in a b port found room
     → ComesWith takings_in gives_in old new b
     c (datagram_effect (service_state old) port from bytes)

@@ -26,8 +26,8 @@ has_failed Nothing = false
 has_failed (Came from bytes) = false
 
 -- how many datagrams came at these takes
-abbrev pub came_in : List Taking → ℕ
-came_in takings = length (filter (λ t. has_come t.arrived) takings)
+abbrev pub datagrams_in : List Taking → ℕ
+datagrams_in takings = length (filter (λ t. has_come t.arrived) takings)
 
 -- how many of these takes failed
 abbrev pub unread_in : List Taking → ℕ
@@ -40,7 +40,7 @@ lost_in gives = length (filter (λ g. g.failed) gives)
 -- the totals after these takes and gives, and so many entries that were lost for want of memory
 abbrev pub totals_after : Totals → List Taking → List Give → ℕ → Totals
 totals_after totals takings gives missed = record {
-  taken = counted totals.taken (came_in takings);
+  taken = counted totals.taken (datagrams_in takings);
   offered = counted totals.offered (length gives);
   lost = counted totals.lost (lost_in gives);
   unread = counted totals.unread (unread_in takings);

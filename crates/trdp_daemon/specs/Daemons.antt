@@ -3,7 +3,7 @@ use Rattle.std.specs.Prelude.{◌≡◌, ℕ, List, Option, length, map}
 use Rattle.std.specs.List.{flat_map}
 use Rattle.trdp_dataset.specs.Configs.{ConfigModel}
 use Rattle.trdp_daemon.specs.declared.totals.Totals.{Totals}
-use Rattle.trdp_daemon.specs.Told.{Adds, Taking, Give}
+use Rattle.trdp_daemon.specs.Told.{TellsMore, Taking, Give}
 use Rattle.trdp_daemon.specs.Counting.{no_totals, totals_after}
 use Rattle.trdp_daemon.specs.Effects.{ServiceState}
 use Rattle.trdp_daemon.specs.Ports.{ports_of}
@@ -36,10 +36,10 @@ pub record TakesTurns {W C : Type 0} (takings_in : W → Option (List Taking))
   pub gives : List Give
   pub count : length turns ≡ n
   pub ports : AllTakeAt (ports_of old.service.node.config) old.service turns
-  pub read : Adds (readings_in old.clock) (readings_in new.clock)
+  pub read : TellsMore (readings_in old.clock) (readings_in new.clock)
       (map (λ turn. turn.reading) turns)
-  pub took : Adds (takings_in old.wire) (takings_in new.wire) (flat_map takings_of turns)
-  pub gave : Adds (gives_in old.wire) (gives_in new.wire) gives
+  pub took : TellsMore (takings_in old.wire) (takings_in new.wire) (flat_map takings_of turns)
+  pub gave : TellsMore (gives_in old.wire) (gives_in new.wire) gives
   pub offers : map (λ give. give.offer) gives ≡ (turns_effect old.service turns).telling.offers
   pub service : new.service ≡ (turns_effect old.service turns).service
   pub config : new.service.node.config ≡ old.service.node.config
@@ -59,9 +59,10 @@ pub record HasServed {W C : Type 0} (takings_in : W → Option (List Taking))
   pub gives : List Give
   pub count : length turns ≡ n
   pub ports : AllTakeAt (ports_of config) (opened_service config) turns
-  pub read : Adds (readings_in clock) (readings_in daemon.clock) (map (λ turn. turn.reading) turns)
-  pub took : Adds (takings_in wire) (takings_in daemon.wire) (flat_map takings_of turns)
-  pub gave : Adds (gives_in wire) (gives_in daemon.wire) gives
+  pub read : TellsMore (readings_in clock) (readings_in daemon.clock)
+      (map (λ turn. turn.reading) turns)
+  pub took : TellsMore (takings_in wire) (takings_in daemon.wire) (flat_map takings_of turns)
+  pub gave : TellsMore (gives_in wire) (gives_in daemon.wire) gives
   pub offers : map (λ give. give.offer) gives ≡ offers_of config turns
   pub service : daemon.service ≡ (turns_effect (opened_service config) turns).service
   pub config_is : daemon.service.node.config ≡ config

@@ -57,15 +57,15 @@ port_of PdData = Pd
 port_of MdData = Md
 
 -- the control place of a slot, if it has one
-abbrev pub place_of : List (Option Place) → ℕ → Option Place
-place_of places slot = slice_index_or places slot None
+abbrev pub control_place : List (Option Place) → ℕ → Option Place
+control_place places slot = slice_index_or places slot None
 
 -- a telegram goes where it is sent to; what else a record says goes as its line
 unfoldable pub content_telling : List (Option Place) → Bool → RecordModel → Content → Telling
 content_telling places lost r (Answers answer) =
-    text_telling r.slot (place_of places r.slot) lost (text_of_record r)
+    text_telling r.slot (control_place places r.slot) lost (text_of_record r)
 content_telling places lost r (Indicates indication) =
-    text_telling r.slot (place_of places r.slot) lost (text_of_record r)
+    text_telling r.slot (control_place places r.slot) lost (text_of_record r)
 content_telling places lost r (Sends protocol to telegram) =
     offering (port_of protocol) to telegram
 

@@ -3,7 +3,7 @@ use Rattle.std.specs.Prelude.{◌≡◌, ℕ, List, [], ◌∷◌, map, length, 
 use Rattle.trdp_base.specs.declared.place.Place.{Place}
 use Rattle.trdp_daemon.specs.declared.link.Link.{Link}
 use Rattle.trdp_daemon.specs.declared.port.Port.{Port}
-use Rattle.trdp_daemon.specs.Told.{Adds, Arrived, Failed, Nothing, Came, Taking, Give}
+use Rattle.trdp_daemon.specs.Told.{TellsMore, Arrived, Failed, Nothing, Came, Taking, Give}
 use Rattle.trdp_daemon.specs.Counting.{totals_after}
 use Rattle.trdp_daemon.specs.Effects.{Telling, silence}
 
@@ -14,8 +14,8 @@ pub record Carries {W : Type 0} (takings_in : W → Option (List Taking))
     (telling : Telling) : Type 0 where
   pub gives : List Give
   pub offers : map (λ g. g.offer) gives ≡ telling.offers
-  pub takes : Adds (takings_in old.wire) (takings_in new.wire) takings
-  pub given : Adds (gives_in old.wire) (gives_in new.wire) gives
+  pub takes : TellsMore (takings_in old.wire) (takings_in new.wire) takings
+  pub given : TellsMore (gives_in old.wire) (gives_in new.wire) gives
   pub totals : new.totals ≡ totals_after old.totals takings gives telling.missed
 
 -- what came at a take, as its answer tells: nothing may be a fault too

@@ -21,15 +21,15 @@ row_taking arrivals row =
     record { port = row.port; room = row.room; arrived = arrived_of arrivals row.answer }
 
 -- what a take answered is one of n things that were laid down, if it is one
-abbrev pub IsWithin : ℕ → TakeAnswer → Type 0
-IsWithin n RowFailed = Unit {0}
-IsWithin n RowNothing = Unit {0}
-IsWithin n (RowCame index len) = index < n
+abbrev pub IsLaidDown : ℕ → TakeAnswer → Type 0
+IsLaidDown n RowFailed = Unit {0}
+IsLaidDown n RowNothing = Unit {0}
+IsLaidDown n (RowCame index len) = index < n
 
 -- the same of each row
-abbrev pub AllWithin : ℕ → List TakeRow → Type 0
-AllWithin n [] = Unit {0}
-AllWithin n (row ∷ rows) = IsWithin n row.answer × AllWithin n rows
+abbrev pub AreLaidDown : ℕ → List TakeRow → Type 0
+AreLaidDown n [] = Unit {0}
+AreLaidDown n (row ∷ rows) = IsLaidDown n row.answer × AreLaidDown n rows
 
 -- the give of a row with these bytes
 abbrev pub row_give : GiveRow → List ℕ → Give

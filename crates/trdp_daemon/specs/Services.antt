@@ -67,5 +67,5 @@ IsHome config home = (home.pd ≡ own_place config config.pd_port)
     × (home.md ≡ own_place config config.md_port)
 
 -- telegrams go to where the node's configuration says
-abbrev pub IsSound : Service → Type 0
-IsSound s = IsHome s.node.config s.home
+abbrev pub IsSoundService : Service → Type 0
+IsSoundService s = IsHome s.node.config s.home

@@ -47,7 +47,7 @@ give_of port to bytes result =
     record { offer = offer_to port to bytes; failed = is_err result }
 
 -- a list that is told afterwards was told before, and these were added to it
-abbrev pub Adds : {X : Type 0} → Option (List X) → Option (List X) → List X → Type 0
-Adds old None more = Unit {0}
-Adds None (Some new) more = ⊥
-Adds (Some old) (Some new) more = new ≡ old ++ more
+abbrev pub TellsMore : {X : Type 0} → Option (List X) → Option (List X) → List X → Type 0
+TellsMore old None more = Unit {0}
+TellsMore None (Some new) more = ⊥
+TellsMore (Some old) (Some new) more = new ≡ old ++ more

@@ -55,8 +55,8 @@ abbrev pub takings_of : Turn → List Taking
 takings_of turn = map (λ visit. visit.taking) turn.visits
 
 -- room for any datagram over UDP, in bytes
-abbrev pub datagram_room : ℕ
-datagram_room = 65536
+abbrev pub udp_room : ℕ
+udp_room = 65536
 
 -- the port of a take, and how many bytes it has room for
 abbrev pub port_and_room : Visit → Port × ℕ
@@ -64,7 +64,7 @@ port_and_room visit = (visit.taking.port, visit.taking.room)
 
 -- a port, with room for any datagram
 abbrev pub with_room : Port → Port × ℕ
-with_room port = (port, datagram_room)
+with_room port = (port, udp_room)
 
 -- whether a node has a port: a control port has to be that of an open slot
 abbrev pub is_there : NodeModel → Port → Bool

@@ -8,7 +8,7 @@ ghost use Rattle.trdp_daemon.specs.MemoryWires.{ArrivalModel};
 ghost use Rattle.trdp_daemon.specs.MemoryWires.{arrival_for, arrives_at, failure_after, is_failing};
 ghost use Rattle.trdp_daemon.specs.MemoryWires.{one_more_if, room_after};
 ghost use Rattle.trdp_daemon.specs.Ports.{is_port};
-ghost use Rattle.trdp_daemon.specs.Rows.{IsWithin, arrived_of};
+ghost use Rattle.trdp_daemon.specs.Rows.{IsLaidDown, arrived_of};
 ghost use Rattle.trdp_daemon.specs.Told.{arrived_in};
 
 use crate::fault::{WireFault, fail};
@@ -87,7 +87,7 @@ pub(crate) fn answer_take(
     ensures arrived { arrived_in result.1 room.new ≡ (if fails then failure_after failures.old
         else arrival_for arrivals.now port number (length room.old)) }
     ensures told { arrived_of arrivals.now result.0 ≡ arrived_in result.1 room.new }
-    ensures known { IsWithin (length arrivals.now) result.0 }
+    ensures known { IsLaidDown (length arrivals.now) result.0 }
     ensures within { IfOk result.1 (λ found. IfSome found (λ f. f.1 ≤ length room.new)) }
     ensures fault { OnErr result.1 (failures.old < failures.new) }
     ensures failures { failures.new
@@ -110,7 +110,7 @@ pub(crate) fn failing_take(
     ensures told { (room : List ℕ) (arrivals : List ArrivalModel)
         → arrived_of arrivals result.0 ≡ arrived_in result.1 room }
     ensures nothing { IfOk result.1 (λ found. found ≡ None) }
-    ensures known { (n : ℕ) → IsWithin n result.0 }
+    ensures known { (n : ℕ) → IsLaidDown n result.0 }
     ensures fault { OnErr result.1 (failures.old < failures.new) }
     ensures unfilled { (room : List ℕ) → room ≡ room_after (arrived_in result.1 room) room }
     ensures failures { (room : List ℕ) → failures.new
@@ -133,7 +133,7 @@ fn take_arrival(
     ensures arrived { arrived_in (Ok result.1) room.new
         ≡ arrival_for arrivals.now port number (length room.old) }
     ensures told { arrived_of arrivals.now result.0 ≡ arrived_in (Ok result.1) room.new }
-    ensures known { IsWithin (length arrivals.now) result.0 }
+    ensures known { IsLaidDown (length arrivals.now) result.0 }
     ensures within { IfSome result.1 (λ found. found.1 ≤ length room.new) }
     ensures works { (failures : ℕ)
         → failures ≡ one_more_if (has_failed (arrived_in (Ok result.1) room.new)) failures }

@@ -1,7 +1,7 @@
 //! What time is read from.
 
 ghost use Rattle.std.specs.Prelude.{[], ◌∷◌};
-ghost use Rattle.trdp_daemon.specs.Told.{Adds};
+ghost use Rattle.trdp_daemon.specs.Told.{TellsMore};
 
 /// A clock, in microseconds from a moment of its own. It may tell its readings.
 pub trait Clock {
@@ -12,5 +12,5 @@ pub trait Clock {
 
     /// Reads the clock, in microseconds.
     fn now(&mut self) -> u64
-        ensures { Adds (readings self.old) (readings self.new) (result ∷ []) };
+        ensures { TellsMore (readings self.old) (readings self.new) (result ∷ []) };
 }

@@ -2,7 +2,7 @@
 
 ghost use Rattle.std.specs.Prelude.{◌≡◌, IfOk, length};
 ghost use Rattle.trdp_daemon.specs.Ports.{ports_of};
-ghost use Rattle.trdp_daemon.specs.Turns.{datagram_room};
+ghost use Rattle.trdp_daemon.specs.Turns.{udp_room};
 
 use crate::clock::Clock;
 use crate::link::Link;
@@ -41,8 +41,8 @@ impl<W: Wire, C: Clock> Model for Daemon<W, C> {
     ghost use Rattle.std.specs.Prelude.{◌≡◌, length};
     ghost use Rattle.trdp_daemon.specs.Daemons.{DaemonState};
     ghost use Rattle.trdp_daemon.specs.Ports.{ports_of};
-    ghost use Rattle.trdp_daemon.specs.Services.{IsSound, service_state};
-    ghost use Rattle.trdp_daemon.specs.Turns.{datagram_room};
+    ghost use Rattle.trdp_daemon.specs.Services.{IsSoundService, service_state};
+    ghost use Rattle.trdp_daemon.specs.Turns.{udp_room};
 
     ghost Value = { DaemonState W C };
 
@@ -53,9 +53,9 @@ impl<W: Wire, C: Clock> Model for Daemon<W, C> {
       totals = d.link.totals;
     } };
 
-    ghost invariant = { λ d. IsSound d.service
+    ghost invariant = { λ d. IsSoundService d.service
         × (d.ports.items ≡ ports_of d.service.node.config)
-        × (length d.room.items ≡ datagram_room) };
+        × (length d.room.items ≡ udp_room) };
 }
 
 impl<W: Wire, C: Clock> Daemon<W, C> {
@@ -193,7 +193,7 @@ impl<W: Wire, C: Clock> Daemon<W, C> {
 /// Want of memory for these.
 fn buffers(alloc: Global, config: &NodeConfig) -> Result<(Vec<Port>, Vec<u8>), AllocError>
     ensures ports { IfOk result (λ made. made.0.items ≡ ports_of config.now) }
-    ensures room { IfOk result (λ made. length made.1.items ≡ datagram_room) }
+    ensures room { IfOk result (λ made. length made.1.items ≡ udp_room) }
 {
     let ports = ports_of(alloc, config)?;
     let room = vec![in alloc; 0; DATAGRAM_ROOM]?;

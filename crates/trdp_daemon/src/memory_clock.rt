@@ -2,7 +2,7 @@
 
 ghost use Rattle.std.specs.Prelude.{◌≡◌, ◌+◌, ◌∷◌, [], min, ◌-◌, ◌^◌, IfOk, true};
 ghost use Rattle.trdp_daemon.specs.MemoryClocks.{reading_at, told_readings};
-ghost use Rattle.trdp_daemon.specs.Told.{Adds};
+ghost use Rattle.trdp_daemon.specs.Told.{TellsMore};
 
 use crate::clock::Clock;
 use std::alloc::{AllocError, Global};
@@ -43,7 +43,7 @@ impl Clock for MemoryClock {
     ghost readings = { told_readings };
 
     fn now(&mut self) -> u64
-        ensures told { Adds (told_readings self.old) (told_readings self.new) (result ∷ []) }
+        ensures told { TellsMore (told_readings self.old) (told_readings self.new) (result ∷ []) }
         ensures reading { result ≡ reading_at self.old.moments.items self.old.count }
         ensures moments { self.new.moments.items ≡ self.old.moments.items }
         ensures count { self.new.count ≡ min (self.old.count + 1) (2 ^ 64 - 1) }

@@ -50,7 +50,7 @@ pub struct MemoryWire {
 impl Model for MemoryWire {
     ghost use Rattle.std.specs.Prelude.{◌≡◌, ◌≤◌, ◌+◌, ◌-◌, length, map, vec_capacity, vec_len};
     ghost use Rattle.trdp_daemon.specs.MemoryWires.{MemoryWireState};
-    ghost use Rattle.trdp_daemon.specs.Rows.{AllWithin, bytes_in, gives_of, row_taking};
+    ghost use Rattle.trdp_daemon.specs.Rows.{AreLaidDown, bytes_in, gives_of, row_taking};
 
     ghost Value = { MemoryWireState };
 
@@ -72,7 +72,7 @@ impl Model for MemoryWire {
     } };
 
     ghost invariant = { λ w. (bytes_in w.given.items ≡ length w.bytes.items)
-        × AllWithin (length w.arrivals.items) w.taken.items
+        × AreLaidDown (length w.arrivals.items) w.taken.items
         × (vec_len w.bytes + w.byte_room ≤ vec_capacity w.bytes) };
 }
 
@@ -218,7 +218,7 @@ impl Wire for MemoryWire {
     ghost use Rattle.trdp_daemon.specs.MemoryWires.{after_give, after_take, next_arrival};
     ghost use Rattle.trdp_daemon.specs.MemoryWires.{next_give_fails, room_after, told};
     ghost use Rattle.trdp_daemon.specs.MemoryWires.{after_rest, rest_of};
-    ghost use Rattle.trdp_daemon.specs.Told.{Adds, arrived_in, give_of, taking_of};
+    ghost use Rattle.trdp_daemon.specs.Told.{TellsMore, arrived_in, give_of, taking_of};
 
     ghost takings = { λ w. told w.tells w.takings };
 
@@ -228,9 +228,9 @@ impl Wire for MemoryWire {
 
     fn take(&mut self, port: Port, room: &mut [u8]) -> Result<Option<(Place, usize)>, WireFault>
         ensures within { IfOk result (λ found. IfSome found (λ f. f.1 ≤ length room.new)) }
-        ensures takes { Adds (told self.old.tells self.old.takings)
+        ensures takes { TellsMore (told self.old.tells self.old.takings)
             (told self.new.tells self.new.takings) (taking_of port result room.new ∷ []) }
-        ensures gives_nothing { Adds (told self.old.tells self.old.gives)
+        ensures gives_nothing { TellsMore (told self.old.tells self.old.gives)
             (told self.new.tells self.new.gives) [] }
         ensures fault { OnErr result (self.old.failures < self.new.failures) }
         ensures arrived { arrived_in result room.new
@@ -259,9 +259,9 @@ impl Wire for MemoryWire {
     }
 
     fn give(&mut self, port: Port, to: Place, bytes: &[u8]) -> Result<(), WireFault>
-        ensures offers { Adds (told self.old.tells self.old.gives)
+        ensures offers { TellsMore (told self.old.tells self.old.gives)
             (told self.new.tells self.new.gives) (give_of port to bytes.now result ∷ []) }
-        ensures takes_nothing { Adds (told self.old.tells self.old.takings)
+        ensures takes_nothing { TellsMore (told self.old.tells self.old.takings)
             (told self.new.tells self.new.takings) [] }
         ensures fault { OnErr result (self.old.failures < self.new.failures) }
         ensures fails { is_err result ≡ next_give_fails self.old (length bytes.now) }

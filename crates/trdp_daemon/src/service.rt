@@ -11,7 +11,7 @@ ghost use Rattle.trdp_model.specs.NodeModels.{node_after};
 ghost use Rattle.trdp_outbox.specs.SlotOrder.{by_slot};
 ghost use Rattle.trdp_daemon.specs.Effects.{event_records, event_effect};
 ghost use Rattle.trdp_daemon.specs.Resting.{IsIdleTime};
-ghost use Rattle.trdp_daemon.specs.Services.{ComesWith, IsSound, service_state};
+ghost use Rattle.trdp_daemon.specs.Services.{ComesWith, IsSoundService, service_state};
 ghost use Rattle.trdp_daemon.specs.Turns.{is_there, no_places, opened_service};
 ghost use Rattle.trdp_daemon.specs.Visits.{operator_event};
 
@@ -55,7 +55,7 @@ impl Service {
     /// The configuration comes back for want of memory.
     pub(crate) fn new(alloc: Global, config: NodeConfig) -> Result<Service, NodeConfig>
         ensures opened { IfOk result (λ service. service_state service ≡ opened_service config) }
-        ensures sound { IfOk result (λ service. IsSound service) }
+        ensures sound { IfOk result (λ service. IsSoundService service) }
         ensures returned { IfErr result (λ back. back ≡ config) }
     {
         match lists(alloc) {
@@ -101,8 +101,8 @@ impl Service {
     /// Gives the node an event, and offers what its records send. An event that finds no memory is
     /// counted, and lost.
     pub(crate) fn take_event<W: Wire>(&mut self, event: &Event<'_>, link: &mut Link<W>)
-        requires sound { IsSound self.old }
-        ensures sound { IsSound self.new }
+        requires sound { IsSoundService self.old }
+        ensures sound { IsSoundService self.new }
         ensures config { self.new.node.config ≡ self.old.node.config }
         ensures comes { ComesWith W.takings W.gives self.old self.new link.old link.new
             (event_effect (service_state self.old) (event_model event.now)) }
@@ -121,8 +121,8 @@ impl Service {
         from: Place,
         link: &mut Link<W>,
     )
-        requires sound { IsSound self.old }
-        ensures sound { IsSound self.new }
+        requires sound { IsSoundService self.old }
+        ensures sound { IsSoundService self.new }
         ensures config { self.new.node.config ≡ self.old.node.config }
         ensures comes { ComesWith W.takings W.gives self.old self.new link.old link.new
             (operator_event (service_state self.old) from (event_model event.now)) }

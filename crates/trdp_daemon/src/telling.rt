@@ -4,7 +4,7 @@ ghost use Rattle.std.specs.Prelude.{◌≡◌};
 ghost use Rattle.trdp_model.specs.Records.{record_model};
 ghost use Rattle.trdp_outbox.specs.SlotOrder.{by_slot};
 ghost use Rattle.trdp_script.specs.RecordText.{text_of_record};
-ghost use Rattle.trdp_daemon.specs.Effects.{place_of, port_of};
+ghost use Rattle.trdp_daemon.specs.Effects.{control_place, port_of};
 ghost use Rattle.trdp_daemon.specs.Tellings.{Tells, TellsRecord, TellsText};
 
 use crate::link::Link;
@@ -73,7 +73,7 @@ fn tell_text<W: Wire>(
 
 /// The control place of a slot, if it has one.
 fn place_of(places: &[Option<Place>], slot: u16) -> Option<Place>
-    ensures { result ≡ place_of places.now slot }
+    ensures { result ≡ control_place places.now slot }
 {
     match places.get(usize::from(slot)) {
         Some(place) => *place,

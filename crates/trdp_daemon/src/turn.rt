@@ -2,8 +2,8 @@
 
 ghost use Rattle.std.specs.Prelude.{◌≡◌, ◌∷◌, [], length, max, min};
 ghost use Rattle.trdp_base.specs.Moments.{last_moment};
-ghost use Rattle.trdp_daemon.specs.Services.{IsSound, TakesAtPorts, TakesTurn};
-ghost use Rattle.trdp_daemon.specs.Turns.{datagram_room};
+ghost use Rattle.trdp_daemon.specs.Services.{IsSoundService, TakesAtPorts, TakesTurn};
+ghost use Rattle.trdp_daemon.specs.Turns.{udp_room};
 
 use crate::link::Link;
 use crate::port::Port;
@@ -21,9 +21,9 @@ pub(crate) fn take_turn<W: Wire>(
     reading: u64,
     link: &mut Link<W>,
 )
-    requires sound { IsSound service.old }
-    requires room { length room.old ≡ datagram_room }
-    ensures sound { IsSound service.new }
+    requires sound { IsSoundService service.old }
+    requires room { length room.old ≡ udp_room }
+    ensures sound { IsSoundService service.new }
     ensures config { service.new.node.config ≡ service.old.node.config }
     ensures turn { TakesTurn W.takings W.gives service.old service.new link.old link.new
         ports.now reading }
@@ -41,9 +41,9 @@ fn visit_ports<W: Wire>(
     room: &mut [u8],
     link: &mut Link<W>,
 )
-    requires sound { IsSound service.old }
-    requires room { length room.old ≡ datagram_room }
-    ensures sound { IsSound service.new }
+    requires sound { IsSoundService service.old }
+    requires room { length room.old ≡ udp_room }
+    ensures sound { IsSoundService service.new }
     ensures config { service.new.node.config ≡ service.old.node.config }
     ensures takes { TakesAtPorts W.takings W.gives service.old service.new link.old link.new
         ports.now }
@@ -61,9 +61,9 @@ fn visit_port<W: Wire>(
     room: &mut [u8],
     link: &mut Link<W>,
 )
-    requires sound { IsSound service.old }
-    requires room { length room.old ≡ datagram_room }
-    ensures sound { IsSound service.new }
+    requires sound { IsSoundService service.old }
+    requires room { length room.old ≡ udp_room }
+    ensures sound { IsSoundService service.new }
     ensures config { service.new.node.config ≡ service.old.node.config }
     ensures takes { TakesAtPorts W.takings W.gives service.old service.new link.old link.new
         (port ∷ []) }

@@ -3,10 +3,10 @@
 ghost use Rattle.std.specs.Prelude.{◌≡◌, length};
 ghost use Rattle.trdp_model.specs.Events.{DatagramIs};
 ghost use Rattle.trdp_script.specs.PortLines.{control_line_of, operator_line_of};
-ghost use Rattle.trdp_daemon.specs.Services.{ComesWith, IsSound, TakesOnce};
+ghost use Rattle.trdp_daemon.specs.Services.{ComesWith, IsSoundService, TakesOnce};
 ghost use Rattle.trdp_daemon.specs.Services.{service_state};
 ghost use Rattle.trdp_daemon.specs.Effects.{event_effect};
-ghost use Rattle.trdp_daemon.specs.Turns.{datagram_room};
+ghost use Rattle.trdp_daemon.specs.Turns.{udp_room};
 ghost use Rattle.trdp_daemon.specs.Visits.{control_effect, datagram_effect, operator_effect};
 
 use crate::answer::refuse;
@@ -27,9 +27,9 @@ impl Service {
         room: &mut [u8],
         link: &mut Link<W>,
     )
-        requires sound { IsSound self.old }
-        requires room { length room.old ≡ datagram_room }
-        ensures sound { IsSound self.new }
+        requires sound { IsSoundService self.old }
+        requires room { length room.old ≡ udp_room }
+        ensures sound { IsSoundService self.new }
         ensures config { self.new.node.config ≡ self.old.node.config }
         ensures takes { TakesOnce W.takings W.gives self.old self.new link.old link.new port }
     {
@@ -51,8 +51,8 @@ impl Service {
         bytes: &[u8],
         link: &mut Link<W>,
     )
-        requires sound { IsSound self.old }
-        ensures sound { IsSound self.new }
+        requires sound { IsSoundService self.old }
+        ensures sound { IsSoundService self.new }
         ensures config { self.new.node.config ≡ self.old.node.config }
         ensures comes { ComesWith W.takings W.gives self.old self.new link.old link.new
             (datagram_effect (service_state self.old) port from bytes.now) }
@@ -74,8 +74,8 @@ impl Service {
         bytes: &[u8],
         link: &mut Link<W>,
     )
-        requires sound { IsSound self.old }
-        ensures sound { IsSound self.new }
+        requires sound { IsSoundService self.old }
+        ensures sound { IsSoundService self.new }
         ensures config { self.new.node.config ≡ self.old.node.config }
         ensures comes { ComesWith W.takings W.gives self.old self.new link.old link.new
             (event_effect (service_state self.old) (DatagramIs protocol src dst bytes.now)) }
@@ -97,8 +97,8 @@ impl Service {
         bytes: &[u8],
         link: &mut Link<W>,
     )
-        requires sound { IsSound self.old }
-        ensures sound { IsSound self.new }
+        requires sound { IsSoundService self.old }
+        ensures sound { IsSoundService self.new }
         ensures config { self.new.node.config ≡ self.old.node.config }
         ensures comes { ComesWith W.takings W.gives self.old self.new link.old link.new
             (operator_effect (service_state self.old) from (operator_line_of bytes.now)) }
@@ -119,8 +119,8 @@ impl Service {
         bytes: &[u8],
         link: &mut Link<W>,
     )
-        requires sound { IsSound self.old }
-        ensures sound { IsSound self.new }
+        requires sound { IsSoundService self.old }
+        ensures sound { IsSoundService self.new }
         ensures config { self.new.node.config ≡ self.old.node.config }
         ensures comes { ComesWith W.takings W.gives self.old self.new link.old link.new
             (control_effect (service_state self.old) slot from (control_line_of slot bytes.now)) }

@@ -1,7 +1,7 @@
 //! What datagrams come from and go to.
 
 ghost use Rattle.std.specs.Prelude.{◌≡◌, ◌<◌, ◌≤◌, [], ◌∷◌, length, IfOk, IfSome, OnErr};
-ghost use Rattle.trdp_daemon.specs.Told.{Adds, give_of, taking_of};
+ghost use Rattle.trdp_daemon.specs.Told.{TellsMore, give_of, taking_of};
 
 use crate::fault::WireFault;
 use crate::port::Port;
@@ -30,9 +30,9 @@ pub trait Wire {
     /// `WireFault`, where the wire fails; its failures rise then.
     fn take(&mut self, port: Port, room: &mut [u8]) -> Result<Option<(Place, usize)>, WireFault>
         ensures within { IfOk result (λ found. IfSome found (λ f. f.1 ≤ length room.new)) }
-        ensures takes { Adds (takings self.old) (takings self.new)
+        ensures takes { TellsMore (takings self.old) (takings self.new)
             (taking_of port result room.new ∷ []) }
-        ensures gives_nothing { Adds (gives self.old) (gives self.new) [] }
+        ensures gives_nothing { TellsMore (gives self.old) (gives self.new) [] }
         ensures fault { OnErr result (faults self.old < faults self.new) };
 
     /// Sends a datagram from a port to a place.
@@ -40,9 +40,9 @@ pub trait Wire {
     /// # Errors
     /// `WireFault`, where the wire fails; its failures rise then.
     fn give(&mut self, port: Port, to: Place, bytes: &[u8]) -> Result<(), WireFault>
-        ensures offers { Adds (gives self.old) (gives self.new)
+        ensures offers { TellsMore (gives self.old) (gives self.new)
             (give_of port to bytes.now result ∷ []) }
-        ensures takes_nothing { Adds (takings self.old) (takings self.new) [] }
+        ensures takes_nothing { TellsMore (takings self.old) (takings self.new) [] }
         ensures fault { OnErr result (faults self.old < faults self.new) };
 
     /// Waits until a datagram may be at one of the ports, at most so many microseconds. A wire may

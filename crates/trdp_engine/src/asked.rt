@@ -12,7 +12,7 @@ ghost use Rattle.trdp_engine.specs.Asked.{asked_room};
 ghost use Rattle.trdp_engine.specs.Asked.{asked_act};
 ghost use Rattle.trdp_store.specs.Deeds.{left_of};
 ghost use Rattle.trdp_store.specs.Indexed.{com_of};
-ghost use Rattle.trdp_store.specs.InSession.{session_of};
+ghost use Rattle.trdp_store.specs.InSession.{own_session};
 
 use crate::callers::confirm;
 use crate::publishers::put;
@@ -126,7 +126,7 @@ fn ask(
         handle asking.now.asked.now object.old).records }
     ensures kind { kind_of object.new ≡ kind_of object.old }
     ensures sought { com_of object.new ≡ com_of object.old }
-    ensures session { session_of object.new ≡ session_of object.old }
+    ensures session { own_session object.new ≡ own_session object.old }
 {
     let globals = asking.setting.globals;
     match *asking.asked {

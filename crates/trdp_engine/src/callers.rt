@@ -17,7 +17,7 @@ ghost use Rattle.trdp_outbox.specs.Rooms.{HasRoom, message_room, confirm_room, m
 ghost use Rattle.trdp_store.specs.Acting.{slot_at, Becomes};
 ghost use Rattle.trdp_store.specs.Deeds.{left_of};
 ghost use Rattle.trdp_store.specs.Indexed.{com_of};
-ghost use Rattle.trdp_store.specs.InSession.{session_of};
+ghost use Rattle.trdp_store.specs.InSession.{own_session};
 
 use crate::opening::{open, opening_refusal};
 use crate::setting::Setting;
@@ -177,7 +177,7 @@ pub fn confirm(
         ≡ out.old.records ++ labelled s (confirms handle place status object.old).records }
     ensures kind { kind_of object.new ≡ kind_of object.old }
     ensures sought { com_of object.new ≡ com_of object.old }
-    ensures session { session_of object.new ≡ session_of object.old }
+    ensures session { own_session object.new ≡ own_session object.old }
 {
     match object {
         AnyObject::Caller(caller) => confirm_by(caller, handle, place, status, s, out),

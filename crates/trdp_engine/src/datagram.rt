@@ -21,7 +21,7 @@ ghost use Rattle.trdp_outbox.specs.Rooms.{HasRoom, kind_room, entries_room};
 ghost use Rattle.trdp_store.specs.Acting.{TookWithin, slot_at, MayAct, ActsAt};
 ghost use Rattle.trdp_engine.specs.Noted.{noted_from};
 ghost use Rattle.trdp_store.specs.Indexed.{com_of};
-ghost use Rattle.trdp_store.specs.InSession.{session_of};
+ghost use Rattle.trdp_store.specs.InSession.{own_session};
 
 use crate::addressee::Addressee;
 use crate::callers::push_replied;
@@ -95,7 +95,7 @@ fn take_object(
     ensures kind { kind_of object.new ≡ kind_of object.old }
     ensures over { result ≡ Left.Ended → IsOver (due_of object.old) (due_of object.new) }
     ensures sought { com_of object.new ≡ com_of object.old }
-    ensures session { session_of object.new ≡ session_of object.old }
+    ensures session { own_session object.new ≡ own_session object.old }
 {
     let Handing { telegram, setting } = *handing;
     let fits = fits_object(setting.config, telegram, object);

@@ -19,7 +19,7 @@ ghost use Rattle.trdp_store.specs.Deeds.{left_of};
 ghost use Rattle.trdp_outbox.specs.Rooms.{HasRoom, kind_room, moment_room};
 ghost use Rattle.trdp_store.specs.Acting.{TookWithin, slot_at, MayAct, ActsAt};
 ghost use Rattle.trdp_store.specs.Indexed.{com_of};
-ghost use Rattle.trdp_store.specs.InSession.{session_of};
+ghost use Rattle.trdp_store.specs.InSession.{own_session};
 ghost use Rattle.trdp_model.specs.Fitting.{EachSound};
 
 use trdp_filter::Globals;
@@ -79,7 +79,7 @@ fn fire_object(
     ensures within { TookWithin out.old out.new (kind_room (kind_of object.old)) }
     ensures kind { kind_of object.new ≡ kind_of object.old }
     ensures sought { com_of object.new ≡ com_of object.old }
-    ensures session { session_of object.new ≡ session_of object.old }
+    ensures session { own_session object.new ≡ own_session object.old }
 {
     match object.fire(globals) {
         Fired::Nothing => {}

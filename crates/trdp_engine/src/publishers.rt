@@ -12,7 +12,7 @@ ghost use Rattle.trdp_model.specs.Acts.{answers};
 ghost use Rattle.trdp_outbox.specs.Outboxes.{plain_answer_model};
 ghost use Rattle.trdp_store.specs.Acting.{slot_at};
 ghost use Rattle.trdp_store.specs.Indexed.{com_of};
-ghost use Rattle.trdp_store.specs.InSession.{session_of};
+ghost use Rattle.trdp_store.specs.InSession.{own_session};
 
 use crate::opening::{is_span, open, opening_refusal, value_size};
 use std::alloc::{AllocError, Global};
@@ -85,7 +85,7 @@ pub fn put(object: &mut AnyObject, config: &NodeConfig, bytes: &[u8]) -> PlainAn
         ≡ answers object.new (plain_answer_model result) }
     ensures kind { kind_of object.new ≡ kind_of object.old }
     ensures sought { com_of object.new ≡ com_of object.old }
-    ensures session { session_of object.new ≡ session_of object.old }
+    ensures session { own_session object.new ≡ own_session object.old }
 {
     match object {
         AnyObject::Publisher(publisher) => {

@@ -11,7 +11,7 @@ ghost use Rattle.trdp_model.specs.Replies.{replies, queries, reply_errors};
 ghost use Rattle.trdp_outbox.specs.Rooms.{HasRoom, message_room};
 ghost use Rattle.trdp_store.specs.Deeds.{left_of};
 ghost use Rattle.trdp_store.specs.Indexed.{com_of};
-ghost use Rattle.trdp_store.specs.InSession.{session_of};
+ghost use Rattle.trdp_store.specs.InSession.{own_session};
 
 use crate::callers::TIMEOUT_MIN;
 use trdp_filter::Globals;
@@ -105,7 +105,7 @@ pub fn reply(
         ≡ out.old.records ++ labelled s (replies com_id status payload.now object.old).records }
     ensures kind { kind_of object.new ≡ kind_of object.old }
     ensures sought { com_of object.new ≡ com_of object.old }
-    ensures session { session_of object.new ≡ session_of object.old }
+    ensures session { own_session object.new ≡ own_session object.old }
 {
     let AnyObject::Replier(replier) = object else {
         out.push_plain_answer(s, PlainAnswer::Refused(Refusal::WrongKind));
@@ -145,7 +145,7 @@ pub fn query(
         inquiry.now.timeout inquiry.now.payload.now object.old).records }
     ensures kind { kind_of object.new ≡ kind_of object.old }
     ensures sought { com_of object.new ≡ com_of object.old }
-    ensures session { session_of object.new ≡ session_of object.old }
+    ensures session { own_session object.new ≡ own_session object.old }
 {
     let Inquiry {
         com_id,
@@ -185,7 +185,7 @@ pub fn reply_error(
         ≡ out.old.records ++ labelled s (reply_errors com_id status object.old).records }
     ensures kind { kind_of object.new ≡ kind_of object.old }
     ensures sought { com_of object.new ≡ com_of object.old }
-    ensures session { session_of object.new ≡ session_of object.old }
+    ensures session { own_session object.new ≡ own_session object.old }
 {
     let AnyObject::Replier(replier) = object else {
         out.push_plain_answer(s, PlainAnswer::Refused(Refusal::WrongKind));

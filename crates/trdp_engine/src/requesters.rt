@@ -14,7 +14,7 @@ ghost use Rattle.trdp_store.specs.Acting.{slot_at};
 ghost use Rattle.trdp_pd.specs.Requesters.{opened};
 ghost use Rattle.trdp_model.specs.declared.kind.Kind.TheVariants.{Requester as Requesting};
 ghost use Rattle.trdp_store.specs.Indexed.{com_of};
-ghost use Rattle.trdp_store.specs.InSession.{session_of};
+ghost use Rattle.trdp_store.specs.InSession.{own_session};
 
 use crate::opening::open;
 use trdp_filter::{Globals, topo_valid};
@@ -47,7 +47,7 @@ pub fn pull(object: &mut AnyObject, globals: &Globals, s: u16, out: &mut Outbox)
         ≡ out.old.records ++ labelled s (pulls globals.entry.now object.old).records }
     ensures kind { kind_of object.new ≡ kind_of object.old }
     ensures sought { com_of object.new ≡ com_of object.old }
-    ensures session { session_of object.new ≡ session_of object.old }
+    ensures session { own_session object.new ≡ own_session object.old }
 {
     match object {
         AnyObject::Requester(requester) => {

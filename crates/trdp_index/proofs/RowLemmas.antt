@@ -8,8 +8,8 @@ use Rattle.std.proofs.lemmas.Bool.{true≢false}
 use Rattle.std.proofs.lemmas.Option.{none-some}
 use Rattle.trdp_index.specs.declared.rank.Rank.{Rank}
 use Rattle.trdp_index.specs.Ranks.{is_before, is_same}
-use Rattle.trdp_index.specs.Rows.{AllAfter, IsRising, row_of, with_row, without}
-use Rattle.trdp_index.specs.Kept.{IsKept}
+use Rattle.trdp_index.specs.Rows.{AllAfter, IsRising, row_of, with_row, without_rank}
+use Rattle.trdp_index.specs.Kept.{AreKept}
 use Rattle.trdp_index.proofs.RankLemmas.{before-trans, not_sooner, other_way}
 use Rattle.trdp_index.proofs.RankLemmas.{not_both, not_other, not_same}
 
@@ -194,7 +194,7 @@ module _ {Row : Type 0} (rank_of : Row → Rank) where
 
   -- the row of a rank among the rows but that of another
   pub row_of-without : (rank gone : Rank) (rows : List Row)
-      → row_of rank_of rank (without rank_of gone rows)
+      → row_of rank_of rank (without_rank rank_of gone rows)
       ≡ (if is_same gone rank then None else row_of rank_of rank rows)
   row_of-without rank gone [] = either (is_same gone rank)
     where
@@ -208,9 +208,10 @@ module _ {Row : Type 0} (rank_of : Row → Rank) where
       (is_same gone rank) refl refl (row_of-without rank gone rows)
     where
       either : (b q : Bool) → is_same (rank_of row) gone ≡ b
-          → is_same gone rank ≡ q → row_of rank_of rank (without rank_of gone rows)
+          → is_same gone rank ≡ q → row_of rank_of rank (without_rank rank_of gone rows)
           ≡ (if q then None else row_of rank_of rank rows) → row_of rank_of
-          rank (cond (not b) (row ∷ without rank_of gone rows) (without rank_of gone rows))
+          rank
+          (cond (not b) (row ∷ without_rank rank_of gone rows) (without_rank rank_of gone rows))
           ≡ (if q then None else row_of rank_of rank (row ∷ rows))
       either true true is its rest = rest
       either true false is its rest = rw (not_other (rank_of row) gone rank is its) rest
@@ -221,9 +222,9 @@ module _ {Row : Type 0} (rank_of : Row → Rank) where
   -- What an index keeps stays true.
 
   pub IsKept-with_row : (row : Row) (rows : List Row) (room capacity more : ℕ)
-      → IsKept rank_of rows room capacity → capacity ≤ more
+      → AreKept rank_of rows room capacity → capacity ≤ more
       → length rows < room → row_of rank_of (rank_of row) rows ≡ None
-      → IsKept rank_of (with_row rank_of row rows) room more
+      → AreKept rank_of (with_row rank_of row rows) room more
   IsKept-with_row row rows room capacity more kept le spare fresh = record {
     rising = IsRising-with_row row rows kept.rising fresh;
     within = omega (arith, spare, length-with_row row rows);
@@ -231,7 +232,8 @@ module _ {Row : Type 0} (rank_of : Row → Rank) where
   }
 
   pub IsKept-without : (rank : Rank) (rows : List Row) (room capacity : ℕ)
-      → IsKept rank_of rows room capacity → IsKept rank_of (without rank_of rank rows) room capacity
+      → AreKept rank_of rows room capacity
+      → AreKept rank_of (without_rank rank_of rank rows) room capacity
   IsKept-without rank rows room capacity kept = record {
     rising = IsRising-filter (λ row. not (is_same (rank_of row) rank)) rows kept.rising;
     within = let fewer = length-filter_le (λ row. not (is_same (rank_of row) rank)) rows in

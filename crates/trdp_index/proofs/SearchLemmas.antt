@@ -8,7 +8,7 @@ use Rattle.std.proofs.lemmas.Option.{none-some, same_Some}
 use Rattle.trdp_index.specs.declared.rank.Rank.{Rank}
 use Rattle.trdp_index.specs.Ranks.{is_before, is_same}
 use Rattle.trdp_index.specs.Rows.{AllAfter, AllBefore, NoneBefore, IsRising}
-use Rattle.trdp_index.specs.Rows.{row_of, has_row, with_row, without}
+use Rattle.trdp_index.specs.Rows.{row_of, has_row, with_row, without_rank}
 use Rattle.trdp_index.specs.Searches.{IsIndexOf, IsAbsent}
 use Rattle.trdp_index.proofs.RankLemmas.{before-trans, not_sooner, other_way}
 use Rattle.trdp_index.proofs.RankLemmas.{before_other, after_other, after_same}
@@ -112,7 +112,8 @@ module _ {Row : Type 0} (rank_of : Row → Rank) where
   -- the first row that doesn't come before the rank is that of the rank if it has it
   pub found_at : (rank q : Rank) (n : ℕ) (rows : List Row) → IsRising rank_of rows
       → AllBefore rank_of rank (take n rows) → IsRankAt q n rows → is_same q rank ≡ true
-      → (slice_get rows n ≡ row_of rank_of rank rows) × (remove rows n ≡ without rank_of rank rows)
+      → (slice_get rows n ≡ row_of rank_of rank rows)
+      × (remove rows n ≡ without_rank rank_of rank rows)
   found_at rank q n [] rising before at same = absurd (none-some q at)
   found_at rank q zero (row ∷ rows) rising before at same =
       let here : is_same (rank_of row) rank ≡ true =

@@ -44,5 +44,5 @@ with_row rank_of row (other ∷ others) =
     else row ∷ other ∷ others
 
 -- the rows but that of a rank
-abbrev pub without : {Row : Type 0} → (Row → Rank) → Rank → List Row → List Row
-without rank_of rank rows = filter (λ row. not (is_same (rank_of row) rank)) rows
+abbrev pub without_rank : {Row : Type 0} → (Row → Rank) → Rank → List Row → List Row
+without_rank rank_of rank rows = filter (λ row. not (is_same (rank_of row) rank)) rows

@@ -2,7 +2,7 @@
 
 ghost use Rattle.std.specs.Prelude.{◌≡◌, ℕ, ◌+◌, ◌*◌, ◌^◌, ◌<◌, ◌≤◌, length, max, false};
 ghost use Rattle.std.specs.Prelude.{Option, if◌then◌else◌, IfOk, OnOk, OnErr, IsOk};
-ghost use Rattle.trdp_index.specs.Rows.{IsRising, with_row, without};
+ghost use Rattle.trdp_index.specs.Rows.{IsRising, with_row, without_rank};
 ghost use Rattle.trdp_index.specs.ComRows.{com_rank, com_row_rank, is_same_com};
 ghost use Rattle.trdp_index.specs.ComRows.{run_of, has_com_row};
 ghost use Rattle.trdp_index.specs.ComIndexes.{empty_com_index};
@@ -27,7 +27,7 @@ pub struct ComIndex {
 
 impl Model for ComIndex {
     ghost use Rattle.std.specs.Prelude.{vec_capacity};
-    ghost use Rattle.trdp_index.specs.Kept.{IsKept};
+    ghost use Rattle.trdp_index.specs.Kept.{AreKept};
     ghost use Rattle.trdp_index.specs.ComRows.{com_row_rank};
     ghost use Rattle.trdp_index.specs.ComIndexes.{ComIndexState};
 
@@ -35,7 +35,7 @@ impl Model for ComIndex {
 
     ghost view = { λ i. record { rows = i.rows.items; room = i.room } };
 
-    ghost invariant = { λ i. IsKept com_row_rank i.rows.items i.room (vec_capacity i.rows) };
+    ghost invariant = { λ i. AreKept com_row_rank i.rows.items i.room (vec_capacity i.rows) };
 }
 
 impl ComIndex {
@@ -112,10 +112,10 @@ impl ComIndex {
         ensures there { result ≡ has_com_row com_id slot handle self.old.rows }
         ensures rows { self.new
             ≡ record self.old {
-              rows = without com_row_rank (com_rank com_id slot handle) self.old.rows;
+              rows = without_rank com_row_rank (com_rank com_id slot handle) self.old.rows;
             } }
         ensures runs { (other : Option ℕ) → run_of other self.new.rows
-            ≡ without com_row_rank (com_rank com_id slot handle) (run_of other self.old.rows) }
+            ≡ without_rank com_row_rank (com_rank com_id slot handle) (run_of other self.old.rows) }
         ensures count { length self.old.rows
             ≡ length self.new.rows + (if result then 1 else 0) }
     {

@@ -5,7 +5,7 @@ ghost use Rattle.std.specs.Prelude.{if◌then◌else◌, IfOk, OnOk, OnErr, IsOk
 ghost use Rattle.trdp_base.specs.declared.session.SessionId.{SessionId};
 ghost use Rattle.trdp_index.specs.declared.session_row.Role.{Role};
 ghost use Rattle.trdp_index.specs.Ranks.{is_same};
-ghost use Rattle.trdp_index.specs.Rows.{IsRising, with_row, without};
+ghost use Rattle.trdp_index.specs.Rows.{IsRising, with_row, without_rank};
 ghost use Rattle.trdp_index.specs.SessionRows.{session_rank, session_row_rank};
 ghost use Rattle.trdp_index.specs.SessionRows.{session_row, session_key};
 ghost use Rattle.trdp_index.specs.SessionIndexes.{empty_session_index};
@@ -28,7 +28,7 @@ pub struct SessionIndex {
 
 impl Model for SessionIndex {
     ghost use Rattle.std.specs.Prelude.{vec_capacity};
-    ghost use Rattle.trdp_index.specs.Kept.{IsKept};
+    ghost use Rattle.trdp_index.specs.Kept.{AreKept};
     ghost use Rattle.trdp_index.specs.SessionRows.{session_row_rank};
     ghost use Rattle.trdp_index.specs.SessionIndexes.{SessionIndexState};
 
@@ -36,7 +36,7 @@ impl Model for SessionIndex {
 
     ghost view = { λ i. record { rows = i.rows.items; room = i.room } };
 
-    ghost invariant = { λ i. IsKept session_row_rank i.rows.items i.room (vec_capacity i.rows) };
+    ghost invariant = { λ i. AreKept session_row_rank i.rows.items i.room (vec_capacity i.rows) };
 }
 
 impl SessionIndex {
@@ -124,7 +124,7 @@ impl SessionIndex {
         ensures there { result ≡ is_some (session_key session slot role self.old.rows) }
         ensures rows { self.new
             ≡ record self.old {
-              rows = without session_row_rank (session_rank session slot role) self.old.rows;
+              rows = without_rank session_row_rank (session_rank session slot role) self.old.rows;
             } }
         ensures keys { (other : SessionId) (t : ℕ) (its : Role)
             → session_key other t its self.new.rows

@@ -20,7 +20,7 @@ use Rattle.trdp_net.specs.ExampleTerms.{node_at, any_message, subscription_terms
 use Rattle.trdp_net.specs.ExampleTerms.{data_0, data_1, messages_0, messages_1, value_bytes}
 use Rattle.trdp_net.specs.ExampleTerms.{notice_bytes, request_bytes, query_bytes, confirm_bytes}
 use Rattle.trdp_net.specs.Example.{example_rows, example_network, example_history, telegram}
-use Rattle.trdp_net.specs.Example.{turns_of, turns_in, Turn, WasTold, ShowsValid}
+use Rattle.trdp_net.specs.Example.{turns_of, turns_in, ToldAtMove, WasTold, ShowsValid}
 use Rattle.trdp_net.proofs.Computing.{computing}
 use Rattle.trdp_net.proofs.ExamplePremises.{once_requested, fresh}
 use Rattle.trdp_net.proofs.Turns.{get_in, was_told}
@@ -31,12 +31,12 @@ unfolding computing
 turns_are = refl
 
 -- what stands beside a step was told
-pub told_at : (i : ℕ) (turn : Turn) (content : Content)
+pub told_at : (i : ℕ) (turn : ToldAtMove) (content : Content)
     → slice_get (turns_in example_rows) i ≡ Some turn → In content turn.told
     → WasTold turn.node 0 content example_history
 told_at i turn content is there =
     was_told example_history turn content
-    (subst (λ (turns : List Turn). In turn turns) (sym turns_are)
+    (subst (λ (turns : List ToldAtMove). In turn turns) (sym turns_are)
     (get_in (turns_in example_rows) i turn is)) there
 
 -- what is sent

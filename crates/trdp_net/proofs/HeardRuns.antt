@@ -18,8 +18,8 @@ use Rattle.trdp_model.specs.Slots.{SlotState, empty_slot}
 use Rattle.trdp_model.specs.Alone.{refused_as, plain_effect}
 use Rattle.trdp_net.specs.Networks.{NetNode, place_of, Sent, Move, Network, Step, CallAt}
 use Rattle.trdp_net.specs.Networks.{MomentAt, TopologyAt, RoleAt, DeliveryAt, AddSlotAt}
-use Rattle.trdp_net.specs.Networks.{node_after, moves, moves_unless, moves_at, reaches, delivered}
-use Rattle.trdp_net.specs.Networks.{network_step, network_run, opened_network, slots_after}
+use Rattle.trdp_net.specs.Networks.{plain_node, moves, moves_unless, moves_at, reaches, delivered}
+use Rattle.trdp_net.specs.Networks.{network_step, network_run, opened_network, plain_slots}
 use Rattle.trdp_net.specs.Provenance.{Spot}
 use Rattle.trdp_net.specs.Promises.{history, replied_in, told_in, all_replied}
 use Rattle.trdp_net.specs.Promises.{AreDistinct}
@@ -71,7 +71,7 @@ moved_slot : (setup : NodeSetup) (globals : Globals) (event : EventModel) (from 
     → m.before.setup ≡ setup → m.before.globals ≡ globals → m.event ≡ event
     → HeardAt old (slice_get slots j)
     → HeardAt (λ h. replied_in h (told_in (from + j) m (slice_get slots j)) ++ old h)
-    (slice_get (slots_after setup globals event from slots ++ opened_by event) j)
+    (slice_get (plain_slots setup globals event from slots ++ opened_by event) j)
 moved_slot setup globals event from [] j old m is_setup is_globals is_event heard =
     opened_heard_by event j old heard
 moved_slot setup globals event from (slot ∷ slots) zero old m is_setup is_globals is_event heard =
@@ -102,7 +102,7 @@ moved_slot setup globals event from (slot ∷ slots) (suc j) old m is_setup is_g
     let e : from + suc j ≡ suc from + j = omega arith in
     subst
     (λ (n : ℕ). HeardAt (λ h. replied_in h (told_in n m (slice_get slots j)) ++ old h)
-    (slice_get (slots_after setup globals event (suc from) slots ++ opened_by event) j))
+    (slice_get (plain_slots setup globals event (suc from) slots ++ opened_by event) j))
     (sym e)
     (moved_slot setup globals event (suc from) slots j old m is_setup is_globals is_event heard)
 
@@ -145,27 +145,27 @@ move_heard w k node event is heard j s = either (k == j) refl
 
     either : (b : Bool) → (k == j) ≡ b
         → HeardAt (λ h. all_replied (spot j s h) (m ∷ w.history))
-        (slot_in (slice_get (slice_set w.nodes k (node_after node event)) j) s)
+        (slot_in (slice_get (slice_set w.nodes k (plain_node node event)) j) s)
     either true same =
         let there : k ≡ j = grind (arith, nat_tests) in
         let is_j : slice_get w.nodes j ≡ Some node =
         subst (λ (n : ℕ). slice_get w.nodes n ≡ Some node) there is in
-        let found : slice_get (slice_set w.nodes k (node_after node event)) j
-        ≡ Some (node_after node event) =
+        let found : slice_get (slice_set w.nodes k (plain_node node event)) j
+        ≡ Some (plain_node node event) =
         subst
-        (λ (n : ℕ). slice_get (slice_set w.nodes k (node_after node event)) n
-        ≡ Some (node_after node event))
-        there (set_there w.nodes k node (node_after node event) is) in
+        (λ (n : ℕ). slice_get (slice_set w.nodes k (plain_node node event)) n
+        ≡ Some (plain_node node event))
+        there (set_there w.nodes k node (plain_node node event) is) in
         subst
         (λ (o : Option NetNode).
         HeardAt (λ h. all_replied (spot j s h) (m ∷ w.history)) (slot_in o s))
         (sym found)
         (subst
-        (λ (b : Bool). HeardAt (told b) (slice_get (node_after node event).slots s))
+        (λ (b : Bool). HeardAt (told b) (slice_get (plain_node node event).slots s))
         (sym same)
         (subst
         (λ (n : ℕ). HeardAt (λ h. replied_in h (told_in n m (slice_get node.slots s)) ++ old h)
-        (slice_get (node_after node event).slots s))
+        (slice_get (plain_node node event).slots s))
         from_zero
         (moved_slot node.setup node.globals event zero node.slots s old m refl refl refl
         (at_it is_j))))
@@ -173,7 +173,7 @@ move_heard w k node event is heard j s = either (k == j) refl
         subst
         (λ (o : Option NetNode).
         HeardAt (λ h. all_replied (spot j s h) (m ∷ w.history)) (slot_in o s))
-        (sym (set_elsewhere w.nodes k j (node_after node event) other))
+        (sym (set_elsewhere w.nodes k j (plain_node node event) other))
         (subst (λ (b : Bool). HeardAt (told b) (slot_in (slice_get w.nodes j) s)) (sym other)
         (heard j s))
 

@@ -11,13 +11,13 @@ use Rattle.trdp_model.specs.Events.{AddSlotIs}
 use Rattle.trdp_model.specs.Slots.{SlotState, empty_slot}
 use Rattle.trdp_model.specs.Alone.{opened_by, plain_effect}
 use Rattle.trdp_model.specs.NodeModels.{opened_model}
-use Rattle.trdp_net.specs.Networks.{NetNode, net_node, slots_after, opened_network}
+use Rattle.trdp_net.specs.Networks.{NetNode, net_node, plain_slots, opened_network}
 use Rattle.trdp_net.specs.Provenance.{In}
 
 -- a slot after the event is the slot before it, moved
 pub slot_before : (setup : NodeSetup) (globals : Globals) (event : EventModel) (s : ℕ)
     (slots : List SlotState) (j : ℕ) (after : SlotState)
-    → slice_get (slots_after setup globals event s slots) j ≡ Some after
+    → slice_get (plain_slots setup globals event s slots) j ≡ Some after
     → (slot : SlotState) × (slice_get slots j ≡ Some slot)
     × ((plain_effect setup (s + j) slot globals event).slot ≡ after)
 slot_before setup globals event s [] j after is = absurd (cc)

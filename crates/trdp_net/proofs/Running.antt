@@ -16,11 +16,12 @@ use Rattle.trdp_model.specs.Events.{AddSlotIs}
 use Rattle.trdp_net.specs.Networks.{NetNode, net_node, Sent, Network, Step, CallAt, MomentAt}
 use Rattle.trdp_net.specs.Networks.{TopologyAt, RoleAt, DeliveryAt, AddSlotAt, place_of}
 use Rattle.trdp_net.specs.Networks.{moves_unless, moves_at, reaches, delivered, network_step}
-use Rattle.trdp_net.specs.Running.{NetworkState, Shows, Takes, TakesAt, DeliversAt, TellsLatest}
+use Rattle.trdp_net.specs.Running.{NetworkState, Shows, TakesEvent, TakesEventAt, DeliversAt}
+use Rattle.trdp_net.specs.Running.{TellsLatest}
 use Rattle.trdp_net.specs.Running.{event_fault, node_fault, delivery_fault, step_fault}
 use Rattle.trdp_net.specs.Running.{told_at}
 use Rattle.trdp_net.specs.Ties.{StepsSo, MovesSo}
-use Rattle.trdp_net.specs.Tellings.{IsHome, sent_in, sent_in_slots, all_sent, latest}
+use Rattle.trdp_net.specs.Tellings.{IsOwnHome, sent_in, sent_in_slots, all_sent, latest}
 use Rattle.trdp_net.specs.declared.fault.NetworkFault.TheVariants.{Elsewhere}
 use Rattle.trdp_net.specs.declared.told.Told.{Told}
 use Rattle.trdp_net.proofs.Ties.{moves_so}
@@ -36,8 +37,8 @@ admitted_by (Some fault) done is = absurd is
 pub takes : (old new : NodeModel) (before : List RecordModel) (event : EventModel) (told : Told)
     → StepsSo old new before told.out.records event
     → before ≡ []
-    → IsHome told.home (setup_of old.config) → told.slots ≡ length old.slots
-    → Takes (net_node old) (net_node new) event told
+    → IsOwnHome told.home (setup_of old.config) → told.slots ≡ length old.slots
+    → TakesEvent (net_node old) (net_node new) event told
 takes old new before event told steps none home slots = record {
   admitted = steps.admitted;
   node = moved.node;
@@ -93,7 +94,7 @@ node_at old w k node shows at =
 
 -- the network that is shown moves as the running one
 pub shows_move : (old : NetworkState) (nodes : List NetNode) (k : ℕ) (event : EventModel)
-    (told : Told) → TakesAt old.nodes nodes k event told → (w : Network) → Shows old w
+    (told : Told) → TakesEventAt old.nodes nodes k event told → (w : Network) → Shows old w
     → Shows (then_shown old nodes told) (moves_at w k (slice_get w.nodes k) event)
 shows_move old nodes k event told t w shows =
     subst (λ (found : Option NetNode).
@@ -164,7 +165,7 @@ pub delivers_so : (result : Result Told NetworkFault) (old new : List NetNode) (
     (seen : NetNode) → slice_get old k ≡ Some seen
     → reaches x.to (place_of x.protocol seen.setup) ≡ true
     → IfOk result (λ told.
-    TakesAt old new k (DatagramIs x.protocol x.from x.to x.bytes) told)
+    TakesEventAt old new k (DatagramIs x.protocol x.from x.to x.bytes) told)
     → IfOk result (λ told. DeliversAt old new k (Some x) told)
 delivers_so (Err fault) old new k x seen at reached taken = tt
 delivers_so (Ok told) old new k x seen at reached taken =

@@ -24,8 +24,8 @@ use Rattle.trdp_model.specs.Alone.{refused_as, plain_effect}
 use Rattle.trdp_model.specs.NodeModels.{opened_model}
 use Rattle.trdp_net.specs.Networks.{NetNode, net_node, place_of, Sent, Move, Network, Step, CallAt}
 use Rattle.trdp_net.specs.Networks.{MomentAt, TopologyAt, RoleAt, DeliveryAt, AddSlotAt, effect_in}
-use Rattle.trdp_net.specs.Networks.{slots_after}
-use Rattle.trdp_net.specs.Networks.{node_after, sends_of, sent_by, moves, moves_unless, moves_at}
+use Rattle.trdp_net.specs.Networks.{plain_slots}
+use Rattle.trdp_net.specs.Networks.{plain_node, sends_of, sent_by, moves, moves_unless, moves_at}
 use Rattle.trdp_net.specs.Networks.{is_group, reaches, delivered, network_step, network_run}
 use Rattle.trdp_net.specs.Networks.{opened_network}
 use Rattle.trdp_net.specs.Provenance.{Ever, Always, In, IsReplied, IsAnsweredBySome}
@@ -111,7 +111,7 @@ move_kept : (w : Network) (k : ℕ) (node : NetNode) (event : EventModel)
     → IsTypedMove (record { node = k; before = node; event = event }) w.history
     → NetworkKept w → NetworkKept (moves w k node event)
 move_kept w k node event is sent typed h = record {
-  nodes = λ j after at. node_at j after (set_get w.nodes k (node_after node event) j after at);
+  nodes = λ j after at. node_at j after (set_get w.nodes k (plain_node node event) j after at);
   sent =
       each_append (SentKept (m ∷ w.history)) w.sent
       (sent_by node.setup node.globals event zero node.slots)
@@ -119,7 +119,7 @@ move_kept w k node event is sent typed h = record {
       (λ x kept. sent_later x.protocol w.history m x.from x.to x.bytes kept) h.sent)
       (all_sent w.history m zero node.slots told_at);
   always = (λ s slot at. (one s slot at).tells, h.always);
-  single = λ j after at. single_at j after (set_get w.nodes k (node_after node event) j after at);
+  single = λ j after at. single_at j after (set_get w.nodes k (plain_node node event) j after at);
   were_single = (h.single k node is, h.were_single);
 }
   where
@@ -143,20 +143,20 @@ move_kept w k node event is sent typed h = record {
         e (one j slot at).tells
 
     single_at : (j : ℕ) (after : NetNode)
-        → ((j ≡ k) × (node_after node event ≡ after)) ⊎ (slice_get w.nodes j ≡ Some after)
+        → ((j ≡ k) × (plain_node node event ≡ after)) ⊎ (slice_get w.nodes j ≡ Some after)
         → is_group after.setup.address ≡ false
     single_at j after (inl same) =
         subst (λ (x : NetNode). is_group x.setup.address ≡ false) same.1 (h.single k node is)
     single_at j after (inr was) = h.single j after was
 
-    moved : NodeKept (m ∷ w.history) k (node_after node event)
+    moved : NodeKept (m ∷ w.history) k (plain_node node event)
     moved s after at =
         either s after
-        (get_append (slots_after node.setup node.globals event zero node.slots) (opened_by event) s
+        (get_append (plain_slots node.setup node.globals event zero node.slots) (opened_by event) s
         after at)
       where
         either : (s : ℕ) (after : SlotState)
-            → (slice_get (slots_after node.setup node.globals event zero node.slots) s ≡ Some after)
+            → (slice_get (plain_slots node.setup node.globals event zero node.slots) s ≡ Some after)
             ⊎ In after (opened_by event)
             → Each (EntryKept (m ∷ w.history) node.setup k s) after.objects
         either s after (inr new) =
@@ -172,7 +172,7 @@ move_kept w k node event is sent typed h = record {
             is_after (one s was.0 was.1).objects
 
     node_at : (j : ℕ) (after : NetNode)
-        → ((j ≡ k) × (node_after node event ≡ after)) ⊎ (slice_get w.nodes j ≡ Some after)
+        → ((j ≡ k) × (plain_node node event ≡ after)) ⊎ (slice_get w.nodes j ≡ Some after)
         → NodeKept (m ∷ w.history) j after
     node_at j after (inl same) =
         subst (λ (i : ℕ). NodeKept (m ∷ w.history) i after) (sym same.0)

@@ -17,7 +17,7 @@ use Rattle.trdp_model.specs.Alone.{plain_effect}
 use Rattle.std.proofs.Common.{add-one}
 use Rattle.std.proofs.lemmas.Option.{same_Some}
 use Rattle.trdp_net.specs.Networks.{Sent, place_of, sends_of, sent_by}
-use Rattle.trdp_net.specs.Tellings.{place_at, IsHome, sends_from, sent_in_slot, sent_in_slots}
+use Rattle.trdp_net.specs.Tellings.{place_at, IsOwnHome, sends_from, sent_in_slot, sent_in_slots}
 use Rattle.trdp_net.specs.Tellings.{sent_in, all_sent, latest, sought_past, SoughtIn}
 use Rattle.trdp_net.specs.declared.told.Home.{Home}
 use Rattle.trdp_net.specs.declared.told.Sought.{Sought}
@@ -134,7 +134,7 @@ latest_at (first ∷ rest) told at =
     last_at first rest told (subst (λ (n : ℕ). slice_get (first ∷ rest) n ≡ Some told) e at)
 
 -- the telegrams among records of a node, by its place or by its configuration
-sends_same : (home : Home) (setup : NodeSetup) → IsHome home setup → (records : List Content)
+sends_same : (home : Home) (setup : NodeSetup) → IsOwnHome home setup → (records : List Content)
     → sends_from home records ≡ sends_of setup records
 sends_same home setup is [] = refl
 sends_same home setup is (Answers answer ∷ records) = sends_same home setup is records
@@ -152,7 +152,7 @@ sends_same home setup is (Sends protocol to bytes ∷ records) =
 
 -- what a node sends at an event, of its records
 pub slots_sent : (home : Home) (setup : NodeSetup) (globals : Globals) (event : EventModel)
-    (records : List RecordModel) → IsHome home setup → (s : ℕ) (slots : List SlotState)
+    (records : List RecordModel) → IsOwnHome home setup → (s : ℕ) (slots : List SlotState)
     → ((j : ℕ) (slot : SlotState) → slice_get slots j ≡ Some slot
     → records_of (s + j) records ≡ (plain_effect setup (s + j) slot globals event).records)
     → sent_in_slots home records s (length slots) ≡ sent_by setup globals event s slots

@@ -9,7 +9,7 @@ use Rattle.trdp_model.specs.Slots.{SlotState}
 use Rattle.trdp_net.specs.Networks.{Move}
 use Rattle.trdp_net.specs.Provenance.{In, Gives}
 use Rattle.trdp_net.specs.Promises.{told_in}
-use Rattle.trdp_net.specs.Example.{Turn, turn_of, turns_of, WasTold}
+use Rattle.trdp_net.specs.Example.{ToldAtMove, turn_of, turns_of, WasTold}
 
 -- the item at a number is one of the list
 pub get_in : {A : Type 0} (xs : List A) (i : ℕ) (x : A) → slice_get xs i ≡ Some x → In x xs
@@ -38,7 +38,7 @@ given m (Some slot) told content found_is told_is is = record {
 }
 
 -- what a turn of the history tells was told
-pub was_told : (past : List Move) (turn : Turn) (content : Content)
+pub was_told : (past : List Move) (turn : ToldAtMove) (content : Content)
     → In turn (turns_of past) → In content turn.told → WasTold turn.node 0 content past
 was_told [] turn content is there = absurd is
 was_told (m ∷ past) turn content is there =

@@ -22,8 +22,8 @@ use Rattle.trdp_model.specs.Alone.{opened_by}
 use Rattle.trdp_model.specs.Slots.{Entry, SlotState}
 use Rattle.trdp_model.specs.Alone.{refused_as, plain_effect}
 use Rattle.trdp_net.specs.Networks.{NetNode, place_of, Sent, Network, Step, CallAt, MomentAt}
-use Rattle.trdp_net.specs.Networks.{TopologyAt, RoleAt, DeliveryAt, AddSlotAt, node_after}
-use Rattle.trdp_net.specs.Networks.{sends_of, slots_after}
+use Rattle.trdp_net.specs.Networks.{TopologyAt, RoleAt, DeliveryAt, AddSlotAt, plain_node}
+use Rattle.trdp_net.specs.Networks.{sends_of, plain_slots}
 use Rattle.trdp_net.specs.Networks.{sent_by, moves, moves_unless, moves_at, reaches, delivered}
 use Rattle.trdp_net.specs.Networks.{network_step, network_run, opened_network}
 use Rattle.trdp_net.specs.Provenance.{Always, In}
@@ -104,21 +104,21 @@ move_typed : (w : Network) (k : ℕ) (node : NetNode) (event : EventModel)
     → slice_get w.nodes k ≡ Some node → IsTypedEvent event → NetworkTyped w
     → NetworkTyped (moves w k node event)
 move_typed w k node event is e h = record {
-  nodes = λ j after at. node_at j after (set_get w.nodes k (node_after node event) j after at);
+  nodes = λ j after at. node_at j after (set_get w.nodes k (plain_node node event) j after at);
   sent =
       each_append SentTyped w.sent (sent_by node.setup node.globals event zero node.slots) h.sent
       (all_typed node.setup node.globals event zero node.slots e (h.nodes k node is));
   always = (record { objects = h.nodes k node is; event = event_typed event e }, h.always);
 }
   where
-    moved : NodeTyped (node_after node event)
+    moved : NodeTyped (plain_node node event)
     moved s after at =
         either s after
-        (get_append (slots_after node.setup node.globals event zero node.slots) (opened_by event) s
+        (get_append (plain_slots node.setup node.globals event zero node.slots) (opened_by event) s
         after at)
       where
         either : (s : ℕ) (after : SlotState)
-            → (slice_get (slots_after node.setup node.globals event zero node.slots) s ≡ Some after)
+            → (slice_get (plain_slots node.setup node.globals event zero node.slots) s ≡ Some after)
             ⊎ In after (opened_by event) → Each IsTypedEntry after.objects
         either s after (inr new) =
             subst (λ (es : List Entry). Each IsTypedEntry es)
@@ -130,7 +130,7 @@ move_typed w k node event is e h = record {
             (h.nodes k node is s was.0 was.1)).objects
 
     node_at : (j : ℕ) (after : NetNode)
-        → ((j ≡ k) × (node_after node event ≡ after)) ⊎ (slice_get w.nodes j ≡ Some after)
+        → ((j ≡ k) × (plain_node node event ≡ after)) ⊎ (slice_get w.nodes j ≡ Some after)
         → NodeTyped after
     node_at j after (inl same) = subst (λ (x : NetNode). NodeTyped x) same.1 moved
     node_at j after (inr was) = h.nodes j after was

@@ -98,31 +98,32 @@ abbrev pub example_history : List Move
 example_history = history example_configs example_steps
 
 -- the node of a step
-abbrev pub node_of : Step → ℕ
-node_of (CallAt node slot call) = node
-node_of (MomentAt node t) = node
-node_of (TopologyAt node topo) = node
-node_of (RoleAt node group leader) = node
-node_of (DeliveryAt node which) = node
-node_of (AddSlotAt node quotas) = node
+abbrev pub node_of_step : Step → ℕ
+node_of_step (CallAt node slot call) = node
+node_of_step (MomentAt node t) = node
+node_of_step (TopologyAt node topo) = node
+node_of_step (RoleAt node group leader) = node
+node_of_step (DeliveryAt node which) = node
+node_of_step (AddSlotAt node quotas) = node
 
 -- what slot 0 of a node was told at a move of it
-pub record Turn : Type 0 where
+pub record ToldAtMove : Type 0 where
   pub node : ℕ
   pub told : List Content
 
-abbrev pub turn_of : Move → Turn
+abbrev pub turn_of : Move → ToldAtMove
 turn_of m = record { node = m.node; told = told_in 0 m (slice_get m.before.slots 0) }
 
 -- the same of each move of a history, the first move first
-abbrev pub turns_of : List Move → List Turn
+abbrev pub turns_of : List Move → List ToldAtMove
 turns_of [] = []
 turns_of (m ∷ past) = turns_of past ++ turn_of m ∷ []
 
 -- what the rows say
-abbrev pub turns_in : List Row → List Turn
+abbrev pub turns_in : List Row → List ToldAtMove
 turns_in rows =
-    map (λ row. let t : Turn = record { node = node_of row.step; told = row.told } in t) rows
+    map (λ row. let t : ToldAtMove = record { node = node_of_step row.step; told = row.told } in t)
+    rows
 
 -- a telegram that was sent
 abbrev pub telegram : Protocol → Place → Place → List ℕ → Sent

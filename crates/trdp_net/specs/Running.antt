@@ -11,7 +11,7 @@ use Rattle.trdp_model.specs.Events.{AddSlotIs}
 use Rattle.trdp_model.specs.Alone.{refused_as, told_opening}
 use Rattle.trdp_net.specs.Networks.{NetNode, Sent, Move, Network, Step, CallAt, MomentAt}
 use Rattle.trdp_net.specs.Networks.{TopologyAt, RoleAt, DeliveryAt, AddSlotAt, place_of}
-use Rattle.trdp_net.specs.Networks.{node_after, sent_by, reaches, network_step}
+use Rattle.trdp_net.specs.Networks.{plain_node, sent_by, reaches, network_step}
 use Rattle.trdp_net.specs.Promises.{told_in}
 use Rattle.trdp_net.specs.Tellings.{sent_in}
 use Rattle.trdp_net.specs.declared.told.Told.{Told}
@@ -82,28 +82,28 @@ abbrev pub MayFault : Option NetworkFault → NetworkFault → Type 0
 MayFault cause fault = (cause ≡ Some fault) ⊎ (fault ≡ Node OutOfMemory)
 
 -- the node takes the event and tells this
-pub record Takes (old new : NetNode) (event : EventModel) (told : Told) : Type 0 where
+pub record TakesEvent (old new : NetNode) (event : EventModel) (told : Told) : Type 0 where
   pub admitted : refused_as (length old.slots) old.globals event ≡ None
-  pub node : new ≡ node_after old event
+  pub node : new ≡ plain_node old event
   pub sent : sent_in told ≡ sent_by old.setup old.globals event zero old.slots
   pub telling : (k : ℕ) → TellsLatest
       (record { node = k; before = old; event = event } ∷ []) told.out.records
 
 -- the node of that number takes the event and tells this, and no other node changes
-pub record TakesAt (old new : List NetNode) (k : ℕ) (event : EventModel) (told : Told)
+pub record TakesEventAt (old new : List NetNode) (k : ℕ) (event : EventModel) (told : Told)
     : Type 0 where
   pub before : NetNode
   pub before_is : slice_get old k ≡ Some before
   pub after : NetNode
   pub nodes : new ≡ slice_set old k after
-  pub takes : Takes before after event told
+  pub takes : TakesEvent before after event told
 
 -- the telegram was found, the node of that number is reached by it, and takes it
 pub record DeliversAt (old new : List NetNode) (k : ℕ) (found : Option Sent) (told : Told)
     : Type 0 where
   pub x : Sent
   pub x_is : found ≡ Some x
-  pub takes : TakesAt old new k (DatagramIs x.protocol x.from x.to x.bytes) told
+  pub takes : TakesEventAt old new k (DatagramIs x.protocol x.from x.to x.bytes) told
   pub reached : reaches x.to (place_of x.protocol takes.before.setup) ≡ true
 
 -- the answer to a step: its fault, and without one at most want of memory

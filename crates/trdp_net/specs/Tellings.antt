@@ -18,8 +18,8 @@ place_at Pd home = home.pd
 place_at Md home = home.md
 
 -- it is where a node of this configuration is
-abbrev pub IsHome : Home → NodeSetup → Type 0
-IsHome home setup = (protocol : Protocol) → place_at protocol home ≡ place_of protocol setup
+abbrev pub IsOwnHome : Home → NodeSetup → Type 0
+IsOwnHome home setup = (protocol : Protocol) → place_at protocol home ≡ place_of protocol setup
 
 -- a telegram, apart from where its bytes lie
 abbrev pub sent_model : AnySent → Sent

@@ -6,7 +6,8 @@ ghost use Rattle.trdp_model.specs.Events.{event_model, DatagramIs};
 ghost use Rattle.trdp_model.specs.Records.{record_model};
 ghost use Rattle.trdp_net.specs.Networks.{DeliveryAt, opened_network, moves_at};
 ghost use Rattle.trdp_net.specs.Networks.{Network as AnyNetwork};
-ghost use Rattle.trdp_net.specs.Running.{Shows, Follows, TakesAt, DeliversAt, MayFault, AnswerIs};
+ghost use Rattle.trdp_net.specs.Running.{Shows, Follows, TakesEventAt, DeliversAt, MayFault};
+ghost use Rattle.trdp_net.specs.Running.{AnswerIs};
 ghost use Rattle.trdp_net.specs.Running.{event_fault, delivery_fault, step_fault, FollowsIf};
 ghost use Rattle.trdp_net.specs.Running.{is_arrival, own_step_of, own_fault};
 ghost use Rattle.trdp_net.specs.Tellings.{sent_model};
@@ -51,7 +52,7 @@ fn take_at(
     alloc: Global,
     event: &Event<'_>,
 ) -> Result<Told, NetworkFault>
-    ensures taken { IfOk result (λ told. TakesAt stations.old.items stations.new.items node
+    ensures taken { IfOk result (λ told. TakesEventAt stations.old.items stations.new.items node
         (event_model event.now) told) }
     ensures kept { OnErr result (stations.new.items ≡ stations.old.items) }
     ensures fault { IfErr result (λ fault. MayFault
@@ -85,7 +86,7 @@ fn arrive(
     alloc: Global,
     sent: &Sent<'_>,
 ) -> Result<Told, NetworkFault>
-    ensures taken { IfOk result (λ told. TakesAt stations.old.items stations.new.items node
+    ensures taken { IfOk result (λ told. TakesEventAt stations.old.items stations.new.items node
         (DatagramIs sent.now.protocol sent.now.from sent.now.to sent.now.bytes.now) told) }
     ensures kept { OnErr result (stations.new.items ≡ stations.old.items) }
     ensures fault { IfErr result (λ fault. MayFault

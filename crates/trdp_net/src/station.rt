@@ -5,7 +5,7 @@ ghost use Rattle.trdp_model.specs.Alone.{refused_as};
 ghost use Rattle.trdp_model.specs.Events.{event_model};
 ghost use Rattle.trdp_model.specs.NodeModels.{opened_model};
 ghost use Rattle.trdp_net.specs.Networks.{net_node, place_of, reaches, is_group};
-ghost use Rattle.trdp_net.specs.Running.{Takes, MayFault, node_fault};
+ghost use Rattle.trdp_net.specs.Running.{TakesEvent, MayFault, node_fault};
 
 use crate::fault::NetworkFault;
 use crate::told::{Home, Sent, Told};
@@ -26,13 +26,13 @@ impl Model for Station {
     ghost use Rattle.trdp_model.specs.Configs.{setup_of};
     ghost use Rattle.trdp_engine.specs.NodeStates.{uncounted};
     ghost use Rattle.trdp_net.specs.Networks.{NetNode, net_node};
-    ghost use Rattle.trdp_net.specs.Tellings.{IsHome};
+    ghost use Rattle.trdp_net.specs.Tellings.{IsOwnHome};
 
     ghost Value = { NetNode };
 
     ghost view = { λ s. net_node (uncounted s.node) };
 
-    ghost invariant = { λ s. IsHome s.home (setup_of s.node.config) };
+    ghost invariant = { λ s. IsOwnHome s.home (setup_of s.node.config) };
 }
 
 /// A group address: 224.0.0.0 to 239.255.255.255.
@@ -77,7 +77,7 @@ impl Station {
     /// Those of [`Node::step`]; the node is as before.
     pub(crate) fn take(&mut self, alloc: Global, event: &Event<'_>) -> Result<Told, NetworkFault>
         ensures taken { IfOk result (λ told.
-            Takes self.old self.new (event_model event.now) told) }
+            TakesEvent self.old self.new (event_model event.now) told) }
         ensures kept { OnErr result (self.new ≡ self.old) }
         ensures fault { IfErr result (λ fault. MayFault (node_fault
             (refused_as (length self.old.slots) self.old.globals (event_model event.now)))

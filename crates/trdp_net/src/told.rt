@@ -3,7 +3,7 @@
 ghost use Rattle.std.specs.Prelude.{◌≡◌, ◌∷◌, [], slice_get, option_map, option_to_list};
 ghost use Rattle.trdp_model.specs.Configs.{setup_of};
 ghost use Rattle.trdp_model.specs.Records.{record_model};
-ghost use Rattle.trdp_net.specs.Tellings.{place_at, IsHome, SoughtIn, sends_from};
+ghost use Rattle.trdp_net.specs.Tellings.{place_at, IsOwnHome, SoughtIn, sends_from};
 ghost use Rattle.trdp_net.specs.Tellings.{sent_in_slot, sent_in};
 ghost use Rattle.trdp_net.specs.Tellings.{all_sent, sent_model, latest};
 
@@ -21,7 +21,7 @@ pub(crate) struct Home {
 impl Home {
     /// Where a node of that configuration is.
     pub(crate) fn of(config: &NodeConfig) -> Home
-        ensures { IsHome result (setup_of config.now) }
+        ensures { IsOwnHome result (setup_of config.now) }
     {
         let ip = config.address();
         Home {

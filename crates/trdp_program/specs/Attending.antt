@@ -30,7 +30,7 @@ pub record WritesLines (config : ConfigModel) (old new : Option (List ℕ)) : Ty
   pub written : Appends old new (lines_of_totals told)
 
 -- a front of the lines of such totals was written
-pub record WritesFront (config : ConfigModel) (old new : Option (List ℕ)) : Type 0 where
+pub record WritesFrontOfLines (config : ConfigModel) (old new : Option (List ℕ)) : Type 0 where
   pub told : List Totals
   pub counted : AreCounted config told
   pub written : PartlyWrites old new (lines_of_totals told)
@@ -39,7 +39,7 @@ pub record WritesFront (config : ConfigModel) (old new : Option (List ℕ)) : Ty
 abbrev pub WritesUpTo : ServeFault → ConfigModel → Option (List ℕ) → Option (List ℕ) → Type 0
 WritesUpTo Bind config old new = Keeps old new
 WritesUpTo OutOfMemory config old new = WritesLines config old new
-WritesUpTo Write config old new = WritesFront config old new
+WritesUpTo Write config old new = WritesFrontOfLines config old new
 
 -- the bytes are a configuration, whose node took all turns that can be counted: the status is 0,
 -- lines of its totals were written, and the error stream is told nothing

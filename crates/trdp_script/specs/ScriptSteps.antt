@@ -63,7 +63,7 @@ going s = record { node = node_of s.player; line = s.line.items; number = s.numb
 
 -- bytes were taken: the lines that have their end in them have no fault, and their events were
 -- played and told; what comes later means the same
-pub record Takes (old new : Going) (bytes text : List ℕ) : Type 0 where
+pub record TakesBytes (old new : Going) (bytes text : List ℕ) : Type 0 where
   pub ended : List (List ℕ)
   pub lines_are : (later : List ℕ)
       → lines (old.line ++ (bytes ++ later)) ≡ ended ++ lines (new.line ++ later)
@@ -76,7 +76,7 @@ pub record Takes (old new : Going) (bytes text : List ℕ) : Type 0 where
 -- bytes were taken, and what is told of them went on its way; what the writer holds is v, then w
 pub record Plays (old new : Script) (v w : Option (List ℕ)) (bytes : List ℕ) : Type 0 where
   pub text : List ℕ
-  pub taken : Takes (going old) (going new) bytes text
+  pub taken : TakesBytes (going old) (going new) bytes text
   pub passed : PassesOn v w old.player.output.items new.player.output.items text
 
 -- the rest of the input was played to its end

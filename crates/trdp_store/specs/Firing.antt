@@ -8,9 +8,10 @@ use Rattle.trdp_store.specs.declared.sought.Sought.{Sought}
 use Rattle.trdp_store.specs.Acting.{slot_at}
 
 -- it fires before all of these
-abbrev pub AllAfter : Entry → List Entry → Type 0
-AllAfter entry [] = Unit {0}
-AllAfter entry (other ∷ others) = (fires_before entry other ≡ true) × AllAfter entry others
+abbrev pub FiresBeforeAll : Entry → List Entry → Type 0
+FiresBeforeAll entry [] = Unit {0}
+FiresBeforeAll entry (other ∷ others) = (fires_before entry other ≡ true)
+    × FiresBeforeAll entry others
 
 -- the object fires first of all that are due
 pub record FiresFirst (t : ℕ) (objects : List Entry) (entry : Entry) : Type 0 where
@@ -18,8 +19,8 @@ pub record FiresFirst (t : ℕ) (objects : List Entry) (entry : Entry) : Type 0 
   pub after : List Entry
   pub split : objects ≡ before ++ entry ∷ after
   pub due : is_due t entry ≡ true
-  pub first_before : AllAfter entry (filter (is_due t) before)
-  pub first_after : AllAfter entry (filter (is_due t) after)
+  pub first_before : FiresBeforeAll entry (filter (is_due t) before)
+  pub first_after : FiresBeforeAll entry (filter (is_due t) after)
 
 -- the object of the handle fires next of those that are due
 abbrev pub IsNext : ℕ → List Entry → ℕ → Type 0

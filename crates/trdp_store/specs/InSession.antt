@@ -19,15 +19,15 @@ use Rattle.trdp_model.specs.Slots.{Entry}
 use Rattle.trdp_model.specs.Requests.{has_session}
 
 -- the session of a caller or replier, and what it is there
-abbrev pub session_of : AnyObject → Option (SessionId × Role)
-session_of (Caller c) = Some (c.terms.session, AsCaller)
-session_of (Replier r) = Some (r.session, AsReplier)
-session_of object = None
+abbrev pub own_session : AnyObject → Option (SessionId × Role)
+own_session (Caller c) = Some (c.terms.session, AsCaller)
+own_session (Replier r) = Some (r.session, AsReplier)
+own_session object = None
 
 -- the same of an object that there may be
 abbrev pub session_found : Option Keyed → Option (SessionId × Role)
 session_found None = None
-session_found (Some keyed) = session_of keyed.object
+session_found (Some keyed) = own_session keyed.object
 
 -- the same of a slot's object of a handle
 abbrev pub session_in : ℕ → ℕ → TableState → Option (SessionId × Role)
@@ -41,25 +41,25 @@ kind_as AsReplier = Replying
 -- none of a slot's objects is in the session of a new object in its role
 abbrev pub IsNewInSession : AnyObject → List Entry → Type 0
 IsNewInSession object objects =
-    IfSome (session_of object) (λ own. has_session (kind_as own.1) own.0 objects ≡ false)
+    IfSome (own_session object) (λ own. has_session (kind_as own.1) own.0 objects ≡ false)
 
 -- how many of these objects are in a session
 abbrev pub sessions_in : List Keyed → ℕ
-sessions_in objects = count_by (λ keyed. is_some (session_of keyed.object)) objects
+sessions_in objects = count_by (λ keyed. is_some (own_session keyed.object)) objects
 
 -- one of these objects is in the session in the role, and has the key
 pub record HasPart (objects : List Keyed) (own : SessionId × Role) (key : ℕ) : Type 0 where
   pub handle : ℕ
   pub keyed : Keyed
   pub found : by_handle handle objects ≡ Some keyed
-  pub session : session_of keyed.object ≡ Some own
+  pub session : own_session keyed.object ≡ Some own
   pub key_is : keyed.key ≡ key
 
 -- each of these objects of slot s that is in a session has its key in the index, and each key that
 -- the index has for the slot is that of such an object
 pub record AreInSession (s : ℕ) (objects : List Keyed) (rows : List SessionRow) : Type 0 where
   pub held : (handle : ℕ) (keyed : Keyed) (own : SessionId × Role)
-      → by_handle handle objects ≡ Some keyed → session_of keyed.object ≡ Some own
+      → by_handle handle objects ≡ Some keyed → own_session keyed.object ≡ Some own
       → session_key own.0 s own.1 rows ≡ Some keyed.key
   pub there : (key : ℕ) (own : SessionId × Role)
       → session_key own.0 s own.1 rows ≡ Some key → HasPart objects own key

@@ -6,7 +6,7 @@ use Rattle.trdp_model.specs.declared.any_object.AnyObject.TheVariants.{Publisher
 use Rattle.trdp_model.specs.declared.any_object.AnyObject.TheVariants.{Listener}
 use Rattle.trdp_table.specs.Tables.{Keyed, TableState, room_of}
 use Rattle.trdp_index.specs.declared.com_row.ComRow.{ComRow}
-use Rattle.trdp_index.specs.Rows.{with_row, without}
+use Rattle.trdp_index.specs.Rows.{with_row, without_rank}
 use Rattle.trdp_index.specs.ComRows.{com_rank, com_row_rank, is_same_com, run_of}
 use Rattle.trdp_index.specs.ComIndexes.{ComIndexState}
 
@@ -74,7 +74,7 @@ run_with (Some own) slot handle key com_id rows =
 -- without the row of an object, if telegrams look for it by comId
 abbrev pub run_without : Option (Option ℕ) → ℕ → ℕ → List ComRow → List ComRow
 run_without None slot handle rows = rows
-run_without (Some own) slot handle rows = without com_row_rank (com_rank own slot handle) rows
+run_without (Some own) slot handle rows = without_rank com_row_rank (com_rank own slot handle) rows
 
 -- one, where there is one
 abbrev pub one_if_some : {X : Type 0} → Option X → ℕ

@@ -56,13 +56,13 @@ pub record IsKeptSchedule (before after : ScheduleState) : Type 0 where
   pub bytes_room : length before.bytes ≤ length after.bytes
 
 -- when an object of a slot acts that has this due moment, if it has one
-abbrev pub order_at : ℕ → ℕ → Option ℕ → Option Order
-order_at s handle None = None
-order_at s handle (Some due) = Some (record { due = due; slot = s; handle = handle })
+abbrev pub due_order : ℕ → ℕ → Option ℕ → Option Order
+due_order s handle None = None
+due_order s handle (Some due) = Some (record { due = due; slot = s; handle = handle })
 
 -- when an object of slot s acts
 abbrev pub order_of : ℕ → Keyed → Option Order
-order_of s keyed = order_at s keyed.handle (due_of keyed.object)
+order_of s keyed = due_order s keyed.handle (due_of keyed.object)
 
 -- the same moment, or both never
 abbrev pub is_same_due : Option ℕ → Option ℕ → Bool

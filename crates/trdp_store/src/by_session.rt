@@ -6,7 +6,7 @@ ghost use Rattle.trdp_base.specs.declared.session.SessionId.{SessionId};
 ghost use Rattle.trdp_index.specs.declared.session_row.Role.{Role};
 ghost use Rattle.trdp_index.specs.SessionRows.{session_key};
 ghost use Rattle.trdp_store.specs.Indexed.{one_if_some};
-ghost use Rattle.trdp_store.specs.InSession.{session_of, key_with, key_without};
+ghost use Rattle.trdp_store.specs.InSession.{own_session, key_with, key_without};
 
 use trdp_base::SessionId;
 use trdp_index::{Role, SessionIndex};
@@ -14,7 +14,7 @@ use trdp_model::AnyObject;
 
 /// The session of a caller or replier, and what it is there; None for all others.
 pub fn session_of(object: &AnyObject) -> Option<(SessionId, Role)>
-    ensures { result ≡ session_of object.now }
+    ensures { result ≡ own_session object.now }
 {
     match object {
         AnyObject::Caller(caller) => Some((caller.session(), Role::Caller)),

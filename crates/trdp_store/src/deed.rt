@@ -10,7 +10,7 @@ ghost use Rattle.trdp_model.specs.Records.{labelled};
 ghost use Rattle.trdp_outbox.specs.Outboxes.{OutboxState};
 ghost use Rattle.trdp_store.specs.Deeds.{left_of};
 ghost use Rattle.trdp_store.specs.Indexed.{com_of};
-ghost use Rattle.trdp_store.specs.InSession.{session_of};
+ghost use Rattle.trdp_store.specs.InSession.{own_session};
 ghost use Rattle.trdp_store.specs.Timed.{IsOver};
 
 use trdp_model::AnyObject;
@@ -49,7 +49,7 @@ pub trait Deed {
         ensures spends { spends self.now object.old out.old out.new }
         ensures kind { kind_of object.new ≡ kind_of object.old }
         ensures sought { com_of object.new ≡ com_of object.old }
-        ensures session { session_of object.new ≡ session_of object.old }
+        ensures session { own_session object.new ≡ own_session object.old }
         ensures over { result ≡ Left.Ended → ends_still self.now
             → IsOver (due_of object.old) (due_of object.new) };
 }

@@ -7,7 +7,7 @@ ghost use Rattle.std.specs.Prelude.{count_by, is_some};
 ghost use Rattle.trdp_table.specs.TableLaws.{object_limit};
 ghost use Rattle.trdp_timers.specs.Orders.{is_due_by};
 ghost use Rattle.trdp_timers.specs.Contents.{due_sizes, IsUnset};
-ghost use Rattle.trdp_store.specs.Timed.{empty_schedule, order_at, is_same_due};
+ghost use Rattle.trdp_store.specs.Timed.{empty_schedule, due_order, is_same_due};
 ghost use Rattle.trdp_store.specs.Timed.{IsKeptSchedule, IsNoneDue, IsFirstDue, IsSoonest};
 ghost use Rattle.trdp_outbox.specs.Rooms.{room_rows_limit, room_bytes_limit};
 
@@ -135,7 +135,7 @@ impl Schedule {
     pub fn set(&mut self, key: usize, slot: u16, handle: u32, due: Option<u64>) -> u64
         requires { key < length self.old.orders }
         ensures orders { self.new.orders
-            ≡ slice_set self.old.orders key (order_at slot handle due) }
+            ≡ slice_set self.old.orders key (due_order slot handle due) }
         ensures rows { self.new.rows ≡ self.old.rows }
         ensures bytes { self.new.bytes ≡ self.old.bytes }
         ensures cost { (b : ℕ) → count_by is_some self.old.orders < 2 ^ b
@@ -160,9 +160,9 @@ impl Schedule {
         due: Option<u64>,
     ) -> u64
         requires key { key < length self.old.orders }
-        requires before { slice_index_or self.old.orders key None ≡ order_at slot handle before }
+        requires before { slice_index_or self.old.orders key None ≡ due_order slot handle before }
         ensures orders { self.new.orders
-            ≡ slice_set self.old.orders key (order_at slot handle due) }
+            ≡ slice_set self.old.orders key (due_order slot handle due) }
         ensures rows { self.new.rows ≡ self.old.rows }
         ensures bytes { self.new.bytes ≡ self.old.bytes }
         ensures cost { (b : ℕ) → count_by is_some self.old.orders < 2 ^ b

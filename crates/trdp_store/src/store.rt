@@ -9,7 +9,7 @@ ghost use Rattle.trdp_model.specs.Kinds.{kind_of};
 ghost use Rattle.trdp_model.specs.Objects.{due_of};
 ghost use Rattle.trdp_table.specs.Tables.{Keyed, opened_slot, slot_in};
 ghost use Rattle.trdp_model.specs.Slots.{slot_limit};
-ghost use Rattle.trdp_table.specs.Tables.{by_handle, Adds, changed_at, without};
+ghost use Rattle.trdp_table.specs.Tables.{by_handle, Adds, changed_at, without_handle};
 ghost use Rattle.trdp_table.specs.Tables.{all_objects, by_key, room_of};
 ghost use Rattle.trdp_table.specs.TableLaws.{object_limit};
 ghost use Rattle.trdp_model.specs.Slots.{entry_under};
@@ -25,7 +25,7 @@ ghost use Rattle.trdp_store.specs.Indexed.{com_found, rows_from};
 ghost use Rattle.trdp_base.specs.declared.session.SessionId.{SessionId};
 ghost use Rattle.trdp_index.specs.declared.session_row.Role.{Role};
 ghost use Rattle.trdp_model.specs.Requests.{has_session};
-ghost use Rattle.trdp_store.specs.InSession.{session_of, session_in, session_found, kind_as};
+ghost use Rattle.trdp_store.specs.InSession.{own_session, session_in, session_found, kind_as};
 ghost use Rattle.trdp_store.specs.InSession.{IsNewInSession, HasPart};
 ghost use Rattle.trdp_store.specs.Counting.{compared_for, looked_up_for};
 
@@ -132,7 +132,7 @@ impl Store {
             (by_handle found.0 (slot_in slot self.now).objects)) }
         ensures alone { (index : ℕ) (keyed : Keyed)
             → slice_get (slot_in slot self.now).objects index ≡ Some keyed
-            → session_of keyed.object ≡ Some (session, role)
+            → own_session keyed.object ≡ Some (session, role)
             → option_map (λ found. found.0) result ≡ Some keyed.handle }
     {
         self.table.sound();
@@ -209,7 +209,7 @@ impl Store {
         requires slot { slot < length self.old }
         requires key { option_map (λ keyed. keyed.key)
             (by_handle handle (slot_in slot self.old).objects) ≡ Some key }
-        ensures table { self.new ≡ changed_at slot (without handle) self.old }
+        ensures table { self.new ≡ changed_at slot (without_handle handle) self.old }
         ensures cost { (b : ℕ) → room_of self.old < 2 ^ b → result ≤ 2 * b + 2 }
         ensures idle { (keyed : Keyed)
             → by_handle handle (slot_in slot self.old).objects ≡ Some keyed

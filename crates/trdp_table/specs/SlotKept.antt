@@ -8,12 +8,12 @@ use Rattle.trdp_table.specs.Tables.{all_quotas}
 use Rattle.trdp_table.specs.Entries.{SlotEntries, AreSlotEntries, entries_of, entry_of}
 
 -- the numbers by kind are those of the slot's entries, and the list has room for all
-pub record IsKept (slot : SlotEntries) (numbers : List ℕ) (capacity : ℕ) : Type 0 where
+pub record IsKeptSlot (slot : SlotEntries) (numbers : List ℕ) (capacity : ℕ) : Type 0 where
   pub sound : AreSlotEntries slot
   pub counted : (kind : Kind) → slice_index numbers (kind_index kind) ≡ entries_of kind slot.entries
   pub room : all_quotas slot.quotas ≤ capacity
 
 -- the index in the list of the entry of a handle
-pub record IsIndexOf (handle : ℕ) (entries : List Entry) (i : ℕ) : Type 0 where
+pub record IsIndexOfHandle (handle : ℕ) (entries : List Entry) (i : ℕ) : Type 0 where
   pub within : i < length entries
   pub found : slice_get entries i ≡ entry_of handle entries

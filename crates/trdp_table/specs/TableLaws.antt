@@ -20,9 +20,9 @@ AllBelow h [] = Unit {0}
 AllBelow h (keyed ∷ others) = (keyed.handle < h) × AllBelow h others
 
 -- the handles rise
-abbrev pub IsRising : List Keyed → Type 0
-IsRising [] = Unit {0}
-IsRising (keyed ∷ others) = AllAbove keyed.handle others × IsRising others
+abbrev pub HandlesRise : List Keyed → Type 0
+HandlesRise [] = Unit {0}
+HandlesRise (keyed ∷ others) = AllAbove keyed.handle others × HandlesRise others
 
 -- no quota is above the limit
 abbrev pub AreLimited : List ℕ → Type 0
@@ -35,7 +35,7 @@ object_limit = 1536
 -- a slot's handles rise and are below the next one, and its objects are within their quotas
 pub record IsSlotTable (slot : SlotTable) : Type 0 where
   pub handles : slot.next ≤ 4294967296
-  pub rising : IsRising slot.objects
+  pub rising : HandlesRise slot.objects
   pub below : AllBelow slot.next slot.objects
   pub limited : AreLimited slot.quotas
   pub full : (kind : Kind)

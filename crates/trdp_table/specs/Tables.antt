@@ -86,8 +86,8 @@ with_object key object slot =
     }
 
 -- a slot without the object of a handle
-abbrev pub without : ℕ → SlotTable → SlotTable
-without handle slot =
+abbrev pub without_handle : ℕ → SlotTable → SlotTable
+without_handle handle slot =
     record slot { objects = filter (λ keyed. not (keyed.handle == handle)) slot.objects }
 
 -- a slot whose next handle is at least this

@@ -5,7 +5,7 @@ ghost use Rattle.trdp_table.specs.Tables.{last_handle, all_quotas};
 ghost use Rattle.trdp_table.specs.TableLaws.{AreLimited, object_limit};
 ghost use Rattle.trdp_table.specs.Entries.{opened_entries, refusal_of, entry_of, key_of};
 ghost use Rattle.trdp_table.specs.Entries.{with_entry, without_entry, with_next_handle};
-ghost use Rattle.trdp_table.specs.SlotKept.{IsIndexOf};
+ghost use Rattle.trdp_table.specs.SlotKept.{IsIndexOfHandle};
 
 use crate::counts::KindCounts;
 use crate::entry::Entry;
@@ -36,13 +36,13 @@ pub struct Slot {
 impl Model for Slot {
     ghost use Rattle.std.specs.Prelude.{vec_capacity};
     ghost use Rattle.trdp_table.specs.Entries.{SlotEntries};
-    ghost use Rattle.trdp_table.specs.SlotKept.{IsKept};
+    ghost use Rattle.trdp_table.specs.SlotKept.{IsKeptSlot};
 
     ghost Value = { SlotEntries };
 
     ghost view = { λ s. record { quotas = s.quotas; next = s.next; entries = s.entries.items } };
 
-    ghost invariant = { λ s. IsKept
+    ghost invariant = { λ s. IsKeptSlot
         (record { quotas = s.quotas; next = s.next; entries = s.entries.items })
         s.counts.numbers (vec_capacity s.entries) };
 }
@@ -96,7 +96,7 @@ impl Slot {
 
     /// The index of its object of that handle; None where there is none.
     fn index_of(&self, handle: u32) -> Option<usize>
-        ensures found { IfSome result (IsIndexOf handle self.now.entries) }
+        ensures found { IfSome result (IsIndexOfHandle handle self.now.entries) }
         ensures absent { result ≡ None → entry_of handle self.now.entries ≡ None }
     {
         index_of(&self.entries, handle)

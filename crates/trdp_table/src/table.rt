@@ -11,7 +11,8 @@ ghost use Rattle.trdp_model.specs.Kinds.{kind_of};
 ghost use Rattle.trdp_table.specs.Tables.{Keyed, opened_slot, slot_in, all_quotas};
 ghost use Rattle.trdp_model.specs.Slots.{slot_limit};
 ghost use Rattle.trdp_table.specs.Tables.{all_objects, by_handle, by_key, refusal, Adds};
-ghost use Rattle.trdp_table.specs.Tables.{changed_at, without, with_next, exchanged, room_of};
+ghost use Rattle.trdp_table.specs.Tables.{changed_at, without_handle, with_next, exchanged};
+ghost use Rattle.trdp_table.specs.Tables.{room_of};
 ghost use Rattle.trdp_table.specs.Tables.{with_other_by_handle};
 ghost use Rattle.trdp_table.specs.TableLaws.{AreLimited, object_limit, IsTable};
 ghost use Rattle.trdp_table.specs.Entries.{opened_entries};
@@ -257,7 +258,7 @@ impl Table {
         ensures object { result
             ≡ option_map (λ keyed. keyed.object)
             (by_handle handle (slot_in slot self.old).objects) }
-        ensures table { self.new ≡ changed_at slot (without handle) self.old }
+        ensures table { self.new ≡ changed_at slot (without_handle handle) self.old }
     {
         let key = self.slots[usize::from(slot)].remove(handle)?;
         let held = self.pool.remove(key);

@@ -35,7 +35,7 @@ use Rattle.trdp_store.specs.Acting.{slot_at}
 use Rattle.trdp_model.specs.Datagrams.{is_request, is_request_kind, is_listening, hearing}
 use Rattle.trdp_model.specs.Requests.{is_of_session}
 use Rattle.trdp_store.specs.Indexed.{is_listed, rows_in, rows_from}
-use Rattle.trdp_store.specs.InSession.{session_of, session_found, session_in}
+use Rattle.trdp_store.specs.InSession.{own_session, session_found, session_in}
 use Rattle.trdp_engine.specs.Sought.{sought_by, part_as, part_of, is_unasked}
 use Rattle.trdp_engine.specs.Sought.{comes_unasked, rows_heard, noted_listener}
 use Rattle.trdp_engine.specs.Costs.{is_that, is_of_com, is_any, is_of_any, is_meant_as}
@@ -249,7 +249,7 @@ asks_unasked (MdIs src dst t) is = by_kind t.head.kind is
 
 -- an object that is in a session
 of_session : (object : AnyObject) (own : SessionId × Role)
-    → session_of object ≡ Some own → is_of_session own.0 object ≡ true
+    → own_session object ≡ Some own → is_of_session own.0 object ≡ true
 of_session (Publisher p) own is = absurd (none-some own is)
 of_session (Subscription s) own is = absurd (none-some own is)
 of_session (Requester r) own is = absurd (none-some own is)
@@ -266,7 +266,7 @@ of_session (Replier r) own is =
     (same_Some its own is) self
 
 in_session : (object : AnyObject) (session : SessionId) (role : Role) (own : SessionId × Role)
-    → Some (session, role) ≡ Some own → session_of object ≡ Some own
+    → Some (session, role) ≡ Some own → own_session object ≡ Some own
     → is_of_session session object ≡ true
 in_session object session role own same of =
     let its : SessionId × Role = (session, role) in
@@ -274,7 +274,7 @@ in_session object session role own same of =
 
 -- a message that an object of that session awaits may be for it
 part_meant : (telegram : TelegramModel) (object : AnyObject) (own : SessionId × Role)
-    → part_of telegram ≡ Some own → session_of object ≡ Some own → is_meant telegram object ≡ true
+    → part_of telegram ≡ Some own → own_session object ≡ Some own → is_meant telegram object ≡ true
 part_meant (PdIs src dst t) object own part of = absurd (none-some own part)
 part_meant (MdIs src dst t) object own part of = by_kind t.head.kind part
   where
@@ -288,7 +288,7 @@ part_meant (MdIs src dst t) object own part of = by_kind t.head.kind part
     by_kind message.Error part = in_session object t.head.session AsCaller own part of
 
 part_one : (telegram : TelegramModel) (object : AnyObject) (own : SessionId × Role)
-    → part_of telegram ≡ Some own → session_of object ≡ Some own → meant_one telegram object ≡ 1
+    → part_of telegram ≡ Some own → own_session object ≡ Some own → meant_one telegram object ≡ 1
 unfolding meant_one
 part_one telegram object own part of = ap one_if (part_meant telegram object own part of)
 

@@ -28,7 +28,7 @@ use Rattle.trdp_model.specs.declared.any_object.AnyObject.TheVariants.{Caller, R
 use Rattle.trdp_model.specs.Kinds.{kind_of}
 use Rattle.trdp_model.specs.Objects.{is_addressed}
 use Rattle.trdp_table.specs.Tables.{Keyed, TableState, slot_in}
-use Rattle.trdp_table.specs.TableLaws.{AllAbove, IsRising, IsTable}
+use Rattle.trdp_table.specs.TableLaws.{AllAbove, HandlesRise, IsTable}
 use Rattle.trdp_index.specs.declared.session_row.Role.{Role}
 use Rattle.trdp_index.specs.declared.session_row.Role.TheVariants.{Caller as AsCaller}
 use Rattle.trdp_index.specs.declared.session_row.Role.TheVariants.{Replier as AsReplier}
@@ -39,7 +39,7 @@ use Rattle.trdp_model.specs.Datagrams.{is_for_entry, is_listening, acting}
 use Rattle.trdp_engine.specs.Noted.{Addressed}
 use Rattle.trdp_engine.specs.Noted.{noted_as}
 use Rattle.trdp_outbox.specs.Rooms.{kind_room, entries_room}
-use Rattle.trdp_store.specs.InSession.{session_of}
+use Rattle.trdp_store.specs.InSession.{own_session}
 use Rattle.trdp_engine.specs.Sought.{part_as, part_of}
 use Rattle.trdp_store.proofs.SessionLemmas.Keys.{same_session}
 use Rattle.trdp_engine.proofs.NoteLemmas.Noted.{same_room}
@@ -106,7 +106,7 @@ unasked_alone message.Error session own part is = absurd (false≢true is)
 -- an object that the message is for is in its session
 meant : (object : AnyObject) (telegram : TelegramModel) (globals : Globals) (own : SessionId × Role)
     → part_of telegram ≡ Some own → is_addressed object telegram globals ≡ true
-    → session_of object ≡ Some own
+    → own_session object ≡ Some own
 meant object (PdIs src dst t) globals own part for = absurd (none-some own part)
 meant (Publisher p) (MdIs src dst t) globals own part for = absurd (false≢true for)
 meant (Subscription s) (MdIs src dst t) globals own part for = absurd (false≢true for)
@@ -173,7 +173,7 @@ above_at h i [] k above at = absurd (none-some k at)
 above_at h zero (e ∷ es) k above at = subst (λ (x : Keyed). h < x.handle) (same_Some e k at) above.0
 above_at h (suc i) (e ∷ es) k above at = above_at h i es k above.1 at
 
-alone : (test : Entry → Bool) (h : ℕ) (es : List Keyed) → IsRising es → PassesAlone test h es
+alone : (test : Entry → Bool) (h : ℕ) (es : List Keyed) → HandlesRise es → PassesAlone test h es
     → filter test (map entry_of_keyed es) ≡ passing test (entry_under h (map entry_of_keyed es))
 alone test h [] rising only = refl
 alone test h (e ∷ es) rising only = either (e.handle == h) refl
@@ -201,7 +201,7 @@ alone test h (e ∷ es) rising only = either (e.handle == h) refl
 abbrev pub HandleTells : TableState → ℕ → SessionId × Role → Option ℕ → Type 0
 HandleTells table s own found =
     (index : ℕ) (keyed : Keyed) → slice_get (slot_in s table).objects index ≡ Some keyed
-    → session_of keyed.object ≡ Some own → found ≡ Some keyed.handle
+    → own_session keyed.object ≡ Some own → found ≡ Some keyed.handle
 
 -- Which objects of the slot act.
 

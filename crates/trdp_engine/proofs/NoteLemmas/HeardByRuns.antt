@@ -15,7 +15,7 @@ use Rattle.trdp_filter.specs.declared.globals.Globals.{Globals}
 use Rattle.trdp_filter.specs.Telegrams.{TelegramModel, MdIs}
 use Rattle.trdp_model.specs.Objects.{is_addressed}
 use Rattle.trdp_table.specs.Tables.{Keyed, TableState, slot_in}
-use Rattle.trdp_table.specs.TableLaws.{IsRising}
+use Rattle.trdp_table.specs.TableLaws.{HandlesRise}
 use Rattle.trdp_index.specs.declared.com_row.ComRow.{ComRow}
 use Rattle.trdp_store.specs.TableSlots.{entry_of_keyed}
 use Rattle.trdp_store.specs.Acting.{slot_at}
@@ -34,7 +34,7 @@ use Rattle.trdp_engine.proofs.NoteLemmas.FirstListeners.{first_listed, first_unl
 use Rattle.trdp_engine.proofs.NoteLemmas.FirstListeners.{first_passed, first_above}
 
 heard_in : (table : TableState) (s : ℕ) (src dst : Place)
-    (t : MdTelegram) (globals : Globals) (ks : List Keyed) → AllKeyed table ks → IsRising ks
+    (t : MdTelegram) (globals : Globals) (ks : List Keyed) → AllKeyed table ks → HandlesRise ks
     → earlier (first_in (MdIs src dst t) globals table s (rows_in s (Some t.head.com_id) ks))
     (first_in (MdIs src dst t) globals table s (rows_in s None ks))
     ≡ hearing (MdIs src dst t) globals (map entry_of_keyed ks)
@@ -111,7 +111,7 @@ heard_in table s src dst t globals (k ∷ ks) keyed rising =
 -- the listener of a slot that hears a message
 pub heard_by_runs :
     (table : TableState) (s : ℕ) (src dst : Place) (t : MdTelegram) (globals : Globals)
-    → AllKeyed table (slot_in s table).objects → IsRising (slot_in s table).objects
+    → AllKeyed table (slot_in s table).objects → HandlesRise (slot_in s table).objects
     → earlier (first_in (MdIs src dst t) globals table s (rows_from 0 (Some t.head.com_id) table))
     (first_in (MdIs src dst t) globals table s (rows_from 0 None table))
     ≡ hearing (MdIs src dst t) globals (slot_at s table).objects
@@ -222,7 +222,7 @@ none_noted (suc n) (suc s) = none_noted n s
 -- both runs tell who hears
 pub heard_by_both : (table : TableState) (s : ℕ)
     (src dst : Place) (t : MdTelegram) (globals : Globals) (tell : KeysTell table)
-    → IsRising (slot_in s table).objects → (none once twice : List (Option ℕ))
+    → HandlesRise (slot_in s table).objects → (none once twice : List (Option ℕ))
     → get_or none s None ≡ None → get_or once s None ≡ earlier (get_or none s None)
     (first_in (MdIs src dst t) globals table s (rows_from 0 (Some t.head.com_id) table))
     → get_or twice s None ≡ earlier (get_or once s None)

@@ -19,7 +19,7 @@ use Rattle.trdp_script.specs.Pieces.{IsBare}
 use Rattle.trdp_script.specs.ScriptText.{events_of, events_text, fault_from}
 use Rattle.trdp_model.specs.NodeModels.{nodes_after}
 use Rattle.trdp_script.specs.ScriptSteps.{node_of, Ends, Going, Plays, PlaysFirst, Stops}
-use Rattle.trdp_script.specs.ScriptSteps.{StopsWanting, Takes}
+use Rattle.trdp_script.specs.ScriptSteps.{StopsWanting, TakesBytes}
 use Rattle.trdp_script.specs.Wants.{NextMayWant}
 use Rattle.trdp_script.specs.Writes.{PassesOn, PassesSome}
 use Rattle.trdp_script.proofs.ScriptLemmas.Fronts.{ended_append, events_append, fault_append}
@@ -31,7 +31,7 @@ use Rattle.trdp_script.proofs.ScriptLemmas.Lines.{too_long_fault}
 use Rattle.trdp_script.proofs.PlayLemmas.Written.{passes_both, passes_some_after, passes_some_of}
 
 -- what comes later means the same
-pub later_fault : {old new : Going} {bytes text : List ℕ} (p : Takes old new bytes text)
+pub later_fault : {old new : Going} {bytes text : List ℕ} (p : TakesBytes old new bytes text)
     (later : List ℕ) → fault_from old.number (lines (old.line ++ (bytes ++ later)))
     ≡ fault_from new.number (lines (new.line ++ later))
 later_fault {old} {new} p later =
@@ -39,7 +39,7 @@ later_fault {old} {new} p later =
     ∙ fault_append old.number p.ended (lines (new.line ++ later)) p.no_fault
     ∙ ap (λ n. fault_from n (lines (new.line ++ later))) (sym p.number)
 
-pub later_events : {old new : Going} {bytes text : List ℕ} (p : Takes old new bytes text)
+pub later_events : {old new : Going} {bytes text : List ℕ} (p : TakesBytes old new bytes text)
     (later : List ℕ) → events_of (lines (old.line ++ (bytes ++ later)))
     ≡ events_of p.ended ++ events_of (lines (new.line ++ later))
 later_events {old} {new} p later =
@@ -48,7 +48,7 @@ later_events {old} {new} p later =
 
 -- what is told of some bytes and then of others
 pub text_joined : {old new : Going} {bytes text : List ℕ}
-    (p : Takes old new bytes text) (events : List EventModel)
+    (p : TakesBytes old new bytes text) (events : List EventModel)
     → events_text old.node (events_of p.ended ++ events) ≡ text ++ events_text new.node events
 text_joined {old} {new} {bytes} {text} p events =
     text_append old.node (events_of p.ended) events
@@ -57,7 +57,7 @@ text_joined {old} {new} {bytes} {text} p events =
 
 -- bytes that are taken one after another
 pub takes_both : {a b c : Going} {bs cs xs ys : List ℕ}
-    → Takes a b bs xs → Takes b c cs ys → Takes a c (bs ++ cs) (xs ++ ys)
+    → TakesBytes a b bs xs → TakesBytes b c cs ys → TakesBytes a c (bs ++ cs) (xs ++ ys)
 takes_both {a} {b} {c} {bs} {cs} {xs} {ys} p q =
     let events = events_append a.number p.ended q.ended p.no_fault in
     record {

@@ -12,7 +12,7 @@ use Rattle.std.proofs.lemmas.Option.{same_Some, none-some}
 use Rattle.trdp_model.specs.declared.any_object.AnyObject.{AnyObject}
 use Rattle.trdp_table.specs.Tables.{Keyed, SlotTable, TableState, opened_slot}
 use Rattle.trdp_table.specs.Tables.{slot_in, all_objects, room_of, by_handle}
-use Rattle.trdp_table.specs.Tables.{new_object, with_object, without as without_keyed}
+use Rattle.trdp_table.specs.Tables.{new_object, with_object, without_handle as without_keyed}
 use Rattle.trdp_table.specs.Tables.{changed_at, exchanged, with_other_by_handle, Adds}
 use Rattle.trdp_table.specs.TableLaws.{AllBelow, IsTable}
 use Rattle.trdp_index.specs.declared.rank.Rank.{Rank}

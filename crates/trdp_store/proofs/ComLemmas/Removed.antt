@@ -9,13 +9,14 @@ use Rattle.std.proofs.lemmas.Bool.{false≢true}
 use Rattle.std.proofs.lemmas.Bool.Decides.{nat_tests}
 use Rattle.std.proofs.lemmas.List.Elements.{filter-append}
 use Rattle.trdp_model.specs.declared.any_object.AnyObject.{AnyObject}
-use Rattle.trdp_table.specs.Tables.{Keyed, TableState, slot_in, by_handle, without as without_keyed}
+use Rattle.trdp_table.specs.Tables.{Keyed, TableState, slot_in, by_handle}
+use Rattle.trdp_table.specs.Tables.{without_handle as without_keyed}
 use Rattle.trdp_table.specs.Tables.{other_by_handle, with_other_by_handle}
-use Rattle.trdp_table.specs.TableLaws.{IsRising}
+use Rattle.trdp_table.specs.TableLaws.{HandlesRise}
 use Rattle.trdp_index.specs.declared.rank.Rank.{Rank}
 use Rattle.trdp_index.specs.declared.com_row.ComRow.{ComRow}
 use Rattle.trdp_index.specs.Ranks.{is_same}
-use Rattle.trdp_index.specs.Rows.{without}
+use Rattle.trdp_index.specs.Rows.{without_rank}
 use Rattle.trdp_index.specs.ComRows.{com_number, com_rank, com_row_rank}
 use Rattle.trdp_store.proofs.StoreLemmas.Counts.{AreAs, are_as}
 use Rattle.trdp_store.specs.Indexed.{com_of, com_found, is_com, is_listed, listed_as}
@@ -31,21 +32,21 @@ abbrev pub AreOf : ℕ → Option (Option ℕ) → List Keyed → Type 0
 AreOf h com_id es = AreAs com_of h com_id es
 
 pub are_of : (h : ℕ) (es : List Keyed) (keyed : Keyed)
-    → IsRising es → by_handle h es ≡ Some keyed → AreOf h (com_of keyed.object) es
+    → HandlesRise es → by_handle h es ≡ Some keyed → AreOf h (com_of keyed.object) es
 are_of h es keyed rising found = are_as com_of h es keyed rising found
 
 without_one : (t s h : ℕ) (com_id own : Option ℕ) (es : List Keyed) → t ≡ s
     → AreOf h (Some own) es → rows_in t com_id (filter (λ keyed. not (keyed.handle == h)) es)
-    ≡ without com_row_rank (com_rank own s h) (rows_in t com_id es)
+    ≡ without_rank com_row_rank (com_rank own s h) (rows_in t com_id es)
 without_one t s h com_id own [] same are = refl
 without_one t s h com_id own (e ∷ es) same are = either (e.handle == h) refl
     (is_listed com_id e.object) refl (without_one t s h com_id own es same are.1)
   where
     either : (b : Bool) → (e.handle == h) ≡ b → (l : Bool) → is_listed com_id e.object ≡ l
         → rows_in t com_id (filter (λ keyed. not (keyed.handle == h)) es)
-        ≡ without com_row_rank (com_rank own s h) (rows_in t com_id es)
+        ≡ without_rank com_row_rank (com_rank own s h) (rows_in t com_id es)
         → rows_in t com_id (filter (λ keyed. not (keyed.handle == h)) (e ∷ es))
-        ≡ without com_row_rank (com_rank own s h) (rows_in t com_id (e ∷ es))
+        ≡ without_rank com_row_rank (com_rank own s h) (rows_in t com_id (e ∷ es))
     either true is true listed rest =
         let of : e.handle ≡ h = grind (arith, nat_tests) in
         let com_is : own ≡ com_id =
@@ -83,14 +84,15 @@ without_none t h com_id (e ∷ es) are =
 
 -- the rows of other slots stay
 without_other : (t s h : ℕ) (com_id own : Option ℕ) (es : List Keyed)
-    → t ≢ s → without com_row_rank (com_rank own s h) (rows_in t com_id es) ≡ rows_in t com_id es
+    → t ≢ s → without_rank com_row_rank (com_rank own s h) (rows_in t com_id es)
+    ≡ rows_in t com_id es
 without_other t s h com_id own [] apart = refl
 without_other t s h com_id own (e ∷ es) apart =
     either (is_listed com_id e.object) refl (without_other t s h com_id own es apart)
   where
     either : (l : Bool) → is_listed com_id e.object ≡ l
-        → without com_row_rank (com_rank own s h) (rows_in t com_id es) ≡ rows_in t com_id es
-        → without com_row_rank (com_rank own s h) (rows_in t com_id (e ∷ es))
+        → without_rank com_row_rank (com_rank own s h) (rows_in t com_id es) ≡ rows_in t com_id es
+        → without_rank com_row_rank (com_rank own s h) (rows_in t com_id (e ∷ es))
         ≡ rows_in t com_id (e ∷ es)
     either true listed rest =
         rw (listed, other_slot (com_number com_id) (com_number own) t s e.handle h apart)
@@ -98,11 +100,13 @@ without_other t s h com_id own (e ∷ es) apart =
     either false listed rest = rw listed rest
 
 without-append : (k : Rank) (xs ys : List ComRow)
-    → without com_row_rank k (xs ++ ys) ≡ without com_row_rank k xs ++ without com_row_rank k ys
+    → without_rank com_row_rank k (xs ++ ys)
+    ≡ without_rank com_row_rank k xs ++ without_rank com_row_rank k ys
 without-append k xs ys = filter-append (λ row. not (is_same (com_row_rank row) k)) xs ys
 
 without_later : (b s h : ℕ) (com_id own : Option ℕ) (slots : TableState) → s < b
-    → without com_row_rank (com_rank own s h) (rows_from b com_id slots) ≡ rows_from b com_id slots
+    → without_rank com_row_rank (com_rank own s h) (rows_from b com_id slots)
+    ≡ rows_from b com_id slots
 without_later b s h com_id own [] lt = refl
 without_later b s h com_id own (x ∷ xs) lt =
     without-append (com_rank own s h) (rows_in b com_id x.objects) (rows_from (b + 1) com_id xs)

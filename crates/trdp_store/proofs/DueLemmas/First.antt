@@ -12,7 +12,7 @@ use Rattle.std.proofs.lemmas.List.Elements.{filter-append}
 use Rattle.trdp_model.specs.Slots.{Entry, entry_under}
 use Rattle.trdp_model.proofs.Handles.{AllAbove, IsRising}
 use Rattle.trdp_model.specs.Moments.{is_due, fires_before, inserted, in_order}
-use Rattle.trdp_store.specs.Firing.{AllAfter, FiresFirst, IsNext}
+use Rattle.trdp_store.specs.Firing.{FiresBeforeAll, FiresFirst, IsNext}
 
 -- each of these that is due, and has another handle, fires after it
 abbrev pub AllCome : ℕ → Entry → List Entry → Type 0
@@ -32,12 +32,12 @@ above_others h (x ∷ xs) above =
 
 AllAfter-cons : (t : ℕ) (x y : Entry) (ys : List Entry) (b : Bool)
     → is_due t y ≡ b → (b ≡ true → fires_before x y ≡ true)
-    → AllAfter x (filter (is_due t) ys) → AllAfter x (filter (is_due t) (y ∷ ys))
+    → FiresBeforeAll x (filter (is_due t) ys) → FiresBeforeAll x (filter (is_due t) (y ∷ ys))
 AllAfter-cons t x y ys true is head rest = rw is (head refl, rest)
 AllAfter-cons t x y ys false is head rest = rw is rest
 
 all_after : (t : ℕ) (e : Entry) (xs : List Entry)
-    → AllCome t e xs → AllOthers e.handle xs → AllAfter e (filter (is_due t) xs)
+    → AllCome t e xs → AllOthers e.handle xs → FiresBeforeAll e (filter (is_due t) xs)
 all_after t e [] come others = tt
 all_after t e (x ∷ xs) come others =
     AllAfter-cons t e x xs (is_due t x) refl (λ due. come.0 due others.0)
@@ -81,28 +81,30 @@ not_after : (x y : Entry) → fires_before x y ≡ true → fires_before y x ≡
 not_after x y is = grind (arith, nat_tests)
 
 AllAfter-inserted : (x y : Entry) (ys : List Entry)
-    → fires_before x y ≡ true → AllAfter x ys → AllAfter x (inserted y ys)
+    → fires_before x y ≡ true → FiresBeforeAll x ys → FiresBeforeAll x (inserted y ys)
 AllAfter-inserted x y [] is all = (is, tt)
 AllAfter-inserted x y (z ∷ zs) is all =
     either x y z zs (fires_before z y) refl is all (AllAfter-inserted x y zs is all.1)
   where
     either : (x y z : Entry) (zs : List Entry) (b : Bool) → fires_before z y ≡ b
         → fires_before x y ≡ true
-        → AllAfter x (z ∷ zs) → AllAfter x (inserted y zs) → AllAfter x (inserted y (z ∷ zs))
+        → FiresBeforeAll x (z ∷ zs) → FiresBeforeAll x (inserted y zs)
+        → FiresBeforeAll x (inserted y (z ∷ zs))
     either x y z zs true way is all rest = rw way (all.0, rest)
     either x y z zs false way is all rest = rw way (is, all)
 
-AllAfter-in_order : (x : Entry) (ys : List Entry) → AllAfter x ys → AllAfter x (in_order ys)
+AllAfter-in_order : (x : Entry) (ys : List Entry) → FiresBeforeAll x ys
+    → FiresBeforeAll x (in_order ys)
 AllAfter-in_order x [] all = tt
 AllAfter-in_order x (y ∷ ys) all =
     AllAfter-inserted x y (in_order ys) all.0 (AllAfter-in_order x ys all.1)
 
-inserted_first : (x : Entry) (ys : List Entry) → AllAfter x ys → inserted x ys ≡ x ∷ ys
+inserted_first : (x : Entry) (ys : List Entry) → FiresBeforeAll x ys → inserted x ys ≡ x ∷ ys
 inserted_first x [] all = refl
 inserted_first x (y ∷ ys) all = rw (not_after x y all.0) refl
 
-in_order-first : (x : Entry) (before after : List Entry) → AllAfter x before
-    → AllAfter x after → in_order (before ++ x ∷ after) ≡ x ∷ in_order (before ++ after)
+in_order-first : (x : Entry) (before after : List Entry) → FiresBeforeAll x before
+    → FiresBeforeAll x after → in_order (before ++ x ∷ after) ≡ x ∷ in_order (before ++ after)
 in_order-first x [] after all all' =
     inserted_first x (in_order after) (AllAfter-in_order x after all')
 in_order-first x (y ∷ before) after all all' =

@@ -18,7 +18,7 @@ use Rattle.trdp_store.specs.TableSlots.{entry_of_keyed}
 use Rattle.trdp_store.specs.Acting.{slot_at}
 use Rattle.trdp_model.specs.Moments.{is_due, fires_before}
 use Rattle.trdp_store.specs.Firing.{ComesNext, IsNext}
-use Rattle.trdp_store.specs.Timed.{ScheduleState, order_at, IsScheduled, IsNoneDue, IsFirstDue}
+use Rattle.trdp_store.specs.Timed.{ScheduleState, due_order, IsScheduled, IsNoneDue, IsFirstDue}
 use Rattle.trdp_store.proofs.StoreLemmas.Slots.{handle_found, entry_found, rising}
 use Rattle.trdp_store.proofs.DueLemmas.First.{AllCome, fires_first, comes_next}
 use Rattle.trdp_store.proofs.StoreLemmas.Keys.{KeysTell}
@@ -104,7 +104,7 @@ module _ (table : TableState) (schedule : ScheduleState) (t : ℕ) (is : IsSched
         either (Some d) of due =
             let its : Order = record { due = d; slot = order.slot; handle = x.handle } in
             let set : slice_index_or schedule.orders x.key None ≡ Some its =
-            (is.timed order.slot x.handle x at).order ∙ ap (order_at order.slot x.handle) of in
+            (is.timed order.slot x.handle x at).order ∙ ap (due_order order.slot x.handle) of in
             let not_sooner = first.first.first x.key its set in
             let differ : x.handle ≢ order.handle = λ same. apart (same ∙ sym under) in
             rw (due_at, of, under)

@@ -23,7 +23,7 @@ use Rattle.trdp_store.specs.TableSlots.{entry_of_keyed, slot_of, slots_of}
 use Rattle.trdp_model.specs.Moments.{is_due}
 use Rattle.trdp_model.specs.NodeModels.{due_in}
 use Rattle.trdp_outbox.specs.Rooms.{moment_room}
-use Rattle.trdp_store.specs.Timed.{ScheduleState, order_at, IsScheduled}
+use Rattle.trdp_store.specs.Timed.{ScheduleState, due_order, IsScheduled}
 use Rattle.trdp_outbox.proofs.RoomLemmas.{entry_rows, entry_bytes}
 use Rattle.trdp_store.proofs.StoreLemmas.Keys.{KeysTell}
 use Rattle.trdp_store.proofs.StoreLemmas.OwnKeys.{HaveOwnKeys, own_keys}
@@ -116,7 +116,7 @@ size_at t (o ∷ orders) [] k = no_size (is_order_due t (slice_index_or (o ∷ o
 size_at t (o ∷ orders) (s ∷ sizes) zero = refl
 size_at t (o ∷ orders) (s ∷ sizes) (suc k) = size_at t orders sizes k
 
-pub due_as : (t s h : ℕ) (due : Option ℕ) → is_order_due t (order_at s h due) ≡ has_come_by t due
+pub due_as : (t s h : ℕ) (due : Option ℕ) → is_order_due t (due_order s h due) ≡ has_come_by t due
 due_as t s h None = refl
 due_as t s h (Some d) = refl
 

@@ -17,7 +17,7 @@ use Rattle.trdp_table.specs.TableLaws.{IsTable}
 use Rattle.trdp_timers.specs.declared.order.Order.{Order}
 use Rattle.trdp_outbox.specs.declared.room.Room.{Room}
 use Rattle.trdp_outbox.specs.Rooms.{kind_room}
-use Rattle.trdp_store.specs.Timed.{ScheduleState, empty_schedule, order_at}
+use Rattle.trdp_store.specs.Timed.{ScheduleState, empty_schedule, due_order}
 use Rattle.trdp_store.specs.Timed.{IsTimed, IsOwned, IsScheduled}
 use Rattle.trdp_store.proofs.StoreLemmas.Slots.{KeysGive}
 use Rattle.trdp_store.proofs.StoreLemmas.Counts.{room-set}
@@ -90,7 +90,7 @@ pub record IsOrderOf (s h : ℕ) (due : Option ℕ) (order : Order) : Type 0 whe
   pub due_is : due ≡ Some order.due
 
 pub is_order : (s h : ℕ) (due : Option ℕ) (order : Order)
-    → order_at s h due ≡ Some order → IsOrderOf s h due order
+    → due_order s h due ≡ Some order → IsOrderOf s h due order
 is_order s h None order is = absurd (none-some order is)
 is_order s h (Some d) order is =
     let own : Order = record { due = d; slot = s; handle = h } in
@@ -144,7 +144,7 @@ module _ (table : TableState) (schedule after : ScheduleState)
     (s key : ℕ) (object : AnyObject) (is : IsScheduled table schedule) (sound : IsTable table)
     (gives : KeysGive table) (lt : s < length table) (fresh : by_key key (all_objects table) ≡ None)
     (within : key < room_of table) (admits : Admits schedule after
-    key (order_at s (slot_in s table).next (due_of object)) (kind_room (kind_of object))) where
+    key (due_order s (slot_in s table).next (due_of object)) (kind_room (kind_of object))) where
   abbrev pub new : Keyed
   new = new_object (slot_in s table).next key object
 
@@ -159,7 +159,7 @@ module _ (table : TableState) (schedule after : ScheduleState)
       get_or-set_other table s t (with_object key object (slot_in s table)) (opened_slot []) apart
 
   keeps : KeepsElse schedule after key
-  keeps = admits_else schedule after key (order_at s (slot_in s table).next (due_of object))
+  keeps = admits_else schedule after key (due_order s (slot_in s table).next (due_of object))
       (kind_room (kind_of object)) admits
 
   -- an object that was there has another key
@@ -170,10 +170,10 @@ module _ (table : TableState) (schedule after : ScheduleState)
       ∙ (ap (λ (k : ℕ). by_key k (all_objects table)) (sym same) ∙ gives t g keyed at))
 
   new_order : slice_index_or after.orders key None
-      ≡ order_at s (slot_in s table).next (due_of object)
+      ≡ due_order s (slot_in s table).next (due_of object)
   new_order =
       ap (λ (os : List (Option Order)). slice_index_or os key None) admits.orders
-      ∙ get_or-set_same schedule.orders key (order_at s (slot_in s table).next (due_of object))
+      ∙ get_or-set_same schedule.orders key (due_order s (slot_in s table).next (due_of object))
       None (omega (arith, within, is.room))
 
   new_timed : IsTimed s after new
@@ -260,7 +260,7 @@ module _ (table : TableState) (schedule after : ScheduleState)
           room,
           is.room,
           ap length admits.orders,
-          length-set schedule.orders key (order_at s (slot_in s table).next (due_of object)),
+          length-set schedule.orders key (due_order s (slot_in s table).next (due_of object)),
         );
         rows_room = omega (
           arith,
@@ -287,7 +287,7 @@ pub added_scheduled : (table table_then : TableState)
     → s < length table → Adds s object table table_then → handle ≡ (slot_in s table).next
     → Some key ≡ option_map (λ keyed. keyed.key) (by_handle handle (slot_in s table_then).objects)
     → key < room_of table
-    → Admits schedule after key (order_at s handle (due_of object)) (kind_room (kind_of object))
+    → Admits schedule after key (due_order s handle (due_of object)) (kind_room (kind_of object))
     → IsScheduled table_then after
 added_scheduled table table_then schedule after
     s handle key object is sound gives lt a at found within admits =
@@ -298,10 +298,10 @@ added_scheduled table table_then schedule after
     let P : TableState → Type 0 = λ t. IsScheduled t after in
     let fresh : by_key key (all_objects table) ≡ None =
     ap (λ (k : ℕ). by_key k (all_objects table)) key_is ∙ a.fresh in
-    let sets : Admits schedule after key (order_at s (slot_in s table).next (due_of object))
+    let sets : Admits schedule after key (due_order s (slot_in s table).next (due_of object))
     (kind_room (kind_of object)) =
     subst (λ (n : ℕ). Admits schedule after key
-    (order_at s n (due_of object)) (kind_room (kind_of object))) at admits in
+    (due_order s n (due_of object)) (kind_room (kind_of object))) at admits in
     subst P (ap (λ (k : ℕ). changed_at s (with_object k object) table) key_is ∙ sym a.table)
     (scheduled_with table schedule after s key object is sound gives lt fresh within sets)
 

@@ -17,7 +17,7 @@ use Rattle.trdp_table.specs.Tables.{changed_at, exchanged, other_by_handle, with
 use Rattle.trdp_table.specs.TableLaws.{IsTable}
 use Rattle.trdp_timers.specs.declared.order.Order.{Order}
 use Rattle.trdp_outbox.specs.Rooms.{kind_room}
-use Rattle.trdp_store.specs.Timed.{ScheduleState, order_at, IsTimed, IsOwned, IsScheduled}
+use Rattle.trdp_store.specs.Timed.{ScheduleState, due_order, IsTimed, IsOwned, IsScheduled}
 use Rattle.trdp_store.proofs.StoreLemmas.Slots.{KeysGive, handle_found, ExchangesAlone, IsReached}
 use Rattle.trdp_store.proofs.StoreLemmas.Counts.{room-set}
 use Rattle.trdp_store.proofs.StoreLemmas.Found.{at_each, found_other, are_alone}
@@ -52,7 +52,7 @@ module _ (table : TableState) (schedule after : ScheduleState)
     (sound : IsTable table) (gives : KeysGive table)
     (lt : s < length table) (found : by_handle h (slot_in s table).objects ≡ Some was)
     (kind : kind_of w ≡ kind_of was.object)
-    (resets : Resets schedule after was.key (order_at s h (due_of w))) where
+    (resets : Resets schedule after was.key (due_order s h (due_of w))) where
   abbrev pub table_new : TableState
   table_new = changed_at s (with_other_by_handle h w) table
 
@@ -65,7 +65,7 @@ module _ (table : TableState) (schedule after : ScheduleState)
       get_or-set_other table s t (with_other_by_handle h w (slot_in s table)) (opened_slot []) apart
 
   keeps_others : KeepsElse schedule after was.key
-  keeps_others = resets_else schedule after was.key (order_at s h (due_of w)) resets
+  keeps_others = resets_else schedule after was.key (due_order s h (due_of w)) resets
 
   under : was.handle ≡ h
   under = handle_found h (slot_in s table).objects was found
@@ -73,17 +73,17 @@ module _ (table : TableState) (schedule after : ScheduleState)
   below : was.key < room_of table
   below = sound.below was.key (rw (gives s h was found) refl)
 
-  order_set : slice_index_or after.orders was.key None ≡ order_at s h (due_of w)
+  order_set : slice_index_or after.orders was.key None ≡ due_order s h (due_of w)
   order_set =
       ap (λ (os : List (Option Order)). slice_index_or os was.key None) resets.orders
       ∙ get_or-set_same schedule.orders was.key
-      (order_at s h (due_of w)) None (omega (arith, below, is.room))
+      (due_order s h (due_of w)) None (omega (arith, below, is.room))
 
   other_timed : IsTimed s after (record was { object = w })
   other_timed =
       let timed = is.timed s h was found in
       record {
-        order = order_set ∙ ap (λ (n : ℕ). order_at s n (due_of w)) (sym under);
+        order = order_set ∙ ap (λ (n : ℕ). due_order s n (due_of w)) (sym under);
         rows =
             ap (λ (ns : List ℕ). slice_index ns was.key) resets.rows
             ∙ (timed.rows ∙ ap (λ (k : _). (kind_room k).rows) (sym kind));
@@ -204,7 +204,7 @@ module _ (table : TableState) (schedule after : ScheduleState)
           room,
           is.room,
           ap length resets.orders,
-          length-set schedule.orders was.key (order_at s h (due_of w)),
+          length-set schedule.orders was.key (due_order s h (due_of w)),
         );
         rows_room = omega (arith, room, is.rows_room, ap length resets.rows);
         bytes_room = omega (arith, room, is.bytes_room, ap length resets.bytes);
@@ -235,7 +235,7 @@ reached_within table s h key object sound gives r =
 pub scheduled_reached : (table : TableState) (schedule after : ScheduleState) (s h key : ℕ)
     (object object_then : AnyObject) → IsScheduled table schedule → IsTable table → KeysGive table
     → s < length table → ExchangesAlone table → IsReached table s h key object → kind_of object_then
-    ≡ kind_of object → Resets schedule after key (order_at s h (due_of object_then))
+    ≡ kind_of object → Resets schedule after key (due_order s h (due_of object_then))
     → IsScheduled (exchanged key table object_then) after
 scheduled_reached table schedule after s h key
     object object_then is sound gives lt exchanges r kind resets =
@@ -247,7 +247,7 @@ scheduled_reached table schedule after s h key
     subst P (sym is_then)
     (scheduled_exchanged table schedule after
     s h r.keyed object_then is sound gives lt r.found (kind ∙ ap kind_of r.object_is)
-    (subst (λ (k : ℕ). Resets schedule after k (order_at s h (due_of object_then)))
+    (subst (λ (k : ℕ). Resets schedule after k (due_order s h (due_of object_then)))
     r.key_is resets))
 
 -- where it is then
@@ -270,10 +270,10 @@ reached_then table s h key object object_then lt exchanges r =
 pub reached_order :
     (table : TableState) (schedule : ScheduleState) (s h key : ℕ) (object : AnyObject)
     → IsScheduled table schedule → IsReached table s h key object
-    → slice_index_or schedule.orders key None ≡ order_at s h (due_of object)
+    → slice_index_or schedule.orders key None ≡ due_order s h (due_of object)
 reached_order table schedule s h key object is r =
     ap (λ (k : ℕ). slice_index_or schedule.orders k None) r.key_is
     ∙ ((is.timed s h r.keyed r.found).order
-    ∙ (ap (λ (n : ℕ). order_at s n (due_of r.keyed.object))
+    ∙ (ap (λ (n : ℕ). due_order s n (due_of r.keyed.object))
     (handle_found h (slot_in s table).objects r.keyed r.found)
-    ∙ ap (λ (o : AnyObject). order_at s h (due_of o)) (sym r.object_is)))
+    ∙ ap (λ (o : AnyObject). due_order s h (due_of o)) (sym r.object_is)))

@@ -7,7 +7,7 @@ use Rattle.std.specs.Prelude.{option_map, slice_index, slice_index_or}
 use Rattle.std.proofs.lemmas.List.{get_or-set_same, get_or-set_other, length-set}
 use Rattle.std.proofs.lemmas.Option.{none-some}
 use Rattle.trdp_table.specs.Tables.{Keyed, SlotTable, TableState, opened_slot, slot_in}
-use Rattle.trdp_table.specs.Tables.{by_handle, without as without_keyed, changed_at}
+use Rattle.trdp_table.specs.Tables.{by_handle, without_handle as without_keyed, changed_at}
 use Rattle.trdp_table.specs.TableLaws.{IsTable}
 use Rattle.trdp_timers.specs.declared.order.Order.{Order}
 use Rattle.trdp_store.specs.Timed.{ScheduleState, IsTimed, IsOwned, IsScheduled}

@@ -12,7 +12,7 @@ use Rattle.trdp_base.specs.declared.session.SessionId.{SessionId}
 use Rattle.trdp_model.specs.declared.any_object.AnyObject.{AnyObject}
 use Rattle.trdp_table.specs.Tables.{Keyed, SlotTable, TableState, opened_slot, slot_in}
 use Rattle.trdp_table.specs.Tables.{all_objects, room_of, by_handle, new_object}
-use Rattle.trdp_table.specs.Tables.{with_object, without as without_keyed, changed_at}
+use Rattle.trdp_table.specs.Tables.{with_object, without_handle as without_keyed, changed_at}
 use Rattle.trdp_table.specs.Tables.{exchanged, other_by_handle, with_other_by_handle, Adds}
 use Rattle.trdp_table.specs.TableLaws.{AllBelow, IsTable}
 use Rattle.trdp_index.specs.declared.session_row.Role.{Role}
@@ -21,7 +21,7 @@ use Rattle.trdp_index.specs.Ranks.{is_same}
 use Rattle.trdp_index.specs.SessionRows.{session_rank, session_key}
 use Rattle.trdp_index.specs.SessionIndexes.{SessionIndexState, empty_session_index}
 use Rattle.trdp_store.specs.Indexed.{one_if_some}
-use Rattle.trdp_store.specs.InSession.{session_of, session_found, session_in, HasPart}
+use Rattle.trdp_store.specs.InSession.{own_session, session_found, session_in, HasPart}
 use Rattle.trdp_store.specs.InSession.{AreInSession, IsInSession, key_with, key_without}
 use Rattle.trdp_store.proofs.StoreLemmas.Slots.{KeysGive, handle_found, ExchangesAlone, IsReached}
 use Rattle.trdp_store.proofs.StoreLemmas.Counts.{counted, counted_all, AreAs, are_as, room-set}
@@ -58,23 +58,23 @@ here table rows s x lt are =
 
 with_one : (s next key : ℕ) (object : AnyObject) (es : List Keyed)
     (rows rows_then : List SessionRow) → AllBelow next es → AreInSession s es rows
-    → IfSome (session_of object) (λ its. session_key its.0 s its.1 rows ≡ None)
+    → IfSome (own_session object) (λ its. session_key its.0 s its.1 rows ≡ None)
     → ((own : SessionId × Role) → session_key own.0 s own.1 rows_then
-    ≡ key_with (session_of object) s key own s (session_key own.0 s own.1 rows))
+    ≡ key_with (own_session object) s key own s (session_key own.0 s own.1 rows))
     → AreInSession s (es ++ new_object next key object ∷ []) rows_then
 with_one s next key object es rows rows_then below are fresh keys = record {
   held = λ handle keyed own at is.
       keys own
       ∙ found_added handle es new keyed at
-      (λ old. with_known (session_of object) s
+      (λ old. with_known (own_session object) s
       key keyed.key own rows fresh (are.held handle keyed own old is))
       (λ same.
-      let of : session_of object ≡ Some own = ap (λ (k : Keyed). session_of k.object) same ∙ is in
+      let of : own_session object ≡ Some own = ap (λ (k : Keyed). own_session k.object) same ∙ is in
       ap (λ (o : Option (SessionId × Role)).
       key_with o s key own s (session_key own.0 s own.1 rows)) of
       ∙ (with_new own s key (session_key own.0 s own.1 rows)
       ∙ ap (λ (k : Keyed). let some : Option ℕ = Some k.key in some) same));
-  there = λ k own at. found k own (session_of object) refl (sym (keys own) ∙ at);
+  there = λ k own at. found k own (own_session object) refl (sym (keys own) ∙ at);
 }
   where
     new : Keyed
@@ -93,7 +93,7 @@ with_one s next key object es rows rows_then below are fresh keys = record {
         }
 
     found : (k : ℕ) (own : SessionId × Role) (o : Option (SessionId × Role))
-        → session_of object ≡ o → key_with o s key own s (session_key own.0 s own.1 rows) ≡ Some k
+        → own_session object ≡ o → key_with o s key own s (session_key own.0 s own.1 rows) ≡ Some k
         → HasPart (es ++ new ∷ []) own k
     found k own None of at = old k own at
     found k own (Some its) of at =
@@ -134,7 +134,7 @@ without_one s h es rows rows_then alone are keys = record {
 }
   where
     gone : (k : ℕ) (own : SessionId × Role) (g : ℕ) (keyed : Keyed) → by_handle g es ≡ Some keyed
-        → session_of keyed.object ≡ Some own → g ≡ h → key_without (session_found (by_handle h es))
+        → own_session keyed.object ≡ Some own → g ≡ h → key_without (session_found (by_handle h es))
         s own s (session_key own.0 s own.1 rows) ≢ Some k
     gone k own g keyed at is same then =
         let of : session_found (by_handle h es) ≡ Some own =
@@ -148,7 +148,7 @@ without_one s h es rows rows_then alone are keys = record {
     -- another object of the slot isn't in the session of the one that went
     apart_from : (g : ℕ) (keyed : Keyed) (own : SessionId × Role) (o : Option Keyed)
         → by_handle h es ≡ o → g ≢ h → by_handle g es ≡ Some keyed
-        → session_of keyed.object ≡ Some own → session_found o ≢ Some own
+        → own_session keyed.object ≡ Some own → session_found o ≢ Some own
     apart_from g keyed own None there other at is of = none-some own of
     apart_from g keyed own (Some first) there other at is of =
         let key : keyed.key ≡ first.key = same_Some keyed.key
@@ -159,7 +159,7 @@ without_one s h es rows rows_then alone are keys = record {
 
     still : (g : ℕ) (keyed : Keyed) (own : SessionId × Role) (b : Bool)
         → (g == h) ≡ b → by_handle g (filter (λ keyed. not (keyed.handle == h)) es) ≡ Some keyed
-        → session_of keyed.object ≡ Some own → key_without (session_found (by_handle h es))
+        → own_session keyed.object ≡ Some own → key_without (session_found (by_handle h es))
         s own s (session_key own.0 s own.1 rows) ≡ Some keyed.key
     still g keyed own true is at of =
         let same : g ≡ h = grind (arith, nat_tests) in
@@ -175,7 +175,7 @@ without_one s h es rows rows_then alone are keys = record {
         keyed own (by_handle h es) refl other before of) (are.held g keyed own before of)
 
 other_one : (s h : ℕ) (first : Keyed) (w : AnyObject) (es : List Keyed) (rows : List SessionRow)
-    → by_handle h es ≡ Some first → session_of w ≡ session_of first.object
+    → by_handle h es ≡ Some first → own_session w ≡ own_session first.object
     → AreInSession s es rows → AreInSession s (map (other_by_handle h w) es) rows
 other_one s h first w es rows there same are = record {
   held = λ handle keyed own at is.
@@ -199,31 +199,31 @@ other_one s h first w es rows there same are = record {
         either false is = rw is refl
 
     other_session : (g : ℕ) (k : Keyed) → by_handle g es ≡ Some k
-        → session_of (other_by_handle h w k).object ≡ session_of k.object
+        → own_session (other_by_handle h w k).object ≡ own_session k.object
     other_session g k at = either (k.handle == h) refl
       where
         either : (b : Bool) → (k.handle == h) ≡ b
-            → session_of (other_by_handle h w k).object ≡ session_of k.object
+            → own_session (other_by_handle h w k).object ≡ own_session k.object
         either true is =
             let of : k.handle ≡ h = grind (arith, nat_tests) in
             let number : g ≡ h = sym (handle_found g es k at) ∙ of in
             let it : first ≡ k = same_Some first
             k (sym there ∙ (ap (λ (n : ℕ). by_handle n es) (sym number) ∙ at)) in
-            let of_its : session_of w ≡ session_of k.object = same
-            ∙ ap (λ (x : Keyed). session_of x.object) it in
+            let of_its : own_session w ≡ own_session k.object = same
+            ∙ ap (λ (x : Keyed). own_session x.object) it in
             rw is of_its
         either false is = rw is refl
 
     held : (g : ℕ) (keyed : Keyed) (own : SessionId × Role) (o : Option Keyed)
         → by_handle g es ≡ o → option_map (other_by_handle h w) (by_handle g es) ≡ Some keyed
-        → session_of keyed.object ≡ Some own → session_key own.0 s own.1 rows ≡ Some keyed.key
+        → own_session keyed.object ≡ Some own → session_key own.0 s own.1 rows ≡ Some keyed.key
     held g keyed own None at got is =
         absurd (none-some keyed (sym (ap (option_map (other_by_handle h w)) at) ∙ got))
     held g keyed own (Some k) at got is =
         let it : other_by_handle h w k ≡ keyed = same_Some (other_by_handle h w k)
         keyed (sym (ap (option_map (other_by_handle h w)) at) ∙ got) in
-        let of : session_of k.object ≡ Some own = sym (other_session g k at)
-        ∙ (ap (λ (x : Keyed). session_of x.object) it ∙ is) in
+        let of : own_session k.object ≡ Some own = sym (other_session g k at)
+        ∙ (ap (λ (x : Keyed). own_session x.object) it ∙ is) in
         are.held g k own at of
         ∙ ap (λ (n : ℕ). let some : Option ℕ = Some n in some) (sym (other_key k)
         ∙ ap (λ (x : Keyed). x.key) it)
@@ -234,7 +234,7 @@ pub session_new : (quotas : List (List ℕ)) (room : ℕ) → room_of (map opene
     → IsInSession (map opened_slot quotas) (empty_session_index room)
 session_new quotas room le = record {
   slots = λ s. subst (λ (es : List Keyed). AreInSession s es []) (sym (empty quotas s)) (nobody s);
-  count = sym (counted_none session_of quotas);
+  count = sym (counted_none own_session quotas);
   room = le;
 }
   where
@@ -255,15 +255,16 @@ pub session_spare :
     → OnSome own (length index.rows < index.room)
 session_spare table index None is lt = tt
 session_spare table index (Some its) is lt =
-    omega (arith, lt, counted_few session_of table, is.count, is.room)
+    omega (arith, lt, counted_few own_session table, is.count, is.room)
 
 pub session_added :
     (table : TableState) (index index_then : SessionIndexState) (s key : ℕ) (object : AnyObject)
     → IsInSession table index → IsTable table → s < length table
-    → IfSome (session_of object) (λ its. session_key its.0 s its.1 index.rows ≡ None)
+    → IfSome (own_session object) (λ its. session_key its.0 s its.1 index.rows ≡ None)
     → ((own : SessionId × Role) (t : ℕ) → session_key own.0 t own.1 index_then.rows
-    ≡ key_with (session_of object) s key own t (session_key own.0 t own.1 index.rows))
-    → length index_then.rows ≡ length index.rows + one_if_some (session_of object) → index_then.room
+    ≡ key_with (own_session object) s key own t (session_key own.0 t own.1 index.rows))
+    → length index_then.rows ≡ length index.rows + one_if_some (own_session object)
+    → index_then.room
     ≡ index.room → IsInSession (changed_at s (with_object key object) table) index_then
 session_added table index index_then s key object is sound lt fresh keys count room =
     let x = with_object key object (slot_in s table) in
@@ -275,16 +276,16 @@ session_added table index index_then s key object is sound lt fresh keys count r
           index_then.rows (sound.slots s).below (is.slots s) fresh (λ own. keys own s)))
           (λ t apart.
           elsewhere table index.rows index_then.rows s t x apart
-          (λ own. keys own t ∙ with_apart (session_of object)
+          (λ own. keys own t ∙ with_apart (own_session object)
           s t key own (session_key own.0 t own.1 index.rows) (λ same. apart (sym same)))
           (is.slots t));
       count = omega (
         arith,
         count,
         is.count,
-        counted-set session_of table s x lt,
+        counted-set own_session table s x lt,
         counted-push
-            session_of (slot_in s table).objects (new_object (slot_in s table).next key object),
+            own_session (slot_in s table).objects (new_object (slot_in s table).next key object),
       );
       room = omega (arith, room, is.room, room-set table s x lt refl);
     }
@@ -309,20 +310,20 @@ session_removed table index index_then s h is sound gives lt keys count room =
           s t own (session_key own.0 t own.1 index.rows) (λ same. apart (sym same)))
           (is.slots t));
       count = fewer (by_handle h (slot_in s table).objects)
-          refl count (counted-set session_of table s x lt);
+          refl count (counted-set own_session table s x lt);
       room = omega (arith, room, is.room, room-set table s x lt refl);
     }
   where
     fewer : (o : Option Keyed) → by_handle h (slot_in s table).objects ≡ o
         → length index.rows ≡ length index_then.rows + one_if_some (session_found o)
-        → counted_all session_of (set table s (without_keyed h (slot_in s table)))
-        + counted session_of (slot_in s table).objects ≡ counted_all session_of table
-        + counted session_of (without_keyed h (slot_in s table)).objects
-        → length index_then.rows ≡ counted_all session_of (changed_at s (without_keyed h) table)
+        → counted_all own_session (set table s (without_keyed h (slot_in s table)))
+        + counted own_session (slot_in s table).objects ≡ counted_all own_session table
+        + counted own_session (without_keyed h (slot_in s table)).objects
+        → length index_then.rows ≡ counted_all own_session (changed_at s (without_keyed h) table)
     fewer None at count sums =
-        let same : counted session_of (without_keyed h (slot_in s table)).objects
-        ≡ counted session_of (slot_in s table).objects =
-        ap (counted session_of) (without_none h (slot_in s table).objects at) in
+        let same : counted own_session (without_keyed h (slot_in s table)).objects
+        ≡ counted own_session (slot_in s table).objects =
+        ap (counted own_session) (without_none h (slot_in s table).objects at) in
         omega (arith, count, sums, same, is.count)
     fewer (Some keyed) at count sums =
         omega (
@@ -330,20 +331,20 @@ session_removed table index index_then s h is sound gives lt keys count room =
           count,
           sums,
           is.count,
-          counted-without session_of h (slot_in s table).objects keyed (sound.slots s).rising at,
+          counted-without own_session h (slot_in s table).objects keyed (sound.slots s).rising at,
         )
 
 pub session_exchanged :
     (table : TableState) (index : SessionIndexState) (s h : ℕ) (keyed : Keyed) (w : AnyObject)
     → IsInSession table index → IsTable table → s < length table
-    → by_handle h (slot_in s table).objects ≡ Some keyed → session_of w ≡ session_of keyed.object
+    → by_handle h (slot_in s table).objects ≡ Some keyed → own_session w ≡ own_session keyed.object
     → IsInSession (changed_at s (with_other_by_handle h w) table) index
 session_exchanged table index s h keyed w is sound lt found same =
     let x = with_other_by_handle h w (slot_in s table) in
     let P : ℕ → Type 0 = λ t. AreInSession t (slot_in t (set table s x)).objects index.rows in
     let are = subst (λ (o : Option (SessionId × Role)).
-    AreAs session_of h o (slot_in s table).objects) (sym same)
-    (are_as session_of h (slot_in s table).objects keyed (sound.slots s).rising found) in
+    AreAs own_session h o (slot_in s table).objects) (sym same)
+    (are_as own_session h (slot_in s table).objects keyed (sound.slots s).rising found) in
     record {
       slots = at_each P s
           (here table index.rows s x lt
@@ -352,8 +353,8 @@ session_exchanged table index s h keyed w is sound lt found same =
       count = omega (
         arith,
         is.count,
-        counted-set session_of table s x lt,
-        counted-other session_of h w (slot_in s table).objects are,
+        counted-set own_session table s x lt,
+        counted-other own_session h w (slot_in s table).objects are,
       );
       room = omega (arith, is.room, room-set table s x lt refl);
     }
@@ -362,7 +363,7 @@ session_exchanged table index s h keyed w is sound lt found same =
 pub session_reached :
     (table : TableState) (index : SessionIndexState) (s h key : ℕ) (object object_then : AnyObject)
     → IsInSession table index → IsTable table → s < length table → ExchangesAlone table
-    → IsReached table s h key object → session_of object_then ≡ session_of object
+    → IsReached table s h key object → own_session object_then ≡ own_session object
     → IsInSession (exchanged key table object_then) index
 session_reached table index s h key object object_then is sound lt exchanges r same =
     let then : exchanged key table object_then
@@ -371,17 +372,17 @@ session_reached table index s h key object object_then is sound lt exchanges r s
     ∙ exchanges s h r.keyed object_then r.found in
     let P : TableState → Type 0 = λ t. IsInSession t index in
     subst P (sym then) (session_exchanged table
-    index s h r.keyed object_then is sound lt r.found (same ∙ ap session_of r.object_is))
+    index s h r.keyed object_then is sound lt r.found (same ∙ ap own_session r.object_is))
 
 -- an object that was added is in the index under its key
 pub added_session : (table table_then : TableState) (index index_then : SessionIndexState)
     (s handle key : ℕ) (object : AnyObject) → IsInSession table index → IsTable table
     → s < length table → Adds s object table table_then → handle ≡ (slot_in s table).next
     → Some key ≡ option_map (λ keyed. keyed.key) (by_handle handle (slot_in s table_then).objects)
-    → IfSome (session_of object) (λ its. session_key its.0 s its.1 index.rows ≡ None)
+    → IfSome (own_session object) (λ its. session_key its.0 s its.1 index.rows ≡ None)
     → ((own : SessionId × Role) (t : ℕ) → session_key own.0 t own.1 index_then.rows
-    ≡ key_with (session_of object) s key own t (session_key own.0 t own.1 index.rows))
-    → length index_then.rows ≡ length index.rows + one_if_some (session_of object)
+    ≡ key_with (own_session object) s key own t (session_key own.0 t own.1 index.rows))
+    → length index_then.rows ≡ length index.rows + one_if_some (own_session object)
     → index_then.room ≡ index.room → IsInSession table_then index_then
 added_session table table_then index index_then
     s handle key object is sound lt a at found fresh keys count room =
@@ -393,5 +394,5 @@ added_session table table_then index index_then
     subst P (sym a.table)
     (session_added table index index_then s a.key object is sound lt fresh
     (λ own t. keys own t ∙ ap (λ (k : ℕ).
-    key_with (session_of object) s k own t (session_key own.0 t own.1 index.rows)) key_is)
+    key_with (own_session object) s k own t (session_key own.0 t own.1 index.rows)) key_is)
     count room)

@@ -25,7 +25,7 @@ use Rattle.trdp_model.specs.Slots.{Entry}
 use Rattle.trdp_store.specs.TableSlots.{entry_of_keyed}
 use Rattle.trdp_store.specs.Acting.{slot_at}
 use Rattle.trdp_model.specs.Requests.{is_of_session, has_session}
-use Rattle.trdp_store.specs.InSession.{session_of, session_found, session_in}
+use Rattle.trdp_store.specs.InSession.{own_session, session_found, session_in}
 use Rattle.trdp_store.specs.InSession.{kind_as, IsNewInSession, HasPart, IsInSession}
 use Rattle.trdp_store.proofs.SessionLemmas.Keys.{same_session}
 
@@ -36,9 +36,9 @@ record IsThere (own : SessionId × Role) (es : List Keyed) : Type 0 where
   index : ℕ
   keyed : Keyed
   at : slice_get es index ≡ Some keyed
-  session : session_of keyed.object ≡ Some own
+  session : own_session keyed.object ≡ Some own
 
-passes : (own : SessionId × Role) (object : AnyObject) → session_of object ≡ Some own
+passes : (own : SessionId × Role) (object : AnyObject) → own_session object ≡ Some own
     → (is_same_kind (kind_of object) (kind_as own.1) && is_of_session own.0 object) ≡ true
 passes own (Publisher p) is = absurd (none-some own is)
 passes own (Subscription s) is = absurd (none-some own is)
@@ -57,7 +57,7 @@ passes own (Replier r) is =
 
 passed : (session : SessionId) (role : Role) (object : AnyObject)
     → (is_same_kind (kind_of object) (kind_as role) && is_of_session session object) ≡ true
-    → session_of object ≡ Some (session, role)
+    → own_session object ≡ Some (session, role)
 passed session AsCaller (Publisher p) is = absurd (false≢true is)
 passed session AsCaller (Subscription s) is = absurd (false≢true is)
 passed session AsCaller (Requester r) is = absurd (false≢true is)
@@ -78,7 +78,7 @@ passed session AsReplier (Replier r) is =
     some) (same_session r.session session number)
 
 seen : (own : SessionId × Role) (h : ℕ) (es : List Keyed) (keyed : Keyed)
-    → by_handle h es ≡ Some keyed → session_of keyed.object ≡ Some own
+    → by_handle h es ≡ Some keyed → own_session keyed.object ≡ Some own
     → has_session (kind_as own.1) own.0 (map entry_of_keyed es) ≡ true
 seen own h [] keyed at of = absurd (none-some keyed at)
 seen own h (e ∷ es) keyed at of =
@@ -94,7 +94,7 @@ seen own h (e ∷ es) keyed at of =
     either true is false its at rest =
         let same : e ≡ keyed = same_Some e keyed (rw is at at) in
         absurd (false≢true (sym its
-        ∙ passes own e.object (ap (λ (k : Keyed). session_of k.object) same ∙ of)))
+        ∙ passes own e.object (ap (λ (k : Keyed). own_session k.object) same ∙ of)))
     either false is false its at rest = rw its (rest (rw is at at))
 
 first_in : (own : SessionId × Role) (es : List Keyed)
@@ -162,8 +162,8 @@ part_there table index s own (Some key) is at = (is.slots s).there key own at
 
 pub session_fresh : (table : TableState) (index : SessionIndexState) (s : ℕ) (object : AnyObject)
     → IsInSession table index → IsNewInSession object (slot_at s table).objects
-    → IfSome (session_of object) (λ its. session_key its.0 s its.1 index.rows ≡ None)
-session_fresh table index s object is new = either (session_of object) new
+    → IfSome (own_session object) (λ its. session_key its.0 s its.1 index.rows ≡ None)
+session_fresh table index s object is new = either (own_session object) new
   where
     none : (own : SessionId × Role) (o : Option ℕ) → session_key own.0 s own.1 index.rows ≡ o
         → has_session (kind_as own.1) own.0 (slot_at s table).objects ≡ false → o ≡ None
@@ -185,7 +185,7 @@ pub session_there : (table : TableState) (index : SessionIndexState) (s h : ℕ)
 session_there table index s h is = either (by_handle h (slot_in s table).objects) refl
   where
     its : (keyed : Keyed) → by_handle h (slot_in s table).objects ≡ Some keyed
-        → (o : Option (SessionId × Role)) → session_of keyed.object ≡ o
+        → (o : Option (SessionId × Role)) → own_session keyed.object ≡ o
         → IfSome o (λ own. is_some (session_key own.0 s own.1 index.rows) ≡ true)
     its keyed at None of = tt
     its keyed at (Some own) of = ap is_some ((is.slots s).held h keyed own at of)
@@ -193,7 +193,7 @@ session_there table index s h is = either (by_handle h (slot_in s table).objects
     either : (o : Option Keyed) → by_handle h (slot_in s table).objects ≡ o
         → IfSome (session_found o) (λ own. is_some (session_key own.0 s own.1 index.rows) ≡ true)
     either None at = tt
-    either (Some keyed) at = its keyed at (session_of keyed.object) refl
+    either (Some keyed) at = its keyed at (own_session keyed.object) refl
 
 -- Objects of other kinds are in no session.
 

@@ -11,7 +11,7 @@ use Rattle.trdp_table.specs.Tables.{Keyed, TableState, slot_in, all_objects, by_
 use Rattle.trdp_index.specs.declared.session_row.Role.{Role}
 use Rattle.trdp_index.specs.SessionRows.{session_key}
 use Rattle.trdp_index.specs.SessionIndexes.{SessionIndexState}
-use Rattle.trdp_store.specs.InSession.{session_of, session_found, session_in, IsInSession}
+use Rattle.trdp_store.specs.InSession.{own_session, session_found, session_in, IsInSession}
 use Rattle.trdp_store.proofs.StoreLemmas.Slots.{KeysGive, handle_found}
 use Rattle.trdp_store.proofs.SessionLemmas.Open.{AreListed}
 
@@ -19,7 +19,7 @@ use Rattle.trdp_store.proofs.SessionLemmas.Open.{AreListed}
 pub key_told : (table : TableState) (index : SessionIndexState)
     (s i : ℕ) (own : SessionId × Role) (keyed : Keyed)
     → IsInSession table index → AreListed table → slice_get (slot_in s table).objects i ≡ Some keyed
-    → session_of keyed.object ≡ Some own → session_key own.0 s own.1 index.rows ≡ Some keyed.key
+    → own_session keyed.object ≡ Some own → session_key own.0 s own.1 index.rows ≡ Some keyed.key
 key_told table index s i own keyed is listed at of =
     (is.slots s).held keyed.handle keyed own (listed s i keyed at) of
 
@@ -28,7 +28,7 @@ pub owner_told : (table : TableState) (index : SessionIndexState)
     → AreListed table → KeysGive table → session_key own.0 s own.1 index.rows ≡ Some key
     → by_handle h (slot_in t table).objects ≡ by_key key (all_objects table)
     → slice_get (slot_in s table).objects i ≡ Some keyed
-    → session_of keyed.object ≡ Some own → h ≡ keyed.handle
+    → own_session keyed.object ≡ Some own → h ≡ keyed.handle
 owner_told table index s i t h key own keyed is listed gives got owner at of =
     let same : key ≡ keyed.key =
     same_Some key keyed.key (sym got ∙ key_told table index s i own keyed is listed at of) in
@@ -78,7 +78,7 @@ pub nobody_told : (table : TableState) (index : SessionIndexState)
     (s i key : ℕ) (own : SessionId × Role) (keyed : Keyed) → IsInSession table index
     → AreListed table → KeysGive table → session_key own.0 s own.1 index.rows ≡ Some key
     → is_some (by_key key (all_objects table)) ≡ false
-    → slice_get (slot_in s table).objects i ≡ Some keyed → session_of keyed.object ≢ Some own
+    → slice_get (slot_in s table).objects i ≡ Some keyed → own_session keyed.object ≢ Some own
 nobody_told table index s i key own keyed is listed gives got none at of =
     let same : key ≡ keyed.key =
     same_Some key keyed.key (sym got ∙ key_told table index s i own keyed is listed at of) in

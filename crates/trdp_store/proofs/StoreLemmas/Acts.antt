@@ -8,7 +8,7 @@ use Rattle.std.proofs.lemmas.Bool.Decides.{nat_tests}
 use Rattle.std.proofs.lemmas.Option.{same_Some}
 use Rattle.std.proofs.lemmas.List.Concat.{flat_map-cons}
 use Rattle.trdp_model.specs.declared.any_object.AnyObject.{AnyObject}
-use Rattle.trdp_table.specs.Tables.{TableState, without, changed_at, exchanged}
+use Rattle.trdp_table.specs.Tables.{TableState, without_handle, changed_at, exchanged}
 use Rattle.trdp_model.specs.Records.{labelled}
 use Rattle.trdp_model.specs.Acts.{Act}
 use Rattle.trdp_model.specs.Calls.{at_object}
@@ -32,7 +32,7 @@ pub asked_ended : (table : TableState) (s h key : ℕ) (object object_then : Any
     (act : AnyObject → Act) (out out_then : OutboxState) → s < length table → ExchangesAlone table
     → IsReached table s h key object → None ≡ (act object).left → out_then.records
     ≡ out.records ++ labelled s (act object).records → Becomes s (at_object (slot_at s table) h act)
-    table (changed_at s (without h) (exchanged key table object_then)) out out_then
+    table (changed_at s (without_handle h) (exchanged key table object_then)) out out_then
 asked_ended table s h key object object_then act out out_then lt alone r left records =
     rw (reached_entry table s h key object r, ← r.object_is, ← left)
     (record

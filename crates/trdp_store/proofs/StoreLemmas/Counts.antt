@@ -13,7 +13,7 @@ use Rattle.trdp_model.specs.declared.any_object.AnyObject.{AnyObject}
 use Rattle.trdp_table.specs.Tables.{Keyed, SlotTable, TableState, opened_slot, slot_in}
 use Rattle.trdp_table.specs.Tables.{all_objects, all_quotas, room_of, by_handle, other_by_handle}
 use Rattle.trdp_table.specs.Tables.{with_object, Adds}
-use Rattle.trdp_table.specs.TableLaws.{AllAbove, IsRising}
+use Rattle.trdp_table.specs.TableLaws.{AllAbove, HandlesRise}
 use Rattle.trdp_store.specs.Indexed.{one_if_some}
 
 -- how many of these objects have it
@@ -74,7 +74,7 @@ module _ {X : Type 0} (f : AnyObject → Option X) where
       (λ same. absurd (omega (arith, same, above.0)), above_apart h value es above.1)
 
   pub are_as : (h : ℕ) (es : List Keyed) (keyed : Keyed)
-      → IsRising es → by_handle h es ≡ Some keyed → AreAs f h (f keyed.object) es
+      → HandlesRise es → by_handle h es ≡ Some keyed → AreAs f h (f keyed.object) es
   are_as h [] keyed rising found = tt
   are_as h (e ∷ es) keyed rising found =
       either (e.handle == h) refl found (are_as h es keyed rising.1)
@@ -107,7 +107,7 @@ module _ {X : Type 0} (f : AnyObject → Option X) where
       omega (arith, counted-cons x (es ++ e ∷ []), counted-cons x es, counted-push es e)
 
   pub counted-without : (h : ℕ) (es : List Keyed) (keyed : Keyed)
-      → IsRising es → by_handle h es ≡ Some keyed → counted f es
+      → HandlesRise es → by_handle h es ≡ Some keyed → counted f es
       ≡ counted f (filter (λ keyed. not (keyed.handle == h)) es) + one_if_some (f keyed.object)
   counted-without h [] keyed rising found = absurd (none-some keyed found)
   counted-without h (e ∷ es) keyed rising found =

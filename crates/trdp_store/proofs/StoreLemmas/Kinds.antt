@@ -17,9 +17,9 @@ use Rattle.trdp_table.specs.declared.fault.TableFault.TheVariants.{Exhausted as 
 use Rattle.trdp_model.specs.Kinds.{kind_of, kind_index, is_same_kind}
 use Rattle.trdp_table.specs.Tables.{Keyed, SlotTable, TableState, opened_slot, slot_in, by_handle}
 use Rattle.trdp_table.specs.Tables.{count_of as keyed_count, refusal, last_handle, new_object}
-use Rattle.trdp_table.specs.Tables.{with_object as with_keyed, without, changed_at, Adds}
+use Rattle.trdp_table.specs.Tables.{with_object as with_keyed, without_handle, changed_at, Adds}
 use Rattle.trdp_table.specs.Tables.{exchanged, other_by_handle, with_other_by_handle}
-use Rattle.trdp_table.specs.TableLaws.{AllAbove, IsRising, IsTable}
+use Rattle.trdp_table.specs.TableLaws.{AllAbove, HandlesRise, IsTable}
 use Rattle.trdp_model.specs.declared.fault.Refusal.TheVariants.{Quota, Exhausted}
 use Rattle.trdp_model.specs.Slots.{Entry, kind_count}
 use Rattle.trdp_store.specs.TableSlots.{entry_of_keyed}
@@ -86,7 +86,7 @@ of_kind-above h w (k ∷ ks) above are =
     rw is (are.0, of_kind-above h w ks above.1 are.1)
 
 of_kind-other : (h : ℕ) (w : AnyObject) (was : Keyed) (ks : List Keyed)
-    → IsRising ks → by_handle h ks ≡ Some was → kind_of w ≡ kind_of was.object
+    → HandlesRise ks → by_handle h ks ≡ Some was → kind_of w ≡ kind_of was.object
     → AreOfKind ks → AreOfKind (map (other_by_handle h w) ks)
 of_kind-other h w was [] rising at same are = tt
 of_kind-other h w was (k ∷ ks) rising at same are =
@@ -129,9 +129,10 @@ added_kinds table table_then s object lt a are =
     (new_object (slot_in s table).next a.key object) (are s) refl))
 
 pub removed_kinds : (table : TableState) (s h : ℕ)
-    → s < length table → AllOfKind table → AllOfKind (changed_at s (without h) table)
+    → s < length table → AllOfKind table → AllOfKind (changed_at s (without_handle h) table)
 removed_kinds table s h lt are =
-    changed_kinds table s (without h) lt are (of_kind-without h (slot_in s table).objects (are s))
+    changed_kinds table s (without_handle h) lt are
+    (of_kind-without h (slot_in s table).objects (are s))
 
 -- an object that was reached by its handle becomes another one of its kind
 pub reached_kinds : (table : TableState) (s h key : ℕ) (object object_then : AnyObject)

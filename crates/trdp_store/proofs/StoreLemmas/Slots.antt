@@ -14,10 +14,10 @@ use Rattle.std.proofs.lemmas.Option.{same_Some, slice_get-map, slice_get_within,
 use Rattle.trdp_model.specs.declared.any_object.AnyObject.{AnyObject}
 use Rattle.trdp_table.specs.Tables.{Keyed, SlotTable, TableState, opened_slot, slot_in}
 use Rattle.trdp_table.specs.Tables.{all_objects, by_handle, by_key, new_object}
-use Rattle.trdp_table.specs.Tables.{with_object as with_keyed, without, changed_at}
+use Rattle.trdp_table.specs.Tables.{with_object as with_keyed, without_handle, changed_at}
 use Rattle.trdp_table.specs.Tables.{exchanged, other_by_handle, with_other_by_handle, Adds}
 use Rattle.trdp_table.specs.TableLaws.{AllAbove as AllKeyedAbove}
-use Rattle.trdp_table.specs.TableLaws.{IsRising as AreKeyedRising, IsTable}
+use Rattle.trdp_table.specs.TableLaws.{HandlesRise as AreKeyedRising, IsTable}
 use Rattle.trdp_model.specs.Slots.{Entry, SlotState, entry_under}
 use Rattle.trdp_store.specs.TableSlots.{entry_of_keyed, slot_of, slots_of}
 use Rattle.trdp_model.specs.Slots.{with_new_object}
@@ -168,7 +168,7 @@ removed_objects h (k ∷ ks) =
     either true is rest = rw is rest
     either false is rest = rw is (ap (λ (es : List Entry). entry_of_keyed k ∷ es) rest)
 
-pub removed_slot : (h : ℕ) (slot : SlotTable) → slot_of (without h slot)
+pub removed_slot : (h : ℕ) (slot : SlotTable) → slot_of (without_handle h slot)
     ≡ record (slot_of slot) { objects = acted h None (slot_of slot).objects }
 removed_slot h slot =
     ap (λ (es : List Entry). let x : SlotState =
@@ -177,10 +177,10 @@ removed_slot h slot =
 
 -- the slots once the object of a handle of slot s is gone
 pub removed : (table : TableState) (s h : ℕ)
-    → slots_of (changed_at s (without h) table) ≡ slice_set (slots_of table)
+    → slots_of (changed_at s (without_handle h) table) ≡ slice_set (slots_of table)
     s (record (slot_at s table) { objects = acted h None (slot_at s table).objects })
 removed table s h =
-    slots_changed table s (without h)
+    slots_changed table s (without_handle h)
     ∙ ap (slice_set (slots_of table) s) (removed_slot h (slot_in s table))
 
 -- How an object is reached by its handle or its index.
@@ -341,7 +341,7 @@ acted-twice h object (e ∷ es) =
 -- the slots once it became another one and then went
 pub reached_removed : (table : TableState) (s h key : ℕ) (object object_then : AnyObject)
     → s < length table → ExchangesAlone table → IsReached table s h key object
-    → slots_of (changed_at s (without h) (exchanged key table object_then))
+    → slots_of (changed_at s (without_handle h) (exchanged key table object_then))
     ≡ slice_set (slots_of table)
     s (record (slot_at s table) { objects = acted h None (slot_at s table).objects })
 reached_removed table s h key object object_then lt alone r =
@@ -359,7 +359,7 @@ reached_removed table s h key object object_then lt alone r =
     ap (λ (es : List Entry). let x : SlotState = record slot { objects = es } in
     x) (acted-twice h object_then slot.objects)
     in
-    ap (λ (t : TableState). slots_of (changed_at s (without h) t)) is
+    ap (λ (t : TableState). slots_of (changed_at s (without_handle h) t)) is
     ∙ removed (changed_at s change table) s h
     ∙ ap (λ (x : SlotState). slice_set (slots_of (changed_at s change table)) s (end x)) there
     ∙ ap (λ (xs : List SlotState). slice_set xs s (end slot_then)) (slots_changed table s change)

@@ -19,7 +19,7 @@ use Rattle.trdp_table.specs.TableLaws.{AreLimited, object_limit}
 use Rattle.trdp_table.specs.Entries.{SlotEntries, opened_entries, entry_of, entries_of, refusal_of}
 use Rattle.trdp_table.specs.Entries.{new_entry, with_entry, without_entry, with_next_handle}
 use Rattle.trdp_table.specs.Entries.{AreAbove, AreBelow, AreRising, AreSlotEntries}
-use Rattle.trdp_table.specs.SlotKept.{IsKept, IsIndexOf}
+use Rattle.trdp_table.specs.SlotKept.{IsKeptSlot, IsIndexOfHandle}
 
 abbrev one_if : Bool → ℕ
 one_if b = cond b 1 0
@@ -265,7 +265,7 @@ under_quotas slot of is none =
 
 -- and its list has room for it
 pub has_room : (slot : SlotEntries) (numbers : List ℕ) (capacity : ℕ) (of : Kind)
-    → IsKept slot numbers capacity → refusal_of slot of ≡ None → length slot.entries < capacity
+    → IsKeptSlot slot numbers capacity → refusal_of slot of ≡ None → length slot.entries < capacity
 has_room slot numbers capacity of is none =
     omega (arith, under_quotas slot of is.sound none, is.room)
 
@@ -275,8 +275,8 @@ HasOneMore kind numbers more = (other : Kind) → slice_index more (kind_index o
     ≡ slice_index numbers (kind_index other) + one_if (is_same_kind kind other)
 
 pub IsKept-add : (slot : SlotEntries) (numbers more : List ℕ) (capacity key : ℕ) (of : Kind)
-    → IsKept slot numbers capacity → refusal_of slot of ≡ None
-    → HasOneMore of numbers more → IsKept (with_entry of key slot) more capacity
+    → IsKeptSlot slot numbers capacity → refusal_of slot of ≡ None
+    → HasOneMore of numbers more → IsKeptSlot (with_entry of key slot) more capacity
 IsKept-add slot numbers more capacity key of is none one = record {
   sound = AreSlotEntries-add slot key of is.sound none;
   counted = λ kind.
@@ -286,7 +286,7 @@ IsKept-add slot numbers more capacity key of is none one = record {
 }
 
 pub IsKept-next : (slot : SlotEntries) (numbers : List ℕ) (capacity next : ℕ) → next ≤ last_handle
-    → IsKept slot numbers capacity → IsKept (with_next_handle next slot) numbers capacity
+    → IsKeptSlot slot numbers capacity → IsKeptSlot (with_next_handle next slot) numbers capacity
 IsKept-next slot numbers capacity next le is = record {
   sound = AreSlotEntries-next next slot le is.sound;
   counted = is.counted;
@@ -342,8 +342,8 @@ removed h (suc i) (x ∷ es) e rising at is =
     }
 
 pub IsKept-remove : (slot : SlotEntries) (numbers fewer : List ℕ) (capacity h i : ℕ) (e : Entry)
-    → IsKept slot numbers capacity → Removed h i slot.entries e
-    → HasOneMore e.kind fewer numbers → IsKept (without_entry h slot) fewer capacity
+    → IsKeptSlot slot numbers capacity → Removed h i slot.entries e
+    → HasOneMore e.kind fewer numbers → IsKeptSlot (without_entry h slot) fewer capacity
 IsKept-remove slot numbers fewer capacity h i e is gone one = record {
   sound = AreSlotEntries-without_entry h slot is.sound;
   counted = λ kind.
@@ -384,13 +384,13 @@ handle_found h (x ∷ es) e found = either (x.handle == h) refl found (handle_fo
 
 -- the object at the index of a handle
 pub gone : (h i : ℕ) (es : List Entry) (e : Entry)
-    → AreRising es → IsIndexOf h es i → e ≡ get_or es i e → Removed h i es e
+    → AreRising es → IsIndexOfHandle h es i → e ≡ get_or es i e → Removed h i es e
 gone h i es e rising index is =
     let at : slice_get es i ≡ Some e = slice_get_read es _ i e refl index.within is in
     removed h i es e rising at (handle_found h es e (sym index.found ∙ at))
 
 pub some_of_kind : (slot : SlotEntries) (numbers : List ℕ) (capacity h i : ℕ) (e : Entry)
-    → IsKept slot numbers capacity → Removed h i slot.entries e
+    → IsKeptSlot slot numbers capacity → Removed h i slot.entries e
     → 0 < slice_index numbers (kind_index e.kind)
 some_of_kind slot numbers capacity h i e is gone =
     let counts = gone.counts e.kind in

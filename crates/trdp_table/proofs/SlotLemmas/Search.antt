@@ -14,7 +14,7 @@ use Rattle.std.proofs.lemmas.Bool.{cases_lt}
 use Rattle.std.proofs.lemmas.Bool.Decides.{nat_tests}
 use Rattle.trdp_table.specs.declared.entry.Entry.{Entry}
 use Rattle.trdp_table.specs.Entries.{entry_of, AreAbove, AreRising}
-use Rattle.trdp_table.specs.SlotKept.{IsIndexOf}
+use Rattle.trdp_table.specs.SlotKept.{IsIndexOfHandle}
 
 above_at : (h : ℕ) (xs : List Entry) (i : ℕ) (d : Entry)
     → AreAbove h xs → i < length xs → h < (get_or xs i d).handle
@@ -59,7 +59,7 @@ entry_of_none (x ∷ xs) h none =
     rw other (entry_of_none xs h (λ i d lt. none (suc i) d (omega arith)))
 
 pub record Searched (xs : List Entry) (h : ℕ) (r : Option ℕ) : Type 0 where
-  pub found : IfSome r (IsIndexOf h xs)
+  pub found : IfSome r (IsIndexOfHandle h xs)
   pub absent : r ≡ None → entry_of h xs ≡ None
 
 -- what a binary search by handle finds

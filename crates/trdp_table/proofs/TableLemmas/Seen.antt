@@ -18,8 +18,8 @@ use Rattle.trdp_model.specs.declared.kind.Kind.{Kind}
 use Rattle.trdp_model.specs.Kinds.{kind_of, is_same_kind}
 use Rattle.trdp_table.specs.Tables.{Keyed, SlotTable, slot_in, all_objects, by_handle}
 use Rattle.trdp_table.specs.Tables.{count_of, refusal, all_quotas, room_of}
-use Rattle.trdp_table.specs.Tables.{with_object, without, exchanged, other_by_key}
-use Rattle.trdp_table.specs.TableLaws.{AllAbove, AllBelow, IsRising, IsSlotTable}
+use Rattle.trdp_table.specs.Tables.{with_object, without_handle, exchanged, other_by_key}
+use Rattle.trdp_table.specs.TableLaws.{AllAbove, AllBelow, HandlesRise, IsSlotTable}
 use Rattle.trdp_table.specs.Entries.{SlotEntries, opened_entries, entries_in, entry_of, key_of}
 use Rattle.trdp_table.specs.Entries.{entries_of, refusal_of, new_entry, with_entry, without_entry}
 use Rattle.trdp_table.specs.Entries.{AreAbove, AreBelow, AreRising, AreSlotEntries}
@@ -43,7 +43,7 @@ below_seen pool h [] below = tt
 below_seen pool h (e ∷ es) below = (below.0, below_seen pool h es below.1)
 
 pub rising_seen : (pool : PoolState) (es : List Entry)
-    → AreRising es → IsRising (objects_seen pool es)
+    → AreRising es → HandlesRise (objects_seen pool es)
 rising_seen pool [] rising = tt
 rising_seen pool (e ∷ es) rising =
     (above_seen pool e.handle es rising.0, rising_seen pool es rising.1)
@@ -222,7 +222,7 @@ added_seen pool s key object slot owned within vacant =
 
 pub removed_seen : (pool : PoolState) (s h key : ℕ) (slot : SlotEntries)
     → AllOwned pool s slot.entries → owner_in pool key ≡ Some (s, h)
-    → slot_seen (set pool key None) (without_entry h slot) ≡ without h (slot_seen pool slot)
+    → slot_seen (set pool key None) (without_entry h slot) ≡ without_handle h (slot_seen pool slot)
 removed_seen pool s h key slot owned of =
     ap (λ (es : List Keyed). let x : SlotTable =
     record { quotas = slot.quotas; next = slot.next; objects = es } in x)

@@ -11,7 +11,7 @@ use Rattle.trdp_table.specs.declared.entry.Entry.{Entry}
 use Rattle.trdp_table.specs.declared.held.Held.{Held}
 use Rattle.trdp_model.specs.Kinds.{kind_of}
 use Rattle.trdp_table.specs.Tables.{Keyed, SlotTable, slot_in, by_handle, with_object}
-use Rattle.trdp_table.specs.Tables.{without, with_next, changed_at, Adds}
+use Rattle.trdp_table.specs.Tables.{without_handle, with_next, changed_at, Adds}
 use Rattle.trdp_table.specs.Entries.{SlotEntries, opened_entries, entries_in, entry_of, key_of}
 use Rattle.trdp_table.specs.Entries.{with_entry, without_entry, with_next_handle, entries_changed}
 use Rattle.trdp_table.specs.Pools.{PoolState, held_in}
@@ -53,15 +53,15 @@ add_seen slots pool s key object is within vacant =
 pub remove_seen : (slots : List SlotEntries) (pool : PoolState) (s h key : ℕ)
     → IsKeptTable slots pool → key_of h (entries_in s slots).entries ≡ Some key
     → table_seen (set pool key None) (entries_changed s (without_entry h) slots)
-    ≡ changed_at s (without h) (table_seen pool slots)
+    ≡ changed_at s (without_handle h) (table_seen pool slots)
 remove_seen slots pool s h key is found =
     let of = is.listed s h key found in
     changed_seen slots pool s key None (without_entry h (entries_in s slots))
-    (without h (slot_in s (table_seen pool slots)))
+    (without_handle h (slot_in s (table_seen pool slots)))
     (λ t other. apart_unowned pool t key (entries_in t slots).entries
     (all_owned slots pool is t) (λ g at. other (same_owner t s g h (sym at ∙ of)).0))
     (removed_seen pool s h key (entries_in s slots) (all_owned slots pool is s) of
-    ∙ ap (without h) (sym (slot_in_seen pool slots s)))
+    ∙ ap (without_handle h) (sym (slot_in_seen pool slots s)))
 
 pub next_seen : (slots : List SlotEntries) (pool : PoolState) (s next : ℕ)
     → table_seen pool (entries_changed s (with_next_handle next) slots)
@@ -110,7 +110,7 @@ nothing_found slots pool s h none =
 
 pub gone_seen : (slots : List SlotEntries) (pool : PoolState) (s h : ℕ)
     → table_seen pool (entries_changed s (without_entry h) slots)
-    ≡ changed_at s (without h) (table_seen pool slots)
+    ≡ changed_at s (without_handle h) (table_seen pool slots)
 gone_seen slots pool s h =
     map-set (slot_seen pool) slots s (without_entry h (entries_in s slots))
     ∙ ap (λ (y : SlotTable). set (table_seen pool slots) s y)
@@ -120,7 +120,7 @@ gone_seen slots pool s h =
       objects = es;
     } in
     x) (without_seen pool h (entries_in s slots).entries)
-    ∙ ap (without h) (sym (slot_in_seen pool slots s)))
+    ∙ ap (without_handle h) (sym (slot_in_seen pool slots s)))
 
 -- the object of a handle is what is held under its key
 pub found_object : (slots : List SlotEntries) (pool : PoolState) (s h key : ℕ) (held : Held)

@@ -1,5 +1,5 @@
 use Rattle.std.specs.Prelude.{◌≡◌, take}
-use Rattle.trdp_daemon.specs.Services.{IsSound, TakesAtPorts}
+use Rattle.trdp_daemon.specs.Services.{IsSoundService, TakesAtPorts}
 use Rattle.trdp_daemon.proofs.turn.visit_ports.Given as goal
 
 -- takes were made at the ports so far
@@ -10,5 +10,6 @@ pub record Visited (sound config takes : Type 0) : Type 0 where
 
 abbrev pub invariant-loop-i : goal.invariant-loop-i
 invariant-loop-i g l =
-    Visited (IsSound l.service) (l.service.node.config ≡ l.fn.service.node.config) (TakesAtPorts
+    Visited (IsSoundService l.service) (l.service.node.config ≡ l.fn.service.node.config)
+    (TakesAtPorts
     g.W.Wire.takings g.W.Wire.gives l.fn.service l.service l.fn.link l.link (take l.i l.ports))

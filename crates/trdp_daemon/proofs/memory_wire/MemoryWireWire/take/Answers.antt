@@ -5,7 +5,7 @@ use Rattle.trdp_daemon.specs.MemoryWires.{is_failing, next_arrival, takes_at}
 use Rattle.std.specs.List.{count_by}
 use Rattle.trdp_daemon.specs.declared.rows.TakeRow.{TakeRow}
 use Rattle.trdp_daemon.specs.Ports.{is_port}
-use Rattle.trdp_daemon.specs.Rows.{IsWithin, arrived_of}
+use Rattle.trdp_daemon.specs.Rows.{IsLaidDown, arrived_of}
 use Rattle.trdp_daemon.specs.Told.{arrived_in, taking_of}
 use Rattle.trdp_daemon.proofs.MemoryWires.{arrival_beyond, arrival_within, take_beyond, take_within}
 use Rattle.trdp_daemon.proofs.TakeRows.{takes_rows, takings_push, within_row, many_takings}
@@ -34,7 +34,7 @@ invariant_of-self-2 c = (
   c.self.invariant.0,
   within_row (length c.self.inside.arrivals.items)
       c.self.inside.taken.items c.push_take.new.taken.items _ c.push_take.ensures.items
-      c.self.invariant.1 (subst (λ l. IsWithin (length l) c.answer_take-answer.result.0)
+      c.self.invariant.1 (subst (λ l. IsLaidDown (length l) c.answer_take-answer.result.0)
       c.deref-3.ensures.value c.answer_take-answer.ensures.known),
   c.self.invariant.2,
 )

@@ -2,7 +2,7 @@ use Rattle.std.proofs.Common.{◌∙◌, ap, sym, refl, arith, ℕ, ◌<◌, ◌
 use Rattle.std.specs.Prelude.{option_map}
 use Rattle.trdp_model.specs.Objects.{due_of}
 use Rattle.trdp_table.specs.Tables.{Keyed, room_of, exchanged}
-use Rattle.trdp_store.specs.Timed.{order_at}
+use Rattle.trdp_store.specs.Timed.{due_order}
 use Rattle.trdp_store.proofs.StoreLemmas.Slots.{reached, reached_entry, none_found}
 use Rattle.trdp_store.proofs.ComLemmas.Kept.{indexed_reached}
 use Rattle.trdp_store.proofs.StoreLemmas.Kinds.{reached_kinds}
@@ -41,7 +41,7 @@ change-changed-requires-clause-before g c =
     c.in_ok-object.ensures.value in
     reached_order c.self.inside.table c.self.inside.schedule c.args.sought.slot c.args.sought.handle
     c.in_ok-key.key c.in_ok-object.object.now c.self.invariant.by_moment r
-    ∙ ap (order_at c.args.sought.slot c.args.sought.handle) (sym c.due-before.ensures)
+    ∙ ap (due_order c.args.sought.slot c.args.sought.handle) (sym c.due-before.ensures)
 
 pub invariant_of-self-in-Stays : goal.invariant_of-self-in-Stays
 invariant_of-self-in-Stays g c =

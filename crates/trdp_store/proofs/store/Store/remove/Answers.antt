@@ -6,7 +6,7 @@ use Rattle.trdp_table.specs.Tables.{by_handle, by_key, room_of}
 use Rattle.trdp_store.specs.Indexed.{com_found}
 use Rattle.trdp_store.specs.InSession.{session_found, session_in}
 use Rattle.trdp_store.proofs.StoreLemmas.Slots.{KeysGive, keyed_found}
-use Rattle.trdp_store.specs.Timed.{order_at}
+use Rattle.trdp_store.specs.Timed.{due_order}
 use Rattle.trdp_store.proofs.ComLemmas.Removed.{com_in}
 use Rattle.trdp_store.proofs.ComLemmas.Kept.{is_there, indexed_removed}
 use Rattle.trdp_store.proofs.SessionLemmas.Kept.{session_removed}
@@ -97,4 +97,4 @@ returns-clause-idle c = λ keyed at none.
     let key_is = same_Some c.args.key keyed.key
     (sym known ∙ ap (option_map (λ (k : Keyed). k.key)) found) in
     let idle = rw key_is at c.dismiss-comparisons.ensures.idle in
-    idle (order ∙ ap (order_at c.args.slot keyed.handle) none)
+    idle (order ∙ ap (due_order c.args.slot keyed.handle) none)
