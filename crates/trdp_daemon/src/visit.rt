@@ -60,7 +60,7 @@ impl Service {
         match port {
             Port::Pd => self.take_telegram(Protocol::Pd, from, self.home.pd, bytes, link),
             Port::Md => self.take_telegram(Protocol::Md, from, self.home.md, bytes, link),
-            Port::Operator => self.take_operator(buffer, from, bytes, link),
+            Port::Operator => self.take_operator(from, bytes, link),
             Port::Control(slot) => self.take_control(buffer, slot, from, bytes, link),
         }
     }
@@ -90,20 +90,14 @@ impl Service {
     }
 
     /// Takes a datagram that came to the operator's port.
-    fn take_operator<W: Wire>(
-        &mut self,
-        buffer: &mut Vec<u8>,
-        from: Place,
-        bytes: &[u8],
-        link: &mut Link<W>,
-    )
+    fn take_operator<W: Wire>(&mut self, from: Place, bytes: &[u8], link: &mut Link<W>)
         requires sound { IsSoundService self.old }
         ensures sound { IsSoundService self.new }
         ensures config { self.new.node.config ≡ self.old.node.config }
         ensures comes { ComesWith W.takings W.gives self.old self.new link.old link.new
             (operator_effect (service_state self.old) from (operator_line_of bytes.now)) }
     {
-        match read_operator(buffer, bytes) {
+        match read_operator(bytes) {
             Ok(Some(event)) => self.take_operator_event(&event, from, link),
             Ok(None) => {}
             Err(fault) => refuse(Port::Operator, from, fault, link),

@@ -109,8 +109,8 @@ fn control_fault(buffer: &mut Vec<u8>, bytes: &[u8]) -> Option<LineFault> {
 }
 
 /// The fault of a datagram at the operator's port; None where it has none.
-fn operator_fault(buffer: &mut Vec<u8>, bytes: &[u8]) -> Option<LineFault> {
-    match read_operator(buffer, bytes) {
+fn operator_fault(bytes: &[u8]) -> Option<LineFault> {
+    match read_operator(bytes) {
         Ok(_) => None,
         Err(fault) => Some(fault),
     }
@@ -126,18 +126,13 @@ fn reads_datagrams(rt: HostRuntime) {
             control_fault(&mut buffer, row.bytes),
             row.control,
         );
-        same(
-            &rt,
-            index,
-            operator_fault(&mut buffer, row.bytes),
-            row.operator,
-        );
+        same(&rt, index, operator_fault(row.bytes), row.operator);
     }
 }
 
 /// The topology counts that a datagram at the operator's port tells; None where it tells none.
-fn topology(buffer: &mut Vec<u8>, bytes: &[u8]) -> Option<Topo> {
-    match read_operator(buffer, bytes) {
+fn topology(bytes: &[u8]) -> Option<Topo> {
+    match read_operator(bytes) {
         Ok(Some(Event::Topology(topo))) => Some(topo),
         _ => None,
     }
@@ -178,7 +173,7 @@ fn is_skipped(buffer: &mut Vec<u8>, bytes: &[u8]) -> bool {
 #[test]
 fn tells_what_datagrams_say(rt: HostRuntime) {
     let mut buffer = Vec::new(rt.alloc());
-    let counts = topology(&mut buffer, b"topology 8 0");
+    let counts = topology(b"topology 8 0");
     same(&rt, "topology", counts, Some(Topo { etb: 8, op_trn: 0 }));
     let got = control(&mut buffer, 0, b"get 1");
     same(&rt, "get", got, Some((0, 1, false)));

@@ -61,10 +61,7 @@ pub fn read_control<'b>(
 /// `TooLong`, `Unknown` at any other first word, `Count` and `BadWord`, in their order. None of
 /// these lines carries bytes, so that none can want memory.
 #[tactic(auto, unfolding(crate::specs::PortLines::operator_line_of))]
-pub fn read_operator<'b>(
-    _buffer: &'b mut Vec<u8>,
-    bytes: &[u8],
-) -> Result<Option<Event<'b>>, LineFault>
+pub fn read_operator<'b>(bytes: &[u8]) -> Result<Option<Event<'b>>, LineFault>
     ensures meaning { Reads (operator_line_of bytes.now) result }
     ensures memory { IfErr result (λ fault. fault ≢ LineFault.OutOfMemory) }
 {
