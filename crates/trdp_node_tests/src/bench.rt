@@ -4,8 +4,9 @@ use crate::same::same;
 use std::alloc::Global;
 use std::process::Abort;
 use std::test::Fail;
+use trdp_base::Place;
 use trdp_dataset::NodeConfig;
-use trdp_engine::{Node, Outbox};
+use trdp_engine::{Event, Node, Outbox, Protocol, What};
 use trdp_script::{print_record, read_line};
 
 /// A node, with the records that it has given.
@@ -42,6 +43,31 @@ impl Bench {
         }
         bench.out.clear();
         Ok(bench)
+    }
+
+    /// Hands the telegram that the record of that index is to the node itself, as from a place of
+    /// its own, and answers its length.
+    pub fn loop_back(
+        &mut self,
+        alloc: Global,
+        index: usize,
+        protocol: Protocol,
+        place: Place,
+    ) -> Result<usize, Fail> {
+        let mut bytes = Vec::new(alloc);
+        if let Some(record) = self.out.get(index) {
+            if let What::Send { telegram, .. } = record.what {
+                bytes.extend_from_slice(telegram)?;
+            }
+        }
+        let events = [Event::Datagram {
+            protocol,
+            src: place,
+            dst: place,
+            bytes: &bytes,
+        }];
+        self.node.step(&events[0], &mut self.out)?;
+        Ok(bytes.len())
     }
 
     /// The records of the outbox as lines.

@@ -14,6 +14,8 @@ mod failing;
 #[cfg(test)]
 mod items;
 #[cfg(test)]
+mod limits;
+#[cfg(test)]
 mod node;
 #[cfg(test)]
 mod play;
