@@ -35,6 +35,13 @@ impl Bench {
         }
     }
 
+    /// Time comes to that moment, in microseconds. The checker drops an event that is no call where
+    /// it stands in a list.
+    pub fn moment(&mut self, moment: u64) -> Result<(), Fail> {
+        let events = [Event::Moment(moment)];
+        Ok(self.node.step(&events[0], &mut self.out)?)
+    }
+
     /// A new node of that configuration that has taken the lines, and whose outbox is empty.
     pub fn after(alloc: Global, config: &[u8], lines: &[&str]) -> Result<Bench, Fail> {
         let mut bench = Bench::new(alloc, config)?;

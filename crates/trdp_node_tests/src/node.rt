@@ -1,11 +1,12 @@
 //! The node's calls that no line makes.
 
 use crate::bench::Bench;
+use crate::same::same;
 use crate::two_slots::CONFIG;
 use std::process::Abort;
 use std::test::Fail;
 use trdp_base::{Ip, Place, Topo};
-use trdp_engine::{Call, Event, run_both, same_view, view_drops_nothing};
+use trdp_engine::{Call, Event, Outbox, What, run_both, same_view, view_drops_nothing};
 use trdp_pd::PublisherTerms;
 
 /// A publisher of comId 100 with a cycle of 100 ms, to 10.0.0.2.
@@ -85,6 +86,50 @@ fn run(rt: &(impl Abort + AllocGlobal), bench: &mut Bench) -> Result<(), Fail> {
 fn a_run_takes_all_events(rt: HostRuntime) -> Result<(), Fail> {
     let mut bench = Bench::new(rt.alloc(), CONFIG)?;
     run(&rt, &mut bench)
+}
+
+/// The sequence counter of a telegram.
+fn counter_of(telegram: &[u8]) -> Option<[u8; 4]> {
+    match telegram {
+        [a, b, c, d, ..] => Some([*a, *b, *c, *d]),
+        _ => None,
+    }
+}
+
+/// The sequence counter of the telegram that is the one record of an outbox.
+fn counter(out: &Outbox) -> Option<[u8; 4]> {
+    if out.len() == 1 {
+        if let Some(record) = out.get(0) {
+            if let What::Send { telegram, .. } = record.what {
+                return counter_of(telegram);
+            }
+        }
+    }
+    None
+}
+
+/// Asserts that the publisher's next moment of that count sends one telegram, which counts so.
+fn sends(
+    rt: &(impl Abort + AllocGlobal),
+    bench: &mut Bench,
+    count: u32,
+    bytes: [u8; 4],
+) -> Result<(), Fail> {
+    bench.moment((u64::from(count) + 1) * 100_000)?;
+    same(rt, count, counter(&bench.out), Some(bytes));
+    bench.out.clear();
+    Ok(())
+}
+
+/// The moments go on by one cycle of the publisher at a time, from 0.2 to 1,000 seconds.
+#[test]
+fn ten_thousand_telegrams(rt: HostRuntime) -> Result<(), Fail> {
+    let mut bench = Bench::new(rt.alloc(), CONFIG)?;
+    run(&rt, &mut bench)?;
+    for count in 1..9_999u32 {
+        sends(&rt, &mut bench, count, count.to_be_bytes())?;
+    }
+    sends(&rt, &mut bench, 9_999, [0, 0, 0x27, 0x0f])
 }
 
 /// The datasets, the address and the ports of the other configuration, the same slot 0, and a
