@@ -189,10 +189,12 @@ impl Heap {
         ensures least { 1 ≤ probes.new }
     {
         let own = self.order_of(orders, place);
-        if acts_before(Some(own), was, probes) {
-            self.rise(orders, place, own, probes);
+        let mut count = *probes;
+        if acts_before(Some(own), was, &mut count) {
+            self.rise(orders, place, own, &mut count);
         } else {
-            self.sink(orders, place, own, probes);
+            self.sink(orders, place, own, &mut count);
         }
+        *probes = count;
     }
 }

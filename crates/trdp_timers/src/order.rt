@@ -1,6 +1,6 @@
 //! When an object acts, and which of two acts first.
 
-ghost use Rattle.std.specs.Prelude.{◌≡◌, ◌<◌, ◌+◌, ◌^◌};
+ghost use Rattle.std.specs.Prelude.{◌≡◌, ◌<◌, ◌+◌, ◌*◌, ◌^◌};
 ghost use Rattle.trdp_timers.specs.Orders.{goes_before, is_due_by};
 
 /// When an object acts: the sooner by the due moment, then by the slot, then by the handle.
@@ -14,6 +14,15 @@ pub struct Order {
     pub handle: u32,
 }
 
+impl Order {
+    /// The slot and the handle in one number: of two orders of one moment the lower acts first.
+    fn number(self) -> u64
+        ensures { result ≡ self.slot * 2 ^ 32 + self.handle }
+    {
+        u64::from(self.slot) * 0x1_0000_0000 + u64::from(self.handle)
+    }
+}
+
 /// Whether the first acts before the second, where one that isn't set acts last. Every comparison
 /// of two orders, or of an order with a moment, is made and counted here.
 #[tactic(auto, unfolding(crate::specs::Orders::goes_before))]
@@ -24,10 +33,7 @@ pub fn acts_before(first: Option<Order>, second: Option<Order>, probes: &mut u64
 {
     *probes += 1;
     match (first, second) {
-        (Some(a), Some(b)) => {
-            a.due < b.due
-                || a.due == b.due && (a.slot < b.slot || a.slot == b.slot && a.handle < b.handle)
-        }
+        (Some(a), Some(b)) => a.due < b.due || a.due == b.due && a.number() < b.number(),
         (Some(_), None) => true,
         (None, _) => false,
     }

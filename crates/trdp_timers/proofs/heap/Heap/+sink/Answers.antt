@@ -19,8 +19,8 @@ returns-then-not-acts_before-clause-order t c =
     let can = c.requires.order in
     settled (length keys) (order_at c.args.orders.now.items keys)
     c.args.place can.0 can.1 (λ h. leads_trans _ can.0 _ (can.1.above h) can.2)
-    (λ i h k e. leads_trans _ (order_at c.args.orders.now.items keys c.first_below-below.result.place)
-    _ (cc)
+    (λ i h k e. leads_trans _
+    (order_at c.args.orders.now.items keys c.first_below-below.result.place) _ (cc)
     (c.first_below-below.ensures.first i h k e))
 
 pub sink-requires : goal.sink-requires
@@ -31,7 +31,8 @@ sink-requires t c =
     let below = c.first_below-below.result.place in
     let can = sunk (length keys) (length to) (order_at os keys) (order_at os to) c.args.place below
     c.exchange.ensures.count (omega arith) c.first_below-below.ensures.within (omega arith)
-    (c.exchange.ensures.swapped os) (leads_before _ _ (cc)) c.first_below-below.ensures.first c.requires.order in (
+    (c.exchange.ensures.swapped os) (leads_before _ _ (cc))
+    c.first_below-below.ensures.first c.requires.order in (
       omega arith,
       (
         omega arith,
@@ -42,8 +43,8 @@ sink-requires t c =
             (
               can,
               count_down (length keys) (length to) c.args.place below c.args.probes.now
-                  c.acts_before.new.probes c.exchange.ensures.count c.first_below-below.ensures.below
-                  c.requires.place (omega arith) (omega arith) c.requires.probes,
+                  c.acts_before.new.probes c.exchange.ensures.count
+                  c.first_below-below.ensures.below c.requires.place (omega arith) (omega arith) c.requires.probes,
             ),
           ),
         ),

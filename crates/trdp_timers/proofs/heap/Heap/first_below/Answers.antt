@@ -22,7 +22,8 @@ returns-then-acts_before-clause-first c =
     let ahead : Leads (at (c.standing-left.result.place + 1)) (at (2 * p + 1)) =
     leads_before _ _ (cc) in
     rw is (of_two n at p (2 * p + 1 + 1)
-    (λ _. subst (λ (k : ℕ). Leads (at (k + 1)) (at (2 * p + 1))) c.standing-left.ensures.place ahead) (λ _. leads_refl _))
+    (λ _. subst (λ (k : ℕ). Leads (at (k + 1)) (at (2 * p + 1)))
+    c.standing-left.ensures.place ahead) (λ _. leads_refl _))
 
 pub returns-clause-first : goal.returns-clause-first
 returns-clause-first c =
@@ -31,4 +32,5 @@ returns-clause-first c =
     let p = c.args.place in
     let behind : Leads (at (2 * p + 1)) (at (c.standing-left.result.place + 1)) = cc in
     rw c.standing-left.ensures.place (of_two n at p (2 * p + 1) (λ _. leads_refl _)
-    (λ _. subst (λ (k : ℕ). Leads (at (2 * p + 1)) (at (k + 1))) c.standing-left.ensures.place behind))
+    (λ _. subst (λ (k : ℕ). Leads (at (2 * p + 1)) (at (k + 1)))
+    c.standing-left.ensures.place behind))

@@ -9,7 +9,8 @@ pub returns-then-not-acts_before-clause-order : goal.returns-then-not-acts_befor
 returns-then-not-acts_before-clause-order c =
     let can = c.loop-place.invariant.order in
     settled (length c.loop-place.self.keys.items)
-    _ c.loop-place.place can.0 can.1 (λ h. cc) (λ i h k e. leads_trans _ can.0 _ can.2 (can.1.below i h k e))
+    _ c.loop-place.place can.0 can.1 (λ h. cc)
+    (λ i h k e. leads_trans _ can.0 _ can.2 (can.1.below i h k e))
 
 pub returns-clause-order : goal.returns-clause-order
 returns-clause-order c =
