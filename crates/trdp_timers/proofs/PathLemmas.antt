@@ -27,13 +27,6 @@ count_down n m p c probes now same_n low within two more (zero, deep, fits) = ab
 count_down n m p c probes now same_n low within two more (suc b, deep, fits) =
     (b, omega (arith, halve n p c b low deep), omega arith)
 
-pub cost_down : (n m p c probes now to b : ℕ)
-    → m ≡ n → 2 * p + 1 ≤ c → now ≤ probes + 2 → 2 * p + 1 < n
-    → ((j : ℕ) → m < (c + 1) * 2 ^ j → to ≤ now + 2 * j) → n < (p + 1) * 2 ^ b → to ≤ probes + 2 * b
-cost_down n m p c probes now to zero same_n low two more rest deep = absurd (omega arith)
-cost_down n m p c probes now to (suc b) same_n low two more rest deep =
-    let r = rest b (omega (arith, halve n p c b low deep)) in omega arith
-
 -- in a loop: what the comparisons to come may cost
 pub cost_step : (p probes start now b : ℕ) → 0 < p
     → now ≡ probes + 1 → ((j : ℕ) × (p + 1 < 2 ^ j) × (probes + j ≤ start + b))
@@ -45,3 +38,16 @@ cost_step p probes start now b some one (suc j, deep, most) =
 pub cost_end : (q start now b : ℕ)
     → ((j : ℕ) × (q < 2 ^ j) × (now + j ≤ start + b)) → now ≤ start + b
 cost_end q start now b (j, deep, most) = omega arith
+
+-- the same on the way down
+pub cost_step_down : (n p c probes start now b : ℕ)
+    → 2 * p + 1 ≤ c → now ≤ probes + 2 → 2 * p + 1 < n
+    → ((j : ℕ) × (n < (p + 1) * 2 ^ j) × (probes + 2 * j ≤ start + 2 * b))
+    → (j : ℕ) × (n < (c + 1) * 2 ^ j) × (now + 2 * j ≤ start + 2 * b)
+cost_step_down n p c probes start now b low two more (zero, deep, most) = absurd (omega arith)
+cost_step_down n p c probes start now b low two more (suc j, deep, most) =
+    (j, halve n p c j low deep, omega arith)
+
+pub cost_end_down : (n q start now b : ℕ)
+    → ((j : ℕ) × (n < (q + 1) * 2 ^ j) × (now + 2 * j ≤ start + 2 * b)) → now ≤ start + 2 * b
+cost_end_down n q start now b (j, deep, most) = omega arith

@@ -154,15 +154,15 @@ impl Heap {
             → probes.new ≤ probes.old + 2 * b }
         ensures least { probes.old ≤ probes.new }
     {
-        if place >= self.keys.len() / 2 {
-            return;
+        let mut place = place;
+        while place < self.keys.len() / 2 {
+            let below = self.first_below(orders, place, probes);
+            if !acts_before(Some(below.order), Some(own), probes) {
+                return;
+            }
+            self.exchange(place, below.place);
+            place = below.place;
         }
-        let below = self.first_below(orders, place, probes);
-        if !acts_before(Some(below.order), Some(own), probes) {
-            return;
-        }
-        self.exchange(place, below.place);
-        self.sink(orders, below.place, own, probes);
     }
 
     /// Makes it a heap again once the key at a place has another order than `was`, which fitted
