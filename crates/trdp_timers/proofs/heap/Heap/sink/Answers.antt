@@ -1,4 +1,5 @@
-use Rattle.std.proofs.Common.{◌<◌, ◌≤◌, ◌+◌, ◌*◌, ◌^◌, ◌/◌, ◌∙◌, ℕ, length, sym, subst, arith, rules}
+use Rattle.std.proofs.Common.{◌<◌, ◌≤◌, ◌+◌, ◌*◌, ◌^◌, ◌/◌, ◌∙◌, ℕ, length, sym, subst, arith}
+use Rattle.std.proofs.Common.{rules}
 use Rattle.trdp_timers.specs.Heap.{order_at}
 use Rattle.trdp_timers.proofs.StepLemmas.{settled, sunk}
 use Rattle.trdp_timers.proofs.OrderLemmas.{leads_trans, leads_before}
