@@ -14,6 +14,7 @@ use trdp_model::Record;
 /// their order.
 #[derive(Drop)]
 pub struct BySlot<'a> {
+    /// The outbox whose records they are.
     outbox: &'a Outbox,
     /// Whether they stand in that order, so that each comes behind the one before.
     rising: bool,
