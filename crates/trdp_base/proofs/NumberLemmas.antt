@@ -1,15 +1,14 @@
 -- Facts on the written form of numbers.
 use Rattle.std.proofs.Common.{◌≡◌, ℕ, ◌+◌, ◌-◌, ◌*◌, ◌/◌, ◌%◌, ◌^◌, ◌<◌, ◌≤◌, List, [], ◌∷◌}
-use Rattle.std.proofs.Common.{◌++◌, length, drop, take, set, get_or, sym}
-use Rattle.std.proofs.Common.{ap, ◌∙◌, subst, inl, inr, arith, append_assoc, length-drop}
+use Rattle.std.proofs.Common.{◌++◌, length, length-append, take, get_or, sym}
+use Rattle.std.proofs.Common.{ap, ◌∙◌, subst, inl, inr, arith}
+use Rattle.std.specs.Prelude.{decimal}
 use Rattle.std.specs.Str.Parse.{AllDigits, digits_value}
 use Rattle.std.proofs.lemmas.Bool.{cases_lt}
 use Rattle.std.proofs.lemmas.Fmt.{decimal_digit, decimal_step, first_decimal}
 use Rattle.std.proofs.lemmas.Fmt.{decimal-digits_value, decimal_is_IsNumeral, length-decimal-le}
 use Rattle.std.proofs.lemmas.Int.Digits.{digits_more, digits_value_more}
-use Rattle.std.proofs.Math.ListN.{drop_of_length-le}
-use Rattle.std.proofs.lemmas.Nat.{pow-add}
-use Rattle.std.proofs.lemmas.List.{append-nil, drop-set, drop-set-lt, take_all}
+use Rattle.std.proofs.lemmas.List.{take_all}
 use Rattle.std.proofs.lemmas.Str.{digit_value_digit}
 use Rattle.std.proofs.lemmas.Str.Parse.{numerals_by_value, tells_digits, digit_at}
 use Rattle.std.proofs.lemmas.Str.Parse.{digits_value-take-le}
@@ -103,80 +102,23 @@ written_front text number count front small e inside read =
 pub length-text_of_number : (number : ℕ) → number < 2 ^ 64 → length (text_of_number number) ≤ 20
 length-text_of_number number small = length-decimal-le 20 number (omega arith) (omega arith) small
 
--- what stands in the list: the last digit of what is left, and behind it the digits that are done
-pub record Stands (number rest start : ℕ) (digits : List ℕ) : Type 0 where
-  pub within : start < 20
-  pub room : rest < 10 ^ (start + 1)
-  pub last : drop start digits ≡ (48 + rest % 10) ∷ drop (start + 1) digits
-  pub done : text_of_number number ≡ text_of_number rest ++ drop (start + 1) digits
+-- one digit is the whole written form
+pub written_digit : (number digit : ℕ) → number < 10 → digit ≡ 48 + number % 10
+    → text_of_number number ≡ digit ∷ []
+written_digit number digit one is =
+    decimal_digit number one ∙ ap (λ d. d ∷ []) (omega (arith, is))
 
-pub stands_first : (number : ℕ) (digits : List ℕ) (digit : ℕ) → number < 2 ^ 64
-    → length digits ≡ 20 → digit ≡ 48 + number % 10 → Stands number number 19 (set digits 19 digit)
-stands_first number digits digit small long is =
-    let nothing : drop 20 digits ≡ [] = drop_of_length-le digits {i = 20} (omega (arith, long)) in
-    let behind : drop 20 (set digits 19 digit) ≡ drop 20 digits =
-    drop-set-lt 20 digits 19 digit (omega arith) in
-    record {
-      within = omega arith;
-      room = omega (arith, small);
-      last = drop-set digits 19 digit (omega (arith, long))
-          ∙ ap (λ d. d ∷ drop 20 digits) is ∙ ap (λ ds. (48 + number % 10) ∷ ds) (sym behind);
-      done = sym (append-nil (text_of_number number))
-          ∙ ap (λ ds. text_of_number number ++ ds) (sym (behind ∙ nothing));
-    }
+-- the last digit stands behind the written form of what is before it
+pub written_last : (number digit : ℕ) → 10 ≤ number → number < 2 ^ 64 → digit ≡ 48 + number % 10
+    → text_of_number number ≡ text_of_number (number / 10) ++ digit ∷ []
+written_last number digit more small is =
+    decimal_step number more small
+    ∙ ap (λ d. text_of_number (number / 10) ++ d ∷ []) (sym is)
 
-stands_inside : (number rest start : ℕ) (digits : List ℕ)
-    → Stands number rest start digits → start < length digits
-stands_inside number rest start digits stands =
-    omega (arith, length-drop start digits, ap length stands.last)
-
-stands_above : (number rest start : ℕ) (digits : List ℕ)
-    → 10 ≤ rest → Stands number rest start digits → 0 < start
-stands_above number rest start digits two stands =
-    elim (cases_lt 0 start) [
-      | inl above ↦ above
-      | inr below ↦
-          let first : start ≡ 0 = omega arith in
-          let one : rest < 10 = subst (λ s. rest < 10 ^ (s + 1)) first stands.room in
-          omega arith
-    ]
-
-stands_more_at : (number rest at : ℕ) (digits : List ℕ) (digit : ℕ)
-    → 10 ≤ rest → rest < 2 ^ 64 → digit ≡ 48 + rest / 10 % 10
-    → Stands number rest (at + 1) digits → Stands number (rest / 10) at (set digits at digit)
-stands_more_at number rest at digits digit two small is before =
-    let fits = stands_inside number rest (at + 1) digits before in
-    let behind : drop (at + 1) (set digits at digit) ≡ drop (at + 1) digits =
-    drop-set-lt (at + 1) digits at digit (omega arith) in
-    let wider : 10 ^ (at + 1 + 1) ≡ 10 ^ (at + 1) * 10 = pow-add 10 (at + 1) 1 in
-    let room = before.room in
-    let within = before.within in
-    record {
-      within = omega (arith, within);
-      room = omega (arith, room, wider);
-      last = drop-set digits at digit (omega arith) ∙ ap (λ d. d ∷ drop (at + 1) digits) is
-          ∙ ap (λ ds. (48 + rest / 10 % 10) ∷ ds) (sym behind);
-      done = before.done ∙ ap (λ t. t ++ drop (at + 1 + 1) digits) (decimal_step rest two small)
-          ∙ append_assoc (text_of_number (rest / 10))
-          ((48 + rest % 10) ∷ []) (drop (at + 1 + 1) digits)
-          ∙ ap (λ ds. text_of_number (rest / 10) ++ ds) (sym before.last ∙ sym behind);
-    }
-
-pub stands_more : (number rest start : ℕ) (digits : List ℕ) (digit : ℕ)
-    → 10 ≤ rest → rest < 2 ^ 64 → digit ≡ 48 + rest / 10 % 10 → Stands number rest start digits
-    → Stands number (rest / 10) (start - 1) (set digits (start - 1) digit)
-stands_more number rest start digits digit two small is before =
-    let above = stands_above number rest start digits two before in
-    let back : start ≡ start - 1 + 1 = omega arith in
-    stands_more_at number rest (start - 1) digits
-    digit two small is (subst (λ s. Stands number rest s digits) back before)
-
-pub stands_whole : (number rest start : ℕ) (digits : List ℕ)
-    → rest < 10 → Stands number rest start digits → drop start digits ≡ text_of_number number
-stands_whole number rest start digits one stands =
-    let digit : rest % 10 ≡ rest = omega (arith, one) in
-    stands.last ∙ ap (λ d. (48 + d) ∷ drop (start + 1) digits) digit
-    ∙ ap (λ t. t ++ drop (start + 1) digits) (sym (decimal_digit rest one)) ∙ sym stands.done
+pub length-written_more : (number : ℕ) → 10 ≤ number → number < 2 ^ 64
+    → length (text_of_number number) ≡ length (text_of_number (number / 10)) + 1
+length-written_more number more small =
+    ap length (decimal_step number more small) ∙ length-append (decimal (number / 10)) _
 
 -- a byte has at most three digits
 pub length-text_of_octet : (number : ℕ) → number < 2 ^ 8 → length (text_of_number number) ≤ 3

@@ -93,26 +93,12 @@ pub(crate) fn put_number(out: &mut Vec<u8>, number: u64)
     ensures len { vec_len out.new ≡ vec_len out.old + length (text_of_number number) }
     ensures capacity { vec_capacity out.old ≤ vec_capacity out.new }
 {
-    let mut digits = [0; NUMBER_LENGTH];
-    let start = write_digits(number, &mut digits);
-    let (_, written) = digits.split_at(start);
-    out.extend_from_slice(written).unwrap();
-}
-
-/// Writes a number's digits at the end of the list, and says where they begin.
-fn write_digits(number: u64, digits: &mut [u8; NUMBER_LENGTH]) -> usize
-    ensures within { result ≤ number_length }
-    ensures digits { drop result digits.new ≡ text_of_number number }
-{
-    let mut start = NUMBER_LENGTH - 1;
-    let mut rest = number;
-    digits[start] = digit_of(rest);
-    while rest >= 10 {
-        rest /= 10;
-        start -= 1;
-        digits[start] = digit_of(rest);
+    if number < 10 {
+        out.push_reserved(digit_of(number));
+        return;
     }
-    start
+    put_number(out, number / 10);
+    out.push_reserved(digit_of(number));
 }
 
 /// The character of a number's last digit.
