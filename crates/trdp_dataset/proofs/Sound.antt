@@ -14,7 +14,7 @@ use Rattle.trdp_dataset.specs.declared.element.Form.TheVariants.{Unsigned, Signe
 use Rattle.trdp_dataset.specs.declared.element.Form.TheVariants.{Time48, Time64, Nested}
 use Rattle.trdp_dataset.specs.declared.fault.ConfigFault.TheVariants.{TwiceId, NoDataset}
 use Rattle.trdp_dataset.specs.Elements.{form_of, nested_id}
-use Rattle.trdp_dataset.specs.Datasets.{DatasetModel, dataset_of, elements_of}
+use Rattle.trdp_dataset.specs.Datasets.{DatasetModel, dataset_by_id, elements_of}
 use Rattle.trdp_dataset.specs.Datasets.{is_known, passes, all_pass, all_counted}
 use Rattle.trdp_dataset.specs.Depths.{is_within}
 use Rattle.trdp_dataset.specs.ZeroSizes.{zero_size}
@@ -41,7 +41,7 @@ unfolding elements_of
 each_found test [] id es all found = cc
 each_found test (d ∷ ds) id es all found =
     let parts = and_parts (test d.elements) (each test ds) all in
-    elim (found_by (id == d.id) d (dataset_of ds id) es found)
+    elim (found_by (id == d.id) d (dataset_by_id ds id) es found)
     [ inl h ↦ ap test (sym h.1) ∙ parts.0 | inr h ↦ each_found test ds id es parts.1 h ]
 
 known_by : (b : Bool) (rest : Bool) → (b || rest) ≡ true → (b ≡ true) ⊎ (rest ≡ true)
@@ -104,7 +104,7 @@ nested_known test [] id es none found = cc
 nested_known test (d ∷ ds) id es none found =
     let parts =
     none_of_two (λ n. not (test n)) (nested_ids d.elements) (all_made nested_ids ds) none in
-    elim (found_by (id == d.id) d (dataset_of ds id) es found) [
+    elim (found_by (id == d.id) d (dataset_by_id ds id) es found) [
       | inl h ↦ ap (all_pass test) (sym h.1) ∙ nested_pass test d.elements parts.0
       | inr h ↦ nested_known test ds id es parts.1 h
     ]

@@ -14,7 +14,7 @@ use Rattle.trdp_dataset.specs.Seen.{tables_seen}
 use Rattle.trdp_dataset.specs.Configs.{dataset_in}
 use Rattle.trdp_dataset.specs.declared.fault.ConfigFault.{ConfigFault}
 use Rattle.trdp_dataset.specs.declared.fault.ConfigFault.TheVariants.{TwiceId}
-use Rattle.trdp_dataset.specs.Datasets.{DatasetModel, dataset_of, elements_of, is_known}
+use Rattle.trdp_dataset.specs.Datasets.{DatasetModel, dataset_by_id, elements_of, is_known}
 use Rattle.trdp_dataset.specs.Faults.{has_twice, twice_id_in, IsFaultOf}
 use Rattle.trdp_dataset.proofs.FaultLemmas.{fault_moves}
 use Rattle.trdp_dataset.specs.Adding.{AddsDataset, twice_fault}
@@ -25,9 +25,9 @@ known_by true d rest = refl
 known_by false d rest = refl
 
 found_known : (registry : List DatasetModel) (id : ℕ)
-    → is_known registry id ≡ is_some (dataset_of registry id)
+    → is_known registry id ≡ is_some (dataset_by_id registry id)
 unfolding elements_of
-found_known registry id = by (dataset_of registry id)
+found_known registry id = by (dataset_by_id registry id)
   where
     by : (o : Option DatasetModel)
         → is_some (option_map (λ (d : DatasetModel). d.elements) o) ≡ is_some o
@@ -36,7 +36,7 @@ found_known registry id = by (dataset_of registry id)
 
 pub known-cons : (d : DatasetModel) (ds : List DatasetModel) (id : ℕ)
     → is_known (d ∷ ds) id ≡ ((id == d.id) || is_known ds id)
-known-cons d ds id = found_known (d ∷ ds) id ∙ (known_by (id == d.id) d (dataset_of ds id)
+known-cons d ds id = found_known (d ∷ ds) id ∙ (known_by (id == d.id) d (dataset_by_id ds id)
     ∙ ap (λ b. (id == d.id) || b) (sym (found_known ds id)))
 
 or_assoc : (a b c : Bool) → (a || (b || c)) ≡ ((a || b) || c)

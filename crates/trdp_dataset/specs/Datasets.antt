@@ -13,12 +13,12 @@ pub record DatasetModel : Type 0 where
   pub elements : List Element
 
 -- the first dataset of that identifier
-abbrev pub dataset_of : List DatasetModel → ℕ → Option DatasetModel
-dataset_of registry id = find (λ d. id == d.id) registry
+abbrev pub dataset_by_id : List DatasetModel → ℕ → Option DatasetModel
+dataset_by_id registry id = find (λ d. id == d.id) registry
 
 -- the elements of the dataset of that identifier
 unfoldable pub elements_of : List DatasetModel → ℕ → Option (List Element)
-elements_of registry id = option_map (λ d. d.elements) (dataset_of registry id)
+elements_of registry id = option_map (λ d. d.elements) (dataset_by_id registry id)
 
 -- some dataset has that identifier
 abbrev pub is_known : List DatasetModel → ℕ → Bool
