@@ -11,6 +11,7 @@ use Rattle.trdp_head.specs.declared.pd.PdKind.{PdKind}
 use Rattle.trdp_head.specs.declared.pd.PdKind.TheVariants.{PullRequest}
 use Rattle.trdp_filter.specs.declared.globals.Globals.{Globals}
 use Rattle.trdp_filter.specs.Telegrams.{TelegramModel, PdIs, MdIs}
+use Rattle.trdp_md.specs.Listeners.{is_unasked}
 use Rattle.trdp_model.specs.Objects.{is_addressed}
 use Rattle.trdp_table.specs.Tables.{Keyed, TableState, all_objects, by_key}
 use Rattle.trdp_index.specs.declared.com_row.ComRow.{ComRow}
@@ -106,13 +107,7 @@ abbrev pub part_of : TelegramModel → Option (SessionId × Role)
 part_of (PdIs src dst telegram) = None
 part_of (MdIs src dst telegram) = part_as telegram.head.kind telegram.head.session
 
--- the message types that come unasked: these are for listeners alone
-abbrev pub is_unasked : MdKind → Bool
-is_unasked message.Notify = true
-is_unasked message.Request = true
-is_unasked kind = false
-
--- the telegram is a notification or a request
+-- the telegram is a notification or a request: these are for listeners alone
 abbrev pub comes_unasked : TelegramModel → Bool
 comes_unasked (PdIs src dst telegram) = false
 comes_unasked (MdIs src dst telegram) = is_unasked telegram.head.kind

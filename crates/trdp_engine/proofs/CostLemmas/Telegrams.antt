@@ -1,16 +1,15 @@
 -- What a telegram costs, by the objects that it may be for.
--- For `note_all`, `note_parts`, `note_hearers`, `ask_all`, `receive` and `step_moment`.
+-- For `note_all`, `note_parts`, `note_hearers`, `ask_all`, `receive` and `step_moment`, and for
+-- `CostLemmas.Sessions`.
 -- By: each row that is walked and each key that is asked for is that of such an object.
 use Rattle.std.proofs.Common.{◌≡◌, ℕ, ◌+◌, ◌<◌, ◌≤◌, List, [], ◌∷◌, length, map, drop, cond, Option}
-use Rattle.std.proofs.Common.{Some, None, Bool, true, false, refl, ◌∙◌, sym, ap, subst, arith}
+use Rattle.std.proofs.Common.{Some, None, Bool, true, false, refl, ◌∙◌, sym, ap, arith}
 use Rattle.std.specs.Prelude.{◌==◌, ◌||◌, slice_get}
 use Rattle.std.proofs.lemmas.Bool.{false≢true}
-use Rattle.std.proofs.lemmas.Bool.Decides.{nat_tests}
 use Rattle.std.proofs.lemmas.List.{length-append}
 use Rattle.std.proofs.lemmas.List.Sums.{sum_by-cons}
-use Rattle.std.proofs.lemmas.Option.{same_Some, none-some}
+use Rattle.std.proofs.lemmas.Option.{same_Some}
 use Rattle.trdp_base.specs.declared.place.Place.{Place}
-use Rattle.trdp_base.specs.declared.session.SessionId.{SessionId}
 use Rattle.trdp_head.specs.PdTelegrams.{PdTelegram}
 use Rattle.trdp_head.specs.MdTelegrams.{MdTelegram}
 use Rattle.trdp_head.specs.declared.md.MdHead.{MdHead}
@@ -19,24 +18,20 @@ use Rattle.trdp_head.specs.declared.md.MdKind.TheVariants as message
 use Rattle.trdp_filter.specs.declared.globals.Globals.{Globals}
 use Rattle.trdp_filter.specs.Telegrams.{TelegramModel, PdIs, MdIs}
 use Rattle.trdp_model.specs.declared.any_object.AnyObject.{AnyObject}
+use Rattle.trdp_md.specs.Listeners.{is_unasked}
 use Rattle.trdp_model.specs.declared.any_object.AnyObject.TheVariants.{Publisher, Subscription}
 use Rattle.trdp_model.specs.declared.any_object.AnyObject.TheVariants.{Requester, Listener}
 use Rattle.trdp_model.specs.declared.any_object.AnyObject.TheVariants.{Caller, Replier}
 use Rattle.trdp_model.specs.Objects.{is_addressed}
 use Rattle.trdp_table.specs.Tables.{Keyed, SlotTable, TableState, slot_in}
-use Rattle.trdp_table.specs.Tables.{by_handle, all_quotas, room_of}
-use Rattle.trdp_index.specs.declared.session_row.Role.{Role}
-use Rattle.trdp_index.specs.declared.session_row.Role.TheVariants.{Caller as AsCaller}
-use Rattle.trdp_index.specs.declared.session_row.Role.TheVariants.{Replier as AsReplier}
+use Rattle.trdp_table.specs.Tables.{all_quotas, room_of}
 use Rattle.trdp_index.specs.ComRows.{is_same_com}
 use Rattle.trdp_model.specs.Slots.{Entry, SlotState}
 use Rattle.trdp_store.specs.TableSlots.{entry_of_keyed, slot_of, slots_of}
 use Rattle.trdp_store.specs.Acting.{slot_at}
 use Rattle.trdp_model.specs.Datagrams.{is_request, is_request_kind, is_listening, hearing}
-use Rattle.trdp_model.specs.Requests.{is_of_session}
 use Rattle.trdp_store.specs.Indexed.{is_listed, rows_in, rows_from}
-use Rattle.trdp_store.specs.InSession.{own_session, session_found, session_in}
-use Rattle.trdp_engine.specs.Sought.{sought_by, part_as, part_of, is_unasked}
+use Rattle.trdp_engine.specs.Sought.{sought_by}
 use Rattle.trdp_engine.specs.Sought.{comes_unasked, rows_heard, noted_listener}
 use Rattle.trdp_engine.specs.Costs.{is_that, is_of_com, is_any, is_of_any, is_meant_as}
 use Rattle.trdp_engine.specs.Costs.{is_meant, meant_in, meant_of, quota_total}
@@ -44,7 +39,7 @@ use Rattle.trdp_engine.proofs.NoteLemmas.Noted.{split}
 use Rattle.trdp_engine.proofs.NoteLemmas.FirstListeners.{Hears, InOwn, InAny, Unlisted, Passes}
 use Rattle.trdp_engine.proofs.NoteLemmas.FirstListeners.{hears}
 use Rattle.trdp_engine.proofs.CostLemmas.Sums.{one_if, total, total_of, total_of-le}
-use Rattle.trdp_engine.proofs.CostLemmas.Sums.{total_of-both, found_total}
+use Rattle.trdp_engine.proofs.CostLemmas.Sums.{total_of-both}
 
 -- The rows of a comId.
 
@@ -77,7 +72,7 @@ rows-total b com_id (x ∷ xs) =
 
 -- The objects that a telegram may be for.
 
-unfoldable meant_one : TelegramModel → AnyObject → ℕ
+unfoldable pub meant_one : TelegramModel → AnyObject → ℕ
 meant_one telegram object = one_if (is_meant telegram object)
 
 meant_in-cons : (telegram : TelegramModel) (e : Entry) (es : List Entry)
@@ -86,7 +81,7 @@ unfolding meant_one
 meant_in-cons telegram e es =
     sum_by-cons (λ (x : Entry). cond {A = ℕ} (is_meant telegram x.object) 1 0) e es
 
-meant_in-total : (telegram : TelegramModel) (ks : List Keyed)
+pub meant_in-total : (telegram : TelegramModel) (ks : List Keyed)
     → meant_in telegram (map entry_of_keyed ks) ≡ total (meant_one telegram) ks
 meant_in-total telegram [] = refl
 meant_in-total telegram (k ∷ ks) =
@@ -194,6 +189,7 @@ data_rows src dst t table =
 
 as_unasked : (k : MdKind) (head : MdHead) (object : AnyObject) → is_unasked k ≡ true
     → is_meant_as k head object ≡ (is_of_com head.com_id object || is_of_any object)
+unfolding is_unasked
 as_unasked message.Notify head object is = refl
 as_unasked message.Request head object is = refl
 as_unasked message.Reply head object is = absurd (false≢true is)
@@ -236,6 +232,7 @@ heard_rows (MdIs src dst t) table is = message_rows src dst t table is
 
 pub asks_unasked : (telegram : TelegramModel)
     → is_request telegram ≡ true → comes_unasked telegram ≡ true
+unfolding is_unasked
 asks_unasked (PdIs src dst t) is = absurd (false≢true is)
 asks_unasked (MdIs src dst t) is = by_kind t.head.kind is
   where
@@ -246,85 +243,6 @@ asks_unasked (MdIs src dst t) is = by_kind t.head.kind is
     by_kind message.Query is = absurd (false≢true is)
     by_kind message.Confirm is = absurd (false≢true is)
     by_kind message.Error is = absurd (false≢true is)
-
--- an object that is in a session
-of_session : (object : AnyObject) (own : SessionId × Role)
-    → own_session object ≡ Some own → is_of_session own.0 object ≡ true
-of_session (Publisher p) own is = absurd (none-some own is)
-of_session (Subscription s) own is = absurd (none-some own is)
-of_session (Requester r) own is = absurd (none-some own is)
-of_session (Listener l) own is = absurd (none-some own is)
-of_session (Caller c) own is =
-    let its : SessionId × Role = (c.terms.session, AsCaller) in
-    let self : (c.terms.session.0 == c.terms.session.0) ≡ true = grind (arith, nat_tests) in
-    subst (λ (o : SessionId × Role). is_of_session o.0 (Caller c) ≡ true)
-    (same_Some its own is) self
-of_session (Replier r) own is =
-    let its : SessionId × Role = (r.session, AsReplier) in
-    let self : (r.session.0 == r.session.0) ≡ true = grind (arith, nat_tests) in
-    subst (λ (o : SessionId × Role). is_of_session o.0 (Replier r) ≡ true)
-    (same_Some its own is) self
-
-in_session : (object : AnyObject) (session : SessionId) (role : Role) (own : SessionId × Role)
-    → Some (session, role) ≡ Some own → own_session object ≡ Some own
-    → is_of_session session object ≡ true
-in_session object session role own same of =
-    let its : SessionId × Role = (session, role) in
-    of_session object its (of ∙ sym same)
-
--- a message that an object of that session awaits may be for it
-part_meant : (telegram : TelegramModel) (object : AnyObject) (own : SessionId × Role)
-    → part_of telegram ≡ Some own → own_session object ≡ Some own → is_meant telegram object ≡ true
-part_meant (PdIs src dst t) object own part of = absurd (none-some own part)
-part_meant (MdIs src dst t) object own part of = by_kind t.head.kind part
-  where
-    by_kind : (k : MdKind) → part_as k t.head.session ≡ Some own
-        → is_meant_as k t.head object ≡ true
-    by_kind message.Notify part = absurd (none-some own part)
-    by_kind message.Request part = absurd (none-some own part)
-    by_kind message.Reply part = in_session object t.head.session AsCaller own part of
-    by_kind message.Query part = in_session object t.head.session AsCaller own part of
-    by_kind message.Confirm part = in_session object t.head.session AsReplier own part of
-    by_kind message.Error part = in_session object t.head.session AsCaller own part of
-
-part_one : (telegram : TelegramModel) (object : AnyObject) (own : SessionId × Role)
-    → part_of telegram ≡ Some own → own_session object ≡ Some own → meant_one telegram object ≡ 1
-unfolding meant_one
-part_one telegram object own part of = ap one_if (part_meant telegram object own part of)
-
--- no object awaits a message that comes unasked
-pub part_asked : (telegram : TelegramModel) (own : SessionId × Role)
-    → part_of telegram ≡ Some own → comes_unasked telegram ≡ true → ⊥
-part_asked (PdIs src dst t) own part is = none-some own part
-part_asked (MdIs src dst t) own part is = by_kind t.head.kind part is
-  where
-    by_kind : (k : MdKind) → part_as k t.head.session ≡ Some own → is_unasked k ≡ true → ⊥
-    by_kind message.Notify part is = none-some own part
-    by_kind message.Request part is = none-some own part
-    by_kind message.Reply part is = false≢true is
-    by_kind message.Query part is = false≢true is
-    by_kind message.Confirm part is = false≢true is
-    by_kind message.Error part is = false≢true is
-
--- where the index finds one, it counts
-pub part_counted :
-    (table : TableState) (s h : ℕ) (telegram : TelegramModel) (own : SessionId × Role)
-    → part_of telegram ≡ Some own → session_in s h table ≡ Some own
-    → 1 ≤ meant_in telegram (slot_at s table).objects
-part_counted table s h telegram own part there =
-    either (by_handle h (slot_in s table).objects) refl there
-  where
-    either : (o : Option Keyed) → by_handle h (slot_in s table).objects ≡ o
-        → session_found o ≡ Some own → 1 ≤ meant_in telegram (slot_at s table).objects
-    either None at there = absurd (none-some own there)
-    either (Some keyed) at there =
-        let le = found_total (meant_one telegram) h (slot_in s table).objects keyed at in
-        omega (
-          arith,
-          le,
-          part_one telegram keyed.object own part there,
-          meant_in-total telegram (slot_in s table).objects,
-        )
 
 or_left : (a b : Bool) → a ≡ true → (a || b) ≡ true
 or_left true b is = refl

@@ -14,6 +14,7 @@ use Rattle.trdp_head.specs.MdTelegrams.{MdTelegram}
 use Rattle.trdp_filter.specs.declared.globals.Globals.{Globals}
 use Rattle.trdp_filter.specs.Telegrams.{TelegramModel, PdIs, MdIs}
 use Rattle.trdp_md.specs.Callers.{is_answer}
+use Rattle.trdp_md.specs.Listeners.{is_unasked}
 use Rattle.trdp_md.specs.Repliers.{is_confirm}
 use Rattle.trdp_model.specs.Kinds.{kind_of}
 use Rattle.trdp_model.specs.declared.any_object.AnyObject.{AnyObject}
@@ -26,7 +27,7 @@ use Rattle.trdp_engine.specs.Noted.{noted_as}
 use Rattle.trdp_outbox.specs.Rooms.{kind_room, entries_room}
 use Rattle.trdp_model.specs.Datagrams.{is_for_entry, is_listening, hearing, acts_where, acting}
 use Rattle.trdp_engine.specs.Sought.{comes_unasked, part_as, part_of, noted_listener}
-use Rattle.trdp_engine.specs.Sought.{listener_room, is_unasked as is_unasked_kind}
+use Rattle.trdp_engine.specs.Sought.{listener_room}
 use Rattle.trdp_model.proofs.Handles.{AllAbove as AllEntriesAbove, IsRising as AreEntriesRising}
 use Rattle.trdp_engine.proofs.NoteLemmas.ByCom.{and_left}
 use Rattle.trdp_model.proofs.Tests.{and_right}
@@ -35,10 +36,11 @@ use Rattle.trdp_engine.proofs.NoteLemmas.BySession.{caller_answer, replier_confi
 -- it is in no session that an object awaits
 pub unasked_part : (telegram : TelegramModel) (src dst : Place) (t : MdTelegram)
     → telegram ≡ MdIs src dst t → part_of telegram ≡ None → comes_unasked telegram ≡ true
+unfolding is_unasked
 unasked_part telegram src dst t is none =
     ap comes_unasked is ∙ by_kind t.head.kind (sym (ap part_of is) ∙ none)
   where
-    by_kind : (k : MdKind) → part_as k t.head.session ≡ None → is_unasked_kind k ≡ true
+    by_kind : (k : MdKind) → part_as k t.head.session ≡ None → is_unasked k ≡ true
     by_kind Notify none = refl
     by_kind Request none = refl
     by_kind Reply none = absurd (cc)
@@ -46,8 +48,8 @@ unasked_part telegram src dst t is none =
     by_kind Confirm none = absurd (cc)
     by_kind Error none = absurd (cc)
 
-answers_none : (k : MdKind) → is_unasked_kind k ≡ true → is_answer k ≡ false
-unfolding is_answer
+answers_none : (k : MdKind) → is_unasked k ≡ true → is_answer k ≡ false
+unfolding is_answer is_unasked
 answers_none Notify unasked = refl
 answers_none Request unasked = refl
 answers_none Reply unasked = absurd (false≢true unasked)
@@ -55,8 +57,8 @@ answers_none Query unasked = absurd (false≢true unasked)
 answers_none Confirm unasked = absurd (false≢true unasked)
 answers_none Error unasked = absurd (false≢true unasked)
 
-confirms_none : (k : MdKind) → is_unasked_kind k ≡ true → is_confirm k ≡ false
-unfolding is_confirm
+confirms_none : (k : MdKind) → is_unasked k ≡ true → is_confirm k ≡ false
+unfolding is_confirm is_unasked
 confirms_none Notify unasked = refl
 confirms_none Request unasked = refl
 confirms_none Reply unasked = absurd (false≢true unasked)

@@ -1,7 +1,8 @@
 use Rattle.std.proofs.Common.{◌∙◌, sym, ap, length, arith}
 use Rattle.trdp_filter.specs.Telegrams.{telegram_model}
 use Rattle.trdp_head.specs.PdTelegrams.{PdTelegram}
-use Rattle.trdp_engine.proofs.CostLemmas.Telegrams.{data_rows, heard_rows, part_asked}
+use Rattle.trdp_engine.proofs.CostLemmas.Sessions.{part_asked}
+use Rattle.trdp_engine.proofs.CostLemmas.Telegrams.{data_rows, heard_rows}
 use Rattle.trdp_engine.proofs.NoteLemmas.ListenersAlone.{unasked_part}
 use Rattle.trdp_store.proofs.StoreLemmas.Keys.{KeysTell}
 use Rattle.trdp_engine.proofs.NoteLemmas.ByCom.{run_noted, run_room}

@@ -5,7 +5,7 @@ use Rattle.trdp_model.specs.Slots.{Entry}
 use Rattle.trdp_engine.specs.Noted.{noted_as}
 use Rattle.trdp_outbox.specs.Rooms.{entries_room}
 use Rattle.trdp_engine.specs.Noted.{Addressed}
-use Rattle.trdp_engine.proofs.CostLemmas.Telegrams.{part_counted}
+use Rattle.trdp_engine.proofs.CostLemmas.Sessions.{part_counted}
 use Rattle.trdp_store.proofs.StoreLemmas.Slots.{object_found}
 use Rattle.trdp_engine.proofs.NoteLemmas.BySession.{acts_none, acts_gone, acts_not, acts_it}
 use Rattle.trdp_engine.proofs.addressees.note_part.Goals as goal
