@@ -1,18 +1,11 @@
 //! Calls at one object: it does what is asked, and stays or ends.
 
-ghost use Rattle.std.specs.Prelude.{◌≡◌, ◌<◌, ◌≤◌, ◌++◌};
-ghost use Rattle.trdp_model.specs.Kinds.{kind_of};
-ghost use Rattle.trdp_model.specs.Configs.{setup_of};
+ghost use Rattle.std.specs.Prelude.{◌≡◌, ◌<◌, ◌++◌};
 ghost use Rattle.trdp_model.specs.Records.{labelled};
-ghost use Rattle.trdp_base.specs.Moments.{last_moment};
 ghost use Rattle.trdp_model.specs.Calls.{ends};
 ghost use Rattle.trdp_model.specs.Replies.{aborts};
 ghost use Rattle.trdp_outbox.specs.Rooms.{HasRoom, answer_room};
-ghost use Rattle.trdp_engine.specs.Asked.{asked_room};
-ghost use Rattle.trdp_engine.specs.Asked.{asked_act};
 ghost use Rattle.trdp_store.specs.Deeds.{left_of};
-ghost use Rattle.trdp_store.specs.Indexed.{com_of};
-ghost use Rattle.trdp_store.specs.InSession.{own_session};
 
 use crate::callers::confirm;
 use crate::publishers::put;
@@ -106,67 +99,6 @@ fn abort(object: &AnyObject, s: u16, out: &mut Outbox) -> Left
     }
 }
 
-/// Has the object of that handle do what is asked, and records what it gives.
-fn ask(
-    object: &mut AnyObject,
-    handle: u32,
-    asking: &Asking<'_, '_>,
-    s: u16,
-    out: &mut Outbox,
-) -> Left
-    requires now { asking.now.setting.globals.now.now ≤ last_moment }
-    requires room { HasRoom out.old (asked_room asking.now.asked.now) }
-    ensures left { left_of result object.new
-        ≡ (asked_act (setup_of asking.now.setting.config.now) asking.now.setting.globals.now
-        handle asking.now.asked.now object.old).left }
-    ensures records { out.new.records
-        ≡ out.old.records
-        ++ labelled s
-        (asked_act (setup_of asking.now.setting.config.now) asking.now.setting.globals.now
-        handle asking.now.asked.now object.old).records }
-    ensures kind { kind_of object.new ≡ kind_of object.old }
-    ensures sought { com_of object.new ≡ com_of object.old }
-    ensures session { own_session object.new ≡ own_session object.old }
-{
-    let globals = asking.setting.globals;
-    match *asking.asked {
-        Asked::Put(bytes) => {
-            let answer = put(object, asking.setting.config, bytes);
-            out.push_plain_answer(s, answer);
-        }
-        Asked::Get => show(object, s, out),
-        Asked::Pull => pull(object, globals, s, out),
-        Asked::End(kind) => return end(object, kind, s, out),
-        Asked::Reply {
-            com_id,
-            status,
-            payload,
-        } => return reply(object, com_id, status, payload, s, out),
-        Asked::Query {
-            com_id,
-            status,
-            timeout,
-            payload,
-        } => {
-            let inquiry = Inquiry {
-                com_id,
-                status,
-                timeout,
-                payload,
-            };
-            query(object, &inquiry, globals, s, out);
-        }
-        Asked::ReplyError { com_id, status } => {
-            return reply_error(object, com_id, status, s, out);
-        }
-        Asked::Confirm { place, status } => {
-            return confirm(object, handle, place, status, s, out);
-        }
-        Asked::Abort => return abort(object, s, out),
-    }
-    Left::Stays
-}
-
 impl Deed for Asking<'_, '_> {
     ghost use Rattle.std.specs.Prelude.{◌≤◌};
     ghost use Rattle.trdp_base.specs.Moments.{last_moment};
@@ -186,6 +118,42 @@ impl Deed for Asking<'_, '_> {
     ghost ends_still = { λ _. ⊥ };
 
     fn on(&self, object: &mut AnyObject, handle: u32, s: u16, out: &mut Outbox) -> Left {
-        ask(object, handle, self, s, out)
+        let globals = self.setting.globals;
+        match *self.asked {
+            Asked::Put(bytes) => {
+                let answer = put(object, self.setting.config, bytes);
+                out.push_plain_answer(s, answer);
+            }
+            Asked::Get => show(object, s, out),
+            Asked::Pull => pull(object, globals, s, out),
+            Asked::End(kind) => return end(object, kind, s, out),
+            Asked::Reply {
+                com_id,
+                status,
+                payload,
+            } => return reply(object, com_id, status, payload, s, out),
+            Asked::Query {
+                com_id,
+                status,
+                timeout,
+                payload,
+            } => {
+                let inquiry = Inquiry {
+                    com_id,
+                    status,
+                    timeout,
+                    payload,
+                };
+                query(object, &inquiry, globals, s, out);
+            }
+            Asked::ReplyError { com_id, status } => {
+                return reply_error(object, com_id, status, s, out);
+            }
+            Asked::Confirm { place, status } => {
+                return confirm(object, handle, place, status, s, out);
+            }
+            Asked::Abort => return abort(object, s, out),
+        }
+        Left::Stays
     }
 }

@@ -7,12 +7,12 @@ ghost use Rattle.trdp_filter.specs.Telegrams.{telegram_model, IsWithinLimit};
 ghost use Rattle.trdp_md.specs.Callers.{new_caller};
 ghost use Rattle.trdp_model.specs.declared.any_object.AnyObject.TheVariants.{Caller as Asking};
 ghost use Rattle.trdp_model.specs.Kinds.{kind_of};
-ghost use Rattle.trdp_model.specs.Records.{labelled, reply_model};
+ghost use Rattle.trdp_model.specs.Records.{labelled};
 ghost use Rattle.trdp_model.specs.Events.{RequestCall};
 ghost use Rattle.trdp_model.specs.Openings.{opened_with};
 ghost use Rattle.trdp_model.specs.Requests.{request_refusal, request_sent};
 ghost use Rattle.trdp_model.specs.Replies.{confirm_refusal, confirms_unless, confirms};
-ghost use Rattle.trdp_model.specs.Replies.{reply_of, replied};
+ghost use Rattle.trdp_model.specs.Replies.{replied};
 ghost use Rattle.trdp_outbox.specs.Rooms.{HasRoom, message_room, confirm_room, makes_buffer};
 ghost use Rattle.trdp_store.specs.Acting.{slot_at, Becomes};
 ghost use Rattle.trdp_store.specs.Deeds.{left_of};
@@ -24,7 +24,7 @@ use crate::setting::Setting;
 use std::alloc::AllocError;
 use trdp_base::Place;
 use trdp_filter::{Globals, Telegram, topo_valid};
-use trdp_head::{MD_PAYLOAD_MAX, MdView};
+use trdp_head::MD_PAYLOAD_MAX;
 use trdp_md::{Caller, CallerTerms, request_head};
 use trdp_model::{AnyObject, Kind, Refusal, Reply};
 use trdp_outbox::{Form, Outbox, PlainAnswer};
@@ -188,20 +188,6 @@ pub fn confirm(
     }
 }
 
-/// An answer as its caller's slot is told of it.
-fn answer<'a>(src: Place, view: &MdView<'a>) -> Reply<'a>
-    ensures { reply_model result
-        ≡ reply_of src (record { head = view.now.head; payload = view.now.payload.now }) }
-{
-    Reply {
-        src,
-        kind: view.head.kind,
-        status: view.head.status,
-        com_id: view.head.com_id,
-        payload: view.payload,
-    }
-}
-
 /// Records what the slot of a caller is told of an answer that the caller took.
 pub fn push_replied(telegram: &Telegram<'_>, handle: u32, s: u16, out: &mut Outbox)
     requires limit { IsWithinLimit (telegram_model telegram.now) }
@@ -213,6 +199,6 @@ pub fn push_replied(telegram: &Telegram<'_>, handle: u32, s: u16, out: &mut Outb
     ensures byte_room { out.old.byte_room ≤ out.new.byte_room + 65388 }
 {
     if let Telegram::Md { src, view, .. } = telegram {
-        out.push_replied(s, handle, &answer(*src, view));
+        out.push_replied(s, handle, &Reply::of(*src, view));
     }
 }

@@ -1,27 +1,20 @@
 //! What a telegram does to the objects of the slots.
 
-ghost use Rattle.std.specs.Prelude.{◌≡◌, ℕ, ◌+◌, ◌*◌, ◌^◌, ◌<◌, ◌≤◌, ◌++◌, length};
+ghost use Rattle.std.specs.Prelude.{◌≡◌, ℕ, ◌+◌, ◌*◌, ◌^◌, ◌<◌, ◌≤◌, length};
 ghost use Rattle.std.specs.Prelude.{Some, true, slice_get, IfSome};
 ghost use Rattle.std.specs.List.{flat_map};
 ghost use Rattle.trdp_base.specs.Moments.{last_moment};
 ghost use Rattle.trdp_filter.specs.Telegrams.{telegram_model, IsWithinLimit};
-ghost use Rattle.trdp_model.specs.Kinds.{kind_of};
 ghost use Rattle.trdp_table.specs.Tables.{room_of};
-ghost use Rattle.trdp_model.specs.Objects.{due_of, is_addressed};
 ghost use Rattle.trdp_model.specs.Configs.{setup_of};
-ghost use Rattle.trdp_model.specs.Slots.{SlotState, entry_at, entry_under};
+ghost use Rattle.trdp_model.specs.Slots.{SlotState, entry_under};
 ghost use Rattle.trdp_store.specs.TableSlots.{slots_of};
-ghost use Rattle.trdp_model.specs.Records.{labelled};
 ghost use Rattle.trdp_model.specs.Datagrams.{is_valid_at, fits_object};
 ghost use Rattle.trdp_model.specs.Datagrams.{acting, handed, is_for_entry, taking_act};
-ghost use Rattle.trdp_store.specs.Timed.{IsOver};
-ghost use Rattle.trdp_store.specs.Deeds.{left_of};
 ghost use Rattle.trdp_model.specs.NodeModels.{HasOutcome, Appends};
-ghost use Rattle.trdp_outbox.specs.Rooms.{HasRoom, kind_room, entries_room};
-ghost use Rattle.trdp_store.specs.Acting.{TookWithin, slot_at, MayAct, ActsAt};
+ghost use Rattle.trdp_outbox.specs.Rooms.{HasRoom, entries_room};
+ghost use Rattle.trdp_store.specs.Acting.{slot_at, MayAct, ActsAt};
 ghost use Rattle.trdp_engine.specs.Noted.{noted_from};
-ghost use Rattle.trdp_store.specs.Indexed.{com_of};
-ghost use Rattle.trdp_store.specs.InSession.{own_session};
 
 use crate::addressee::Addressee;
 use crate::callers::push_replied;
@@ -68,64 +61,6 @@ pub struct Handing<'a, 'b> {
     pub setting: Setting<'a>,
 }
 
-/// Hands the telegram to an object of that handle, which it is for, and records what it gives.
-fn take_object(
-    object: &mut AnyObject,
-    handle: u32,
-    handing: &Handing<'_, '_>,
-    s: u16,
-    out: &mut Outbox,
-) -> Left
-    requires now { handing.now.setting.globals.now.now ≤ last_moment }
-    requires limit { IsWithinLimit (telegram_model handing.now.telegram.now) }
-    requires addressed { is_addressed object.old (telegram_model handing.now.telegram.now)
-        handing.now.setting.globals.now ≡ true }
-    requires room { HasRoom out.old (kind_room (kind_of object.old)) }
-    ensures left { left_of result object.new
-        ≡ (taking_act (setup_of handing.now.setting.config.now)
-        (telegram_model handing.now.telegram.now) handing.now.setting.globals.now
-        (entry_at handle object.old)).left }
-    ensures records { out.new.records
-        ≡ out.old.records
-        ++ labelled s
-        (taking_act (setup_of handing.now.setting.config.now)
-        (telegram_model handing.now.telegram.now) handing.now.setting.globals.now
-        (entry_at handle object.old)).records }
-    ensures within { TookWithin out.old out.new (kind_room (kind_of object.old)) }
-    ensures kind { kind_of object.new ≡ kind_of object.old }
-    ensures over { result ≡ Left.Ended → IsOver (due_of object.old) (due_of object.new) }
-    ensures sought { com_of object.new ≡ com_of object.old }
-    ensures session { own_session object.new ≡ own_session object.old }
-{
-    let Handing { telegram, setting } = *handing;
-    let fits = fits_object(setting.config, telegram, object);
-    match object.take(telegram, setting.globals, fits) {
-        Taken::Nothing | Taken::Stored => {}
-        Taken::Alive => out.push(s, Form::Alive(handle)),
-        Taken::Pulled(head) => {
-            push_answer(
-                object,
-                answer_place(setting.config, telegram),
-                &head,
-                s,
-                out,
-            );
-        }
-        Taken::Heard => push_heard(telegram, handle, s, out),
-        Taken::Replied => push_replied(telegram, handle, s, out),
-        Taken::RepliedLast => {
-            push_replied(telegram, handle, s, out);
-            out.push(s, Form::Closed(handle, Reason::Done));
-            return Left::Ended;
-        }
-        Taken::Confirmed(status) => {
-            out.push(s, Form::Confirmed(handle, status));
-            return Left::Ended;
-        }
-    }
-    Left::Stays
-}
-
 impl Deed for Handing<'_, '_> {
     ghost use Rattle.std.specs.Prelude.{◌≡◌, ◌≤◌, true};
     ghost use Rattle.trdp_base.specs.Moments.{last_moment};
@@ -147,12 +82,39 @@ impl Deed for Handing<'_, '_> {
         × (is_addressed object (telegram_model d.telegram.now) d.setting.globals.now ≡ true)
         × HasRoom out (kind_room (kind_of object)) };
 
-    ghost spends = { λ _ object out out_then. TookWithin out out_then (kind_room (kind_of object)) };
+    ghost spends = { λ _ object before after.
+        TookWithin before after (kind_room (kind_of object)) };
 
     ghost ends_still = { λ _. Unit {0} };
 
     fn on(&self, object: &mut AnyObject, handle: u32, s: u16, out: &mut Outbox) -> Left {
-        take_object(object, handle, self, s, out)
+        let Handing { telegram, setting } = *self;
+        let fits = fits_object(setting.config, telegram, object);
+        match object.take(telegram, setting.globals, fits) {
+            Taken::Nothing | Taken::Stored => {}
+            Taken::Alive => out.push(s, Form::Alive(handle)),
+            Taken::Pulled(head) => {
+                push_answer(
+                    object,
+                    answer_place(setting.config, telegram),
+                    &head,
+                    s,
+                    out,
+                );
+            }
+            Taken::Heard => push_heard(telegram, handle, s, out),
+            Taken::Replied => push_replied(telegram, handle, s, out),
+            Taken::RepliedLast => {
+                push_replied(telegram, handle, s, out);
+                out.push(s, Form::Closed(handle, Reason::Done));
+                return Left::Ended;
+            }
+            Taken::Confirmed(status) => {
+                out.push(s, Form::Confirmed(handle, status));
+                return Left::Ended;
+            }
+        }
+        Left::Stays
     }
 }
 

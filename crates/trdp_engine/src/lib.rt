@@ -23,12 +23,12 @@
 //! [`Node::next_due`] when something is due next. The rules that all this follows are those of
 //! `trdp_model`.
 //!
-//! What no contract can say is that memory is there. A `run` that stops before the first event that
-//! may lack it (a publishing, a subscription, or an event at which the outbox lacks room for the
-//! most that such a call, or objects of the kinds that act, may give), a `run_both` of two such
-//! runs, and a `value_of` that answers want of memory wherever it could show an item meet their
-//! contracts, since memory may be lacking; the worked examples (`trdp_node_tests`) show that with ample
-//! memory every event is taken and every item shown.
+//! What no contract can say is that memory is there. A `run` that stops before the first event
+//! that may lack it (a publishing, a subscription, or an event at which the outbox lacks room for
+//! the most that such a call, or objects of the kinds that act, may give), a `run_both` of two
+//! such runs, and a `value_of` that answers want of memory wherever it could show an item meet
+//! their contracts, since memory may be lacking; the worked examples (`trdp_node_tests`) show that
+//! with ample memory every event is taken and every item shown.
 #![tactic(auto)]
 
 mod addressee;

@@ -5,21 +5,15 @@ ghost use Rattle.std.specs.Prelude.{slice_get, IfSome};
 ghost use Rattle.trdp_base.specs.Moments.{last_moment};
 ghost use Rattle.trdp_head.specs.declared.pd.TheConstants.{PD_TELEGRAM_MAX};
 ghost use Rattle.trdp_head.specs.declared.md.TheConstants.{MD_TELEGRAM_MAX};
-ghost use Rattle.trdp_pd.specs.Due.{has_come_by};
-ghost use Rattle.trdp_model.specs.Kinds.{kind_of};
 ghost use Rattle.trdp_table.specs.Tables.{room_of};
-ghost use Rattle.trdp_model.specs.Objects.{due_of, after_firing, fired};
 ghost use Rattle.trdp_model.specs.Records.{labelled};
 ghost use Rattle.trdp_model.specs.Slots.{SlotState, entry_under};
 ghost use Rattle.trdp_store.specs.TableSlots.{slots_of};
-ghost use Rattle.trdp_model.specs.Moments.{sends_data, sends_again, firing_records, left_firing};
+ghost use Rattle.trdp_model.specs.Moments.{sends_data, sends_again};
 ghost use Rattle.trdp_model.specs.Moments.{moved_to, is_due, firing_act};
 ghost use Rattle.trdp_model.specs.NodeModels.{HasOutcome, Appends, due_in};
-ghost use Rattle.trdp_store.specs.Deeds.{left_of};
-ghost use Rattle.trdp_outbox.specs.Rooms.{HasRoom, kind_room, moment_room};
-ghost use Rattle.trdp_store.specs.Acting.{TookWithin, slot_at, MayAct, ActsAt};
-ghost use Rattle.trdp_store.specs.Indexed.{com_of};
-ghost use Rattle.trdp_store.specs.InSession.{own_session};
+ghost use Rattle.trdp_outbox.specs.Rooms.{HasRoom, moment_room};
+ghost use Rattle.trdp_store.specs.Acting.{slot_at, MayAct, ActsAt};
 ghost use Rattle.trdp_model.specs.Fitting.{EachSound};
 
 use trdp_filter::Globals;
@@ -59,41 +53,6 @@ fn push_again(object: &AnyObject, head: &MdHead, s: u16, out: &mut Outbox)
     }
 }
 
-/// Fires one object that is due, of that handle, and records what it gives.
-fn fire_object(
-    object: &mut AnyObject,
-    handle: u32,
-    globals: &Globals,
-    s: u16,
-    out: &mut Outbox,
-) -> Left
-    requires due { has_come_by globals.now.now (due_of object.old) ≡ true }
-    requires now { globals.now.now ≤ last_moment }
-    requires room { HasRoom out.old (kind_room (kind_of object.old)) }
-    ensures left { left_of result object.new
-        ≡ left_firing (fired object.old globals.entry.now)
-        (after_firing object.old globals.entry.now) }
-    ensures records { out.new.records
-        ≡ out.old.records
-        ++ labelled s (firing_records handle object.old (fired object.old globals.entry.now)) }
-    ensures within { TookWithin out.old out.new (kind_room (kind_of object.old)) }
-    ensures kind { kind_of object.new ≡ kind_of object.old }
-    ensures sought { com_of object.new ≡ com_of object.old }
-    ensures session { own_session object.new ≡ own_session object.old }
-{
-    match object.fire(globals) {
-        Fired::Nothing => {}
-        Fired::Data(head) => push_data(object, &head, s, out),
-        Fired::Again(head) => push_again(object, &head, s, out),
-        Fired::Silent => out.push(s, Form::Silent(handle)),
-        Fired::Closed(reason) => {
-            out.push(s, Form::Closed(handle, reason));
-            return Left::Ended;
-        }
-    }
-    Left::Stays
-}
-
 /// That an object fires which is due.
 #[derive(Clone, Copy)]
 pub struct Firing<'a> {
@@ -118,12 +77,23 @@ impl Deed for Firing<'_> {
         (has_come_by d.globals.now.now (due_of object) ≡ true)
         × (d.globals.now.now ≤ last_moment) × HasRoom out (kind_room (kind_of object)) };
 
-    ghost spends = { λ _ object out out_then. TookWithin out out_then (kind_room (kind_of object)) };
+    ghost spends = { λ _ object before after.
+        TookWithin before after (kind_room (kind_of object)) };
 
     ghost ends_still = { λ _. ⊥ };
 
     fn on(&self, object: &mut AnyObject, handle: u32, s: u16, out: &mut Outbox) -> Left {
-        fire_object(object, handle, self.globals, s, out)
+        match object.fire(self.globals) {
+            Fired::Nothing => {}
+            Fired::Data(head) => push_data(object, &head, s, out),
+            Fired::Again(head) => push_again(object, &head, s, out),
+            Fired::Silent => out.push(s, Form::Silent(handle)),
+            Fired::Closed(reason) => {
+                out.push(s, Form::Closed(handle, reason));
+                return Left::Ended;
+            }
+        }
+        Left::Stays
     }
 }
 

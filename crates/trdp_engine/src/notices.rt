@@ -2,15 +2,14 @@
 
 ghost use Rattle.std.specs.Prelude.{◌≡◌, ◌≤◌, ◌+◌, ◌++◌, ◌∷◌, [], length};
 ghost use Rattle.trdp_filter.specs.Telegrams.{telegram_model, IsWithinLimit};
-ghost use Rattle.trdp_model.specs.Records.{labelled, message_model};
+ghost use Rattle.trdp_model.specs.Records.{labelled};
 ghost use Rattle.trdp_model.specs.Slots.{SlotState};
 ghost use Rattle.trdp_model.specs.Calls.{told_unless};
-ghost use Rattle.trdp_model.specs.Notices.{notify_refusal, notice, heard, message_of};
+ghost use Rattle.trdp_model.specs.Notices.{notify_refusal, notice, heard};
 ghost use Rattle.trdp_outbox.specs.Rooms.{HasRoom, message_room};
 
-use trdp_base::Place;
 use trdp_filter::{Globals, Telegram, topo_valid};
-use trdp_head::{MD_PAYLOAD_MAX, MdKind, MdView};
+use trdp_head::{MD_PAYLOAD_MAX, MdKind};
 use trdp_md::{NotifyTerms, notification};
 use trdp_model::{Message, Refusal};
 use trdp_outbox::{Outbox, PlainAnswer};
@@ -44,20 +43,6 @@ pub fn notify(terms: &NotifyTerms, payload: &[u8], globals: &Globals, s: u16, ou
     out.push_md(s, terms.to, &notification(terms), payload);
 }
 
-/// A message as a listener's slot is told of it.
-pub fn message<'a>(src: Place, view: &MdView<'a>) -> Message<'a>
-    ensures { message_model result
-        ≡ message_of src (record { head = view.now.head; payload = view.now.payload.now }) }
-{
-    Message {
-        src,
-        com_id: view.head.com_id,
-        source_uri: view.head.source_uri,
-        dest_uri: view.head.dest_uri,
-        payload: view.payload,
-    }
-}
-
 /// Records what the slot of a listener is told of a telegram that it heard.
 pub fn push_heard(telegram: &Telegram<'_>, handle: u32, s: u16, out: &mut Outbox)
     requires limit { IsWithinLimit (telegram_model telegram.now) }
@@ -70,7 +55,7 @@ pub fn push_heard(telegram: &Telegram<'_>, handle: u32, s: u16, out: &mut Outbox
 {
     if let Telegram::Md { src, view, .. } = telegram {
         if view.head.kind == MdKind::Notify {
-            out.push_notified(s, handle, &message(*src, view));
+            out.push_notified(s, handle, &Message::of(*src, view));
         }
     }
 }

@@ -15,11 +15,10 @@ ghost use Rattle.trdp_store.specs.Acting.{slot_at, Becomes};
 ghost use Rattle.trdp_engine.specs.Noted.{noted_from};
 
 use crate::addressee::Addressee;
-use crate::notices::message;
 use trdp_filter::{Globals, Telegram};
 use trdp_head::MdKind;
 use trdp_md::Replier;
-use trdp_model::{AnyObject, Kind};
+use trdp_model::{AnyObject, Kind, Message};
 use trdp_outbox::{Form, Outbox};
 use trdp_store::{Counts, Sought, Store, has_session};
 
@@ -74,7 +73,13 @@ fn ask(
     match store.add(s, AnyObject::Replier(replier), counts) {
         Ok(handle) => {
             counts.looked_up();
-            out.push_asked(s, listener.handle, handle, session, &message(*src, view));
+            out.push_asked(
+                s,
+                listener.handle,
+                handle,
+                session,
+                &Message::of(*src, view),
+            );
         }
         Err(_) => out.push(s, Form::Overrun(listener.handle)),
     }

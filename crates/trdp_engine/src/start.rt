@@ -30,18 +30,6 @@ fn quotas_of(alloc: Global, config: &NodeConfig) -> Result<Vec<Quotas>, AllocErr
     Ok(quotas)
 }
 
-/// A table with an empty slot for each slot of the configuration.
-///
-/// # Errors
-/// Want of memory for the slots.
-fn open_slots(alloc: Global, config: &NodeConfig) -> Result<Store, AllocError>
-    ensures { IfOk result
-        (λ store. slots_of store ≡ map (λ slot. empty_slot slot.quotas) config.now.slots) }
-{
-    let quotas = quotas_of(alloc, config)?;
-    Store::new(alloc, &quotas)
-}
-
 /// The empty store of a configuration, and room to note all objects that it can hold.
 ///
 /// # Errors
@@ -51,7 +39,8 @@ pub fn parts(alloc: Global, config: &NodeConfig) -> Result<(Store, Vec<Addressee
         (λ parts. slots_of parts.0 ≡ map (λ slot. empty_slot slot.quotas) config.now.slots) }
     ensures capacity { IfOk result (λ parts. 16 * object_limit ≤ vec_capacity parts.1) }
 {
-    let store = open_slots(alloc, config)?;
+    let quotas = quotas_of(alloc, config)?;
+    let store = Store::new(alloc, &quotas)?;
     let noted = Vec::with_capacity(alloc, NOTED_MAX)?;
     Ok((store, noted))
 }

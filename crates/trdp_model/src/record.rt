@@ -1,8 +1,13 @@
 //! What a node gives a slot: answers, indications and telegrams.
 
+ghost use Rattle.std.specs.Prelude.{◌≡◌};
+ghost use Rattle.trdp_model.specs.Records.{message_model, reply_model};
+ghost use Rattle.trdp_model.specs.Notices.{message_of};
+ghost use Rattle.trdp_model.specs.Replies.{reply_of};
+
 use crate::fault::Refusal;
 use trdp_base::{Place, SessionId, Uri};
-use trdp_head::MdKind;
+use trdp_head::{MdKind, MdView};
 use trdp_pd::{Peek, Reason};
 
 /// The two protocols of TRDP, each with a UDP port of its own (IEC 61375-2-3).
@@ -44,6 +49,22 @@ pub struct Message<'a> {
     pub payload: &'a [u8],
 }
 
+impl<'a> Message<'a> {
+    /// A message of this place, as a listener's slot is told of it.
+    pub fn of(src: Place, view: &MdView<'a>) -> Message<'a>
+        ensures { message_model result
+            ≡ message_of src (record { head = view.now.head; payload = view.now.payload.now }) }
+    {
+        Message {
+            src,
+            com_id: view.head.com_id,
+            source_uri: view.head.source_uri,
+            dest_uri: view.head.dest_uri,
+            payload: view.payload,
+        }
+    }
+}
+
 /// An answer to a request that came in, as its caller's slot is told of it.
 #[derive(Clone, Copy, Debug)]
 pub struct Reply<'a> {
@@ -57,6 +78,22 @@ pub struct Reply<'a> {
     pub com_id: u32,
     /// What it says, at most 65,388 bytes.
     pub payload: &'a [u8],
+}
+
+impl<'a> Reply<'a> {
+    /// An answer of this place, as its caller's slot is told of it.
+    pub fn of(src: Place, view: &MdView<'a>) -> Reply<'a>
+        ensures { reply_model result
+            ≡ reply_of src (record { head = view.now.head; payload = view.now.payload.now }) }
+    {
+        Reply {
+            src,
+            kind: view.head.kind,
+            status: view.head.status,
+            com_id: view.head.com_id,
+            payload: view.payload,
+        }
+    }
 }
 
 /// What a node tells a slot of its own accord.

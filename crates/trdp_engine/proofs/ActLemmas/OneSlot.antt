@@ -1,8 +1,8 @@
 -- One slot of the table was served: what that comes to for each slot, and for the outbox.
--- For `Node::step_call`, `step_datagram`, `step_moment`, `put_value`, and `open_slots`.
+-- For `Node::step_call`, `step_datagram`, `step_moment`, `put_value`, and `parts`.
 -- By cases on the number: the slot that was served, or any other, which keeps what it had.
 use Rattle.std.proofs.Common.{◌≡◌, ℕ, ◌<◌, List, [], ◌∷◌, length, map, filter, refl}
-use Rattle.std.proofs.Common.{arith, inl, inr, ◌∙◌, ap, sym, Some, Result, Ok, Err, IfOk}
+use Rattle.std.proofs.Common.{arith, inl, inr, ◌∙◌, ap, sym, Some}
 use Rattle.std.specs.Prelude.{slice_get, ◌==◌, if◌then◌else◌}
 use Rattle.std.specs.List.{flat_map}
 use Rattle.std.proofs.lemmas.List.{length-set}
@@ -58,12 +58,11 @@ opened_each [] = refl
 opened_each (x ∷ slots) =
     ap (λ (rest : List SlotState). empty_slot x.quotas ∷ rest) (opened_each slots)
 
-pub opened_slots : {E : Type 0} (result : Result TableState E) (quotas : List (List ℕ))
-    (slots : List SlotModel) → IfOk result (λ table. table ≡ map opened_slot_table quotas)
+pub opened_slots : (table : TableState) (quotas : List (List ℕ))
+    (slots : List SlotModel) → table ≡ map opened_slot_table quotas
     → quotas ≡ map (λ slot. slot.quotas) slots
-    → IfOk result (λ table. slots_of table ≡ map (λ slot. empty_slot slot.quotas) slots)
-opened_slots (Ok table) quotas slots is are = rw (is, are) (opened_each slots)
-opened_slots (Err fault) quotas slots is are = tt
+    → slots_of table ≡ map (λ slot. empty_slot slot.quotas) slots
+opened_slots table quotas slots is are = rw (is, are) (opened_each slots)
 
 -- where room is wanting at a moment, something is due
 pub lacks_due : (t : ℕ) (slots : List SlotState) (out : OutboxState)

@@ -1,5 +1,5 @@
 -- A telegram and the objects that act at it; one that concerns no object changes nothing.
--- For `receive` and `take_object`.
+-- For `receive` and `Handing`'s `on`.
 -- By cases on what an object did with it, which tells the object's kind and so its room.
 use Rattle.std.proofs.Common.{◌≡◌, ℕ, List, [], ◌∷◌, filter, Bool, true, false, Option, Some}
 use Rattle.std.proofs.Common.{None, Result, Ok, Err, OnErr, refl, ◌∙◌, ap, arith, inl, inr}

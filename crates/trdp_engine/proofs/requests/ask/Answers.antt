@@ -43,7 +43,7 @@ returns-clause-becomes c =
           c.new-replier.result c.args.out.now c.match-add.out new w.in-Ok.ensures.granted
           c.new-replier.ensures w.in-Ok.ensures.handle w.in-Ok.ensures.added
           (ap (λ (o : OutboxState). o.records) w.out-is
-          ∙ rw w.message.ensures at w.push_asked.ensures.records)
+          ∙ rw w.of.ensures at w.push_asked.ensures.records)
       | in-Err w ↦
           asked_overruns c.args.store.now c.add.new.self c.args.listener.slot
           c.args.listener.handle c.args.globals.now c.in-Md.src message

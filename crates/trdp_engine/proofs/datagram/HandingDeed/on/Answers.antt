@@ -2,57 +2,57 @@ use Rattle.std.proofs.Common.{◌∙◌, sym, arith}
 use Rattle.trdp_filter.specs.Telegrams.{telegram_model}
 use Rattle.trdp_engine.proofs.DatagramLemmas.Taken.{kind_taken}
 use Rattle.trdp_store.proofs.OrderLemmas.Over.{over_replied, over_confirmed}
-use Rattle.trdp_engine.proofs.datagram.take_object.Goals as goal
+use Rattle.trdp_engine.proofs.datagram.HandingDeed.on.Goals as goal
 
 pub push_answer-requires-clause-bytes : goal.push_answer-requires-clause-bytes
 push_answer-requires-clause-bytes c =
-    let kind = kind_taken c.args.object.now (telegram_model c.args.handing.now.telegram.now)
-    c.args.handing.now.setting.globals.now c.fits_object-fits.result _
+    let kind = kind_taken c.args.object.now (telegram_model c.args.self.now.telegram.now)
+    c.args.self.now.setting.globals.now c.fits_object-fits.result _
     (sym c.in-Pulled.is ∙ c.take.ensures.outcome) in
-    rw kind at c.requires.room.bytes
+    rw kind at c.requires.may.3.bytes
 
-pub returns-in-Pulled-clause-within : goal.returns-in-Pulled-clause-within
-returns-in-Pulled-clause-within c =
-    let kind = kind_taken c.args.object.now (telegram_model c.args.handing.now.telegram.now)
-    c.args.handing.now.setting.globals.now c.fits_object-fits.result _
+pub returns-in-Pulled-clause-spends : goal.returns-in-Pulled-clause-spends
+returns-in-Pulled-clause-spends c =
+    let kind = kind_taken c.args.object.now (telegram_model c.args.self.now.telegram.now)
+    c.args.self.now.setting.globals.now c.fits_object-fits.result _
     (sym c.in-Pulled.is ∙ c.take.ensures.outcome) in
     rw kind
     (record { rows = c.push_answer.ensures.row_room; bytes = c.push_answer.ensures.byte_room })
 
 pub push_heard-requires-clause-row : goal.push_heard-requires-clause-row
 push_heard-requires-clause-row c =
-    let kind = kind_taken c.args.object.now (telegram_model c.args.handing.now.telegram.now)
-    c.args.handing.now.setting.globals.now c.fits_object-fits.result _
+    let kind = kind_taken c.args.object.now (telegram_model c.args.self.now.telegram.now)
+    c.args.self.now.setting.globals.now c.fits_object-fits.result _
     (sym c.in-Heard.is ∙ c.take.ensures.outcome) in
-    rw kind at c.requires.room.rows
+    rw kind at c.requires.may.3.rows
 
 pub push_heard-requires-clause-bytes : goal.push_heard-requires-clause-bytes
 push_heard-requires-clause-bytes c =
-    let kind = kind_taken c.args.object.now (telegram_model c.args.handing.now.telegram.now)
-    c.args.handing.now.setting.globals.now c.fits_object-fits.result _
+    let kind = kind_taken c.args.object.now (telegram_model c.args.self.now.telegram.now)
+    c.args.self.now.setting.globals.now c.fits_object-fits.result _
     (sym c.in-Heard.is ∙ c.take.ensures.outcome) in
-    rw kind at c.requires.room.bytes
+    rw kind at c.requires.may.3.bytes
 
-pub returns-in-Heard-clause-within : goal.returns-in-Heard-clause-within
-returns-in-Heard-clause-within c =
-    let kind = kind_taken c.args.object.now (telegram_model c.args.handing.now.telegram.now)
-    c.args.handing.now.setting.globals.now c.fits_object-fits.result _
+pub returns-in-Heard-clause-spends : goal.returns-in-Heard-clause-spends
+returns-in-Heard-clause-spends c =
+    let kind = kind_taken c.args.object.now (telegram_model c.args.self.now.telegram.now)
+    c.args.self.now.setting.globals.now c.fits_object-fits.result _
     (sym c.in-Heard.is ∙ c.take.ensures.outcome) in
     rw kind
     (record { rows = c.push_heard.ensures.row_room; bytes = c.push_heard.ensures.byte_room })
 
 pub push_replied-requires-clause-bytes : goal.push_replied-requires-clause-bytes
 push_replied-requires-clause-bytes c =
-    let kind = kind_taken c.args.object.now (telegram_model c.args.handing.now.telegram.now)
-    c.args.handing.now.setting.globals.now c.fits_object-fits.result _
+    let kind = kind_taken c.args.object.now (telegram_model c.args.self.now.telegram.now)
+    c.args.self.now.setting.globals.now c.fits_object-fits.result _
     (sym c.in-Replied.is ∙ c.take.ensures.outcome) in
-    let bytes = rw kind at c.requires.room.bytes in
+    let bytes = rw kind at c.requires.may.3.bytes in
     omega (arith, bytes)
 
-pub returns-in-Replied-clause-within : goal.returns-in-Replied-clause-within
-returns-in-Replied-clause-within c =
-    let kind = kind_taken c.args.object.now (telegram_model c.args.handing.now.telegram.now)
-    c.args.handing.now.setting.globals.now c.fits_object-fits.result _
+pub returns-in-Replied-clause-spends : goal.returns-in-Replied-clause-spends
+returns-in-Replied-clause-spends c =
+    let kind = kind_taken c.args.object.now (telegram_model c.args.self.now.telegram.now)
+    c.args.self.now.setting.globals.now c.fits_object-fits.result _
     (sym c.in-Replied.is ∙ c.take.ensures.outcome) in
     let row = c.push_replied.ensures.row_room in
     let bytes = c.push_replied.ensures.byte_room in
@@ -61,25 +61,25 @@ returns-in-Replied-clause-within c =
 pub push_replied-requires-in-RepliedLast-clause-bytes :
     goal.push_replied-requires-in-RepliedLast-clause-bytes
 push_replied-requires-in-RepliedLast-clause-bytes c =
-    let kind = kind_taken c.args.object.now (telegram_model c.args.handing.now.telegram.now)
-    c.args.handing.now.setting.globals.now c.fits_object-fits.result _
+    let kind = kind_taken c.args.object.now (telegram_model c.args.self.now.telegram.now)
+    c.args.self.now.setting.globals.now c.fits_object-fits.result _
     (sym c.in-RepliedLast.is ∙ c.take.ensures.outcome) in
-    let bytes = rw kind at c.requires.room.bytes in
+    let bytes = rw kind at c.requires.may.3.bytes in
     omega (arith, bytes)
 
 pub push-requires-in-RepliedLast : goal.push-requires-in-RepliedLast
 push-requires-in-RepliedLast c =
-    let kind = kind_taken c.args.object.now (telegram_model c.args.handing.now.telegram.now)
-    c.args.handing.now.setting.globals.now c.fits_object-fits.result _
+    let kind = kind_taken c.args.object.now (telegram_model c.args.self.now.telegram.now)
+    c.args.self.now.setting.globals.now c.fits_object-fits.result _
     (sym c.in-RepliedLast.is ∙ c.take.ensures.outcome) in
-    let rows = rw kind at c.requires.room.rows in
+    let rows = rw kind at c.requires.may.3.rows in
     let row = c.push_replied-in-RepliedLast.ensures.row_room in
     omega (arith, rows, row)
 
-pub returns-in-RepliedLast-clause-within : goal.returns-in-RepliedLast-clause-within
-returns-in-RepliedLast-clause-within c =
-    let kind = kind_taken c.args.object.now (telegram_model c.args.handing.now.telegram.now)
-    c.args.handing.now.setting.globals.now c.fits_object-fits.result _
+pub returns-in-RepliedLast-clause-spends : goal.returns-in-RepliedLast-clause-spends
+returns-in-RepliedLast-clause-spends c =
+    let kind = kind_taken c.args.object.now (telegram_model c.args.self.now.telegram.now)
+    c.args.self.now.setting.globals.now c.fits_object-fits.result _
     (sym c.in-RepliedLast.is ∙ c.take.ensures.outcome) in
     let row = c.push_replied-in-RepliedLast.ensures.row_room in
     let bytes = c.push_replied-in-RepliedLast.ensures.byte_room in
@@ -89,15 +89,15 @@ returns-in-RepliedLast-clause-within c =
     (record { rows = omega (arith, row, row_then); bytes = omega (arith, bytes, bytes_then) })
 
 pub returns-in-RepliedLast-clause-over : goal.returns-in-RepliedLast-clause-over
-returns-in-RepliedLast-clause-over c = λ _.
+returns-in-RepliedLast-clause-over c = λ _ _.
     over_replied c.args.object.now c.take.new.self
-    (telegram_model c.args.handing.now.telegram.now) c.args.handing.now.setting.globals.now
+    (telegram_model c.args.self.now.telegram.now) c.args.self.now.setting.globals.now
     c.fits_object-fits.result c.take.ensures.state
     (sym c.in-RepliedLast.is ∙ c.take.ensures.outcome)
 
 pub returns-in-Confirmed-clause-over : goal.returns-in-Confirmed-clause-over
-returns-in-Confirmed-clause-over c = λ _.
+returns-in-Confirmed-clause-over c = λ _ _.
     over_confirmed c.args.object.now c.take.new.self
-    (telegram_model c.args.handing.now.telegram.now) c.args.handing.now.setting.globals.now
+    (telegram_model c.args.self.now.telegram.now) c.args.self.now.setting.globals.now
     c.fits_object-fits.result
     c.in-Confirmed.status c.take.ensures.state (sym c.in-Confirmed.is ∙ c.take.ensures.outcome)
