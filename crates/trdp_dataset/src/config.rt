@@ -264,8 +264,8 @@ impl NodeConfig {
         self.spare_control_ports.get(added).copied()
     }
 
-    /// The address of the control ports and the operator's port; the node's own where the file names
-    /// no other.
+    /// The address of the control ports and the operator's port; the node's own where the file
+    /// names no other.
     pub fn control_address(&self) -> Ip
         ensures value { result.0 ≡ self.now.control_address }
     {

@@ -52,7 +52,7 @@ pub enum Key {
 }
 
 /// What the value at a key has to be (profile).
-#[derive(Clone, Copy, Debug, PartialEq, Eq)]
+#[derive(Clone, Copy)]
 pub enum Wanted {
     /// A table.
     Table,
@@ -76,7 +76,7 @@ pub enum Wanted {
 }
 
 /// What it means that a key isn't there (profile).
-#[derive(Clone, Copy, Debug, PartialEq, Eq)]
+#[derive(Clone, Copy, PartialEq, Eq)]
 pub enum Absent {
     /// The fault [`ConfigFault::Missing`](crate::ConfigFault), as does an array without members.
     Missing,
@@ -89,7 +89,7 @@ pub enum Absent {
 }
 
 /// A row of the table of keys.
-#[derive(Clone, Copy, Debug, PartialEq, Eq)]
+#[derive(Clone, Copy)]
 pub(crate) struct KeyRow {
     /// The key as it stands in the file.
     pub(crate) text: &'static str,

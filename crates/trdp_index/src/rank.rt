@@ -5,7 +5,7 @@ ghost use Rattle.trdp_index.specs.Ranks.{is_before, is_same};
 
 /// Where a row stands among the others: by its first number, then by its slot, then by its last
 /// number.
-#[derive(Clone, Copy, Debug)]
+#[derive(Clone, Copy)]
 pub struct Rank {
     /// What a look-up asks for before all else: a comId, or the identifier of a session.
     pub first: u128,

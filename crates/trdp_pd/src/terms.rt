@@ -73,7 +73,7 @@ pub enum ValueState {
 }
 
 /// The latest telegram that a subscription took, as far as the next one is compared with it.
-#[derive(Clone, Copy, Debug, PartialEq, Eq)]
+#[derive(Clone, Copy)]
 pub struct Latest {
     /// Its source address.
     pub source: Ip,

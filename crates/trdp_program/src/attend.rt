@@ -23,8 +23,8 @@ use trdp_dataset::NodeConfig;
 /// stopped: binds its UDP ports, and takes turns with rests between them. Every so many seconds it
 /// writes the line of its totals so far to the writer; never where the number is 0. It ends by
 /// itself at a fault, and when no more turns can be counted: the exit status is 1 where the
-/// configuration isn't taken, 4 after another fault, and else 0. A fault gives one line on `errors`,
-/// or a front of it where `errors` fails (profile).
+/// configuration isn't taken, 4 after another fault, and else 0. A fault gives one line on
+/// `errors`, or a front of it where `errors` fails (profile).
 ///
 /// The configuration is looked at first, and then the ports are bound: where it isn't taken,
 /// nothing is written.

@@ -16,8 +16,8 @@
 //! and `serve_program` repeats this with the exit status and the line. What the system's sockets
 //! took and gave no contract tells, so of them it says only that the totals are those of so many
 //! turns; when `daemon_program` writes a line of them no contract tells either. On `errors` stands
-//! nothing at 0, and else a front of the fault's line. No contract says that the outside works: each
-//! of the three that answers 1 at once meets its contract, as if memory had run out while the
+//! nothing at 0, and else a front of the fault's line. No contract says that the outside works:
+//! each of the three that answers 1 at once meets its contract, as if memory had run out while the
 //! configuration was read.
 #![tactic(auto)]
 

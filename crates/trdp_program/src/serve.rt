@@ -143,7 +143,7 @@ pub(crate) fn bind_fault(fault: BindFault) -> ServeFault
 
 /// The totals of a service as the program prints them (profile): `taken T offered O lost L unread
 /// U memory M`. To show them takes no memory.
-#[derive(Clone, Copy, Debug)]
+#[derive(Clone, Copy)]
 struct TotalsText(Totals);
 
 impl fmt::Display for TotalsText {

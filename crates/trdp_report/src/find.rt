@@ -8,7 +8,7 @@ use toml::Table;
 use trdp_dataset::{ConfigFault, DATASET_KEYS, ELEMENT_KEYS, Key, NODE_KEYS, SLOT_KEYS};
 
 /// A place of a file that has a fault.
-#[derive(Clone, Copy, Debug)]
+#[derive(Clone, Copy)]
 pub(crate) struct Spot {
     /// The table.
     pub(crate) place: Place,
@@ -26,8 +26,8 @@ impl fmt::Display for Spot {
     }
 }
 
-/// Where a file has a fault, the first place in the order in which faults are looked for; None where
-/// it has none of that kind.
+/// Where a file has a fault, the first place in the order in which faults are looked for; None
+/// where it has none of that kind.
 ///
 /// # Errors
 /// Want of memory.

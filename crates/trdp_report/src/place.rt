@@ -5,7 +5,7 @@ use toml::{Table, Value};
 use trdp_dataset::{Key, identifier_of};
 
 /// A dataset of a file, by its name.
-#[derive(Clone, Copy, Debug)]
+#[derive(Clone, Copy)]
 pub(crate) enum DatasetName {
     /// By its identifier.
     Id(u32),
@@ -33,7 +33,7 @@ impl fmt::Display for DatasetName {
 }
 
 /// A table of a file. Slots, elements and indexes count from 0.
-#[derive(Clone, Copy, Debug)]
+#[derive(Clone, Copy)]
 pub(crate) enum Place {
     /// The file's root.
     Root,
