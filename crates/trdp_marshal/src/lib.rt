@@ -9,9 +9,10 @@
 //! decode(alloc, &registry, 1001, &bytes)?    // item
 //! ```
 //!
-//! Bytes are packed: numbers are big-endian and follow one another without alignment, as
-//! IEC 61375-2-3:2015, Annex A, sends them. One item has at most one list of bytes and one list of
-//! bytes is that of at most one item; the functions of [`laws`] say so for every registry.
+//! Bytes are packed (profile): numbers are big-endian, as those of a header are
+//! (IEC 61375-2-3:2015, Annex A), and follow one another without alignment. One item has at most
+//! one list of bytes and one list of bytes is that of at most one item; the functions of [`laws`]
+//! say so for every registry.
 //!
 //! What no contract can say is that memory is there: a call that always answers `OutOfMemory`
 //! meets its contract, and the tests show that it doesn't.

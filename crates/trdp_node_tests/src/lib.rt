@@ -1,8 +1,9 @@
-//! What no script says of a node and of scripts: calls one by one over the library, values as items,
-//! what a datagram costs, every limit at once, lines that come in datagrams, records as text, and
-//! readers, writers and memory that fail. What a script says stands in the folder `rows` of the
-//! repository, with what it gives. The values come from outside: telegrams from the standard's layout
-//! with zlib's CRC-32, and answers by the rules of the profile, computed by hand.
+//! What no script says of a node and of scripts: calls one by one over the library, values as
+//! items, what a datagram costs, every limit at once, lines that come in datagrams, records as
+//! text, and readers, writers and memory that fail. What a script says stands in the folder `rows`
+//! of the repository, with what it gives. The values come from outside: telegrams from the
+//! standard's layout with zlib's CRC-32, and answers by the rules of the profile, computed by
+//! hand.
 #![tactic(auto)]
 
 #[cfg(test)]

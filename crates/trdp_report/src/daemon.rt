@@ -54,7 +54,8 @@ fn tell_end<H: Net + AllocGlobal, E: Write>(rt: &H, config: &[u8], status: u8, e
     }
 }
 
-/// Tells which ports of a node the system refuses. Where memory is wanting for that, nothing is told.
+/// Tells which ports of a node the system refuses. Where memory is wanting for that, nothing is
+/// told.
 fn tell_refused<H: Net + AllocGlobal, E: Write>(rt: &H, config: &NodeConfig, errors: &mut E) {
     let alloc = rt.alloc();
     let mut text = String::new(alloc);

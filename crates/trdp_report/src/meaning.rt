@@ -21,8 +21,8 @@ pub(crate) fn shown(ip: Ip) -> Ipv4Addr {
     Ipv4Addr::from_bits(ip.0)
 }
 
-/// Adds what a configuration means: a line for the node, one for each slot, one for the spare control
-/// ports, and one for each dataset.
+/// Adds what a configuration means: a line for the node, one for each slot, one for the spare
+/// control ports, and one for each dataset.
 ///
 /// # Errors
 /// Want of memory.

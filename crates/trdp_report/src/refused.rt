@@ -7,8 +7,8 @@ use std::net::{Net, SocketAddr, SocketAddrV4, UdpSocket};
 use trdp_base::Ip;
 use trdp_dataset::NodeConfig;
 
-/// Adds a line for each port of a node that the system refuses, with its reason. It asks for each of
-/// them once more, and for none twice, and gives them back.
+/// Adds a line for each port of a node that the system refuses, with its reason. It asks for each
+/// of them once more, and for none twice, and gives them back.
 ///
 /// # Errors
 /// Want of memory.

@@ -9,8 +9,8 @@ use trdp_dataset::{DATASET_KEYS, ELEMENT_KEYS, Key, NODE_KEYS, SLOT_KEYS};
 /// The keys of the root.
 const ROOT_KEYS: [Key; 3] = [Key::Node, Key::Slot, Key::Dataset];
 
-/// The key of the root at which the clients have what the node takes no notice of: the dataset of each
-/// comId.
+/// The key of the root at which the clients have what the node takes no notice of: the dataset of
+/// each comId.
 const CLIENTS_KEY: &str = "telegram";
 
 /// Adds a warning for each key of a file that means nothing.

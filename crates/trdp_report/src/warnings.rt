@@ -50,8 +50,8 @@ fn push_address(text: &mut String, key: &str, address: Ipv4Addr) -> Result<(), A
     } else if address.is_broadcast() {
         writeln!(
             text,
-            "warning: {key} is the broadcast {address}: what is sent to all alone comes in, and what \
-             goes out bears another address"
+            "warning: {key} is the broadcast {address}: what is sent to all alone comes in, and \
+             what goes out bears another address"
         )
     } else {
         Ok(())
@@ -84,8 +84,8 @@ fn push_control_address(text: &mut String, config: &NodeConfig) -> Result<(), Al
     }
     writeln!(
         text,
-        "warning: the network reaches the control ports at {address}: a stranger's datagram, an empty \
-         one too, takes a slot's indications, and his lines are its calls; control_address = \
+        "warning: the network reaches the control ports at {address}: a stranger's datagram, an \
+         empty one too, takes a slot's indications, and his lines are its calls; control_address = \
          \"127.0.0.1\" keeps him out"
     )
 }
@@ -135,7 +135,7 @@ fn push_long_dataset(text: &mut String, id: u32, size: usize) -> Result<(), Allo
     }
     writeln!(
         text,
-        "warning: no telegram of process data carries dataset {id}: it has {size} bytes or more, and \
-         {PD_PAYLOAD_MAX} fit"
+        "warning: no telegram of process data carries dataset {id}: it has {size} bytes or more, \
+         and {PD_PAYLOAD_MAX} fit"
     )
 }

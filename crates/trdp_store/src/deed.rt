@@ -25,8 +25,8 @@ pub enum Left {
     Ended,
 }
 
-/// What is done to an object. It keeps its kind, the comId that telegrams look for it under, and its
-/// session.
+/// What is done to an object. It keeps its kind, the comId that telegrams look for it under, and
+/// its session.
 pub trait Deed {
     /// What it makes of an object under a handle.
     ghost act: { Self → ℕ → AnyObject → Act };

@@ -33,8 +33,8 @@ pub enum Task<'a> {
 }
 
 /// Reads the words of the command line, of which the first names the program: good is `check` or
-/// `run` with a configuration file, `serve` with a configuration file and `--turns` with a number of
-/// 0 to 4,294,967,295, and `daemon` with a configuration file and maybe `--totals` with such a
+/// `run` with a configuration file, `serve` with a configuration file and `--turns` with a number
+/// of 0 to 4,294,967,295, and `daemon` with a configuration file and maybe `--totals` with such a
 /// number.
 ///
 /// The error's text is for the user. Its kind tells want of memory from wrong words and from a

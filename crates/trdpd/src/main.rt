@@ -1,7 +1,7 @@
 //! The program `trdpd`: a communication node, whose events come from a script or from a network.
 //!
-//! `trdpd check CONFIG` says what the configuration in the file CONFIG (TOML) means and what its author
-//! may not have meant, on standard output.
+//! `trdpd check CONFIG` says what the configuration in the file CONFIG (TOML) means and what its
+//! author may not have meant, on standard output.
 //!
 //! `trdpd run CONFIG` reads the configuration of a node from the file CONFIG (TOML), and where
 //! nothing is wrong with it the script from standard input. What the node gives its slots goes to
@@ -14,8 +14,9 @@
 //! memory.
 //!
 //! `trdpd daemon CONFIG` does the same until it is stopped: between two turns it rests until a
-//! datagram comes or something is due. With `--totals SECONDS` the line of its totals so far goes to
-//! standard output every so many seconds. It begins with the words of a check, on standard error.
+//! datagram comes or something is due. With `--totals SECONDS` the line of its totals so far goes
+//! to standard output every so many seconds. It begins with the words of a check, on standard
+//! error.
 //!
 //! The exit status is
 //! - 0 at the script's end, after the last turn, and for a configuration without a fault;
@@ -30,9 +31,9 @@
 //!   the system refuses a port.
 //!
 //! What it does in each case, with the exit status, is the contract of `trdp_program`'s
-//! `run_program` and `serve_program`, and of `trdp_report`'s `check_program` and `report_daemon`. The
-//! functions here and in `command` have no clauses: how the command line is read, which is `clap`'s,
-//! how the file is read, and status 2 are tried by hand.
+//! `run_program` and `serve_program`, and of `trdp_report`'s `check_program` and `report_daemon`.
+//! The functions here and in `command` have no clauses: how the command line is read, which is
+//! `clap`'s, how the file is read, and status 2 are tried by hand.
 #![tactic(auto)]
 
 mod command;
