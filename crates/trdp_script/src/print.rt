@@ -13,7 +13,9 @@ ghost use Rattle.trdp_script.specs.RecordText.{bytes_of, answer_bytes, indicatio
 
 use crate::names::{fault_name, reason_name, refusal_name, state_name};
 use crate::print_message::{ASKED_ROOM, put_asked, put_message, put_reply};
-use crate::print_words::{put_handle, put_hex, put_number, put_place, put_status, put_word};
+use crate::print_words::{
+    put_character, put_handle, put_hex, put_number, put_place, put_status, put_word,
+};
 use std::alloc::AllocError;
 use trdp_base::{NUMBER_LENGTH, Place};
 use trdp_engine::{Answer, Indication, NodeFault, Protocol, Record, What};
@@ -43,7 +45,7 @@ pub fn print_record(text: &mut Vec<u8>, record: &Record<'_>) -> Result<(), Alloc
     text.reserve(digits.saturating_add(LINE_ROOM))?;
     put_number(text, u64::from(record.slot));
     put_content(text, &record.what);
-    put_word(text, b"\n");
+    put_character(text, b'\n');
     Ok(())
 }
 
@@ -59,7 +61,7 @@ pub fn print_fault(text: &mut Vec<u8>, fault: NodeFault) -> Result<(), AllocErro
     text.reserve(LINE_ROOM)?;
     put_word(text, b"fault ");
     put_word(text, fault_name(fault));
-    put_word(text, b"\n");
+    put_character(text, b'\n');
     Ok(())
 }
 
@@ -144,9 +146,9 @@ fn put_peek(text: &mut Vec<u8>, peek: Peek<'_>)
 {
     put_word(text, b" value ");
     put_word(text, state_name(peek.state));
-    put_word(text, b" ");
+    put_character(text, b' ');
     put_number(text, u64::from(peek.counter));
-    put_word(text, b" ");
+    put_character(text, b' ');
     put_hex(text, peek.bytes);
 }
 
@@ -184,12 +186,12 @@ fn put_indication(text: &mut Vec<u8>, indication: &Indication<'_>)
         }
         Indication::Confirmed(handle, status) => {
             put_handle(text, b" confirmed ", *handle);
-            put_word(text, b" ");
+            put_character(text, b' ');
             put_status(text, *status);
         }
         Indication::Closed(handle, reason) => {
             put_handle(text, b" closed ", *handle);
-            put_word(text, b" ");
+            put_character(text, b' ');
             put_word(text, reason_name(*reason));
         }
     }
@@ -207,7 +209,7 @@ fn put_send(text: &mut Vec<u8>, protocol: Protocol, to: Place, telegram: &[u8])
 {
     put_word(text, send_words(protocol));
     put_place(text, to);
-    put_word(text, b" ");
+    put_character(text, b' ');
     put_hex(text, telegram);
 }
 

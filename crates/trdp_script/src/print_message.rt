@@ -9,8 +9,8 @@ ghost use Rattle.trdp_script.specs.declared.print_message.TheConstants.{REPLY_RO
 
 use crate::names::kind_letters;
 use crate::print_words::{
-    URI_ROOM, put_handle, put_hex, put_number, put_place, put_session, put_status, put_uri,
-    put_word,
+    URI_ROOM, put_character, put_handle, put_hex, put_number, put_place, put_session, put_status,
+    put_uri, put_word,
 };
 use trdp_base::{NUMBER_LENGTH, PLACE_LENGTH, SESSION_LENGTH, STATUS_LENGTH, SessionId};
 use trdp_engine::{Message, Reply};
@@ -35,15 +35,15 @@ pub(crate) fn put_message(text: &mut Vec<u8>, message: &Message<'_>)
         ≤ vec_len text.old + (MESSAGE_ROOM + 2 * length message.now.payload.now) }
     ensures capacity { vec_capacity text.old ≤ vec_capacity text.new }
 {
-    put_word(text, b" ");
+    put_character(text, b' ');
     put_place(text, message.src);
-    put_word(text, b" ");
+    put_character(text, b' ');
     put_number(text, u64::from(message.com_id));
-    put_word(text, b" ");
+    put_character(text, b' ');
     put_uri(text, message.source_uri);
-    put_word(text, b" ");
+    put_character(text, b' ');
     put_uri(text, message.dest_uri);
-    put_word(text, b" ");
+    put_character(text, b' ');
     put_hex(text, message.payload);
 }
 
@@ -67,7 +67,7 @@ pub(crate) fn put_asked(
 {
     put_handle(text, b" asked ", listener);
     put_handle(text, b" ", replier);
-    put_word(text, b" ");
+    put_character(text, b' ');
     put_session(text, session);
     put_message(text, message);
 }
@@ -83,14 +83,14 @@ pub(crate) fn put_reply(text: &mut Vec<u8>, reply: &Reply<'_>)
         ≤ vec_len text.old + (REPLY_ROOM + 2 * length reply.now.payload.now) }
     ensures capacity { vec_capacity text.old ≤ vec_capacity text.new }
 {
-    put_word(text, b" ");
+    put_character(text, b' ');
     put_place(text, reply.src);
-    put_word(text, b" ");
+    put_character(text, b' ');
     put_word(text, kind_letters(reply.kind));
-    put_word(text, b" ");
+    put_character(text, b' ');
     put_status(text, reply.status);
-    put_word(text, b" ");
+    put_character(text, b' ');
     put_number(text, u64::from(reply.com_id));
-    put_word(text, b" ");
+    put_character(text, b' ');
     put_hex(text, reply.payload);
 }

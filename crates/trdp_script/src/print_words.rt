@@ -1,6 +1,6 @@
 //! The written forms of the values in a line, each appended to a list that has room for it.
 
-ghost use Rattle.std.specs.Prelude.{◌≡◌, ◌≤◌, ◌+◌, ◌*◌, ◌++◌, length, codes};
+ghost use Rattle.std.specs.Prelude.{◌≡◌, ◌<◌, ◌≤◌, ◌+◌, ◌*◌, ◌++◌, ◌∷◌, [], length};
 ghost use Rattle.std.specs.Prelude.{vec_len, vec_capacity};
 ghost use Rattle.trdp_base.specs.AddressText.{text_of_place};
 ghost use Rattle.trdp_base.specs.HexText.{text_of_hex};
@@ -29,6 +29,16 @@ pub(crate) fn put_word(text: &mut Vec<u8>, word: &[u8])
     ensures capacity { vec_capacity text.old ≤ vec_capacity text.new }
 {
     text.extend_from_slice(word).unwrap();
+}
+
+/// Appends one character to a list that has room for it.
+pub(crate) fn put_character(text: &mut Vec<u8>, character: u8)
+    requires room { vec_len text.old < vec_capacity text.old }
+    ensures items { text.new.items ≡ text.old.items ++ character ∷ [] }
+    ensures len { vec_len text.new ≡ vec_len text.old + 1 }
+    ensures capacity { vec_capacity text.old ≤ vec_capacity text.new }
+{
+    text.push_reserved(character);
 }
 
 /// Appends the written form of a number to a list that has room for the longest.
