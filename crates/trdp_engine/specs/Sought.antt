@@ -11,6 +11,7 @@ use Rattle.trdp_head.specs.declared.pd.PdKind.{PdKind}
 use Rattle.trdp_head.specs.declared.pd.PdKind.TheVariants.{PullRequest}
 use Rattle.trdp_filter.specs.declared.globals.Globals.{Globals}
 use Rattle.trdp_filter.specs.Telegrams.{TelegramModel, PdIs, MdIs}
+use Rattle.trdp_pd.specs.Publishers.{asked_com_id}
 use Rattle.trdp_md.specs.Listeners.{is_unasked}
 use Rattle.trdp_model.specs.Objects.{is_addressed}
 use Rattle.trdp_table.specs.Tables.{Keyed, TableState, all_objects, by_key}
@@ -24,7 +25,7 @@ use Rattle.trdp_engine.specs.Noted.{Addressed, noted_as}
 
 -- the comId of the objects that a header of this type may be for
 abbrev pub sought_as : PdKind → PdHead → ℕ
-sought_as PullRequest head = if head.reply_com_id == 0 then head.com_id else head.reply_com_id
+sought_as PullRequest head = asked_com_id head
 sought_as kind head = head.com_id
 
 -- the comId of the objects that process data may be for: a pull request is for the publishers of

@@ -114,6 +114,7 @@ fn note_part(
 
 /// The comId of the objects that process data may be for: a pull request is for the publishers of
 /// the comId that it asks for, all else for the subscriptions of its own.
+#[tactic(auto, unfolding(trdp_pd::specs::Publishers::asked_com_id))]
 fn sought_by(head: &PdHead) -> u32
     ensures { result ≡ sought_by head.now }
 {
