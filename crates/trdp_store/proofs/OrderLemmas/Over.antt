@@ -1,5 +1,5 @@
 -- What becomes of the due moment of an object that is over with a telegram.
--- For `take_object` above.
+-- For the deed `Handing`, above.
 -- By cases on the kind of object, and on what it did with the telegram.
 use Rattle.std.proofs.Common.{◌≡◌, ℕ, List, [], ◌∷◌, ◌++◌, Bool, true, false}
 use Rattle.std.proofs.Common.{not, Option, None, refl, ◌∙◌, ap, inl, inr}
