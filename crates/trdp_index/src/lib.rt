@@ -1,10 +1,19 @@
-//! The two indexes of a node: which objects telegrams of a comId are for, and which objects are
-//! open for a session.
+//! The two indexes of a node: which objects telegrams of a comId are for ([`ComIndex`]), and which
+//! objects are open for a session ([`SessionIndex`]).
+//!
+//! ```text
+//! let mut index = ComIndex::with_room(alloc, 256)?;
+//! index.insert(ComRow { com_id: Some(100), slot: 0, handle: 1, key: 7 });
+//! let rows = index.run(Some(100), &mut comparisons);    // the rows of comId 100
+//! index.remove(Some(100), 0, 1);                        // true: there was one
+//! ```
 //!
 //! Each index is a set of rows, kept in one order in a list with room that is taken when the index
 //! is made and when it grows; nothing else here takes memory. What is found by a comId comes by
 //! slot and handle. A look-up halves the list: it compares no more often than the number of rows
 //! has binary digits, at each of the two ends of a run.
+//!
+//! What no contract can say is that memory is there for an index that is made or grows.
 #![tactic(auto)]
 
 mod com_index;

@@ -2,6 +2,10 @@
 //! (`run_program`), or a node served over the system's sockets, for so many turns (`serve_program`)
 //! or until the program is stopped (`daemon_program`).
 //!
+//! ```text
+//! let status = run_program(&rt, config, &mut reader, &mut writer, &mut errors);    // 0, 1, 3 or 4
+//! ```
+//!
 //! The configuration is looked at first, as bytes of TOML. The exit status is
 //! - 0 at the script's end, and after the last turn, which a service that goes on hardly comes to;
 //! - 1 where the configuration isn't taken, with `config fault NAME` on `errors`. Behind the name

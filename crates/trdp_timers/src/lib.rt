@@ -1,5 +1,14 @@
 //! The due moments of a node's objects, of all slots in one heap.
 //!
+//! [`Timers`] are an [`Order`] for some of the keys below a room.
+//!
+//! ```text
+//! let mut timers = Timers::with_room(alloc, 256)?;
+//! timers.set(7, Order { due: 100_000, slot: 0, handle: 1 });
+//! timers.first()                                      // (7, that order)
+//! timers.clear(7);
+//! ```
+//!
 //! Each object has a key, a number below the room, under which its order is set and cleared. The
 //! order of a key says when its object acts: by the due moment, then by the slot, then by the
 //! handle. What a key has is a finite map, `specs/Contents.antt`. The heap below it keeps a place
