@@ -24,7 +24,7 @@ enum Does {
 }
 
 /// Calls with their comparisons, on timers with room for eight keys: one with the order that stood
-/// at the place before, and those on the way up or down the heap.
+/// at the place before, and those on the way down and up the heap.
 static ROWS: [(Does, u64); 20] = [
     (Does::Set(0, (60, 0, 1)), 1),
     (Does::Set(1, (50, 0, 2)), 2),
@@ -38,7 +38,7 @@ static ROWS: [(Does, u64); 20] = [
     (Does::Clear(5), 0),
     (Does::Clear(8), 0),
     (Does::First(Some((2, (10, 1, 1)))), 0),
-    (Does::Pop(Some((2, (10, 1, 1)))), 4),
+    (Does::Pop(Some((2, (10, 1, 1)))), 3),
     (Does::Pop(Some((3, (30, 1, 2)))), 3),
     (Does::DueTotals(50, (2, 1)), 3),
     (Does::DueTotals(29, (0, 0)), 1),

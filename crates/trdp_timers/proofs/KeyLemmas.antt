@@ -1,5 +1,5 @@
 -- A key comes into a heap, or leaves it.
--- For `Heap::admit` and `order_of`, `Timers::set` and `peek`, and for `WeightLemmas`.
+-- For `Heap::admit`, `Timers::set` and `peek`, and for `WeightLemmas`.
 -- By: what changes past a heap's end, or under a key that isn't in it, leaves it a heap.
 use Rattle.std.proofs.Common.{inl, inr, ◌≡◌, ◌<◌, ◌-◌, ◌+◌, ◌/◌, ◌++◌, ℕ, List, []}
 use Rattle.std.proofs.Common.{◌∷◌, length, get_or, set, Option, Some, None, false}

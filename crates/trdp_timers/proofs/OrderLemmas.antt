@@ -1,5 +1,5 @@
 -- The order of acting is total.
--- For `Heap::settle`, `rise`, `sink` and `first_below`, and for `StepLemmas` and `KeyLemmas`.
+-- For `Heap::settle`, `rise` and `first_below`, and for `StepLemmas` and `KeyLemmas`.
 -- By cases: a key without an order comes last, and two orders are compared number by number.
 use Rattle.std.proofs.Common.{◌≡◌, true, false, Option, Some, None, refl, arith}
 use Rattle.std.proofs.lemmas.Bool.Decides.{nat_tests}

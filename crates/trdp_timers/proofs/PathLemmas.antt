@@ -1,5 +1,5 @@
 -- What a step up or down leaves, and what it costs.
--- For `Heap::rise` and `sink`, and for `DueLemmas`.
+-- For `rise` and `sink`, and for `DueLemmas`.
 -- By arithmetic: each step halves or doubles the place, so a path has as many as the depth.
 use Rattle.std.proofs.Common.{◌≡◌, ◌≤◌, ◌<◌, ◌-◌, ◌+◌, ◌*◌, ◌/◌, ◌^◌, ℕ, zero, suc, ap, ◌∙◌, arith}
 use Rattle.std.proofs.Math.Nat.{pow-succ'}
@@ -22,9 +22,9 @@ halve n p c b low deep =
     omega arith
 
 pub count_down : (n m p c probes now : ℕ) → m ≡ n → 2 * p + 1 ≤ c
-    → p < n → now ≤ probes + 2 → 2 * p + 1 < n → CanCountDown n p probes → CanCountDown m c now
-count_down n m p c probes now same_n low within two more (zero, deep, fits) = absurd (omega arith)
-count_down n m p c probes now same_n low within two more (suc b, deep, fits) =
+    → p < n → now ≤ probes + 1 → 2 * p + 1 < n → CanCountDown n p probes → CanCountDown m c now
+count_down n m p c probes now same_n low within one more (zero, deep, fits) = absurd (omega arith)
+count_down n m p c probes now same_n low within one more (suc b, deep, fits) =
     (b, omega (arith, halve n p c b low deep), omega arith)
 
 -- in a loop: what the comparisons to come may cost
@@ -41,13 +41,13 @@ cost_end q start now b (j, deep, most) = omega arith
 
 -- the same on the way down
 pub cost_step_down : (n p c probes start now b : ℕ)
-    → 2 * p + 1 ≤ c → now ≤ probes + 2 → 2 * p + 1 < n
-    → ((j : ℕ) × (n < (p + 1) * 2 ^ j) × (probes + 2 * j ≤ start + 2 * b))
-    → (j : ℕ) × (n < (c + 1) * 2 ^ j) × (now + 2 * j ≤ start + 2 * b)
-cost_step_down n p c probes start now b low two more (zero, deep, most) = absurd (omega arith)
-cost_step_down n p c probes start now b low two more (suc j, deep, most) =
+    → 2 * p + 1 ≤ c → now ≤ probes + 1 → 2 * p + 1 < n
+    → ((j : ℕ) × (n < (p + 1) * 2 ^ j) × (probes + j ≤ start + b))
+    → (j : ℕ) × (n < (c + 1) * 2 ^ j) × (now + j ≤ start + b)
+cost_step_down n p c probes start now b low one more (zero, deep, most) = absurd (omega arith)
+cost_step_down n p c probes start now b low one more (suc j, deep, most) =
     (j, halve n p c j low deep, omega arith)
 
 pub cost_end_down : (n q start now b : ℕ)
-    → ((j : ℕ) × (n < (q + 1) * 2 ^ j) × (now + 2 * j ≤ start + 2 * b)) → now ≤ start + 2 * b
+    → ((j : ℕ) × (n < (q + 1) * 2 ^ j) × (now + j ≤ start + b)) → now ≤ start + b
 cost_end_down n q start now b (j, deep, most) = omega arith

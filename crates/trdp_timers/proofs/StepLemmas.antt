@@ -1,13 +1,13 @@
 -- One step of what stands at a place up or down a heap.
--- For `Heap::rise`, `sink` and `first_below`, and for `KeyLemmas`.
+-- For `rise`, `sink` and `first_below`, and for `KeyLemmas`.
 -- By: in a heap that is one but at one place, a step moves that place and leaves the rest a heap.
-use Rattle.std.proofs.Common.{◌≡◌, ◌<◌, ◌-◌, ◌+◌, ◌*◌, ◌/◌, inl, inr, ℕ, zero}
-use Rattle.std.proofs.Common.{suc, Option, refl, sym, ap, subst, ◌∙◌, arith}
+use Rattle.std.proofs.Common.{◌≡◌, ◌<◌, ◌≤◌, ◌-◌, ◌+◌, ◌*◌, ◌/◌, inl, inr, ℕ, zero}
+use Rattle.std.proofs.Common.{suc, Option, None, refl, sym, ap, subst, ◌∙◌, arith}
 use Rattle.std.proofs.lemmas.Bool.{cases_eq}
 use Rattle.trdp_timers.specs.declared.order.Order.{Order}
 use Rattle.trdp_timers.specs.Orders.{Leads}
 use Rattle.trdp_timers.specs.Heap.{IsHeap, FitsAt, CanRise, CanSink, IsSwapped}
-use Rattle.trdp_timers.proofs.OrderLemmas.{leads_refl, leads_trans}
+use Rattle.trdp_timers.proofs.OrderLemmas.{leads_refl, leads_none, leads_trans}
 
 -- two equations at once
 along : {a b x y : Option Order} → x ≡ a → y ≡ b → Leads a b → Leads x y
@@ -54,10 +54,10 @@ risen n m at to p q same_n is some within swapped before (was, fits, rises) = (
 
 -- what stands at p goes down one step, in exchange for the first of those below it
 pub sunk : (n m : ℕ) (at to : ℕ → Option Order) (p c : ℕ)
-    → m ≡ n → 0 < c → c < n → (c - 1) / 2 ≡ p → IsSwapped at to p c → Leads (at c) (at p)
+    → m ≡ n → 0 < c → c < n → (c - 1) / 2 ≡ p → IsSwapped at to p c
     → ((i : ℕ) → 0 < i → i < n → (i - 1) / 2 ≡ p → Leads (at c) (at i))
     → CanSink n at p → CanSink m to c
-sunk n m at to p c same_n some within is swapped after first (was, fits, sinks) = (
+sunk n m at to p c same_n some within is swapped first (was, fits) = (
   at c,
   record {
     others = λ i pos inside ne other. elim (cases_eq i p) [
@@ -77,7 +77,19 @@ sunk n m at to p c same_n some within is swapped after first (was, fits, sinks) 
         (subst (λ (k : ℕ). Leads (at k) (at i))
         e (fits.others i pos (omega arith) (omega arith) (omega arith)));
   },
-  along refl swapped.second after,
+)
+
+-- what stands at p, below which nothing stands, can rise from there
+pub can_rise_from_end : (n : ℕ) (at : ℕ → Option Order) (p : ℕ) → n / 2 ≤ p → CanSink n at p
+    → CanRise n at p
+can_rise_from_end n at p end (was, fits) = (
+  None,
+  record {
+    others = fits.others;
+    above = λ h. leads_none (at ((p - 1) / 2));
+    below = λ i h k e. absurd (omega arith);
+  },
+  leads_none (at p),
 )
 
 -- the first leads all

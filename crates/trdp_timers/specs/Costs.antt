@@ -5,6 +5,6 @@ use Rattle.std.specs.Prelude.{ℕ, ◌+◌, ◌*◌, ◌^◌, ◌<◌}
 abbrev pub CanCountUp : ℕ → ℕ → Type 0
 CanCountUp p probes = (b : ℕ) × (p + 1 < 2 ^ b) × (probes + b < 2 ^ 64)
 
--- two for each level from p down, in a heap of n
+-- one for each level from p down, in a heap of n
 abbrev pub CanCountDown : ℕ → ℕ → ℕ → Type 0
-CanCountDown n p probes = (b : ℕ) × (n < (p + 1) * 2 ^ b) × (probes + 2 * b < 2 ^ 64)
+CanCountDown n p probes = (b : ℕ) × (n < (p + 1) * 2 ^ b) × (probes + b < 2 ^ 64)

@@ -8,6 +8,10 @@ use Rattle.trdp_timers.specs.Orders.{Leads}
 abbrev pub order_at : List (Option Order) → List ℕ → ℕ → Option Order
 order_at orders keys i = slice_index_or orders (slice_index keys i) None
 
+-- each key has an order
+abbrev pub AllSet : List (Option Order) → List ℕ → Type 0
+AllSet orders keys = (i : ℕ) → i < length keys → IsSome (order_at orders keys i)
+
 -- none of the first n goes before the one at half its place
 abbrev pub IsHeap : ℕ → (ℕ → Option Order) → Type 0
 IsHeap n at = (i : ℕ) → 0 < i → i < n → Leads (at ((i - 1) / 2)) (at i)
@@ -22,9 +26,9 @@ pub record FitsAt (n : ℕ) (at : ℕ → Option Order) (p : ℕ) (was : Option 
 abbrev pub CanRise : ℕ → (ℕ → Option Order) → ℕ → Type 0
 CanRise n at p = (was : Option Order) × FitsAt n at p was × Leads (at p) was
 
--- it would be a heap if what stands at p came sooner
+-- it would be a heap if something else stood at p
 abbrev pub CanSink : ℕ → (ℕ → Option Order) → ℕ → Type 0
-CanSink n at p = (was : Option Order) × FitsAt n at p was × Leads was (at p)
+CanSink n at p = (was : Option Order) × FitsAt n at p was
 
 -- what stood at a and b has been exchanged
 pub record IsSwapped (at to : ℕ → Option Order) (a b : ℕ) : Type 0 where

@@ -9,6 +9,7 @@ ghost use Rattle.trdp_timers.specs.Levels.{weight_at, below, CanAdd, CanCountDue
 
 use crate::heap::Heap;
 use crate::order::{Order, is_due};
+use crate::path::order_of;
 
 impl Heap {
     /// The two sizes of the key at a place, if it is due by t.
@@ -37,7 +38,7 @@ impl Heap {
             (is_due_by t (order_at orders.now.items self.now.keys.items place) ≡ false) }
         ensures counted { probes.new ≡ probes.old + 1 }
     {
-        if !is_due(Some(self.order_of(orders, place)), t, probes) {
+        if !is_due(Some(order_of(&self.keys, orders, place)), t, probes) {
             return None;
         }
         let key = self.keys[place];

@@ -27,6 +27,7 @@ mod entries;
 mod heap;
 mod laws;
 mod order;
+mod path;
 mod timers;
 
 pub use laws::{first_is_due_first, one_fewer_is_due};

@@ -1,7 +1,7 @@
 //! When an object acts, and which of two acts first.
 
-ghost use Rattle.std.specs.Prelude.{◌≡◌, ◌<◌, ◌+◌, ◌*◌, ◌^◌};
-ghost use Rattle.trdp_timers.specs.Orders.{goes_before, is_due_by};
+ghost use Rattle.std.specs.Prelude.{◌≡◌, ◌<◌, ◌+◌, ◌^◌};
+ghost use Rattle.trdp_timers.specs.Orders.{is_sooner, goes_before, is_due_by};
 
 /// When an object acts: the sooner by the due moment, then by the slot, then by the handle.
 #[derive(Clone, Copy, Debug, PartialEq, Eq)]
@@ -14,13 +14,17 @@ pub struct Order {
     pub handle: u32,
 }
 
-impl Order {
-    /// The slot and the handle in one number: of two orders of one moment the lower acts first.
-    fn number(self) -> u64
-        ensures { result ≡ self.slot * 2 ^ 32 + self.handle }
-    {
-        u64::from(self.slot) * 0x1_0000_0000 + u64::from(self.handle)
+/// Whether the first of two orders is the sooner: by the due moment, the slot and the handle.
+fn is_sooner(a: Order, b: Order) -> bool
+    ensures { result ≡ is_sooner a b }
+{
+    if a.due != b.due {
+        return a.due < b.due;
     }
+    if a.slot != b.slot {
+        return a.slot < b.slot;
+    }
+    a.handle < b.handle
 }
 
 /// Whether the first acts before the second, where one that isn't set acts last. Every comparison
@@ -33,7 +37,7 @@ pub fn acts_before(first: Option<Order>, second: Option<Order>, probes: &mut u64
 {
     *probes += 1;
     match (first, second) {
-        (Some(a), Some(b)) => a.due < b.due || a.due == b.due && a.number() < b.number(),
+        (Some(a), Some(b)) => is_sooner(a, b),
         (Some(_), None) => true,
         (None, _) => false,
     }
