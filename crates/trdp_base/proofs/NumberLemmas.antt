@@ -48,12 +48,14 @@ written_of_read text count number some plain all small read =
 -- a written number has a digit, and no needless zero
 pub written_some : (text : List ℕ) (number : ℕ)
     → number < 2 ^ 64 → text ≡ text_of_number number → 0 < length text
-written_some text number small e = omega (arith, ap length e, (decimal_is_IsNumeral number small).0.0)
+written_some text number small e =
+    omega (arith, ap length e, (decimal_is_IsNumeral number small).0.0)
 
 pub written_plain : (text : List ℕ) (number : ℕ)
     → number < 2 ^ 64 → text ≡ text_of_number number → HasNeedlessZero text → ⊥
 written_plain text number small e needless =
-    let zero : get_or (text_of_number number) 0 0 ≡ 48 = ap (λ l. get_or l 0 0) (sym e) ∙ needless.0 in
+    let zero : get_or (text_of_number number) 0 0 ≡ 48 =
+    ap (λ l. get_or l 0 0) (sym e) ∙ needless.0 in
     elim (cases_lt 0 number) [
       | inl above ↦ omega (arith, first_decimal number above small, zero)
       | inr below ↦

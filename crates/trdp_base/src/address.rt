@@ -136,7 +136,11 @@ fn put_octet(out: &mut Vec<u8>, octet: u8)
     ensures length { vec_len out.new ≤ vec_len out.old + 3 }
     ensures capacity { vec_capacity out.old ≤ vec_capacity out.new }
 {
-    put_number(out, u64::from(octet));
+    if octet < 10 {
+        out.push_reserved(b'0' + octet);
+    } else {
+        put_number(out, u64::from(octet));
+    }
 }
 
 /// Appends the written form of a port to a list that has room for it.

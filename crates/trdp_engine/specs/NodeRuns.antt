@@ -59,7 +59,8 @@ pub data CountsLatest (old new : NodeState) (events : List EventModel) : Type 0 
 pub record HasRun (old new : NodeState) (out out_then : OutboxState) (events : List Event)
     (taken : ℕ) : Type 0 where
   pub within : taken ≤ length events
-  pub stops : IfSome (slice_get events taken) (λ event. MayTakeMemory (uncounted new) (event_model event))
+  pub stops : IfSome (slice_get events taken)
+      (λ event. MayTakeMemory (uncounted new) (event_model event))
   pub lacks : IfSome (slice_get events taken)
       (λ event. MayLackMemory (uncounted new) out_then (event_model event))
   pub config_is : new.config ≡ old.config

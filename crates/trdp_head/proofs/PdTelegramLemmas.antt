@@ -33,7 +33,8 @@ kind_at code place kind found rest e more h =
     elim (cond-some (eqb code place) kind found rest h)
     [ inl w ↦ eqb-true code place w.0 ∙ sym e ∙ ap pd_code_of w.1 | inr w ↦ more w ]
 
-pub pd_kind_of-some : (code : ℕ) (kind : PdKind) → pd_kind_of code ≡ Some kind → code ≡ pd_code_of kind
+pub pd_kind_of-some : (code : ℕ) (kind : PdKind)
+    → pd_kind_of code ≡ Some kind → code ≡ pd_code_of kind
 pd_kind_of-some code kind h =
     kind_at code 0x5064 Data kind _
     refl (kind_at code 0x5070 PullReply kind _ refl (kind_at code 0x5072 PullRequest kind _ refl
@@ -47,7 +48,8 @@ pub pd-no_fault : {bytes : List ℕ} {head : PdHead} {payload : List ℕ}
     → IsPdTelegram bytes head payload → pd_fault_of bytes ≡ None
 unfolding pd_fault_of
 pd-no_fault {bytes} t =
-    telegram-no_fault t.telegram (is_some (pd_kind_of (field 6 2 bytes))) (ap is_some (kind_known t))
+    telegram-no_fault t.telegram
+    (is_some (pd_kind_of (field 6 2 bytes))) (ap is_some (kind_known t))
 
 pub pd_fault-prefix : (bytes : List ℕ) (fault : HeadFault)
     → prefix_fault_of 40 1472 bytes ≡ Some fault → pd_fault_of bytes ≡ Some fault

@@ -18,7 +18,8 @@ use Rattle.trdp_filter.specs.Globals.{no_groups, leads}
 use Rattle.trdp_filter.specs.MdFilters.{is_com_id, matches_uri, md_passes}
 use Rattle.trdp_filter.specs.PdFilters.{pd_passes}
 use Rattle.trdp_pd.specs.Publishers.{asks_for_value, asked_com_id, is_asked, is_answered}
-use Rattle.trdp_pd.specs.Subscriptions.{deadline_from, first_size, carries_value, is_stale, taken_in}
+use Rattle.trdp_pd.specs.Subscriptions.{deadline_from, first_size, carries_value, is_stale}
+use Rattle.trdp_pd.specs.Subscriptions.{taken_in}
 use Rattle.trdp_pd.specs.Subscriptions.{is_for_subscription}
 use Rattle.trdp_pd.specs.Subscriptions.{is_accepted_value}
 use Rattle.trdp_md.specs.Answers.{has_answered, awaits, awaits_any, confirmed}

@@ -9,7 +9,10 @@ use std::alloc::{AllocError, Global};
 use std::io::{ErrorKind, Write};
 
 /// How many bytes of output are collected before they are written.
-const OUTPUT_ROOM: usize = 65_536;
+const OUTPUT_FULL: usize = 65_536;
+
+/// Room for them and for the text of a moment that many objects act at; there may be more.
+const OUTPUT_ROOM: usize = 2 * OUTPUT_FULL;
 
 /// How many tries in a row a writer may be interrupted at, and take nothing, before that is a
 /// `Write` fault (profile).
@@ -22,27 +25,21 @@ pub fn output_buffer(alloc: Global) -> Result<Vec<u8>, AllocError>
     Vec::with_capacity(alloc, OUTPUT_ROOM)
 }
 
-/// Adds text to the output. What doesn't fit is written, after what was collected before.
+/// Writes what was collected, once there is so much of it.
 ///
 /// # Errors
 /// `Write` where the writer fails; it has taken a front of the output then.
-pub fn put<W: Write>(output: &mut Vec<u8>, text: &[u8], writer: &mut W) -> Result<(), ScriptFault>
+pub fn flush_full<W: Write>(output: &mut Vec<u8>, writer: &mut W) -> Result<(), ScriptFault>
     ensures ok { OnOk result (PassesOn (W.contents writer.old) (W.contents writer.new)
-        output.old.items output.new.items text.now) }
+        output.old.items output.new.items []) }
     ensures err { OnErr result (PassesSome (W.contents writer.old) (W.contents writer.new)
-        output.old.items text.now) }
+        output.old.items []) }
     ensures fault { IfErr result (λ fault. fault ≡ ScriptFault.Write) }
 {
-    if text.len() <= output.capacity() - output.len() {
-        output.extend_from_slice(text).unwrap();
+    if output.len() < OUTPUT_FULL {
         return Ok(());
     }
-    flush(output, writer)?;
-    if text.len() <= output.capacity() {
-        output.extend_from_slice(text).unwrap();
-        return Ok(());
-    }
-    write_whole(writer, text)
+    flush(output, writer)
 }
 
 /// Writes what was collected.

@@ -14,12 +14,12 @@ use crate::print::{print_fault, print_record};
 use std::alloc::AllocError;
 use trdp_engine::{Event, Node, NodeFault, Outbox};
 
-/// Gives the node an event, and leaves the text of what it gives in `text`: the records slot by
-/// slot, slots rising, each slot's in their order, or the line of the event's fault (profile).
+/// Gives the node an event, and appends the text of what it gives: the records slot by slot, slots
+/// rising, each slot's in their order, or the line of the event's fault (profile).
 ///
 /// # Errors
-/// `AllocError` where memory for the event or for its text was refused. An event that takes none
-/// and gives no text is always played.
+/// `AllocError` where memory for the event or for its text was refused; the list's items are as
+/// before. An event that takes none and gives no text is always played.
 pub fn play(
     node: &mut Node,
     event: &Event<'_>,
@@ -28,13 +28,13 @@ pub fn play(
 ) -> Result<(), AllocError>
     ensures node { OnOk result
         (uncounted node.new ≡ node_after (uncounted node.old) (event_model event.now)) }
-    ensures text { OnOk result
-        (text.new.items ≡ event_text (uncounted node.old) (event_model event.now)) }
+    ensures text { OnOk result (text.new.items
+        ≡ text.old.items ++ event_text (uncounted node.old) (event_model event.now)) }
+    ensures err { OnErr result (text.new.items ≡ text.old.items) }
     ensures wanting { OnErr result
         (EventMayWant (uncounted node.old) (event_model event.now)) }
 {
     records.clear();
-    text.clear();
     match node.step(event, records) {
         Ok(()) => push_records(text, records),
         Err(NodeFault::OutOfMemory) => Err(AllocError),
@@ -43,13 +43,21 @@ pub fn play(
 }
 
 /// Appends the lines of records slot by slot, slots rising, each slot's in their order.
+///
+/// # Errors
+/// `AllocError` where there is no room for one of them; the list's items are as before.
 fn push_records(text: &mut Vec<u8>, records: &Outbox) -> Result<(), AllocError>
     ensures ok { OnOk result (text.new.items
         ≡ text.old.items ++ flat_map text_of_record (by_slot records.now.records)) }
-    ensures err { OnErr result (flat_map text_of_record (by_slot records.now.records) ≢ []) }
+    ensures err { OnErr result (text.new.items ≡ text.old.items) }
+    ensures some { OnErr result (flat_map text_of_record (by_slot records.now.records) ≢ []) }
 {
+    let before = text.len();
     for record in records.by_slot() {
-        print_record(text, &record)?;
+        if let Err(refused) = print_record(text, &record) {
+            text.truncate(before);
+            return Err(refused);
+        }
     }
     Ok(())
 }

@@ -8,7 +8,7 @@ ghost use Rattle.trdp_script.specs.ScriptSteps.{LineComesTo};
 
 use crate::fault::{LineFault, ScriptFault};
 use crate::line::read_line;
-use crate::output::{output_buffer, put};
+use crate::output::{flush_full, output_buffer};
 use crate::play::play;
 use std::alloc::{AllocError, Global};
 use std::io::Write;
@@ -23,8 +23,6 @@ pub(crate) struct Player {
     bytes: Vec<u8>,
     /// The records of one event.
     records: Outbox,
-    /// The text of one event.
-    text: Vec<u8>,
     /// The text that is to be written.
     pub(crate) output: Vec<u8>,
 }
@@ -41,7 +39,6 @@ impl Player {
                 node,
                 bytes: Vec::new(alloc),
                 records: Outbox::new(alloc),
-                text: Vec::new(alloc),
                 output,
             }),
             Err(_) => Err(AllocError),
@@ -63,8 +60,8 @@ impl Player {
         match read_line(&mut self.bytes, line) {
             Ok(None) => Ok(()),
             Ok(Some(event)) => {
-                match play(&mut self.node, &event, &mut self.records, &mut self.text) {
-                    Ok(()) => put(&mut self.output, &self.text, writer),
+                match play(&mut self.node, &event, &mut self.records, &mut self.output) {
+                    Ok(()) => flush_full(&mut self.output, writer),
                     Err(_) => Err(ScriptFault::OutOfMemory),
                 }
             }

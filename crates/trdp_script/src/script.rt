@@ -33,7 +33,8 @@ const LINE_ROOM: usize = LINE_MAX + 1;
 /// order, or the line `fault NAME` of an event that the node took no notice of (profile).
 ///
 /// Lines end with a newline, or with a carriage return and a newline; the last may lack its end.
-/// Output is collected, and written when its room is full, before more is read, and at the end.
+/// Output is collected, and written once there are 65,536 bytes of it, before more is read, and at
+/// the end.
 ///
 /// # Errors
 /// `Line` at the first line with a fault, and `OutOfMemory` before anything is read or at a line

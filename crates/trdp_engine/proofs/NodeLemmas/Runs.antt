@@ -85,7 +85,8 @@ pub one_event : (old now next : NodeState) (records records_now records_next : L
     → OnErr result (next ≡ now) → OnErr result (records_next ≡ records_now)
     → OnOk result (next.globals ≡ globals_after now.globals event)
     → OnOk result (length next.slots ≡ slots_then (length now.slots) event)
-    → OnOk result ((s : ℕ) → StepsAsAlone (uncounted now) (uncounted next) records_now records_next event s)
+    → OnOk result ((s : ℕ)
+    → StepsAsAlone (uncounted now) (uncounted next) records_now records_next event s)
     → RunsAsAloneSoFar old now records records_now events s
     → RunsAsAloneSoFar old next records records_next (events ++ event ∷ []) s
 one_event old now next records records_now records_next events event

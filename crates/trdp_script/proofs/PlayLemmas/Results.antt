@@ -1,5 +1,5 @@
 -- What holds of a result, by what else holds of it.
--- For the functions of a script that pass a result on, as `play`, `gather` and `put`.
+-- For the functions of a script that pass a result on, as `play` and `gather`.
 -- By cases: it is a value or a fault.
 use Rattle.std.specs.Prelude.{◌≡◌, Result, Ok, Err, OnOk, OnErr, IfErr, IsOk, is_ok}
 use Rattle.std.specs.Prelude.{if◌then◌else◌}

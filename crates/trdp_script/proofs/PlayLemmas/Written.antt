@@ -1,11 +1,10 @@
 -- Text on its way to a writer.
--- For `put` and `flush` of the output, and for `ScriptLemmas`.
+-- For `flush`, `flush_full` and `Player::take_line`, and for `ScriptLemmas`.
 -- By: what is held back is written before what comes later, whole or a front of it.
 use Rattle.std.proofs.Common.{◌≡◌, ℕ, List, [], ◌++◌, take, drop, sym, ◌∙◌, ap}
-use Rattle.std.proofs.Common.{append_assoc, append-nil, take-append-drop, subst}
+use Rattle.std.proofs.Common.{append_assoc, append-nil, take-append-drop}
 use Rattle.std.specs.Prelude.{Option}
-use Rattle.std.specs.Io.KnownBytes.{Appends}
-use Rattle.std.proofs.KnownBytes.{Appends-trans}
+use Rattle.std.proofs.KnownBytes.{Appends-nil, Appends-trans}
 use Rattle.trdp_script.specs.Writes.{PassesOn, PassesSome, PartlyWrites}
 
 -- text that passes on after other text
@@ -50,28 +49,20 @@ passes_front {a} {b} {held} (n, written) = record {
   };
 }
 
--- nothing is held back, and the text is written
-pub passes_whole : {a b : Option (List ℕ)} {text : List ℕ}
-    → Appends a b text → PassesOn a b [] [] text
-passes_whole {a} {b} {text} written =
-    record { part = text; written = written; rest = sym (append-nil text) }
+-- nothing was told
+pub passes_nothing : (w : Option (List ℕ)) (held : List ℕ) → PassesOn w w held held []
+passes_nothing w held = record { part = []; written = Appends-nil w; rest = append-nil held }
 
--- nothing is held back, and a front of the text is written
-pub passes_front_of : {a b : Option (List ℕ)} {text : List ℕ}
-    → PartlyWrites a b text → PassesSome a b [] text
-passes_front_of {a} {b} {text} (n, written) = record {
-  lost = drop n text;
-  passed = record { part = take n text; written = written; rest = sym (take-append-drop n text) };
+-- text that was added to what was held back goes on with it
+pub passes_added : {a b : Option (List ℕ)} {held held_then with_it text : List ℕ}
+    → with_it ≡ held ++ text → PassesOn a b with_it held_then [] → PassesOn a b held held_then text
+passes_added {a} {b} {held} {held_then} {with_it} {text} is p = record {
+  part = p.part;
+  written = p.written;
+  rest = sym is ∙ sym (append-nil with_it) ∙ p.rest;
 }
 
--- what was held back is written, and then the text
-pub passes_then_whole : {a b c : Option (List ℕ)} {held held_then text : List ℕ}
-    → held_then ≡ [] → PassesOn a b held [] [] → Appends b c text → PassesOn a c held held_then text
-passes_then_whole {a} {b} {c} {held} {held_then} {text} empty p written =
-    subst (λ (l : List ℕ). PassesOn a c held l text)
-    (sym empty) (passes_both p (passes_whole written))
-
--- what was held back is written, and then a front of the text
-pub passes_then_front : {a b c : Option (List ℕ)} {held text : List ℕ}
-    → PassesOn a b held [] [] → PartlyWrites b c text → PassesSome a c held text
-passes_then_front p written = passes_some_after p (passes_front_of written)
+-- or a front of both does
+pub passes_some_added : {a b : Option (List ℕ)} {held with_it text : List ℕ}
+    → with_it ≡ held ++ text → PassesSome a b with_it [] → PassesSome a b held text
+passes_some_added is p = record { lost = p.lost; passed = passes_added is p.passed }

@@ -1,8 +1,8 @@
 -- Facts on the forms of a line.
 -- For `read_words`, `read_line`, `read_control` and `read_operator`.
 -- By: the keywords of a form, and the number of its words, show in the first 15 words of a line.
-use Rattle.std.proofs.Common.{◌≡◌, ℕ, zero, suc, ◌+◌, ◌<◌, ◌≤◌, ◌&&◌, Bool, true, false, List, []}
-use Rattle.std.proofs.Common.{◌∷◌, length, take, Some, None, Result, refl, ap, arith, subst}
+use Rattle.std.proofs.Common.{◌≡◌, ℕ, zero, suc, ◌<◌, ◌≤◌, ◌&&◌, Bool, true, false, List, []}
+use Rattle.std.proofs.Common.{◌∷◌, length, take, Some, Result, refl, ap, arith, subst}
 use Rattle.std.proofs.Common.{nat_le, nat_lt, if◌then◌else◌, Option}
 use Rattle.std.specs.List.{find, list_all}
 use Rattle.std.specs.Str.{bytes_eq}
@@ -12,7 +12,8 @@ use Rattle.std.proofs.lemmas.List.{length-take-le, take_all}
 use Rattle.std.proofs.lemmas.Slice.Eq.{bytes_eq-Decides}
 use Rattle.trdp_script.specs.FormWords.{form_of_call}
 use Rattle.trdp_script.specs.Forms.{call_word, forms, has_keywords, LineForm, Part, Keyword}
-use Rattle.trdp_script.specs.Forms.{NumberField, LastNumberField, AnyOrNumberField, AddressField, PlaceField}
+use Rattle.trdp_script.specs.Forms.{NumberField, LastNumberField, AnyOrNumberField, AddressField}
+use Rattle.trdp_script.specs.Forms.{PlaceField}
 use Rattle.trdp_script.specs.Forms.{BytesField, UriField, StatusField, SessionField, ChoiceField}
 use Rattle.trdp_script.specs.Lines.{form_says, line_among, may_have, say_among}
 use Rattle.trdp_script.specs.Lines.{words_say, Reads}

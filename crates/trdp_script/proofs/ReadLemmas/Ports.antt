@@ -198,7 +198,8 @@ operators_never_want (Ok (Some (CallIs slot call))) fault of reads is = absurd o
 operators_never_want (Ok (Some (AddSlotIs quotas))) fault of reads is =
     let none = reads.1 in absurd (cc)
 
-pub operators_sure : (meaning : Result (Option EventModel) LineFault) (r : Result (Option Event) LineFault)
+pub operators_sure : (meaning : Result (Option EventModel) LineFault)
+    (r : Result (Option Event) LineFault)
     → IsOperators meaning → Reads meaning r → IfErr r (λ fault. fault ≡ OutOfMemory → ⊥)
 operators_sure meaning (Ok line) of reads = tt
 operators_sure meaning (Err fault) of reads = operators_never_want meaning fault of reads

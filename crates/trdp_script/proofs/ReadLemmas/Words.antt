@@ -60,5 +60,6 @@ pub full_cut : (n : ℕ) (words : List (Bor (List ℕ))) (rest : List ℕ) (all 
     → length words ≡ n → take n (words_at words ++ words_of rest) ≡ all → words_at words ≡ all
 full_cut n words rest all full before =
     sym (take-append_seam (words_at words) (words_of rest))
-    ∙ ap (λ k. take k (words_at words ++ words_of rest)) (length-map words (λ (w : Bor (List ℕ)). w.now) ∙ full)
+    ∙ ap (λ k. take k (words_at words ++ words_of rest))
+    (length-map words (λ (w : Bor (List ℕ)). w.now) ∙ full)
     ∙ before

@@ -4,10 +4,11 @@
 use Rattle.std.proofs.Common.{inl, ◌≡◌, suc, ◌+◌, ◌<◌, ℕ, Bool, true, false, List, []}
 use Rattle.std.proofs.Common.{◌∷◌, ◌++◌, length, Some, None, Ok, Err, Option}
 use Rattle.std.proofs.Common.{Result, refl, sym, ◌∙◌, ap, arith, append-nil, append_assoc, subst}
-use Rattle.std.specs.Prelude.{nat_lt, if◌then◌else◌, IfErr, OnOk}
+use Rattle.std.specs.Prelude.{nat_lt, if◌then◌else◌, IfErr, OnOk, OnErr, option_map}
 use Rattle.std.specs.Str.Lines.{lines, strip_carriage_return}
 use Rattle.std.proofs.lemmas.List.{nil_from_length}
-use Rattle.trdp_model.specs.Events.{EventModel}
+use Rattle.trdp_model.specs.declared.event.Event.{Event}
+use Rattle.trdp_model.specs.Events.{EventModel, event_model}
 use Rattle.trdp_script.specs.declared.fault.LineFault.{LineFault}
 use Rattle.trdp_script.specs.declared.fault.LineFault.TheVariants.{TooLong, Count}
 use Rattle.trdp_script.specs.declared.fault.LineFault.TheVariants.{OutOfMemory as NoMemory}
@@ -22,17 +23,18 @@ use Rattle.trdp_script.specs.Lines.{Reads, event_or_fault, form_among}
 use Rattle.trdp_script.specs.Lines.{is_skipped, line_among, line_of, may_have}
 use Rattle.trdp_script.specs.Lines.{form_says, say_among, words_say}
 use Rattle.trdp_script.specs.Pieces.{IsBare}
-use Rattle.trdp_script.specs.ScriptText.{after_line, events_of, events_text}
+use Rattle.trdp_script.specs.ScriptText.{after_line, event_text, events_of, events_text}
 use Rattle.trdp_script.specs.ScriptText.{fault_from, fault_or}
-use Rattle.trdp_model.specs.NodeModels.{nodes_after}
+use Rattle.trdp_model.specs.NodeModels.{node_after, nodes_after}
 use Rattle.trdp_script.specs.ScriptSteps.{node_of, Ends, LineComesTo, Plays}
 use Rattle.trdp_script.specs.ScriptSteps.{PlaysLine, Stops, StopsAt, StopsWanting, line_events}
 use Rattle.trdp_script.specs.Wants.{LineMayWant, NextMayWant}
 use Rattle.trdp_script.specs.Writes.{PassesOn, PassesSome}
 use Rattle.trdp_script.proofs.ScriptLemmas.Lines.{lines_first, lines_last}
+use Rattle.trdp_script.proofs.PlayLemmas.Written.{passes_added, passes_nothing, passes_some_added}
 use Rattle.trdp_script.proofs.PlayLemmas.Written.{passes_some_of}
 use Rattle.trdp_script.proofs.ScriptLemmas.Fronts.{ended_append, none_ended, text_append}
-use Rattle.trdp_script.proofs.ScriptLemmas.Steps.{first_here, passes_nothing}
+use Rattle.trdp_script.proofs.ScriptLemmas.Steps.{first_here}
 
 -- events of a line without a fault come first
 line_then : (line : List ℕ) (event : Option EventModel) (later : List (List ℕ))
@@ -289,3 +291,31 @@ memory_came p q w n text bad is reads same = memory_of (line_of text) (never_mem
       inl reads.1,
     )
     memory_of (Err fault) never reads = absurd (never (ap (λ f. Err f) (sym reads ∙ is)))
+
+-- an event was played, and its text went on with what was held back
+pub event_came : (p q : Player) (v w : Option (List ℕ)) (n : ℕ)
+    (meaning : Result (Option EventModel) LineFault) (read : Option Event) (event : Event)
+    (with_it : List ℕ) (r : Result (Unit {0}) ScriptFault)
+    → read ≡ Some event → Reads meaning (Ok read)
+    → node_of q ≡ node_after (node_of p) (event_model event)
+    → with_it ≡ p.output.items ++ event_text (node_of p) (event_model event)
+    → OnOk r (PassesOn v w with_it q.output.items []) → OnErr r (PassesSome v w with_it [])
+    → IfErr r (λ fault. fault ≡ Write) → LineComesTo p q v w n meaning r
+unfolding LineComesTo
+event_came p q v w n (Err fault) read event with_it r is reads node told ok err write = absurd reads
+event_came p q v w n (Ok meant) read event with_it r is reads node told ok err write =
+    subst (λ (e : Option EventModel). LineComesTo p q v w n (Ok e) r)
+    (ap (option_map event_model) (sym is) ∙ reads) (came r ok err write)
+  where
+    text : with_it ≡ p.output.items ++ events_text (node_of p) (event_model event ∷ [])
+    text = told ∙ ap (λ l. p.output.items ++ l)
+        (sym (append-nil (event_text (node_of p) (event_model event))))
+
+    came : (r : Result (Unit {0}) ScriptFault) → OnOk r (PassesOn v w with_it q.output.items [])
+        → OnErr r (PassesSome v w with_it []) → IfErr r (λ fault. fault ≡ Write)
+        → LineComesTo p q v w n (Ok (Some (event_model event))) r
+    came (Ok done) ok err write = record { node_is = node; passed = passes_added text ok }
+    came (Err Write) ok err write = passes_some_added text err
+    came (Err Read) ok err write = absurd (cc)
+    came (Err OutOfMemory) ok err write = absurd (cc)
+    came (Err (Line k fault)) ok err write = absurd (cc)

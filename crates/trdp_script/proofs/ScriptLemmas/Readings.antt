@@ -14,7 +14,7 @@ use Rattle.trdp_script.specs.Pieces.{ended_lines}
 use Rattle.trdp_script.specs.ScriptSteps.{ComesTo, Ends, IsSound, Plays, PlaysFirst, Stops}
 use Rattle.trdp_script.specs.ScriptSteps.{StopsUnread}
 use Rattle.trdp_script.proofs.ScriptLemmas.Steps.{ends_after, first_after, first_here}
-use Rattle.trdp_script.proofs.ScriptLemmas.Steps.{passes_nothing}
+use Rattle.trdp_script.proofs.PlayLemmas.Written.{passes_nothing}
 use Rattle.trdp_script.proofs.ScriptLemmas.Steps.{plays_both, plays_nothing, stops_after}
 
 -- what was read of the input so far was played

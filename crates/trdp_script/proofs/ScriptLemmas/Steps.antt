@@ -3,9 +3,8 @@
 -- By: what is told of some bytes and then of others is told of both, in that order.
 use Rattle.std.proofs.Common.{◌≡◌, ◌+◌, ◌<◌, ℕ, false, List, [], ◌++◌, length}
 use Rattle.std.proofs.Common.{take, Ok, Err, Option, Result, refl, sym, ◌∙◌, ap, arith}
-use Rattle.std.proofs.Common.{append_assoc, append-nil, length-append, subst}
+use Rattle.std.proofs.Common.{append_assoc, length-append, subst}
 use Rattle.std.specs.Prelude.{◌==◌, IfErr, OnErr}
-use Rattle.std.proofs.KnownBytes.{Appends-nil}
 use Rattle.std.proofs.lemmas.List.Elements.{All-append}
 use Rattle.std.specs.Str.Lines.{lines}
 use Rattle.trdp_model.specs.Events.{EventModel}
@@ -29,6 +28,7 @@ use Rattle.trdp_script.proofs.ScriptLemmas.Fronts.{text_append}
 use Rattle.trdp_script.proofs.ScriptLemmas.Lines.{LongFirst, long_line, too_long_events}
 use Rattle.trdp_script.proofs.ScriptLemmas.Lines.{too_long_fault}
 use Rattle.trdp_script.proofs.PlayLemmas.Written.{passes_both, passes_some_after, passes_some_of}
+use Rattle.trdp_script.proofs.PlayLemmas.Written.{passes_nothing}
 
 -- what comes later means the same
 pub later_fault : {old new : Going} {bytes text : List ℕ} (p : TakesBytes old new bytes text)
@@ -171,10 +171,6 @@ ends_after rest p q = record {
   no_fault = later_fault p.taken rest ∙ q.no_fault;
   text_is = ap (λ l. p.text ++ l) q.text_is ∙ sym (rest_text p rest);
 }
-
--- nothing was told
-pub passes_nothing : (w : Option (List ℕ)) (held : List ℕ) → PassesOn w w held held []
-passes_nothing w held = record { part = []; written = Appends-nil w; rest = append-nil held }
 
 -- bytes were added to the line that has begun
 pub gathered : (old new : Script) (w : Option (List ℕ)) (bytes : List ℕ) → IsBare bytes

@@ -29,5 +29,6 @@ loop-done-preserved g c =
           bs) (sym (take-add c.loop-done.done c.in-Ok.count c.args.bytes.now))
           (Appends-trans (held c.args.writer.now) (held c.loop-done.writer)
           (held c.write_some.new.writer) (take c.loop-done.done c.args.bytes.now)
-          (take c.in-Ok.count (drop c.loop-done.done c.args.bytes.now)) c.loop-done.invariant.so_far more);
+          (take c.in-Ok.count (drop c.loop-done.done c.args.bytes.now))
+          c.loop-done.invariant.so_far more);
     }

@@ -1,7 +1,4 @@
 use Rattle.std.proofs.Common.{inr, ◌∙◌, ap, rules, ◌++◌}
-use Rattle.std.specs.List.{flat_map}
-use Rattle.trdp_outbox.specs.SlotOrder.{by_slot}
-use Rattle.trdp_script.specs.RecordText.{text_of_record}
 use Rattle.trdp_engine.specs.NodeStates.{uncounted}
 use Rattle.trdp_script.proofs.PlayLemmas.Played.{node_played, text_played, text_refused}
 use Rattle.trdp_script.proofs.PlayLemmas.Results.{all_err, all_ok, on_err, on_ok}
@@ -19,15 +16,14 @@ returns-in-Ok-clause-text c =
     let played = text_played (uncounted c.args.node.now) (uncounted c.step.new.self) _ _ _
     c.in-Ok.ensures.fault c.clear.ensures.records c.in-Ok.ensures.steps in
     on_ok c.push_records.result (λ told. told
-    ∙ ap (λ l. l ++ flat_map text_of_record (by_slot c.step.new.out.records))
-    c.clear-2.ensures.items ∙ played) c.push_records.ensures.ok
+    ∙ ap (λ l. c.args.text.now.items ++ l) played) c.push_records.ensures.ok
 
 pub returns-in-Ok-clause-wanting : goal.returns-in-Ok-clause-wanting
 returns-in-Ok-clause-wanting c =
     let played = text_played (uncounted c.args.node.now) (uncounted c.step.new.self) _ _ _
     c.in-Ok.ensures.fault c.clear.ensures.records c.in-Ok.ensures.steps in
     on_err c.push_records.result (λ some. inr (λ none. some (played ∙ none)))
-    c.push_records.ensures.err
+    c.push_records.ensures.some
 
 pub returns-in-Err-clause-wanting : goal.returns-in-Err-clause-wanting
 returns-in-Err-clause-wanting c =

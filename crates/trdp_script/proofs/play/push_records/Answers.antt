@@ -3,7 +3,6 @@ use Rattle.std.specs.List.{flat_map}
 use Rattle.trdp_model.specs.Records.{record_model}
 use Rattle.trdp_outbox.proofs.SlotOrderLemmas.Walk.{walked_all, walked_one}
 use Rattle.trdp_script.specs.RecordText.{text_of_record}
-use Rattle.trdp_script.proofs.PlayLemmas.Results.{all_err}
 use Rattle.trdp_script.proofs.PlayLemmas.SomeText.{one_told, some_told}
 use Rattle.trdp_script.proofs.play.push_records.Goals as goal
 
@@ -28,17 +27,16 @@ loop-record-preserved c =
       ends = search rules;
       came = (
         done ++ r ∷ [],
-        one_told _ _ _ done r told c.in_ok-print_record.ensures.ok,
+        one_told _ _ _ done r told c.in_default.ensures.ok,
         walked_one _ done _ r here,
       );
     }
 
-pub returns-in_err-print_record-clause-err : goal.returns-in_err-print_record-clause-err
-returns-in_err-print_record-clause-err c =
+pub returns-in-Err-clause-some : goal.returns-in-Err-clause-some
+returns-in-Err-clause-some c =
     let (done, told, left) = c.loop-record.invariant.came in
-    let r = record_model c.in-Some.record in
-    all_err c.from_residual.result
-    (some_told _ done _ r (left ∙ ap (λ l. done ++ l) c.in-Some.ensures.steps))
+    some_told _ done _ (record_model c.in-Some.record)
+    (left ∙ ap (λ l. done ++ l) c.in-Some.ensures.steps)
 
 pub returns-clause-ok : goal.returns-clause-ok
 returns-clause-ok c =

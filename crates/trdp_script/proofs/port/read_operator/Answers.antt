@@ -16,7 +16,8 @@ returns-in-Ok-clause-meaning c =
     ∙ ap (λ items. take 15 (words_at items ++ words_of text)) c.new-words.ensures in
     let said = c.in_ok-cut_line.ensures.said operator_forms told in
     subst (λ t. Reads (line_among operator_forms t) (Ok (Some c.in-Ok.event))) c.without_end.ensures
-    (line_read operator_forms text _ (Ok (Some c.in-Ok.event)) operators_few_parts said cut c.in-Ok.ensures)
+    (line_read operator_forms text _ (Ok (Some c.in-Ok.event))
+    operators_few_parts said cut c.in-Ok.ensures)
 
 pub returns-in-Err-clause-meaning : goal.returns-in-Err-clause-meaning
 unfolding operator_line_of
@@ -27,7 +28,8 @@ returns-in-Err-clause-meaning c =
     ∙ ap (λ items. take 15 (words_at items ++ words_of text)) c.new-words.ensures in
     let said = c.in_ok-cut_line.ensures.said operator_forms told in
     subst (λ t. Reads (line_among operator_forms t) (Err c.in-Err.fault)) c.without_end.ensures
-    (line_read operator_forms text _ (Err c.in-Err.fault) operators_few_parts said cut c.in-Err.ensures)
+    (line_read operator_forms text _ (Err c.in-Err.fault)
+    operators_few_parts said cut c.in-Err.ensures)
 
 pub returns-in-Err-clause-memory : goal.returns-in-Err-clause-memory
 returns-in-Err-clause-memory c =

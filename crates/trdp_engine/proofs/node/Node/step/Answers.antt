@@ -10,7 +10,8 @@ use Rattle.trdp_engine.proofs.node.Node.step.Goals as goal
 
 pub returns-in-Moment-clause-steps : goal.returns-in-Moment-clause-steps
 returns-in-Moment-clause-steps c =
-    taken_alone (uncounted c.args.self.now) (uncounted c.step_moment.new.self) c.args.out.now.records
+    taken_alone (uncounted c.args.self.now) (uncounted c.step_moment.new.self)
+    c.args.out.now.records
     c.step_moment.new.out.records (event_model c.args.event.now) c.step_moment.result
     (rw c.in-Moment.is c.step_moment.ensures.fault) (rw c.in-Moment.is refl)
     c.step_moment.ensures.count
@@ -18,7 +19,8 @@ returns-in-Moment-clause-steps c =
 
 pub returns-in-Topology-clause-steps : goal.returns-in-Topology-clause-steps
 returns-in-Topology-clause-steps c =
-    steps_alone (uncounted c.args.self.now) (uncounted c.step_topology.new.self) c.args.out.now.records
+    steps_alone (uncounted c.args.self.now) (uncounted c.step_topology.new.self)
+    c.args.out.now.records
     c.args.out.now.records (event_model c.args.event.now) (rw c.in-Topology.is refl)
     (rw c.in-Topology.is refl) (ap length c.step_topology.ensures.slots)
     (appends_none c.args.self.now.slots c.args.out.now.records c.args.out.now.records refl)
@@ -40,7 +42,8 @@ returns-in-Datagram-clause-memory c = rw c.in-Datagram.is c.step_datagram.ensure
 
 pub returns-in-Datagram-clause-steps : goal.returns-in-Datagram-clause-steps
 returns-in-Datagram-clause-steps c =
-    taken_alone (uncounted c.args.self.now) (uncounted c.step_datagram.new.self) c.args.out.now.records
+    taken_alone (uncounted c.args.self.now) (uncounted c.step_datagram.new.self)
+    c.args.out.now.records
     c.step_datagram.new.out.records (event_model c.args.event.now) c.step_datagram.result
     (rw c.in-Datagram.is c.step_datagram.ensures.fault) (rw c.in-Datagram.is refl)
     c.step_datagram.ensures.count
@@ -116,19 +119,22 @@ returns-in-Role-clause-appends c = appends_none _ _ _ refl
 pub returns-in-AddSlot-clause-count : goal.returns-in-AddSlot-clause-count
 returns-in-AddSlot-clause-count c =
     rw c.in-AddSlot.is
-    (added_count (uncounted c.args.self.now) (uncounted c.step_add_slot.new.self) c.in-AddSlot.quotas c.step_add_slot.result
+    (added_count (uncounted c.args.self.now) (uncounted c.step_add_slot.new.self)
+    c.in-AddSlot.quotas c.step_add_slot.result
     c.step_add_slot.ensures.fault c.step_add_slot.ensures.slots)
 
 pub returns-in-AddSlot-clause-steps : goal.returns-in-AddSlot-clause-steps
 returns-in-AddSlot-clause-steps c =
     rw c.in-AddSlot.is
-    (added_alone (uncounted c.args.self.now) (uncounted c.step_add_slot.new.self) c.args.out.now.records
+    (added_alone (uncounted c.args.self.now) (uncounted c.step_add_slot.new.self)
+    c.args.out.now.records
     c.step_add_slot.new.out.records c.in-AddSlot.quotas c.step_add_slot.result
     c.step_add_slot.ensures.fault c.step_add_slot.ensures.slots c.step_add_slot.ensures.told)
 
 pub returns-in-AddSlot-clause-appends : goal.returns-in-AddSlot-clause-appends
 returns-in-AddSlot-clause-appends c =
-    added_appends (uncounted c.args.self.now) (uncounted c.step_add_slot.new.self) c.args.out.now.records
+    added_appends (uncounted c.args.self.now) (uncounted c.step_add_slot.new.self)
+    c.args.out.now.records
     c.step_add_slot.new.out.records c.in-AddSlot.quotas c.step_add_slot.result
     c.step_add_slot.ensures.unrecorded c.step_add_slot.ensures.slots c.step_add_slot.ensures.told
 
