@@ -19,7 +19,7 @@
 //! number is bounded from above alone, but that `set` counts one at least. How many there are
 //! depends on places in the heap, which are no part of what a key has. The worked example
 //! `calls_have_their_comparisons` of `trdp_parts_tests` has the number of each call. To ask for
-//! the `first` twice is as good as once.
+//! the `first` twice is as good as once, and two places are exchanged in either order.
 #![tactic(auto)]
 
 mod due;
