@@ -1,8 +1,10 @@
 //! The output of a script, collected so that one write takes many lines.
 
-ghost use Rattle.std.specs.Prelude.{◌≡◌, ◌<◌, ◌≤◌, [], length, take, OnOk, OnErr, IfOk, IfErr};
+ghost use Rattle.std.specs.Prelude.{◌≡◌, ◌<◌, ◌≤◌, [], length, take, vec_len};
+ghost use Rattle.std.specs.Prelude.{OnOk, OnErr, IfOk, IfErr};
 ghost use Rattle.std.specs.Io.KnownBytes.{Appends, WriteAppends};
 ghost use Rattle.trdp_script.specs.Writes.{PassesOn, PassesSome, PartlyWrites};
+ghost use Rattle.trdp_script.specs.declared.output.TheConstants.{OUTPUT_FULL};
 
 use crate::fault::ScriptFault;
 use std::alloc::{AllocError, Global};
@@ -25,7 +27,7 @@ pub fn output_buffer(alloc: Global) -> Result<Vec<u8>, AllocError>
     Vec::with_capacity(alloc, OUTPUT_ROOM)
 }
 
-/// Writes what was collected, once there is so much of it.
+/// Writes what was collected, once there is so much of it: less than that stays.
 ///
 /// # Errors
 /// `Write` where the writer fails; it has taken a front of the output then.
@@ -34,6 +36,7 @@ pub fn flush_full<W: Write>(output: &mut Vec<u8>, writer: &mut W) -> Result<(), 
         output.old.items output.new.items []) }
     ensures err { OnErr result (PassesSome (W.contents writer.old) (W.contents writer.new)
         output.old.items []) }
+    ensures less { OnOk result (vec_len output.new < OUTPUT_FULL) }
     ensures fault { IfErr result (λ fault. fault ≡ ScriptFault.Write) }
 {
     if output.len() < OUTPUT_FULL {
