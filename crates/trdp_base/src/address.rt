@@ -136,6 +136,7 @@ fn put_octet(out: &mut Vec<u8>, octet: u8)
     ensures length { vec_len out.new ≤ vec_len out.old + 3 }
     ensures capacity { vec_capacity out.old ≤ vec_capacity out.new }
 {
+    // A single digit needs no division.
     if octet < 10 {
         out.push_reserved(b'0' + octet);
     } else {
