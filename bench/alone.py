@@ -3,6 +3,7 @@
 
     bench/alone.py [EVENTS [SEED [PROGRAM]]]      default: 40000 events, seed 1, $TRDPD or crates/trdpd/out/trdpd
     bench/alone.py rows
+    bench/alone.py limits [PROGRAM]
 
 `bench/alone/` is a second implementation of the rules in docs/PROFILE.md, docs/MODEL.md and docs/SCRIPT.md: one slot by itself, which has
 a list of its objects and looks at each of them at every event. Nothing of it is taken from the crates, and no slot knows of another. Events
@@ -11,7 +12,8 @@ slots give, slots rising. A run tells how often each kind of line came, and fail
 takes the seed from the clock; it is printed.
 
 With `rows` the slots by themselves play all scripts that stand in the repository with their output: those of rows/ whose configuration is
-taken, and the examples. The exit status is 0 where all is alike.
+taken, and the examples. With `limits` both play a node at every limit, and a publisher's first ten thousand telegrams. The exit status is 0
+where all is alike.
 """
 import os
 import subprocess
@@ -21,7 +23,7 @@ import time
 from collections import Counter
 from random import Random
 
-from alone import cover, rows
+from alone import cover, limits, rows
 from alone.beside import Beside
 from alone.chance import Chance
 from alone.draws import Draws, config_by_chance
@@ -62,20 +64,9 @@ class Run:
     def script(self):
         return "".join(f"{line}\n{MARK}\n" for line, _ in self.events)
 
-    def played(self, program):
-        """What the program gives, line by line."""
-        with tempfile.TemporaryDirectory() as folder:
-            path = os.path.join(folder, "node.toml")
-            with open(path, "w") as config:
-                config.write(self.config)
-            ran = subprocess.run([program, "run", path], input=self.script(), capture_output=True, text=True)
-        if ran.returncode != 0:
-            raise Wrong(f"the program ended with {ran.returncode}: {ran.stderr.strip()}")
-        return ran.stdout.split("\n")[:-1]
-
     def compare(self, program):
         """Compares what the program gives with what the slots give by themselves; answers how many lines these are."""
-        at, played = 0, self.played(program)
+        at, played = 0, played_by(program, self.config, self.script())
         for number, (line, given) in enumerate(self.events):
             wanted = given + [MARKED]
             if (found := played[at : at + len(wanted)]) != wanted:
@@ -93,6 +84,18 @@ class Run:
                 file.write(text)
         texts = (f"event {number + 1}: {line[:300]}", *shown("alone", wanted), *shown("program", found))
         return "\n".join((*texts, f"{folder} has the configuration and the script"))
+
+
+def played_by(program, config, script):
+    """What the program gives for a script, line by line."""
+    with tempfile.TemporaryDirectory() as folder:
+        path = os.path.join(folder, "node.toml")
+        with open(path, "w") as file:
+            file.write(config)
+        ran = subprocess.run([program, "run", path], input=script, capture_output=True, text=True)
+    if ran.returncode != 0:
+        raise Wrong(f"the program ended with {ran.returncode}: {ran.stderr.strip()}")
+    return ran.stdout.split("\n")[:-1]
 
 
 def shown(who, lines):
@@ -127,10 +130,25 @@ def by_rows():
     print(f"{count} scripts give what stands beside them")
 
 
+def by_limits(program):
+    """Plays the long scripts, and counts the lines that hold each word."""
+    for name, config, lines, words in limits.all_of():
+        script = "".join(f"{line}\n" for line in lines)
+        given, ended = play(config, script)
+        if ended is not None or played_by(program, config, script) != given:
+            raise Wrong(f"{name}: the program gives something else than the slot by itself, which ended with {ended}")
+        if (counts := {word: sum(word in line for line in given) for word in words}) != words:
+            raise Wrong(f"{name}: {counts}, and not {words}")
+        print(f"{name}: {len(given)} lines, alike")
+
+
 def main(words):
+    default = os.environ.get("TRDPD", f"{TOP}/crates/trdpd/out/trdpd")
     if words == ["rows"]:
         return by_rows()
-    events, seed, program = (words + ["40000", "1", os.environ.get("TRDPD", f"{TOP}/crates/trdpd/out/trdpd")][len(words) :])[:3]
+    if words[:1] == ["limits"]:
+        return by_limits(*(words[1:] or [default]))
+    events, seed, program = (words + ["40000", "1", default][len(words) :])[:3]
     by_chance(int(events), str(time.time_ns()) if seed == "clock" else seed, program)
 
 

@@ -17,13 +17,14 @@ class Library:
     def run(self, words, refused=None, **settings):
         """Runs the words, where the call of that kind and number is refused, as ("memory", 3), and answers as subprocess.run does.
 
-        The settings are READ_PIECE and WRITE_PIECE of refused_calls.c, in small letters, and those of subprocess.run.
+        The settings are READ_PIECE, WRITE_PIECE and WRITE_EVERY of refused_calls.c, in small letters, and those of subprocess.run.
         """
-        environment = {name: text for name, text in os.environ.items() if name not in ("REFUSED", "READ_PIECE", "WRITE_PIECE")}
+        pieces = ("read_piece", "write_piece", "write_every")
+        environment = {name: text for name, text in os.environ.items() if name != "REFUSED" and name.lower() not in pieces}
         environment["LD_PRELOAD"] = self.path
         if refused is not None:
             environment["REFUSED"] = f"{refused[0]} {refused[1]}"
-        for name in ("read_piece", "write_piece"):
+        for name in pieces:
             if name in settings:
                 environment[name.upper()] = str(settings.pop(name))
         return subprocess.run(words, env=environment, capture_output=True, text=True, errors="replace", timeout=60, **settings)

@@ -3,7 +3,8 @@
    REFUSED names the call by its kind and its number among those, from 1, as "memory 3": a kind is "memory" (malloc and realloc),
    "config" (a read of a file), "read" (one at standard input) or "write" (one at standard output). Without REFUSED the calls go on, and
    how many there were of each kind is told at the end. READ_PIECE and WRITE_PIECE are how many bytes a read at standard input and a
-   write at standard output pass on at most. */
+   write at standard output pass on at most. Of so many writes as WRITE_EVERY says the last one alone passes on; the others are
+   interrupted. */
 #define _GNU_SOURCE
 #include <dlfcn.h>
 #include <errno.h>
@@ -71,6 +72,7 @@ ssize_t read(int from, void *bytes, size_t size)
 ssize_t write(int to, const void *bytes, size_t size)
 {
     static ssize_t (*next)(int, const void *, size_t);
+    const char *every = getenv("WRITE_EVERY");
 
     if (next == NULL)
         *(void **)&next = dlsym(RTLD_NEXT, "write");
@@ -78,6 +80,10 @@ ssize_t write(int to, const void *bytes, size_t size)
         return next(to, bytes, size);
     if (is_refused(WRITE)) {
         errno = EIO;
+        return -1;
+    }
+    if (every != NULL && calls[WRITE] % strtoul(every, NULL, 10) != 0) {
+        errno = EINTR;
         return -1;
     }
     return next(to, bytes, piece("WRITE_PIECE", size));

@@ -19,8 +19,7 @@ TESTS = [
     ("trdp_node_tests", "refused::a_configuration_is_read_again"),
     ("trdp_node_tests", "refused::values_are_spelled_again"),
     ("trdp_node_tests", "refused::a_line_is_read_again"),
-    ("trdp_node_tests", "failing::a_script_without_memory"),
-    ("trdp_daemon_tests", "turns::refused_memory_is_counted"),
+    ("trdp_node_tests", "turns::refused_memory_is_counted"),
 ]
 
 

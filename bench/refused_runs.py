@@ -4,7 +4,7 @@
     bench/refused_runs.py [PROGRAM]             default: crates/trdpd/out/trdpd (./run prove builds it)
 
 A call is a request for memory, a read of the configuration's file, a read of the script, or a write of the output; reads and writes pass
-on seven bytes at most, so that they end within lines. What a run may come to stands in docs/SCRIPT.md:
+on a byte at a time, some bytes, so that they end within lines, or all. What a run may come to stands in docs/SCRIPT.md:
 
     memory    status 4 with `memory fault`, and the text of some first lines of the script, or status 1 with `config fault OutOfMemory`
               and no text; or all is as without refusal. A later request that is refused leaves no less text.
@@ -12,8 +12,9 @@ on seven bytes at most, so that they end within lines. What a run may come to st
     read      status 4 with `read fault`, and the text of exactly the lines that had come whole
     write     status 4 with `write fault`, and what the writes before passed on
 
-A line has the script, the kind of calls, how many there are, how many runs came to each end, and how many failed. The exit status is 0
-where none failed, and else 1. gcc must be on PATH.
+A line has the script, the kind of calls, the bytes that one passes on, how many there are, how many runs came to each end, and how many
+failed. Then come a script that takes 72,018 reads, and writes that are interrupted. The exit status is 0 where nothing failed, and else 1.
+gcc must be on PATH.
 """
 import collections
 import os
@@ -44,7 +45,9 @@ element = [{{ type = "UINT8" }}, {{ type = "UINT16", size = 0 }}]
 id = 1002
 element = [{{ type = "INT16" }}, {{ type = 15 }}, {{ type = 1001 }}]
 """
-PIECE = 7
+WHOLE = 65536
+# The bytes that a read passes on, or a write where writes are refused.
+PIECES = {"memory": (1, WHOLE), "config": (7,), "read": (1, 50, WHOLE), "write": (1, 50)}
 PD_PLACE = "10.0.0.2:17224"
 MD_PLACE = "10.0.0.2:17225"
 SESSION = "00000000-0000-0000-0000-000000000001"
@@ -84,8 +87,16 @@ def sent(slot, com_id, payload):
     return f"{slot} send pd {PD_PLACE} {data(com_id, payload)}\n"
 
 
-# Scripts: the lines, each with the text that it gives.
+# Scripts: the lines, each with the text that it gives. The last line of the first one has a fault.
 SCRIPTS = {
+    "up to a bad line": [
+        (publish(0, 100, 100000).replace("\n", "\r\n"), "0 handle 1\n"),
+        ("\n", ""),
+        ("call 0 put 1 0a0b\n", "0 done\n"),
+        ("moment 100000\n", sent(0, 100, b"\x0a\x0b")),
+        ("moment 5\n", "fault Past\n"),
+        ("moment", ""),
+    ],
     "a publisher's first telegram": [
         (publish(0, 100, 100000), "0 handle 1\n"),
         ("call 0 put 1 0a0b\n", "0 done\n"),
@@ -119,39 +130,42 @@ def text_of(lines, count):
     return text
 
 
-def pieces(kind):
-    """Where a read or a write ends within lines; where a write is refused the script comes at once, and its text leaves from one place."""
-    return {"write_piece": PIECE} if kind == "write" else {"read_piece": PIECE}
+def whole_of(lines):
+    """What a script comes to where nothing is refused."""
+    output = "".join(gives for _, gives in lines)
+    status, errors = (3, f"line {len(lines)} fault Count\n") if lines[-1][0] == "moment" else (0, "")
+    return status, errors, output
 
 
-def end_of(lines, kind, number, ran):
+def end_of(lines, kind, piece, number, ran):
     """What a run came to in which that call was refused; None where it may not come to this."""
-    output = text_of(lines, len("".join(line for line, _ in lines)))
+    whole = whole_of(lines)
     end = ran.returncode, ran.stderr, ran.stdout
     if kind == "memory":
         fronts = ["".join(gives for _, gives in lines[:count]) for count in range(len(lines))]
         allowed = {"memory fault": [(4, "memory fault\n", front) for front in fronts],
                    "config fault OutOfMemory": [(1, "config fault OutOfMemory\n", "")],
-                   "no fault": [(0, "", output)]}
+                   "no fault": [whole]}
     else:
-        before = PIECE * (number - 1)
+        before = piece * (number - 1)
         allowed = {"config": {"config fault Unreadable": [(1, "config fault Unreadable\n", "")]},
                    "read": {"read fault": [(4, "read fault\n", text_of(lines, before))]},
-                   "write": {"write fault": [(4, "write fault\n", output[:before])]}}[kind]
+                   "write": {"write fault": [(4, "write fault\n", whole[2][:before])]}}[kind]
     return next((name for name, ends in allowed.items() if end in ends), None)
 
 
-def failures(library, words, name, lines, kind):
+def failures(library, words, name, lines, kind, piece):
     """Refuses each call of a kind in turn, tells what the runs came to, and answers how many failed."""
-    settings = {"input": "".join(line for line, _ in lines), **pieces(kind)}
+    # Where a write is refused the script comes at once, and its text leaves from one place.
+    settings = {"input": "".join(line for line, _ in lines), "write_piece" if kind == "write" else "read_piece": piece}
     calls, whole = library.count(words, kind, **settings)
-    if end_of(lines, "memory", 0, whole) != "no fault" or calls == 0:
+    if (whole.returncode, whole.stderr, whole.stdout) != whole_of(lines) or calls == 0:
         print(f"{name}: not as it should be where nothing is refused\n{whole.stdout}{whole.stderr}", end="")
         return 1
     ends, failed, least = collections.Counter(), 0, 0
     for number in range(1, calls + 1):
         ran = library.run(words, refused=(kind, number), **settings)
-        end = end_of(lines, kind, number, ran)
+        end = end_of(lines, kind, piece, number, ran)
         if end is None or len(ran.stdout) < least:
             failed += 1
             print(f"{name}, {kind} {number}: status {ran.returncode}\n{ran.stdout}{ran.stderr}", end="")
@@ -159,7 +173,27 @@ def failures(library, words, name, lines, kind):
             least = len(ran.stdout)
         ends[end] += 1
     told = ", ".join(f"{count} {end}" for end, count in ends.items() if end)
-    print(f"{name}, {kind}: {calls} calls, each refused in turn: {told}; {failed} runs failed")
+    print(f"{name}, {kind}, {piece}: {calls} calls, each refused in turn: {told}; {failed} runs failed")
+    return failed
+
+
+def comes_byte_by_byte(library, words):
+    """Whether a script runs to its end that takes 72,018 reads, more than a number of 16 bits counts; answers 1 where it doesn't."""
+    script = "# remark\n" * 8000 + "moment 5\nmoment 4\n"
+    reads, ran = library.count(words, "read", input=script, read_piece=1)
+    print(f"byte by byte: {reads} reads, status {ran.returncode}, {ran.stdout}", end="")
+    return int((reads, ran.returncode, ran.stdout, ran.stderr) != (len(script) + 1, 0, "fault Past\n", ""))
+
+
+def writes_are_interrupted(library, words):
+    """How a script ends whose writes pass on a byte after 999 interruptions in a row, and after 1,000, which are a fault; answers the failures."""
+    lines = SCRIPTS["up to a bad line"]
+    text, whole = "".join(line for line, _ in lines), whole_of(lines)
+    failed = 0
+    for every, count, ends in ((1000, 1000 * len(whole[2]), whole), (1001, 1000, (4, "write fault\n", ""))):
+        writes, ran = library.count(words, "write", input=text, write_piece=1, write_every=every)
+        print(f"interrupted but for one in {every}: {writes} writes, status {ran.returncode}")
+        failed += (writes, (ran.returncode, ran.stderr, ran.stdout)) != (count, ends)
     return failed
 
 
@@ -171,9 +205,11 @@ def main(program):
         config = os.path.join(folder, "node.toml")
         with open(config, "w") as file:
             file.write(CONFIG)
+        words = [program, "run", config]
         for name, lines in SCRIPTS.items():
-            for kind in ("memory", "config", "read", "write"):
-                failed += failures(library, [program, "run", config], name, lines, kind)
+            for kind, piece in [(kind, piece) for kind, pieces in PIECES.items() for piece in pieces]:
+                failed += failures(library, words, name, lines, kind, piece)
+        failed += comes_byte_by_byte(library, words) + writes_are_interrupted(library, words)
     return 1 if failed else 0
 
 

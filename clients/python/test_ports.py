@@ -3,11 +3,13 @@ from __future__ import annotations
 
 import socket
 import struct
+import subprocess
+import tempfile
 import time
 import unittest
 import zlib
 
-from testing import CONTROL, MD, OPERATOR, PD, Daemon, wait_until
+from testing import CONTROL, MD, OPERATOR, PD, PROGRAM, Daemon, wait_until
 
 HOME, KEPT, DEVICE = "127.0.8.5", "127.0.8.6", "127.0.8.7"
 
@@ -148,3 +150,38 @@ class Telegrams(Case):
 
 if __name__ == "__main__":
     unittest.main()
+
+
+class Ends(unittest.TestCase):
+    """How a service ends, and a script whose faults nobody can be told."""
+
+    NOTHING = "taken 0 offered 0 lost 0 unread 0 memory 0\n"
+    ONE_PORT = f'[node]\naddress = "{HOME}"\npd_port = {PD}\nmd_port = {PD}\n[[slot]]\n'
+
+    def ends(self, config: str, *words: str, **streams: object) -> tuple[int, str | None, str | None]:
+        """The status, the output, and what stands on the error stream."""
+        with tempfile.NamedTemporaryFile("w", suffix=".toml") as file:
+            file.write(config)
+            file.flush()
+            how = {"stdout": subprocess.PIPE, "stderr": subprocess.PIPE, "text": True, "timeout": 20, **streams}
+            ran = subprocess.run([PROGRAM, words[0], file.name, *words[1:]], **how)
+            return ran.returncode, ran.stdout, ran.stderr
+
+    def test_services_come_to_their_totals_or_a_fault(self) -> None:
+        for config, output, errors, status in [
+            (node(control(0, "publishers = 1")), self.NOTHING, "", 0), ("", "", "config fault Missing node\n", 1),
+            (self.ONE_PORT, "", "bind fault\n", 4),
+        ]:
+            for turns in ("0", "3"):
+                self.assertEqual(self.ends(config, "serve", "--turns", turns), (status, output, errors))
+        self.assertEqual(self.ends(self.ONE_PORT, "daemon", "--totals", "1"), (4, "", "bind fault\n"))
+
+    def test_a_writer_that_fails_ends_the_service(self) -> None:
+        with open("/dev/full", "w") as full:
+            for words in (("serve", "--turns", "0"), ("daemon", "--totals", "1")):
+                self.assertEqual(self.ends(node(control(0)), *words, stdout=full), (4, None, "write fault\n"))
+
+    def test_a_fault_that_cannot_be_told_keeps_its_status(self) -> None:
+        with open("/dev/full", "w") as full:
+            ends = self.ends(node(control(0)), "run", input="moment 5\nmoment 4\nmoment x\n", stderr=full)
+            self.assertEqual(ends, (3, "fault Past\n", None))

@@ -4,9 +4,8 @@ use crate::same::same;
 use std::alloc::Global;
 use std::process::Abort;
 use std::test::Fail;
-use trdp_base::Place;
 use trdp_dataset::NodeConfig;
-use trdp_engine::{Event, Node, Outbox, Protocol, What};
+use trdp_engine::{Node, Outbox};
 use trdp_script::{print_record, read_line};
 
 /// A node, with the records that it has given.
@@ -35,13 +34,6 @@ impl Bench {
         }
     }
 
-    /// Time comes to that moment, in microseconds. The checker drops an event that is no call where
-    /// it stands in a list.
-    pub fn moment(&mut self, moment: u64) -> Result<(), Fail> {
-        let events = [Event::Moment(moment)];
-        Ok(self.node.step(&events[0], &mut self.out)?)
-    }
-
     /// A new node of that configuration that has taken the lines, and whose outbox is empty.
     pub fn after(alloc: Global, config: &[u8], lines: &[&str]) -> Result<Bench, Fail> {
         let mut bench = Bench::new(alloc, config)?;
@@ -50,31 +42,6 @@ impl Bench {
         }
         bench.out.clear();
         Ok(bench)
-    }
-
-    /// Hands the telegram that the record of that index is to the node itself, as from a place of
-    /// its own, and answers its length.
-    pub fn loop_back(
-        &mut self,
-        alloc: Global,
-        index: usize,
-        protocol: Protocol,
-        place: Place,
-    ) -> Result<usize, Fail> {
-        let mut bytes = Vec::new(alloc);
-        if let Some(record) = self.out.get(index) {
-            if let What::Send { telegram, .. } = record.what {
-                bytes.extend_from_slice(telegram)?;
-            }
-        }
-        let events = [Event::Datagram {
-            protocol,
-            src: place,
-            dst: place,
-            bytes: &bytes,
-        }];
-        self.node.step(&events[0], &mut self.out)?;
-        Ok(bytes.len())
     }
 
     /// The records of the outbox as lines.

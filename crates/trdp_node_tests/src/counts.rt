@@ -94,11 +94,16 @@ static COSTINGS: [Costing; 4] = [
     },
 ];
 
+/// What a line costs the node.
+fn cost(bench: &mut Bench, alloc: Global, line: &str) -> Result<[u64; 3], Fail> {
+    bench.take(alloc, line)?;
+    Ok(bench.node.counts())
+}
+
 /// What the datagram of the row costs the node.
 fn counts_of(alloc: Global, row: &Costing) -> Result<[u64; 3], Fail> {
     let mut bench = Bench::after(alloc, CONFIG, row.before)?;
-    bench.take(alloc, row.datagram)?;
-    Ok(bench.node.counts())
+    cost(&mut bench, alloc, row.datagram)
 }
 
 #[test]

@@ -215,7 +215,7 @@ fn shows_item(bench: &Bench, alloc: Global, handle: u32, count: u16) -> Result<b
     Ok(bench.node.value_of(alloc, 0, handle)? == item)
 }
 
-/// Asserts that the subscription shows what the row says.
+/// Asserts that the subscription of handle 1 shows what the row says.
 fn shows(
     rt: &(impl Abort + AllocGlobal),
     bench: &Bench,
@@ -226,11 +226,16 @@ fn shows(
     Ok(())
 }
 
+/// Asserts what a subscription shows after the lines of the row.
+fn shows_after(rt: &(impl Abort + AllocGlobal), row: &'static Showing) -> Result<(), Fail> {
+    let bench = Bench::after(rt.alloc(), CONFIG, row.lines)?;
+    shows(rt, &bench, row)
+}
+
 #[test]
 fn subscriptions_show_bytes_and_their_item(rt: HostRuntime) -> Result<(), Fail> {
     for row in &SHOWINGS {
-        let bench = Bench::after(rt.alloc(), CONFIG, row.lines)?;
-        shows(&rt, &bench, row)?;
+        shows_after(&rt, row)?;
     }
     Ok(())
 }

@@ -6,7 +6,7 @@ use crate::two_slots::CONFIG;
 use std::process::Abort;
 use std::test::Fail;
 use trdp_base::{Ip, Place, Topo};
-use trdp_engine::{Call, Event, Outbox, What, run_both, same_view, view_drops_nothing};
+use trdp_engine::{Call, Event, run_both, same_view, view_drops_nothing};
 use trdp_pd::PublisherTerms;
 
 /// A publisher of comId 100 with a cycle of 100 ms, to 10.0.0.2.
@@ -23,47 +23,43 @@ const TERMS: PublisherTerms = PublisherTerms {
 };
 
 /// The publisher is made, gets its value, and is due.
-fn events() -> [Event<'static>; 3] {
-    [
-        Event::Call {
-            slot: 0,
-            call: Call::Publish(TERMS),
+static EVENTS: [Event<'static>; 3] = [
+    Event::Call {
+        slot: 0,
+        call: Call::Publish(TERMS),
+    },
+    Event::Call {
+        slot: 0,
+        call: Call::Put {
+            handle: 1,
+            bytes: b"\x0a\x0b",
         },
-        Event::Call {
-            slot: 0,
-            call: Call::Put {
-                handle: 1,
-                bytes: b"\x0a\x0b",
-            },
-        },
-        Event::Moment(100_000),
-    ]
-}
+    },
+    Event::Moment(100_000),
+];
 
 /// The same for slot 0, with a call of slot 1, a moment that changes nothing and a last one that is
 /// refused.
-fn other_events() -> [Event<'static>; 6] {
-    [
-        Event::Call {
-            slot: 1,
-            call: Call::Publish(TERMS),
+static OTHER_EVENTS: [Event<'static>; 6] = [
+    Event::Call {
+        slot: 1,
+        call: Call::Publish(TERMS),
+    },
+    Event::Call {
+        slot: 0,
+        call: Call::Publish(TERMS),
+    },
+    Event::Moment(0),
+    Event::Call {
+        slot: 0,
+        call: Call::Put {
+            handle: 1,
+            bytes: b"\x0a\x0b",
         },
-        Event::Call {
-            slot: 0,
-            call: Call::Publish(TERMS),
-        },
-        Event::Moment(0),
-        Event::Call {
-            slot: 0,
-            call: Call::Put {
-                handle: 1,
-                bytes: b"\x0a\x0b",
-            },
-        },
-        Event::Moment(100_000),
-        Event::Moment(7),
-    ]
-}
+    },
+    Event::Moment(100_000),
+    Event::Moment(7),
+];
 
 /// What they give.
 static FIRST_TELEGRAM: &str = "\
@@ -76,7 +72,7 @@ static FIRST_TELEGRAM: &str = "\
 /// Asserts what the events give a new node.
 fn run(rt: &(impl Abort + AllocGlobal), bench: &mut Bench) -> Result<(), Fail> {
     assert!(rt; bench.out.is_empty());
-    let taken = bench.node.run(&events(), &mut bench.out);
+    let taken = bench.node.run(&EVENTS, &mut bench.out);
     assert!(rt; taken == 3);
     assert!(rt; bench.out.get(3).is_none());
     bench.tells(rt, FIRST_TELEGRAM)
@@ -86,50 +82,6 @@ fn run(rt: &(impl Abort + AllocGlobal), bench: &mut Bench) -> Result<(), Fail> {
 fn a_run_takes_all_events(rt: HostRuntime) -> Result<(), Fail> {
     let mut bench = Bench::new(rt.alloc(), CONFIG)?;
     run(&rt, &mut bench)
-}
-
-/// The sequence counter of a telegram.
-fn counter_of(telegram: &[u8]) -> Option<[u8; 4]> {
-    match telegram {
-        [a, b, c, d, ..] => Some([*a, *b, *c, *d]),
-        _ => None,
-    }
-}
-
-/// The sequence counter of the telegram that is the one record of an outbox.
-fn counter(out: &Outbox) -> Option<[u8; 4]> {
-    if out.len() == 1 {
-        if let Some(record) = out.get(0) {
-            if let What::Send { telegram, .. } = record.what {
-                return counter_of(telegram);
-            }
-        }
-    }
-    None
-}
-
-/// Asserts that the publisher's next moment of that count sends one telegram, which counts so.
-fn sends(
-    rt: &(impl Abort + AllocGlobal),
-    bench: &mut Bench,
-    count: u32,
-    bytes: [u8; 4],
-) -> Result<(), Fail> {
-    bench.moment((u64::from(count) + 1) * 100_000)?;
-    same(rt, count, counter(&bench.out), Some(bytes));
-    bench.out.clear();
-    Ok(())
-}
-
-/// The moments go on by one cycle of the publisher at a time, from 0.2 to 1,000 seconds.
-#[test]
-fn ten_thousand_telegrams(rt: HostRuntime) -> Result<(), Fail> {
-    let mut bench = Bench::new(rt.alloc(), CONFIG)?;
-    run(&rt, &mut bench)?;
-    for count in 1..9_999u32 {
-        sends(&rt, &mut bench, count, count.to_be_bytes())?;
-    }
-    sends(&rt, &mut bench, 9_999, [0, 0, 0x27, 0x0f])
 }
 
 /// The datasets, the address and the ports of the other configuration, the same slot 0, and a
@@ -177,8 +129,8 @@ fn run_two(
     let taken = run_both(
         &mut first.node,
         &mut second.node,
-        &events(),
-        &other_events(),
+        &EVENTS,
+        &OTHER_EVENTS,
         &mut first.out,
         &mut second.out,
     );
@@ -189,9 +141,14 @@ fn run_two(
     second.tells(rt, OTHER_TELEGRAM)
 }
 
+/// Runs the first node beside one of the other configuration.
+fn run_beside(rt: &(impl Abort + AllocGlobal), first: &mut Bench) -> Result<(), Fail> {
+    let mut second = Bench::new(rt.alloc(), OTHER_CONFIG)?;
+    run_two(rt, first, &mut second)
+}
+
 #[test]
 fn two_nodes_run_alike(rt: HostRuntime) -> Result<(), Fail> {
     let mut first = Bench::new(rt.alloc(), CONFIG)?;
-    let mut second = Bench::new(rt.alloc(), OTHER_CONFIG)?;
-    run_two(&rt, &mut first, &mut second)
+    run_beside(&rt, &mut first)
 }

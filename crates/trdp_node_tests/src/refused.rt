@@ -171,12 +171,13 @@ fn step_again(
     out: &mut Outbox,
 ) {
     let before = (node.now(), out.len());
-    let mut taken = node.step(event, out);
-    if taken == Err(NodeFault::OutOfMemory) {
-        same(rt, name, (node.now(), out.len()), before);
-        taken = node.step(event, out);
+    match node.step(event, out) {
+        Err(NodeFault::OutOfMemory) => {
+            same(rt, name, (node.now(), out.len()), before);
+            same(rt, name, node.step(event, out), Ok(()));
+        }
+        taken => same(rt, name, taken, Ok(())),
     }
-    same(rt, name, taken, Ok(()));
 }
 
 /// Appends the lines of one slot's records.

@@ -1,6 +1,6 @@
 //! A daemon over a wire and a clock in memory, whose takes, gives and memory fail in turn.
 
-use crate::bench::{MemoryDaemon, memory_daemon, offers_are, totals, turns_give};
+use crate::daemon::{MemoryDaemon, memory_daemon, offers_are, totals, turns_give};
 use crate::same::same;
 use std::alloc::{AllocError, Global};
 use std::process::Abort;
@@ -94,13 +94,24 @@ fn daemon(alloc: Global, failing_take: usize, failing_give: usize) -> Option<Mem
     memory_daemon(alloc, CONFIG, wire, &[0, 1, 100_000, 200_000])
 }
 
+/// Asserts what so many turns offer and count over which this take and this give fail.
+fn failing_give(
+    rt: &(impl Abort + AllocGlobal),
+    case: usize,
+    (take, give): (usize, usize),
+    turns: u32,
+    wanted: (&[u8], Totals),
+) -> Result<(), Fail> {
+    let mut daemon = daemon(rt.alloc(), take, give).ok_or("no memory")?;
+    turns_give(rt, case, &mut daemon, turns, wanted);
+    Ok(())
+}
+
 /// Asserts what a run offers and counts.
 fn row_gives(rt: &(impl Abort + AllocGlobal), case: usize, row: Row) -> Result<(), Fail> {
     let (take, give, turns, offers, [taken, offered, lost, unread]) = row;
     let counts = totals(taken, offered, lost, unread);
-    let mut daemon = daemon(rt.alloc(), take, give).ok_or("no memory")?;
-    turns_give(rt, case, &mut daemon, turns, (offers, counts));
-    Ok(())
+    failing_give(rt, case, (take, give), turns, (offers, counts))
 }
 
 #[test]
@@ -125,14 +136,18 @@ fn is_among(offers: &[u8], counts: Totals) -> bool {
     false
 }
 
+/// Asserts that four turns come to one of the losses.
+fn counts_its_loss(rt: &(impl Abort + AllocGlobal), daemon: &mut MemoryDaemon) {
+    let counts = daemon.run(4);
+    assert!(rt; is_among(daemon.wire().bytes(), counts), "{counts:?}");
+}
+
 /// Passes whichever request for memory is refused: bench/refused_memory.py refuses each in turn.
 #[test]
 fn refused_memory_is_counted(rt: HostRuntime) {
-    let Some(mut daemon) = daemon(rt.alloc(), 0, 0) else {
-        return;
-    };
-    let counts = daemon.run(4);
-    assert!(rt; is_among(daemon.wire().bytes(), counts), "{counts:?}");
+    if let Some(mut daemon) = daemon(rt.alloc(), 0, 0) {
+        counts_its_loss(&rt, &mut daemon);
+    }
 }
 
 /// Asserts from where to where the offers of three turns went.
@@ -151,13 +166,16 @@ fn leave_from_their_ports(rt: &(impl Abort + AllocGlobal), wire: &MemoryWire) {
     offers_are(rt, wire, &wanted);
 }
 
+/// Asserts from where to where the offers of three turns go, of which one is taken by itself.
+fn three_turns(rt: &(impl Abort + AllocGlobal), daemon: &mut MemoryDaemon) {
+    daemon.turn();
+    same(rt, "three turns", daemon.run(2), totals(2, 3, 0, 0));
+    leave_from_their_ports(rt, daemon.wire());
+}
+
 #[test]
 fn offers_leave_from_their_ports(rt: HostRuntime) -> Result<(), Fail> {
     let mut daemon = daemon(rt.alloc(), 0, 0).ok_or("no memory")?;
-    for _turn in 0..3u8 {
-        daemon.turn();
-    }
-    leave_from_their_ports(&rt, daemon.wire());
-    same(&rt, "three turns", daemon.run(0), totals(2, 3, 0, 0));
+    three_turns(&rt, &mut daemon);
     Ok(())
 }

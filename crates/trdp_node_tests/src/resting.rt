@@ -1,8 +1,9 @@
 //! A daemon that rests between its turns, over a wire that remembers each rest.
 
-use crate::bench::{MemoryDaemon, memory_daemon, totals};
+use crate::daemon::{MemoryDaemon, memory_daemon, totals};
 use crate::same::same;
 use std::alloc::Global;
+use std::process::Abort;
 use std::test::Fail;
 use trdp_base::{Ip, Place};
 use trdp_daemon::{MemoryWire, Port, Rest};
@@ -44,19 +45,28 @@ fn publishing(alloc: Global) -> Option<MemoryDaemon> {
     memory_daemon(alloc, PUBLISHER, wire, &READINGS)
 }
 
-#[test]
-fn rests_until_something_is_due(rt: HostRuntime) -> Result<(), Fail> {
-    let mut daemon = publishing(rt.alloc()).ok_or("no memory")?;
-    // The answer of the call; nothing is sent, since the publisher has no value.
-    same(&rt, "totals", daemon.attend(150_000), totals(1, 1, 0, 0));
-    let rests = daemon.wire().rests();
-    same(&rt, "rests", rests.len(), RESTS.len());
+/// Asserts that a daemon rested so.
+fn rested(rt: &(impl Abort + AllocGlobal), rests: &[Rest]) {
+    same(rt, "rests", rests.len(), RESTS.len());
     for (index, (takes, most)) in RESTS.iter().enumerate() {
         let wanted = Rest {
             takes: *takes,
             most: *most,
         };
-        same(&rt, index, rests.get(index).copied(), Some(wanted));
+        same(rt, index, rests.get(index).copied(), Some(wanted));
     }
+}
+
+/// Attends to a daemon until its end, and asserts what it took and how it rested.
+fn attends(rt: &(impl Abort + AllocGlobal), daemon: &mut MemoryDaemon) {
+    // The answer of the call; nothing is sent, since the publisher has no value.
+    same(rt, "totals", daemon.attend(150_000), totals(1, 1, 0, 0));
+    rested(rt, daemon.wire().rests());
+}
+
+#[test]
+fn rests_until_something_is_due(rt: HostRuntime) -> Result<(), Fail> {
+    let mut daemon = publishing(rt.alloc()).ok_or("no memory")?;
+    attends(&rt, &mut daemon);
     Ok(())
 }

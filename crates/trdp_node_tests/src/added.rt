@@ -1,6 +1,6 @@
 //! A slot that is added to a running daemon, and its application at the spare port.
 
-use crate::bench::{MemoryDaemon, memory_daemon, offers_are, totals, turns_give};
+use crate::daemon::{MemoryDaemon, memory_daemon, offers_are, totals, turns_give};
 use crate::same::same;
 use std::alloc::Global;
 use std::test::Fail;
