@@ -4,7 +4,7 @@ use Rattle.std.specs.Prelude.{bytes_eq}
 use Rattle.trdp_base.specs.declared.place.Place.{Place}
 use Rattle.trdp_base.specs.declared.topo.Topo.{Topo}
 use Rattle.trdp_head.specs.declared.md.MdHead.{MdHead}
-use Rattle.trdp_filter.specs.declared.md_filter.MdFilter.{MdFilter}
+use Rattle.trdp_filter.specs.declared.filters.MdFilter.{MdFilter}
 use Rattle.trdp_filter.specs.Addresses.{in_source_range, is_destination}
 use Rattle.trdp_filter.specs.Counts.{topo_valid}
 

@@ -3,7 +3,7 @@ use Rattle.std.specs.Prelude.{Bool, ◌==◌, ◌&&◌}
 use Rattle.trdp_base.specs.declared.place.Place.{Place}
 use Rattle.trdp_base.specs.declared.topo.Topo.{Topo}
 use Rattle.trdp_head.specs.declared.pd.PdHead.{PdHead}
-use Rattle.trdp_filter.specs.declared.pd_filter.PdFilter.{PdFilter}
+use Rattle.trdp_filter.specs.declared.filters.PdFilter.{PdFilter}
 use Rattle.trdp_filter.specs.Addresses.{in_source_range, is_destination}
 use Rattle.trdp_filter.specs.Counts.{topo_valid}
 

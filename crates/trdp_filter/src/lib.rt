@@ -16,15 +16,10 @@
 //! What no contract can say is that these filters are the ones that a train wants.
 #![tactic(auto)]
 
-mod addresses;
-mod counts;
+mod filters;
 mod globals;
-mod md_filter;
-mod pd_filter;
 mod telegram;
 
-pub use counts::{topo_valid, valid};
+pub use filters::{MdFilter, PdFilter, topo_valid, valid};
 pub use globals::{Globals, Groups};
-pub use md_filter::MdFilter;
-pub use pd_filter::PdFilter;
 pub use telegram::Telegram;

@@ -7,7 +7,7 @@ use Rattle.trdp_head.specs.declared.md.MdKind.{MdKind}
 use Rattle.trdp_head.specs.declared.md.MdKind.TheVariants.{Notify, Request, Reply, Query, Confirm}
 use Rattle.trdp_head.specs.declared.md.MdKind.TheVariants.{Error}
 use Rattle.trdp_filter.specs.declared.globals.Globals.{Globals}
-use Rattle.trdp_filter.specs.declared.md_filter.MdFilter.{MdFilter}
+use Rattle.trdp_filter.specs.declared.filters.MdFilter.{MdFilter}
 use Rattle.trdp_filter.specs.MdFilters.{md_passes}
 use Rattle.trdp_filter.specs.Telegrams.{TelegramModel, PdIs, MdIs}
 use Rattle.trdp_pd.specs.declared.object.Taken.TheVariants.{Nothing as NotTaken, Heard}

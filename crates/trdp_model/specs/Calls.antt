@@ -8,7 +8,7 @@ use Rattle.trdp_model.specs.declared.any_object.AnyObject.{AnyObject}
 use Rattle.trdp_model.specs.declared.any_object.AnyObject.TheVariants.{Publisher, Subscription}
 use Rattle.trdp_model.specs.declared.any_object.AnyObject.TheVariants.{Requester, Listener}
 use Rattle.trdp_model.specs.declared.any_object.AnyObject.TheVariants.{Caller}
-use Rattle.trdp_filter.specs.declared.md_filter.MdFilter.{MdFilter}
+use Rattle.trdp_filter.specs.declared.filters.MdFilter.{MdFilter}
 use Rattle.trdp_md.specs.Listeners.{listening}
 use Rattle.trdp_md.specs.Callers.{new_caller}
 use Rattle.trdp_pd.specs.Publishers.{PublisherState, published}

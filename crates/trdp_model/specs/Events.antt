@@ -5,7 +5,7 @@ use Rattle.trdp_base.specs.declared.topo.Topo.{Topo}
 use Rattle.trdp_pd.specs.declared.terms.PublisherTerms.{PublisherTerms}
 use Rattle.trdp_pd.specs.declared.terms.SubscriptionTerms.{SubscriptionTerms}
 use Rattle.trdp_pd.specs.declared.terms.RequesterTerms.{RequesterTerms}
-use Rattle.trdp_filter.specs.declared.md_filter.MdFilter.{MdFilter}
+use Rattle.trdp_filter.specs.declared.filters.MdFilter.{MdFilter}
 use Rattle.trdp_md.specs.declared.terms.NotifyTerms.{NotifyTerms}
 use Rattle.trdp_md.specs.declared.terms.CallerTerms.{CallerTerms}
 use Rattle.trdp_model.specs.declared.record.Protocol.{Protocol}

@@ -7,7 +7,7 @@ use Rattle.trdp_base.specs.declared.topo.Topo.{Topo}
 use Rattle.trdp_dataset.specs.Configs.{ConfigModel}
 use Rattle.trdp_head.specs.Fields.{be_bytes}
 use Rattle.trdp_head.specs.declared.md.MdKind.TheVariants.{Query}
-use Rattle.trdp_filter.specs.declared.md_filter.MdFilter.{MdFilter}
+use Rattle.trdp_filter.specs.declared.filters.MdFilter.{MdFilter}
 use Rattle.trdp_pd.specs.declared.terms.PublisherTerms.{PublisherTerms}
 use Rattle.trdp_pd.specs.declared.terms.SubscriptionTerms.{SubscriptionTerms}
 use Rattle.trdp_pd.specs.declared.terms.Behaviour.TheVariants.{Keep}

@@ -11,7 +11,7 @@ use Rattle.trdp_base.specs.declared.topo.Topo.{Topo}
 use Rattle.trdp_head.specs.declared.md.MdHead.{MdHead}
 use Rattle.trdp_head.specs.MdTelegrams.{MdTelegram}
 use Rattle.trdp_filter.specs.declared.globals.Globals.{Globals}
-use Rattle.trdp_filter.specs.declared.md_filter.MdFilter.{MdFilter}
+use Rattle.trdp_filter.specs.declared.filters.MdFilter.{MdFilter}
 use Rattle.trdp_filter.specs.Telegrams.{TelegramModel, MdIs}
 use Rattle.trdp_filter.specs.MdFilters.{md_passes, is_com_id}
 use Rattle.trdp_md.specs.declared.listener.Listener.{Listener as ListenerState}

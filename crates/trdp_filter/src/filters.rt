@@ -1,0 +1,133 @@
+//! What a node lets in: the match of topology counts, the tests of addresses, and both receive
+//! filters, which stand on them.
+
+ghost use Rattle.std.specs.Prelude.{◌≡◌};
+ghost use Rattle.trdp_filter.specs.Counts.{counts_valid, topo_valid as topo_match};
+ghost use Rattle.trdp_filter.specs.Addresses.{in_source_range as in_range};
+ghost use Rattle.trdp_filter.specs.Addresses.{is_destination as is_wanted};
+ghost use Rattle.trdp_filter.specs.PdFilters.{pd_passes};
+ghost use Rattle.trdp_filter.specs.MdFilters.{is_com_id, matches_uri, md_passes};
+
+use trdp_base::{Ip, Place, Topo, Uri};
+use trdp_head::{MdHead, PdHead};
+
+/// Whether two topology counts match: one of them is 0, which stands for any, or they are equal
+/// (IEC 61375-2-3).
+pub fn valid(a: u32, b: u32) -> bool
+    ensures { result ≡ counts_valid a b }
+{
+    a == 0 || b == 0 || a == b
+}
+
+/// Whether two pairs of topology counts match, each count with its own (IEC 61375-2-3).
+pub fn topo_valid(a: Topo, b: Topo) -> bool
+    ensures { result ≡ topo_match a b }
+{
+    valid(a.etb, b.etb) && valid(a.op_trn, b.op_trn)
+}
+
+/// Whether the source address lies from `low` to `high`; both 0 stand for any (profile).
+#[tactic(auto, unfolding(crate::specs::Addresses::in_source_range))]
+fn in_source_range(low: Ip, high: Ip, source: Ip) -> bool
+    ensures { result ≡ in_range low high source }
+{
+    (low == Ip(0) && high == Ip(0)) || (low <= source && source <= high)
+}
+
+/// Whether the destination address is the wanted one; a wanted 0 stands for any (profile).
+#[tactic(auto, unfolding(crate::specs::Addresses::is_destination))]
+fn is_destination(wanted: Ip, destination: Ip) -> bool
+    ensures { result ≡ is_wanted wanted destination }
+{
+    wanted == Ip(0) || wanted == destination
+}
+
+/// A receive filter for process data (profile).
+#[derive(Clone, Copy, Debug, PartialEq, Eq)]
+pub struct PdFilter {
+    /// The one comId that passes.
+    pub com_id: u32,
+    /// The lowest source address that passes; 0 with a `high` of 0 for any source (profile).
+    pub low: Ip,
+    /// The highest source address that passes; it passes too.
+    pub high: Ip,
+    /// The destination address that passes; 0 for any.
+    pub dest: Ip,
+    /// The topology counts that those of a telegram must match; each is 0 for any.
+    pub topo: Topo,
+}
+
+impl PdFilter {
+    /// Whether a telegram from `src` to `dst` under this header passes, at a node with the
+    /// topology counts `node` (profile).
+    ///
+    /// It passes by the comId, the source address, the destination address, and its topology
+    /// counts, which must match the filter's and the node's. Ports, the message type and the reply
+    /// fields are not looked at.
+    #[tactic(auto, unfolding(crate::specs::PdFilters::pd_passes))]
+    pub fn passes(&self, src: Place, dst: Place, head: &PdHead, node: Topo) -> bool
+        ensures { result ≡ pd_passes self.now src dst head.now node }
+    {
+        self.com_id == head.com_id
+            && in_source_range(self.low, self.high, src.ip)
+            && is_destination(self.dest, dst.ip)
+            && topo_valid(head.topo, self.topo)
+            && topo_valid(head.topo, node)
+    }
+}
+
+/// A receive filter for message data (profile).
+#[derive(Clone, Copy, Debug, PartialEq, Eq)]
+pub struct MdFilter {
+    /// The one comId that passes; None for any.
+    pub com_id: Option<u32>,
+    /// The lowest source address that passes; 0 with a `high` of 0 for any source (profile).
+    pub low: Ip,
+    /// The highest source address that passes; it passes too.
+    pub high: Ip,
+    /// The destination address that passes; 0 for any.
+    pub dest: Ip,
+    /// The destination URI that passes; an empty one for any.
+    pub uri: Uri,
+    /// The topology counts that those of a telegram must match; each is 0 for any.
+    pub topo: Topo,
+}
+
+/// Whether the comId is the wanted one; None stands for any.
+#[tactic(auto, unfolding(crate::specs::MdFilters::is_com_id))]
+fn is_com_id(wanted: Option<u32>, com_id: u32) -> bool
+    ensures { result ≡ is_com_id wanted com_id }
+{
+    match wanted {
+        Some(wanted) => wanted == com_id,
+        None => true,
+    }
+}
+
+/// Whether the URI is the wanted one; an empty one stands for any.
+#[tactic(auto, unfolding(crate::specs::MdFilters::matches_uri))]
+fn is_uri(wanted: &Uri, uri: &Uri) -> bool
+    ensures { result ≡ matches_uri wanted.now uri.now }
+{
+    wanted.is_empty() || wanted == uri
+}
+
+impl MdFilter {
+    /// Whether a telegram from `src` to `dst` under this header passes, at a node with the
+    /// topology counts `node` (profile).
+    ///
+    /// It passes by the comId, the source address, the destination address, the destination URI,
+    /// and its topology counts, which must match the filter's and the node's. Ports, the source
+    /// URI, the message type and the other fields are not looked at.
+    #[tactic(auto, unfolding(crate::specs::MdFilters::md_passes))]
+    pub fn passes(&self, src: Place, dst: Place, head: &MdHead, node: Topo) -> bool
+        ensures { result ≡ md_passes self.now src dst head.now node }
+    {
+        is_com_id(self.com_id, head.com_id)
+            && in_source_range(self.low, self.high, src.ip)
+            && is_destination(self.dest, dst.ip)
+            && is_uri(&self.uri, &head.dest_uri)
+            && topo_valid(head.topo, self.topo)
+            && topo_valid(head.topo, node)
+    }
+}
