@@ -19,7 +19,6 @@
 //! `specs/`, and tests compare it with telegrams that others made.
 #![tactic(auto)]
 
-mod check;
 mod fault;
 mod fields;
 mod laws;

@@ -1,36 +1,25 @@
-//! What stands behind the first fields of a header: its frame check, the payload, and zeros up to a
-//! multiple of four.
+//! Writing what stands behind the fields of a header: its frame check, the payload, and zeros up
+//! to a multiple of four.
 
 ghost use Rattle.std.specs.Prelude.{ℕ, ◌≡◌, ◌≤◌, ◌+◌, ◌-◌, ◌++◌, length};
-ghost use Rattle.std.specs.Prelude.{take, drop, Some, None, IfOk, IfErr};
-ghost use Rattle.std.specs.Prelude.{vec_len, vec_capacity};
-ghost use Rattle.trdp_head.specs.Fields.{field};
-ghost use Rattle.trdp_head.specs.Faults.{payload_fault_of};
+ghost use Rattle.std.specs.Prelude.{take, drop, vec_len, vec_capacity};
+ghost use Rattle.trdp_head.specs.Checks.{with_check};
 ghost use Rattle.trdp_head.specs.TelegramBytes.{rounded_of, padding_of, telegram_bytes};
 ghost use Rattle.trdp_head.specs.Limits.{md_payload_limit};
 
-use crate::check::put_check;
-use crate::fault::HeadFault;
-use crate::fields::{put_bytes, put_zeros, u32_at};
-use crate::prefix::{CHECK_LENGTH, DATASET_LENGTH};
+use crate::fields::{put_bytes, put_zeros};
+use crate::prefix::CHECK_LENGTH;
+use trdp_fcs::frame_check;
 
-/// The payload behind a header of so many bytes, or its fault.
-#[tactic(auto, unfolding(crate::specs::Faults::payload_fault_of))]
-pub(crate) fn read_payload(bytes: &[u8], size: usize) -> Result<&[u8], HeadFault>
-    requires prefix { 24 ≤ size }
-    requires room { size ≤ length bytes.now }
-    ensures value { IfOk result (λ payload. payload.now
-        ≡ take (field 20 4 bytes.now) (drop size bytes.now)) }
-    ensures none { IfOk result (λ _. payload_fault_of size bytes.now ≡ None) }
-    ensures fault { IfErr result (λ fault. payload_fault_of size bytes.now ≡ Some fault) }
+/// Writes the frame check of the bytes before the offset there, least significant byte first.
+pub(crate) fn put_check(room: &mut [u8], offset: usize)
+    requires { offset + 4 ≤ length room.old }
+    ensures front { take (offset + 4) room.new ≡ with_check (take offset room.old) }
+    ensures rest { (n : ℕ) → offset + 4 ≤ n → drop n room.new ≡ drop n room.old }
 {
-    let length = u32_at(bytes, DATASET_LENGTH) as usize;
-    if length > bytes.len() - size {
-        return Err(HeadFault::Length);
-    }
-    let (_, rest) = bytes.split_at(size);
-    let (payload, _) = rest.split_at(length);
-    Ok(payload)
+    let (checked, _) = room.split_at(offset);
+    let check = frame_check(checked);
+    put_bytes(room, offset, &check.to_le_bytes());
 }
 
 /// A number of bytes rounded up to a multiple of four.

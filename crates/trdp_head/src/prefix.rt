@@ -1,4 +1,5 @@
-//! What the headers of all telegrams begin with, 24 bytes.
+//! What the headers of all telegrams begin with, 24 bytes. The frame check with which a header
+//! ends and the payload behind it are read here, too.
 //!
 //! | Offset | Field | Type |
 //! |---|---|---|
@@ -10,14 +11,17 @@
 //! | 16 | opTrnTopoCnt | u32 |
 //! | 20 | datasetLength | u32 |
 
-ghost use Rattle.std.specs.Prelude.{ℕ, ◌≡◌, ◌≤◌, length, take, drop, Some, None, IfOk, IfErr};
+ghost use Rattle.std.specs.Prelude.{ℕ, ◌≡◌, ◌≤◌, ◌+◌, length, take, drop};
+ghost use Rattle.std.specs.Prelude.{Some, None, IfOk, IfErr};
+ghost use Rattle.trdp_head.specs.Checks.{is_checked};
+ghost use Rattle.trdp_head.specs.Fields.{field};
 ghost use Rattle.trdp_head.specs.Prefixes.{prefix_in, prefix_bytes, IsPrefix};
-ghost use Rattle.trdp_head.specs.Faults.{prefix_fault_of};
+ghost use Rattle.trdp_head.specs.Faults.{prefix_fault_of, payload_fault_of};
 
-use crate::check::passes_check;
 use crate::fault::HeadFault;
-use crate::fields::{put_u16, put_u32, u16_at, u32_at};
+use crate::fields::{little_u32_at, put_u16, put_u32, u16_at, u32_at};
 use trdp_base::Topo;
+use trdp_fcs::frame_check;
 
 /// Where sequenceCounter stands, 4 bytes.
 const COUNTER: usize = 0;
@@ -38,7 +42,7 @@ const ETB_TOPO: usize = 12;
 const OP_TRN_TOPO: usize = 16;
 
 /// Where datasetLength stands, 4 bytes.
-pub(crate) const DATASET_LENGTH: usize = 20;
+const DATASET_LENGTH: usize = 20;
 
 /// The length in bytes of the frame check, with which a header ends.
 pub(crate) const CHECK_LENGTH: usize = 4;
@@ -60,6 +64,16 @@ pub(crate) struct Prefix {
     pub com_id: u32,
     /// etbTopoCnt and opTrnTopoCnt.
     pub topo: Topo,
+}
+
+/// Whether the four bytes at the offset are the frame check of the bytes before them, least
+/// significant byte first (IEC 61375-2-3).
+fn passes_check(bytes: &[u8], offset: usize) -> bool
+    requires { offset + 4 ≤ length bytes.now }
+    ensures { result ≡ is_checked offset bytes.now }
+{
+    let (checked, _) = bytes.split_at(offset);
+    little_u32_at(bytes, offset) == frame_check(checked)
 }
 
 /// The first fields of the telegram in the bytes, or the first fault but for its type and its
@@ -93,6 +107,25 @@ pub(crate) fn read_prefix(bytes: &[u8], size: usize, longest: usize) -> Result<P
             op_trn: u32_at(bytes, OP_TRN_TOPO),
         },
     })
+}
+
+/// The payload behind a header of so many bytes, or its fault.
+#[tactic(auto, unfolding(crate::specs::Faults::payload_fault_of))]
+pub(crate) fn read_payload(bytes: &[u8], size: usize) -> Result<&[u8], HeadFault>
+    requires prefix { 24 ≤ size }
+    requires room { size ≤ length bytes.now }
+    ensures value { IfOk result (λ payload. payload.now
+        ≡ take (field 20 4 bytes.now) (drop size bytes.now)) }
+    ensures none { IfOk result (λ _. payload_fault_of size bytes.now ≡ None) }
+    ensures fault { IfErr result (λ fault. payload_fault_of size bytes.now ≡ Some fault) }
+{
+    let length = u32_at(bytes, DATASET_LENGTH) as usize;
+    if length > bytes.len() - size {
+        return Err(HeadFault::Length);
+    }
+    let (_, rest) = bytes.split_at(size);
+    let (payload, _) = rest.split_at(length);
+    Ok(payload)
 }
 
 /// Writes the first fields of a header, with the length of the payload and the version 1.0.

@@ -13,8 +13,7 @@ ghost use Rattle.trdp_head.specs.declared.md.MdHead.{MdHead};
 use crate::fault::HeadFault;
 use crate::fields::{i32_at, u32_at, u128_at};
 use crate::md::{MD_HEAD, MD_TELEGRAM_MAX, MdHead, MdKind, MdView, layout};
-use crate::payload::read_payload;
-use crate::prefix::{Prefix, read_prefix};
+use crate::prefix::{Prefix, read_payload, read_prefix};
 use trdp_base::{SessionId, URI_LIMIT, Uri};
 
 /// The type of a code, if it is one of message data.

@@ -9,10 +9,9 @@ ghost use Rattle.trdp_head.specs.IsMdTelegram.{IsMdTelegram};
 ghost use Rattle.trdp_head.specs.MdBytes.{md_length_of, md_head_bytes, md_bytes};
 ghost use Rattle.trdp_head.specs.Limits.{md_payload_limit};
 
-use crate::check::put_check;
 use crate::fields::{put_bytes, put_i32, put_u32, put_u128};
 use crate::md::{MD_HEAD, MdHead, MdKind, layout};
-use crate::payload::{append_telegram, complete, rounded};
+use crate::payload::{append_telegram, complete, put_check, rounded};
 use crate::prefix::{Prefix, put_prefix};
 
 /// The length in bytes of a telegram with so many bytes of payload, 0 to 65388: 116, and the

@@ -11,9 +11,8 @@ ghost use Rattle.trdp_head.specs.declared.pd.PdHead.{PdHead};
 
 use crate::fault::HeadFault;
 use crate::fields::u32_at;
-use crate::payload::read_payload;
 use crate::pd::{PD_HEAD, PD_TELEGRAM_MAX, PdHead, PdKind, PdView, layout};
-use crate::prefix::{Prefix, read_prefix};
+use crate::prefix::{Prefix, read_payload, read_prefix};
 use trdp_base::Ip;
 
 /// The type of a code, if it is one of process data.

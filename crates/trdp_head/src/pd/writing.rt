@@ -9,9 +9,8 @@ ghost use Rattle.trdp_head.specs.IsPdTelegram.{IsPdTelegram};
 ghost use Rattle.trdp_head.specs.PdBytes.{pd_length_of, pd_head_bytes, pd_bytes};
 ghost use Rattle.trdp_head.specs.Limits.{pd_payload_limit};
 
-use crate::check::put_check;
 use crate::fields::put_u32;
-use crate::payload::{append_telegram, complete, rounded};
+use crate::payload::{append_telegram, complete, put_check, rounded};
 use crate::pd::{PD_HEAD, PdHead, PdKind, layout};
 use crate::prefix::{Prefix, put_prefix};
 

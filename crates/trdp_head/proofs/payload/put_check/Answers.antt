@@ -3,7 +3,7 @@ use Rattle.trdp_fcs.specs.FrameCheck.{frame_check_of}
 use Rattle.trdp_head.specs.Fields.{le_bytes}
 use Rattle.trdp_head.specs.Checks.{with_check}
 use Rattle.trdp_head.proofs.FieldNumbers.{le_bytes-is}
-use Rattle.trdp_head.proofs.check.put_check.Goals as goal
+use Rattle.trdp_head.proofs.payload.put_check.Goals as goal
 
 pub returns-clause-front : goal.returns-clause-front
 unfolding with_check
