@@ -1,5 +1,5 @@
 -- Rows that rise, with one more and without one.
--- For `insert`, `remove` and `run` of both indexes, `run_in`, and for `SearchLemmas`.
+-- For `insert`, `remove` and `run` of both indexes, and for `SearchLemmas`.
 -- By induction on the rows: those before the place of a row come before it, the others after.
 use Rattle.std.proofs.Common.{◌≡◌, ℕ, zero, suc, ◌+◌, ◌<◌, ◌≤◌, List, [], ◌∷◌, length, drop, Option}
 use Rattle.std.proofs.Common.{Some, None, Bool, true, false, cond, not, refl, sym, ap, arith}

@@ -1,5 +1,5 @@
 -- The rows of a comId stand together.
--- For `run_in`.
+-- For `ComIndex::run`.
 -- By: what a run leaves out at either end isn't of the comId, and all that it has is.
 use Rattle.std.proofs.Common.{◌≡◌, ℕ, zero, suc, List, [], ◌∷◌, ◌++◌, take, drop, Option}
 use Rattle.std.proofs.Common.{Some, None, true, false, refl, ◌∙◌, sym, ap, arith}

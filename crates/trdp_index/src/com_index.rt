@@ -7,11 +7,10 @@ ghost use Rattle.trdp_index.specs.ComRows.{com_rank, com_row_rank, is_same_com};
 ghost use Rattle.trdp_index.specs.ComRows.{run_of, has_com_row};
 ghost use Rattle.trdp_index.specs.ComIndexes.{empty_com_index};
 
-use crate::com_row::{ComRow, com_rank};
-use crate::com_run::run_in;
+use crate::com_row::{ComRow, com_end, com_rank, com_start};
 use crate::ranked::Ranked;
 use crate::row_list::put_in;
-use crate::search::{index_of, place_for};
+use crate::search::{index_of, lower_bound, place_for};
 use std::alloc::{AllocError, Global};
 use std::marker::Model;
 
@@ -139,7 +138,11 @@ impl ComIndex {
         ensures least { 0 < length self.now.rows → comparisons.old < comparisons.new }
         ensures kept { comparisons.old ≤ comparisons.new }
     {
-        run_in(&self.rows, com_id, comparisons)
+        let start = lower_bound(&self.rows, com_start(com_id), comparisons);
+        let (_, rest) = self.rows.split_at(start);
+        let count = lower_bound(rest, com_end(com_id), comparisons);
+        let (run, _) = rest.split_at(count);
+        run
     }
 
     /// What holds of every index: a law for callers, which does nothing when it runs. The rows rise

@@ -2,6 +2,7 @@
 
 ghost use Rattle.std.specs.Prelude.{◌≡◌, ◌≤◌, ◌^◌};
 ghost use Rattle.trdp_index.specs.ComRows.{com_number, com_rank, com_row_rank};
+ghost use Rattle.trdp_index.specs.ComRows.{com_start, com_end};
 
 use crate::rank::Rank;
 use crate::ranked::Ranked;
@@ -28,7 +29,7 @@ impl Ranked for ComRow {
 }
 
 /// The number of a comId in the order of rows: any comes first.
-pub fn com_number(com_id: Option<u32>) -> u128
+fn com_number(com_id: Option<u32>) -> u128
     ensures number { result ≡ com_number com_id }
     ensures limit { result ≤ 2 ^ 32 }
 {
@@ -46,5 +47,23 @@ pub fn com_rank(com_id: Option<u32>, slot: u16, handle: u32) -> Rank
         first: com_number(com_id),
         slot,
         last: handle,
+    }
+}
+
+/// The first rank that a row of a comId may have.
+pub fn com_start(com_id: Option<u32>) -> Rank
+    ensures { result ≡ com_start com_id }
+{
+    com_rank(com_id, 0, 0)
+}
+
+/// The first rank after those of all rows of a comId.
+pub fn com_end(com_id: Option<u32>) -> Rank
+    ensures { result ≡ com_end com_id }
+{
+    Rank {
+        first: com_number(com_id) + 1,
+        slot: 0,
+        last: 0,
     }
 }

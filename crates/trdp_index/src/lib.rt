@@ -18,7 +18,6 @@
 
 mod com_index;
 mod com_row;
-mod com_run;
 mod rank;
 mod ranked;
 mod row_list;
