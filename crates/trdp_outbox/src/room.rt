@@ -7,7 +7,7 @@ ghost use Rattle.trdp_outbox.specs.Rooms.{kind_room, no_room, call_room, message
 ghost use Rattle.trdp_outbox.specs.Rooms.{confirm_room};
 
 use trdp_head::{MD_PAYLOAD_MAX, MD_TELEGRAM_MAX, PD_PAYLOAD_MAX, PD_TELEGRAM_MAX, md_length};
-use trdp_model::{AnyObject, Call, Kind};
+use trdp_model::{AnyObject, Call};
 
 /// Room in an outbox: for so many records, and so many bytes of theirs.
 #[derive(Clone, Copy)]
@@ -43,21 +43,21 @@ impl Room {
     pub fn of(object: &AnyObject) -> Room
         ensures { result ≡ kind_room (kind_of object.now) }
     {
-        match Kind::of(object) {
-            Kind::Publisher => Room {
+        match object {
+            AnyObject::Publisher(_) => Room {
                 rows: 1,
                 bytes: PD_TELEGRAM_MAX,
             },
-            Kind::Subscription | Kind::Replier => Room { rows: 1, bytes: 0 },
-            Kind::Listener => Room {
+            AnyObject::Subscription(_) | AnyObject::Replier(_) => Room { rows: 1, bytes: 0 },
+            AnyObject::Listener(_) => Room {
                 rows: 1,
                 bytes: MD_PAYLOAD_MAX,
             },
-            Kind::Caller => Room {
+            AnyObject::Caller(_) => Room {
                 rows: 2,
                 bytes: MD_TELEGRAM_MAX,
             },
-            Kind::Requester => Room::none(),
+            AnyObject::Requester(_) => Room::none(),
         }
     }
 
