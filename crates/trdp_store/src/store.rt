@@ -3,7 +3,7 @@
 
 ghost use Rattle.std.specs.Prelude.{◌≡◌, ℕ, ◌<◌, ◌≤◌, length, map, Some, None, IfOk, IfErr, OnOk};
 ghost use Rattle.std.specs.Prelude.{OnErr, IfNone, IfSome, slice_get};
-ghost use Rattle.std.specs.Prelude.{◌+◌, ◌-◌, ◌*◌, ◌^◌, Option, is_some, option_map};
+ghost use Rattle.std.specs.Prelude.{◌+◌, ◌-◌, ◌*◌, ◌^◌, Option, is_some, option_map, option_copied};
 ghost use Rattle.trdp_model.specs.declared.any_object.AnyObject.{AnyObject};
 ghost use Rattle.trdp_model.specs.Kinds.{kind_of};
 ghost use Rattle.trdp_model.specs.Objects.{due_of};
@@ -109,6 +109,14 @@ impl Store {
     {
         self.table.sound();
         self.coms.run(com_id, comparisons)
+    }
+
+    /// The object of that key; None where no slot has one.
+    pub fn get(&self, key: usize) -> Option<&AnyObject>
+        ensures { option_copied result
+            ≡ option_map (λ keyed. keyed.object) (by_key key (all_objects self.now)) }
+    {
+        self.table.get(key)
     }
 
     /// The key of a slot's object that is in a session in that role; None where there is none.

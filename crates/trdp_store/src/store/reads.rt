@@ -1,7 +1,7 @@
-//! What a store shows: its slots, their objects by handle and key, and when something is due next.
+//! What a store shows: its slots, the keys of their objects, and when something is due next.
 
 ghost use Rattle.std.specs.Prelude.{◌≡◌, ℕ, ◌<◌, ◌≤◌, length, Some};
-ghost use Rattle.std.specs.Prelude.{slice_get, option_map, option_copied};
+ghost use Rattle.std.specs.Prelude.{slice_get, option_map};
 ghost use Rattle.trdp_model.specs.declared.any_object.AnyObject.{AnyObject};
 ghost use Rattle.trdp_table.specs.Tables.{Keyed, slot_in, all_objects};
 ghost use Rattle.trdp_model.specs.Slots.{slot_limit};
@@ -15,7 +15,7 @@ ghost use Rattle.trdp_model.specs.NodeModels.{IsNextDue};
 ghost use Rattle.trdp_store.specs.TableSlots.{slots_of};
 
 use crate::store::Store;
-use trdp_model::{AnyObject, Kind};
+use trdp_model::Kind;
 use trdp_table::TableFault;
 
 impl Store {
@@ -35,14 +35,6 @@ impl Store {
             (by_handle handle (slot_in slot self.now).objects) }
     {
         self.table.find(slot, handle)
-    }
-
-    /// The object of that key; None where no slot has one.
-    pub fn get(&self, key: usize) -> Option<&AnyObject>
-        ensures { option_copied result
-            ≡ option_map (λ keyed. keyed.object) (by_key key (all_objects self.now)) }
-    {
-        self.table.get(key)
     }
 
     /// The least moment by which something is due in any slot, in microseconds; None where nothing
