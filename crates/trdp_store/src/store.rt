@@ -293,7 +293,7 @@ impl Store {
     {
         let Sought { slot, handle, .. } = sought;
         self.table.sound();
-        let key = sought.key_in(&self.table)?;
+        let key = self.table.find_near(slot, handle, sought.key)?;
         let object = self.table.get_mut(key)?;
         let before = object.due();
         let left = deed.on(object, handle, slot, out);

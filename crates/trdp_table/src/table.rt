@@ -162,18 +162,18 @@ impl Table {
         self.slots[usize::from(slot)].find(handle)
     }
 
-    /// What [`Table::find`] answers. The object is looked for under that key first, and is searched
-    /// for only where it stands under another one.
-    pub fn find_near(&self, slot: u16, handle: u32, key: usize) -> Option<usize>
+    /// What [`Table::find`] answers. The object is looked for first under the key that it is known
+    /// to have had, and is searched for only where it stands under another one, or none is known.
+    pub fn find_near(&self, slot: u16, handle: u32, known: Option<usize>) -> Option<usize>
         requires { slot < length self.now }
         ensures { result
             ≡ option_map (λ keyed. keyed.key)
             (by_handle handle (slot_in slot self.now).objects) }
     {
-        if self.pool.owner(key) == Some((slot, handle)) {
-            return Some(key);
+        match known {
+            Some(key) if self.pool.owner(key) == Some((slot, handle)) => Some(key),
+            _ => self.find(slot, handle),
         }
-        self.find(slot, handle)
     }
 
     /// Whether a slot has an object of that key.
