@@ -16,9 +16,6 @@ LendsOfHeld held r = Lends held_row object_row held r (with_other_held held.now)
 abbrev pub LendsOfPool : MutBor PoolState → ℕ → MutBor AnyObject → Fml
 LendsOfPool pool key r = Lends pool_row object_row pool r (pool_with key pool.now)
 
-abbrev pub LendsOfTable : MutBor TableState → ℕ → MutBor AnyObject → Fml
-LendsOfTable table key r = Lends table_row object_row table r (exchanged key table.now)
-
 -- the object of the key is lent, and no other; where there is none, the table stays
 abbrev pub LendsAtKey : MutBor TableState → ℕ → Option (MutBor AnyObject) → Fml
 LendsAtKey table key r = LendsIf table_row object_row table r (exchanged key table.now) table.now

@@ -2,7 +2,7 @@
 
 ghost use Rattle.std.specs.Prelude.{◌≡◌, ℕ, ◌+◌, ◌<◌, ◌≤◌, ◌↔◌, [], ◌∷◌, ◌++◌, length, map};
 ghost use Rattle.std.specs.Prelude.{sum_by, All, Some, None, Err, IfOk, IfErr, OnOk, OnErr};
-ghost use Rattle.std.specs.Prelude.{IfSome, IsSome, is_some, slice_get, option_map, option_copied};
+ghost use Rattle.std.specs.Prelude.{IfSome, is_some, slice_get, option_map, option_copied};
 ghost use Rattle.std.specs.Option.{option_copied_mut};
 ghost use Rattle.std.specs.Borrow.{sem};
 ghost use Rattle.trdp_model.specs.declared.any_object.AnyObject.{AnyObject};
@@ -176,13 +176,6 @@ impl Table {
         }
     }
 
-    /// Whether a slot has an object of that key.
-    fn holds(&self, key: usize) -> bool
-        ensures { result ≡ is_some (by_key key (all_objects self.now)) }
-    {
-        self.pool.holds(key)
-    }
-
     /// The object of that key; None where no slot has one.
     pub fn get(&self, key: usize) -> Option<&AnyObject>
         ensures { option_copied result
@@ -275,17 +268,7 @@ impl Table {
 }
 
 impl Table {
-    ghost use Rattle.trdp_table.specs.Lending.{LendsOfTable, LendsAtKey};
-
-    /// Lends the object of a key.
-    fn lend(&mut self, key: usize) -> &mut AnyObject
-        requires { IsSome (by_key key (all_objects self.old)) }
-        ensures* writes_back { sem 𝓛 (LendsOfTable self.entry key result) }
-        ensures value { Some result.now
-            ≡ option_map (λ keyed. keyed.object) (by_key key (all_objects self.old)) }
-    {
-        self.pool.object_mut(key)
-    }
+    ghost use Rattle.trdp_table.specs.Lending.{LendsAtKey};
 
     /// Lends the object of that key alone; None where no slot has one. Whatever becomes of it, its
     /// handle and its key stay, and it counts for its quota under the kind that it was added with.
@@ -294,8 +277,8 @@ impl Table {
         ensures value { option_copied_mut result
             ≡ option_map (λ keyed. keyed.object) (by_key key (all_objects self.old)) }
     {
-        if self.holds(key) {
-            Some(self.lend(key))
+        if self.pool.holds(key) {
+            Some(self.pool.object_mut(key))
         } else {
             None
         }

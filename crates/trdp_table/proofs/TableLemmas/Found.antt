@@ -1,5 +1,5 @@
 -- What is true of each table: whose its keys are, and what holds of every table.
--- For `Table::find`, `get`, `holds`, `owner`, `lend` and `sound`, and those that change it.
+-- For `Table::find`, `get`, `get_mut`, `owner` and `sound`, and those that change it.
 -- By: what is found by key and what is found by handle is one object, the owner's.
 use Rattle.std.proofs.Common.{◌≡◌, ℕ, zero, suc, ◌<◌, true, false, is_some}
 use Rattle.std.proofs.Common.{IsSome, IfSome, List, [], ◌∷◌, length, get_or, Option}
