@@ -130,24 +130,6 @@ impl Schedule {
         self.bytes[key] = room.bytes;
     }
 
-    /// The object of a key acts at this moment, in microseconds, or never. It answers how often it
-    /// compared two orders.
-    pub fn set(&mut self, key: usize, slot: u16, handle: u32, due: Option<u64>) -> u64
-        requires { key < length self.old.orders }
-        ensures orders { self.new.orders
-            ≡ slice_set self.old.orders key (due_order slot handle due) }
-        ensures rows { self.new.rows ≡ self.old.rows }
-        ensures bytes { self.new.bytes ≡ self.old.bytes }
-        ensures cost { (b : ℕ) → count_by is_some self.old.orders < 2 ^ b
-            → count_by is_some self.new.orders < 2 ^ b → result ≤ 2 * b + 2 }
-    {
-        match due {
-            None => self.timers.clear(key),
-            Some(due) => self.timers.set(key, Order { due, slot, handle }),
-        }
-        self.timers.probes()
-    }
-
     /// The object of a key, which acted at the one moment or never, acts at the other one now, in
     /// microseconds, or never. It answers how often it compared two orders: never where the moment
     /// stays.
@@ -172,7 +154,11 @@ impl Schedule {
         if is_same_due(before, due) {
             return 0;
         }
-        self.set(key, slot, handle, due)
+        match due {
+            None => self.timers.clear(key),
+            Some(due) => self.timers.set(key, Order { due, slot, handle }),
+        }
+        self.timers.probes()
     }
 
     /// The object of a key acts no more. It answers how often it compared two orders: never where

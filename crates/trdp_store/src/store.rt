@@ -190,7 +190,8 @@ impl Store {
                     enlist(&mut self.coms, sought, slot, handle, key);
                     enter(&mut self.sessions, own, slot, key);
                     self.schedule.admit(key, room);
-                    counts.compared(self.schedule.set(key, slot, handle, due));
+                    // A new object has no order yet.
+                    counts.compared(self.schedule.change(key, slot, handle, None, due));
                 }
                 Ok(handle)
             }

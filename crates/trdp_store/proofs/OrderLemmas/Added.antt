@@ -23,6 +23,7 @@ use Rattle.trdp_store.proofs.StoreLemmas.Slots.{KeysGive}
 use Rattle.trdp_store.proofs.StoreLemmas.Counts.{room-set}
 use Rattle.trdp_store.proofs.StoreLemmas.Found.{at_each, found_last, found_before, found_added}
 use Rattle.trdp_store.proofs.ComLemmas.Kept.{added_found}
+use Rattle.trdp_store.proofs.OrderLemmas.Counts.{orders_of}
 
 -- The other keys.
 
@@ -280,6 +281,29 @@ module _ (table : TableState) (schedule after : ScheduleState)
 
 -- As the store's calls say it.
 
+-- the key that was found by the new handle is the new object's
+added_key : (table table_then : TableState) (s handle key : ℕ) (object : AnyObject)
+    → IsTable table → s < length table → (a : Adds s object table table_then)
+    → handle ≡ (slot_in s table).next
+    → Some key ≡ option_map (λ keyed. keyed.key) (by_handle handle (slot_in s table_then).objects)
+    → key ≡ a.key
+added_key table table_then s handle key object sound lt a at found =
+    let there = added_found table table_then s object sound lt a in
+    let found_next = rw at at found in
+    same_Some key a.key (found_next ∙ ap (option_map (λ (k : Keyed). k.key)) there)
+
+-- that key had no order
+pub added_unset : (table table_then : TableState)
+    (schedule : ScheduleState) (s handle key : ℕ) (object : AnyObject)
+    → IsScheduled table schedule → IsTable table → KeysGive table
+    → s < length table → Adds s object table table_then → handle ≡ (slot_in s table).next
+    → Some key ≡ option_map (λ keyed. keyed.key) (by_handle handle (slot_in s table_then).objects)
+    → slice_index_or schedule.orders key None ≡ None
+added_unset table table_then schedule s handle key object is sound gives lt a at found =
+    let key_is = added_key table table_then s handle key object sound lt a at found in
+    orders_of table schedule is gives key
+    (ap (λ (k : ℕ). by_key k (all_objects table)) key_is ∙ a.fresh)
+
 -- an object that was added stands in the schedule
 pub added_scheduled : (table table_then : TableState)
     (schedule after : ScheduleState) (s handle key : ℕ) (object : AnyObject)
@@ -291,10 +315,7 @@ pub added_scheduled : (table table_then : TableState)
     → IsScheduled table_then after
 added_scheduled table table_then schedule after
     s handle key object is sound gives lt a at found within admits =
-    let there = added_found table table_then s object sound lt a in
-    let found_next = rw at at found in
-    let key_is : key ≡ a.key =
-    same_Some key a.key (found_next ∙ ap (option_map (λ (k : Keyed). k.key)) there) in
+    let key_is = added_key table table_then s handle key object sound lt a at found in
     let P : TableState → Type 0 = λ t. IsScheduled t after in
     let fresh : by_key key (all_objects table) ≡ None =
     ap (λ (k : ℕ). by_key k (all_objects table)) key_is ∙ a.fresh in

@@ -1,5 +1,5 @@
 -- How many orders a schedule has: no more than there are objects.
--- For `Store::add`, `act` and `remove`, whose costs go by it.
+-- For `Store::add`, `act` and `remove`, whose costs go by it, and for `OrderLemmas.Added`.
 -- By: each order is that of an object's key, and no two objects have one key.
 use Rattle.std.proofs.Common.{◌≡◌, ◌≢◌, ℕ, zero, suc, ◌+◌, ◌*◌, ◌^◌, ◌<◌, ◌≤◌, List, []}
 use Rattle.std.proofs.Common.{◌∷◌, length, set, Option, Some, None, Bool, true, false}
@@ -90,7 +90,8 @@ orders_few orders (e ∷ es) of =
             let apart : k ≢ e.key = grind (arith, nat_tests) in
             get_or-set_other orders e.key k None None apart ∙ of k (rw is nobody)
 
-orders_of : (table : TableState) (schedule : ScheduleState)
+-- a key that no object has has no order
+pub orders_of : (table : TableState) (schedule : ScheduleState)
     → IsScheduled table schedule → KeysGive table → AreOrdersOf schedule.orders (all_objects table)
 orders_of table schedule is gives k nobody = either (slice_index_or schedule.orders k None) refl
   where

@@ -4,7 +4,7 @@ use Rattle.trdp_model.specs.Kinds.{kind_of}
 use Rattle.trdp_table.specs.Tables.{room_of}
 use Rattle.trdp_store.specs.declared.counts.Counts.{Counts}
 use Rattle.trdp_table.specs.Refusals.{table_refusal}
-use Rattle.trdp_store.proofs.OrderLemmas.Added.{added_scheduled, added_within}
+use Rattle.trdp_store.proofs.OrderLemmas.Added.{added_scheduled, added_within, added_unset}
 use Rattle.trdp_store.proofs.OrderLemmas.Rooms.{kind_rows, kind_bytes}
 use Rattle.trdp_store.proofs.OrderLemmas.Counts.{orders_counted, added_costs}
 use Rattle.trdp_store.proofs.ComLemmas.Kept.{has_spare, is_fresh, added_index, added_there}
@@ -51,12 +51,20 @@ admit-requires-clause-rows c = rw c.of-room.ensures (kind_rows (kind_of c.args.o
 pub admit-requires-clause-bytes : goal.admit-requires-clause-bytes
 admit-requires-clause-bytes c = rw c.of-room.ensures (kind_bytes (kind_of c.args.object))
 
-pub set-requires : goal.set-requires
-set-requires c =
+pub change-requires-clause-key : goal.change-requires-clause-key
+change-requires-clause-key c =
     let within = added_within c.self.inside.table c.add.new.self c.args.slot c.in-Ok.handle
     c.in-Some.key c.args.object c.sound-in-Ok.ensures.sound c.sound-in-Ok.ensures.found
     (rw (← c.self.view_is) at c.requires.slot) c.in-Ok.ensures.added c.in-Some.ensures in
     rw c.admit.ensures.orders (omega (arith, within, c.self.invariant.by_moment.room))
+
+pub change-requires-clause-before : goal.change-requires-clause-before
+change-requires-clause-before c =
+    rw c.admit.ensures.orders
+    (added_unset c.self.inside.table c.add.new.self c.self.inside.schedule
+    c.args.slot c.in-Ok.handle c.in-Some.key c.args.object c.self.invariant.by_moment
+    c.sound.ensures.sound c.sound.ensures.found (rw (← c.self.view_is) at c.requires.slot)
+    c.in-Ok.ensures.added c.in-Ok.ensures.handle c.in-Some.ensures)
 
 pub invariant_of-self-in-Some : goal.invariant_of-self-in-Some
 invariant_of-self-in-Some c = record {
@@ -77,7 +85,7 @@ invariant_of-self-in-Some c = record {
       (rw c.session_of-own.ensures at c.enter.ensures.count)
       c.enter.ensures.room;
   by_moment =
-      added_scheduled c.self.inside.table c.add.new.self c.self.inside.schedule c.set.new.self
+      added_scheduled c.self.inside.table c.add.new.self c.self.inside.schedule c.change.new.self
       c.args.slot c.in-Ok.handle c.in-Some.key c.args.object c.self.invariant.by_moment
       c.sound.ensures.sound c.sound.ensures.found (rw (← c.self.view_is) at c.requires.slot)
       c.in-Ok.ensures.added c.in-Ok.ensures.handle c.in-Some.ensures
@@ -85,9 +93,9 @@ invariant_of-self-in-Some c = record {
       c.in-Some.key c.args.object c.sound-in-Ok.ensures.sound c.sound-in-Ok.ensures.found
       (rw (← c.self.view_is) at c.requires.slot) c.in-Ok.ensures.added c.in-Some.ensures)
       (record {
-        orders = c.set.ensures.orders ∙ rw (c.admit.ensures.orders, c.due-due.ensures) refl;
-        rows = c.set.ensures.rows ∙ (c.admit.ensures.rows ∙ rw c.of-room.ensures refl);
-        bytes = c.set.ensures.bytes ∙ (c.admit.ensures.bytes ∙ rw c.of-room.ensures refl);
+        orders = c.change.ensures.orders ∙ rw (c.admit.ensures.orders, c.due-due.ensures) refl;
+        rows = c.change.ensures.rows ∙ (c.admit.ensures.rows ∙ rw c.of-room.ensures refl);
+        bytes = c.change.ensures.bytes ∙ (c.admit.ensures.bytes ∙ rw c.of-room.ensures refl);
       });
   kinds = added_kinds c.self.inside.table c.add.new.self c.args.slot c.args.object
       (rw (← c.self.view_is) at c.requires.slot) c.in-Ok.ensures.added c.self.invariant.kinds;
@@ -124,8 +132,8 @@ returns-after-find-clause-comparisons c = λ b lt.
           (rw (← c.self.view_is) at c.requires.slot) c.in-Ok.ensures.granted in
           let set =
           added_costs c.self.inside.table w.admit.new.self.orders
-          w.set.new.self.orders w.in-Some.key _ b w.set.result (rw w.admit.ensures.orders few)
-          spare w.set.ensures.orders within (w.set.ensures.cost b) in
+          w.change.new.self.orders w.in-Some.key _ b w.change.result (rw w.admit.ensures.orders few)
+          spare w.change.ensures.orders within (w.change.ensures.cost b) in
           let counted = ap (λ (k : Counts). k.comparisons) w.counts-is in
           omega (arith, set, w.compared.ensures.comparisons, counted)
       | in_default w ↦
