@@ -14,7 +14,7 @@
 //!
 //! What no contract can say is that memory is there: a daemon that loses every text, each line that
 //! carries bytes, and each event for which memory may be wanting, and counts them in `memory`,
-//! meets its contract, and `trdp_daemon_tests` shows that with ample memory nothing is lost. What
+//! meets its contract, and `trdp_node_tests` shows that with ample memory nothing is lost. What
 //! is told of a wire and a clock is told where these tell; the system's sockets and clock tell
 //! nothing. So a [`UdpWire`] at which nothing ever comes, or that sends nothing, meets its
 //! contract, as a network may be so, and so does a [`RunClock`] that stands still; that they work

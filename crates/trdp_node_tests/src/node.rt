@@ -23,43 +23,47 @@ const TERMS: PublisherTerms = PublisherTerms {
 };
 
 /// The publisher is made, gets its value, and is due.
-static EVENTS: [Event<'static>; 3] = [
-    Event::Call {
-        slot: 0,
-        call: Call::Publish(TERMS),
-    },
-    Event::Call {
-        slot: 0,
-        call: Call::Put {
-            handle: 1,
-            bytes: b"\x0a\x0b",
+fn events() -> [Event<'static>; 3] {
+    [
+        Event::Call {
+            slot: 0,
+            call: Call::Publish(TERMS),
         },
-    },
-    Event::Moment(100_000),
-];
+        Event::Call {
+            slot: 0,
+            call: Call::Put {
+                handle: 1,
+                bytes: b"\x0a\x0b",
+            },
+        },
+        Event::Moment(100_000),
+    ]
+}
 
 /// The same for slot 0, with a call of slot 1, a moment that changes nothing and a last one that is
 /// refused.
-static OTHER_EVENTS: [Event<'static>; 6] = [
-    Event::Call {
-        slot: 1,
-        call: Call::Publish(TERMS),
-    },
-    Event::Call {
-        slot: 0,
-        call: Call::Publish(TERMS),
-    },
-    Event::Moment(0),
-    Event::Call {
-        slot: 0,
-        call: Call::Put {
-            handle: 1,
-            bytes: b"\x0a\x0b",
+fn other_events() -> [Event<'static>; 6] {
+    [
+        Event::Call {
+            slot: 1,
+            call: Call::Publish(TERMS),
         },
-    },
-    Event::Moment(100_000),
-    Event::Moment(7),
-];
+        Event::Call {
+            slot: 0,
+            call: Call::Publish(TERMS),
+        },
+        Event::Moment(0),
+        Event::Call {
+            slot: 0,
+            call: Call::Put {
+                handle: 1,
+                bytes: b"\x0a\x0b",
+            },
+        },
+        Event::Moment(100_000),
+        Event::Moment(7),
+    ]
+}
 
 /// What they give.
 static FIRST_TELEGRAM: &str = "\
@@ -72,7 +76,7 @@ static FIRST_TELEGRAM: &str = "\
 /// Asserts what the events give a new node.
 fn run(rt: &(impl Abort + AllocGlobal), bench: &mut Bench) -> Result<(), Fail> {
     assert!(rt; bench.out.is_empty());
-    let taken = bench.node.run(&EVENTS, &mut bench.out);
+    let taken = bench.node.run(&events(), &mut bench.out);
     assert!(rt; taken == 3);
     assert!(rt; bench.out.get(3).is_none());
     bench.tells(rt, FIRST_TELEGRAM)
@@ -129,8 +133,8 @@ fn run_two(
     let taken = run_both(
         &mut first.node,
         &mut second.node,
-        &EVENTS,
-        &OTHER_EVENTS,
+        &events(),
+        &other_events(),
         &mut first.out,
         &mut second.out,
     );
