@@ -1,9 +1,14 @@
-//! An object that is to act.
+//! An object that is to act at a telegram, and whether the telegram is for it.
 
-ghost use Rattle.std.specs.Prelude.{◌≡◌};
+ghost use Rattle.std.specs.Prelude.{◌≡◌, ◌≤◌, ◌+◌};
+ghost use Rattle.trdp_filter.specs.Telegrams.{telegram_model};
+ghost use Rattle.trdp_model.specs.Objects.{is_addressed};
 
 use std::marker::Model;
-use trdp_store::Sought;
+use trdp_filter::{Globals, Telegram};
+use trdp_model::AnyObject;
+use trdp_pd::Object;
+use trdp_store::{Counts, Sought};
 
 /// An object that is to act. It is seen as its slot and its handle there: the key that it was found
 /// under saves a search, and decides nothing.
@@ -44,4 +49,21 @@ impl Addressee {
             key: Some(self.key),
         }
     }
+}
+
+/// Whether the telegram is for the object: a filter test, which is counted.
+pub fn is_for(
+    object: &AnyObject,
+    telegram: &Telegram<'_>,
+    globals: &Globals,
+    counts: &mut Counts,
+) -> bool
+    ensures answer { result
+        ≡ is_addressed object.now (telegram_model telegram.now) globals.entry.now }
+    ensures comparisons { counts.new.comparisons ≡ counts.old.comparisons }
+    ensures tests { counts.new.tests ≤ counts.old.tests + 1 }
+    ensures look_ups { counts.new.look_ups ≡ counts.old.look_ups }
+{
+    counts.tested();
+    object.addressed(telegram, globals)
 }

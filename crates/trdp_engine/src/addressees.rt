@@ -21,8 +21,7 @@ ghost use Rattle.trdp_engine.specs.Sought.{comes_unasked, noted_listener, listen
 ghost use Rattle.trdp_engine.specs.Sought.{rows_heard};
 ghost use Rattle.trdp_engine.specs.Costs.{meant_in, meant_of};
 
-use crate::addressee::Addressee;
-use crate::filter_test::is_for;
+use crate::addressee::{Addressee, is_for};
 use crate::first_listeners::{Heard, hearers};
 use trdp_base::SessionId;
 use trdp_filter::{Globals, Telegram};

@@ -10,8 +10,7 @@ ghost use Rattle.trdp_store.specs.Indexed.{rows_from};
 ghost use Rattle.trdp_engine.specs.Sought.{hit, earlier, first_handle, hit_in, first_in};
 ghost use Rattle.trdp_engine.specs.Sought.{rows_heard};
 
-use crate::addressee::Addressee;
-use crate::filter_test::is_for;
+use crate::addressee::{Addressee, is_for};
 use std::marker::Model;
 use trdp_filter::{Globals, Telegram};
 use trdp_index::ComRow;

@@ -37,7 +37,6 @@ mod asked;
 mod callers;
 mod calls;
 mod datagram;
-mod filter_test;
 mod first_listeners;
 mod laws;
 mod listeners;

@@ -10,7 +10,7 @@ ghost use Rattle.trdp_model.specs.Configs.{setup_of};
 ghost use Rattle.trdp_model.specs.Slots.{SlotState};
 ghost use Rattle.trdp_store.specs.TableSlots.{slots_of};
 ghost use Rattle.trdp_engine.specs.Arrivals.{came_in};
-ghost use Rattle.trdp_model.specs.Datagrams.{received_if, concerns};
+ghost use Rattle.trdp_model.specs.Datagrams.{is_request, received_if, concerns};
 ghost use Rattle.trdp_model.specs.NodeModels.{HasOutcome, Appends};
 ghost use Rattle.trdp_outbox.specs.Rooms.{LacksRoom, datagram_room};
 ghost use Rattle.trdp_engine.specs.Costs.{quota_total, datagram_bounds, CostsAtMost};
@@ -18,12 +18,12 @@ ghost use Rattle.trdp_engine.specs.Costs.{quota_total, datagram_bounds, CostsAtM
 use crate::addressee::Addressee;
 use crate::addressees::note_all;
 use crate::datagram::{is_valid_at, take_all};
-use crate::requests::{ask_all, is_request};
+use crate::requests::ask_all;
 use crate::setting::Setting;
 use std::alloc::AllocError;
 use trdp_base::Place;
 use trdp_filter::Telegram;
-use trdp_head::{read_md, read_pd};
+use trdp_head::{MdKind, read_md, read_pd};
 use trdp_model::Protocol;
 use trdp_outbox::Outbox;
 use trdp_store::{Counts, Store};
@@ -39,6 +39,16 @@ pub struct Datagram<'a> {
     pub dst: Place,
     /// Its bytes.
     pub bytes: &'a [u8],
+}
+
+/// Whether the telegram is a request.
+fn is_request(telegram: &Telegram<'_>) -> bool
+    ensures { result ≡ is_request (telegram_model telegram.now) }
+{
+    match telegram {
+        Telegram::Pd { .. } => false,
+        Telegram::Md { view, .. } => view.head.kind == MdKind::Request,
+    }
 }
 
 /// Takes a telegram. One whose topology counts don't match the node's changes nothing. Room for

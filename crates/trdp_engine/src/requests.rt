@@ -16,21 +16,10 @@ ghost use Rattle.trdp_engine.specs.Noted.{noted_from};
 
 use crate::addressee::Addressee;
 use trdp_filter::{Globals, Telegram};
-use trdp_head::MdKind;
 use trdp_md::Replier;
 use trdp_model::{AnyObject, Kind, Message};
 use trdp_outbox::{Form, Outbox};
 use trdp_store::{Counts, Sought, Store, has_session};
-
-/// Whether the telegram is a request.
-pub fn is_request(telegram: &Telegram<'_>) -> bool
-    ensures { result ≡ is_request (telegram_model telegram.now) }
-{
-    match telegram {
-        Telegram::Pd { .. } => false,
-        Telegram::Md { view, .. } => view.head.kind == MdKind::Request,
-    }
-}
 
 /// Records what a slot makes of a request that its listener heard: it opens a replier, unless one
 /// of the session is open, or tells that it takes none.
