@@ -1,19 +1,18 @@
 //! What a telegram does to the objects of the slots.
 
 ghost use Rattle.std.specs.Prelude.{◌≡◌, ℕ, ◌+◌, ◌*◌, ◌^◌, ◌<◌, ◌≤◌, length};
-ghost use Rattle.std.specs.Prelude.{Some, true, slice_get, IfSome};
+ghost use Rattle.std.specs.Prelude.{Some, slice_get};
 ghost use Rattle.std.specs.List.{flat_map};
 ghost use Rattle.trdp_base.specs.Moments.{last_moment};
 ghost use Rattle.trdp_filter.specs.Telegrams.{telegram_model, IsWithinLimit};
 ghost use Rattle.trdp_table.specs.Tables.{room_of};
 ghost use Rattle.trdp_model.specs.Configs.{setup_of};
-ghost use Rattle.trdp_model.specs.Slots.{SlotState, entry_under};
+ghost use Rattle.trdp_model.specs.Slots.{SlotState};
 ghost use Rattle.trdp_store.specs.TableSlots.{slots_of};
 ghost use Rattle.trdp_model.specs.Datagrams.{is_valid_at, fits_object};
-ghost use Rattle.trdp_model.specs.Datagrams.{acting, handed, is_for_entry, taking_act};
+ghost use Rattle.trdp_model.specs.Datagrams.{acting, handed};
 ghost use Rattle.trdp_model.specs.NodeModels.{HasOutcome, Appends};
 ghost use Rattle.trdp_outbox.specs.Rooms.{HasRoom, entries_room};
-ghost use Rattle.trdp_store.specs.Acting.{slot_at, MayAct, ActsAt};
 ghost use Rattle.trdp_engine.specs.Noted.{noted_from};
 
 use crate::addressee::Addressee;
@@ -27,7 +26,7 @@ use trdp_marshal::fits;
 use trdp_model::AnyObject;
 use trdp_outbox::{Form, Outbox};
 use trdp_pd::{Object, Reason, Taken};
-use trdp_store::{Counts, Deed, Left, Sought, Store, count_act};
+use trdp_store::{Counts, Deed, Left, Store, count_act};
 
 /// Whether the telegram's topology counts match the node's.
 pub fn is_valid_at(telegram: &Telegram<'_>, globals: &Globals) -> bool
@@ -118,36 +117,8 @@ impl Deed for Handing<'_, '_> {
     }
 }
 
-/// Hands the telegram to the object that is sought, which it is for. An object that ends leaves the
-/// store, which counts as a look-up.
-fn hand(
-    store: &mut Store,
-    sought: Sought,
-    handing: &Handing<'_, '_>,
-    out: &mut Outbox,
-    counts: &mut Counts,
-)
-    requires slot { sought.slot < length store.old }
-    requires may { MayAct (slot_at sought.slot store.old) sought.handle out.old }
-    requires addressed { IfSome (entry_under sought.handle (slot_at sought.slot store.old).objects)
-        (λ entry. is_for_entry (telegram_model handing.now.telegram.now)
-        handing.now.setting.globals.now entry ≡ true) }
-    requires now { handing.now.setting.globals.now.now ≤ last_moment }
-    requires limit { IsWithinLimit (telegram_model handing.now.telegram.now) }
-    ensures acts { ActsAt sought.slot sought.handle
-        (taking_act (setup_of handing.now.setting.config.now)
-        (telegram_model handing.now.telegram.now) handing.now.setting.globals.now)
-        store.old store.new out.old out.new }
-    ensures comparisons { (b : ℕ) → room_of store.old < 2 ^ b
-        → counts.new.comparisons ≤ counts.old.comparisons + (2 * b + 2) }
-    ensures tests { counts.new.tests ≡ counts.old.tests }
-    ensures look_ups { counts.new.look_ups ≤ counts.old.look_ups + 1 }
-{
-    count_act(store.act(sought, handing, out), counts);
-}
-
-/// Hands the telegram to each object that was noted, in turn. That it tests it by itself is
-/// counted, and that it ends as a look-up.
+/// Hands the telegram to each object that was noted, in turn; one that ends leaves the store. That
+/// it tests it by itself is counted, and that it ends as a look-up.
 pub fn take_all(
     store: &mut Store,
     noted: &[Addressee],
@@ -182,6 +153,6 @@ pub fn take_all(
     };
     for addressee in noted {
         counts.tested();
-        hand(store, addressee.sought(), &handing, out, counts);
+        count_act(store.act(addressee.sought(), &handing, out), counts);
     }
 }

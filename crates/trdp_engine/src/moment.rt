@@ -1,19 +1,17 @@
 //! What a moment does to the objects of all slots.
 
-ghost use Rattle.std.specs.Prelude.{◌≡◌, ◌+◌, ◌*◌, ◌^◌, ◌<◌, ◌≤◌, ◌++◌, ℕ, length, true, Some};
-ghost use Rattle.std.specs.Prelude.{slice_get, IfSome};
+ghost use Rattle.std.specs.Prelude.{◌≡◌, ◌+◌, ◌*◌, ◌^◌, ◌<◌, ◌≤◌, ◌++◌, ℕ, length};
+ghost use Rattle.std.specs.Prelude.{Some, slice_get};
 ghost use Rattle.trdp_base.specs.Moments.{last_moment};
 ghost use Rattle.trdp_head.specs.declared.pd.TheConstants.{PD_TELEGRAM_MAX};
 ghost use Rattle.trdp_head.specs.declared.md.TheConstants.{MD_TELEGRAM_MAX};
 ghost use Rattle.trdp_table.specs.Tables.{room_of};
 ghost use Rattle.trdp_model.specs.Records.{labelled};
-ghost use Rattle.trdp_model.specs.Slots.{SlotState, entry_under};
+ghost use Rattle.trdp_model.specs.Slots.{SlotState};
 ghost use Rattle.trdp_store.specs.TableSlots.{slots_of};
-ghost use Rattle.trdp_model.specs.Moments.{sends_data, sends_again};
-ghost use Rattle.trdp_model.specs.Moments.{moved_to, is_due, firing_act};
+ghost use Rattle.trdp_model.specs.Moments.{sends_data, sends_again, moved_to};
 ghost use Rattle.trdp_model.specs.NodeModels.{HasOutcome, Appends, due_in};
 ghost use Rattle.trdp_outbox.specs.Rooms.{HasRoom, moment_room};
-ghost use Rattle.trdp_store.specs.Acting.{slot_at, MayAct, ActsAt};
 ghost use Rattle.trdp_model.specs.Fitting.{EachSound};
 
 use trdp_filter::Globals;
@@ -21,7 +19,7 @@ use trdp_head::{MD_TELEGRAM_MAX, MdHead, PD_TELEGRAM_MAX, PdHead};
 use trdp_model::AnyObject;
 use trdp_outbox::{Form, Outbox};
 use trdp_pd::{Fired, Object};
-use trdp_store::{Counts, Deed, Left, Sought, Store, count_act};
+use trdp_store::{Counts, Deed, Left, Store, count_act};
 
 /// Records the data of a publisher, with its value, under this header.
 fn push_data(object: &AnyObject, head: &PdHead, s: u16, out: &mut Outbox)
@@ -97,26 +95,8 @@ impl Deed for Firing<'_> {
     }
 }
 
-/// Fires the object that is sought, which is due. One that ends leaves the store, which counts as a
-/// look-up.
-fn fire(store: &mut Store, sought: Sought, globals: &Globals, out: &mut Outbox, counts: &mut Counts)
-    requires slot { sought.slot < length store.old }
-    requires may { MayAct (slot_at sought.slot store.old) sought.handle out.old }
-    requires due { IfSome (entry_under sought.handle (slot_at sought.slot store.old).objects)
-        (λ entry. is_due globals.now.now entry ≡ true) }
-    requires now { globals.now.now ≤ last_moment }
-    ensures acts { ActsAt sought.slot sought.handle (firing_act globals.entry.now) store.old
-        store.new out.old out.new }
-    ensures comparisons { (b : ℕ) → room_of store.old < 2 ^ b
-        → counts.new.comparisons ≤ counts.old.comparisons + (4 * b + 4) }
-    ensures tests { counts.new.tests ≡ counts.old.tests }
-    ensures look_ups { counts.new.look_ups ≤ counts.old.look_ups + 1 }
-{
-    count_act(store.act(sought, &Firing { globals }, out), counts);
-}
-
 /// Fires the objects of all slots that are due, once each, each slot's in the order of their due
-/// moments and handles.
+/// moments and handles. One that ends leaves the store, which counts as a look-up.
 pub fn fire_all(store: &mut Store, globals: &Globals, out: &mut Outbox, counts: &mut Counts)
     requires now { globals.now.now ≤ last_moment }
     requires sound { EachSound (slots_of store.old) }
@@ -136,7 +116,7 @@ pub fn fire_all(store: &mut Store, globals: &Globals, out: &mut Outbox, counts: 
     store.sound();
     counts.compared(1);
     while let Some(next) = store.next_due(globals.now) {
-        fire(store, next, globals, out, counts);
+        count_act(store.act(next, &Firing { globals }, out), counts);
         counts.compared(1);
     }
 }

@@ -1,5 +1,5 @@
 -- What a deed of an object of the store comes to for those that have it done.
--- For `ask`, `hand` and `fire`.
+-- For `ask`, `take_all` and `fire_all`.
 -- By: the store's contract names the one object that acted, and what became of it.
 use Rattle.std.proofs.Common.{◌≡◌, ℕ, ◌<◌, [], ◌∷◌, ◌++◌, length, Option, Some, None}
 use Rattle.std.proofs.Common.{false, refl, sym, subst, is_some, IfSome, IfNone}

@@ -3,6 +3,7 @@
 -- By a loop's invariant: what was counted and what is left to count are within the bounds.
 use Rattle.std.proofs.Common.{◌≡◌, ℕ, zero, suc, ◌+◌, ◌*◌, ◌^◌, ◌<◌, ◌≤◌, List, [], ◌∷◌, length}
 use Rattle.std.proofs.Common.{filter, Bool, true, false, refl, ◌∙◌, ap, sym, subst, arith}
+use Rattle.std.proofs.Common.{Option, Some, None, IfSome}
 use Rattle.std.specs.Prelude.{slice_set}
 use Rattle.std.specs.List.{sum_by}
 use Rattle.std.proofs.lemmas.List.Sums.{sum_by-cons}
@@ -10,6 +11,9 @@ use Rattle.std.proofs.lemmas.Nat.{mul-add-lt, mul-le}
 use Rattle.trdp_filter.specs.declared.globals.Globals.{Globals}
 use Rattle.trdp_table.specs.Tables.{TableState, all_quotas, room_of}
 use Rattle.trdp_store.specs.declared.counts.Counts.{Counts}
+use Rattle.trdp_store.specs.declared.deed.Left.{Left}
+use Rattle.trdp_store.specs.declared.deed.Left.TheVariants.{Stays, Ended}
+use Rattle.trdp_store.specs.Counting.{compared_for, looked_up_as, looked_up_for}
 use Rattle.trdp_model.specs.Slots.{Entry, SlotState}
 use Rattle.trdp_store.specs.TableSlots.{slots_of}
 use Rattle.trdp_model.specs.Acts.{Act}
@@ -166,6 +170,29 @@ moment_within b k counts after one tests look_ups two tests_then look_ups_then =
   tests = omega (arith, tests, tests_then);
   look_ups = omega (arith, look_ups, look_ups_then);
 }
+
+-- One act.
+
+pub few_look_ups : (did : Option (Left × ℕ)) → looked_up_for did ≤ 1
+few_look_ups None = omega arith
+few_look_ups (Some did) = either did.0
+  where
+    either : (left : Left) → looked_up_as left ≤ 1
+    either Stays = omega arith
+    either Ended = omega arith
+
+pub compared : (did : Option (Left × ℕ)) (room b : ℕ)
+    → IfSome did (λ d. (b : ℕ) → room < 2 ^ b → d.1 ≤ 4 * b + 4) → room < 2 ^ b
+    → compared_for did ≤ 4 * b + 4
+compared None room b within lt = omega arith
+compared (Some did) room b within lt = within b lt
+
+-- of an object that keeps its due moment
+pub compared_still : (did : Option (Left × ℕ)) (room b : ℕ)
+    → IfSome did (λ d. Unit {0} → (b : ℕ) → room < 2 ^ b → d.1 ≤ 2 * b + 2) → room < 2 ^ b
+    → compared_for did ≤ 2 * b + 2
+compared_still None room b within lt = omega arith
+compared_still (Some did) room b within lt = within tt b lt
 
 -- The takers of a telegram, one after the other.
 

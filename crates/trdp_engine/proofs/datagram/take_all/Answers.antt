@@ -1,6 +1,9 @@
 use Rattle.std.proofs.Common.{ℕ, ◌<◌, ◌^◌, ◌∙◌, refl, sym, subst, arith}
 use Rattle.trdp_model.specs.Datagrams.{handed, taking_act}
+use Rattle.trdp_table.specs.Tables.{room_of}
+use Rattle.trdp_engine.proofs.ActLemmas.Deeds.{deed_acts}
 use Rattle.trdp_engine.proofs.CostLemmas.Moments.{room_stays, one_taker, all_takers}
+use Rattle.trdp_engine.proofs.CostLemmas.Moments.{compared_still, few_look_ups}
 use Rattle.trdp_filter.specs.Telegrams.{telegram_model}
 use Rattle.trdp_model.specs.Configs.{setup_of}
 use Rattle.trdp_store.specs.TableSlots.{slots_of}
@@ -22,26 +25,23 @@ loop-addressee-init c = record {
   look_ups = omega arith;
 }
 
-pub hand-requires-clause-slot : goal.hand-requires-clause-slot
-hand-requires-clause-slot c =
+pub act-requires-clause-slot : goal.act-requires-clause-slot
+act-requires-clause-slot c =
     rw c.sought.ensures.slot
     (goes_within _ _ _ _ _ (goes_next _ _ _ c.args.noted.now c.loop-addressee.addressee-index
     c.addressee-item.result
     c.loop-addressee-test.true c.addressee-item.is c.loop-addressee.invariant.goes))
 
-pub hand-requires-clause-may : goal.hand-requires-clause-may
-hand-requires-clause-may c =
-    rw (c.sought.ensures.slot, c.sought.ensures.handle)
-    (goes_may _ _ _ _ _ (goes_next _ _ _ c.args.noted.now c.loop-addressee.addressee-index
+pub act-requires-clause-may : goal.act-requires-clause-may
+act-requires-clause-may c =
+    let next = goes_next _ _ _ c.args.noted.now c.loop-addressee.addressee-index
     c.addressee-item.result
-    c.loop-addressee-test.true c.addressee-item.is c.loop-addressee.invariant.goes))
-
-pub hand-requires-clause-addressed : goal.hand-requires-clause-addressed
-hand-requires-clause-addressed c =
+    c.loop-addressee-test.true c.addressee-item.is c.loop-addressee.invariant.goes in
+    let may = goes_may _ _ _ _ _ next in
+    let addressed = goes_addressed _ _ _ _ _ next in
+    let is_for = rw may.found at addressed in
     rw (c.sought.ensures.slot, c.sought.ensures.handle)
-    (goes_addressed _ _ _ _ _ (goes_next _ _ _
-    c.args.noted.now c.loop-addressee.addressee-index c.addressee-item.result
-    c.loop-addressee-test.true c.addressee-item.is c.loop-addressee.invariant.goes))
+    (rw may.found (c.requires.now, c.requires.limit, is_for, may.room))
 
 pub loop-addressee-preserved : goal.loop-addressee-preserved
 loop-addressee-preserved c =
@@ -49,31 +49,42 @@ loop-addressee-preserved c =
     c.loop-addressee.addressee-index c.addressee-item.result
     c.loop-addressee-test.true c.addressee-item.is c.loop-addressee.invariant.goes in
     let lt = goes_within _ _ _ _ _ next in
-    let acts = rw (c.sought.ensures.slot, c.sought.ensures.handle) at c.hand.ensures.acts in
+    let acts = deed_acts c.addressee-item.result.slot c.addressee-item.result.handle
+    (taking_act (setup_of c.args.setting.now.config.now)
+    (telegram_model c.args.telegram.now) c.args.setting.now.globals.now) c.loop-addressee.store
+    c.act.new.self c.loop-addressee.out c.act.new.out c.act.result (goes_may _ _ _ _ _ next)
+    (rw (c.sought.ensures.slot, c.sought.ensures.handle) at c.act.ensures.found)
+    (rw (c.sought.ensures.slot, c.sought.ensures.handle) at c.act.ensures.done)
+    (rw (c.sought.ensures.slot, c.sought.ensures.handle) at c.act.ensures.spends) in
     record {
       goes = goes_on _ _ _ _ _ _ _ next acts;
       room_is = room_stays (taking_act (setup_of c.args.setting.now.config.now)
           (telegram_model c.args.telegram.now) c.args.setting.now.globals.now) _ _
-          c.loop-addressee.store c.hand.new.store c.loop-addressee.out c.hand.new.out lt
+          c.loop-addressee.store c.act.new.self c.loop-addressee.out c.act.new.out lt
           acts
           ∙ c.loop-addressee.invariant.room_is;
       comparisons = λ b within.
-          one_taker c.hand.new.counts.comparisons
+          one_taker c.count_act.new.counts.comparisons
           c.tested.new.self.comparisons c.loop-addressee.counts.comparisons
           c.args.counts.now.comparisons c.loop-addressee.addressee-index b
-          (c.hand.ensures.comparisons b
-          (subst (λ (n : ℕ). n < 2 ^ b) (sym c.loop-addressee.invariant.room_is) within))
+          (omega (
+            arith,
+            c.count_act.ensures.comparisons,
+            compared_still c.act.result (room_of c.loop-addressee.store) b c.act.ensures.still
+                (subst (λ (n : ℕ). n < 2 ^ b) (sym c.loop-addressee.invariant.room_is) within),
+          ))
           c.tested.ensures.comparisons
           (c.loop-addressee.invariant.comparisons b within);
       tests = omega (
         arith,
-        c.hand.ensures.tests,
+        c.count_act.ensures.tests,
         c.tested.ensures.tests,
         c.loop-addressee.invariant.tests,
       );
       look_ups = omega (
         arith,
-        c.hand.ensures.look_ups,
+        c.count_act.ensures.look_ups,
+        few_look_ups c.act.result,
         c.tested.ensures.look_ups,
         c.loop-addressee.invariant.look_ups,
       );

@@ -3,6 +3,9 @@ use Rattle.trdp_engine.proofs.MomentLemmas.AllFire.{moving_first, nexts, next_is
 use Rattle.trdp_engine.proofs.MomentLemmas.AllFire.{moving_may, moves_on, moment_ends}
 use Rattle.trdp_store.specs.Acting.{slot_at}
 use Rattle.trdp_model.specs.Moments.{firing_act}
+use Rattle.trdp_table.specs.Tables.{room_of}
+use Rattle.trdp_engine.proofs.ActLemmas.Deeds.{deed_acts}
+use Rattle.trdp_engine.proofs.CostLemmas.Moments.{compared, few_look_ups}
 use Rattle.trdp_engine.proofs.CostLemmas.Moments.{counting_first, counting_on, room_stays}
 use Rattle.trdp_engine.proofs.CostLemmas.Moments.{counted_comparisons, counted_look_ups}
 use Rattle.trdp_engine.proofs.moment.fire_all.Goals as goal
@@ -16,49 +19,69 @@ loop-next-init c = record {
       c.compared.ensures.comparisons c.compared.ensures.tests c.compared.ensures.look_ups;
 }
 
-pub fire-requires-clause-may : goal.fire-requires-clause-may
-fire-requires-clause-may c =
+pub act-requires-clause-may : goal.act-requires-clause-may
+act-requires-clause-may c =
     let next = nexts c.args.globals.now c.args.store.now c.loop-next.store c.args.out.now.records
     c.loop-next.out c.in-Some.next c.loop-next.invariant.moving c.in-Some.ensures.next in
-    rw c.in-Some.ensures.kept (moving_may c.args.globals.now c.args.store.now c.loop-next.store
-    c.args.out.now.records c.loop-next.out c.in-Some.next c.loop-next.invariant.moving next)
-
-pub fire-requires-clause-due : goal.fire-requires-clause-due
-fire-requires-clause-due c =
-    let next = nexts c.args.globals.now c.args.store.now c.loop-next.store c.args.out.now.records
-    c.loop-next.out c.in-Some.next c.loop-next.invariant.moving c.in-Some.ensures.next in
-    rw c.in-Some.ensures.kept (next_is_due c.args.globals.now.now
-    (slot_at c.in-Some.next.slot c.loop-next.store).objects c.in-Some.next.handle next.1)
+    let may = moving_may c.args.globals.now c.args.store.now c.loop-next.store
+    c.args.out.now.records c.loop-next.out c.in-Some.next c.loop-next.invariant.moving next in
+    let due = next_is_due c.args.globals.now.now
+    (slot_at c.in-Some.next.slot c.loop-next.store).objects c.in-Some.next.handle next.1 in
+    let is_due = rw may.found at due in
+    rw c.in-Some.ensures.kept (rw may.found (is_due, c.requires.now, may.room))
 
 pub loop-next-smaller : goal.loop-next-smaller
 loop-next-smaller c =
     let next = nexts c.args.globals.now c.args.store.now c.loop-next.store c.args.out.now.records
     c.loop-next.out c.in-Some.next c.loop-next.invariant.moving c.in-Some.ensures.next in
+    let may = moving_may c.args.globals.now c.args.store.now c.loop-next.store
+    c.args.out.now.records c.loop-next.out c.in-Some.next c.loop-next.invariant.moving next in
+    let acts = deed_acts c.in-Some.next.slot c.in-Some.next.handle (firing_act c.args.globals.now)
+    c.loop-next.store c.act.new.self c.loop-next.out c.act.new.out c.act.result may
+    (rw c.in-Some.ensures.kept at c.act.ensures.found)
+    (rw c.in-Some.ensures.kept at c.act.ensures.done)
+    (rw c.in-Some.ensures.kept at c.act.ensures.spends) in
     (moves_on c.args.globals.now c.args.store.now c.loop-next.store
-    c.fire.new.store c.args.out.now.records c.loop-next.out c.fire.new.out c.in-Some.next
-    c.loop-next.invariant.moving next (rw c.in-Some.ensures.kept at c.fire.ensures.acts)).fewer
+    c.act.new.self c.args.out.now.records c.loop-next.out c.act.new.out c.in-Some.next
+    c.loop-next.invariant.moving next acts).fewer
 
 pub loop-next-preserved : goal.loop-next-preserved
 loop-next-preserved c =
     let next = nexts c.args.globals.now c.args.store.now c.loop-next.store c.args.out.now.records
     c.loop-next.out c.in-Some.next c.loop-next.invariant.moving c.in-Some.ensures.next in
-    let acts = rw c.in-Some.ensures.kept at c.fire.ensures.acts in
+    let may = moving_may c.args.globals.now c.args.store.now c.loop-next.store
+    c.args.out.now.records c.loop-next.out c.in-Some.next c.loop-next.invariant.moving next in
+    let acts = deed_acts c.in-Some.next.slot c.in-Some.next.handle (firing_act c.args.globals.now)
+    c.loop-next.store c.act.new.self c.loop-next.out c.act.new.out c.act.result may
+    (rw c.in-Some.ensures.kept at c.act.ensures.found)
+    (rw c.in-Some.ensures.kept at c.act.ensures.done)
+    (rw c.in-Some.ensures.kept at c.act.ensures.spends) in
     let moves = moves_on c.args.globals.now c.args.store.now
-    c.loop-next.store c.fire.new.store c.args.out.now.records
-    c.loop-next.out c.fire.new.out c.in-Some.next c.loop-next.invariant.moving next acts in
-    let comparisons = rw c.in-Some.ensures.kept at c.fire.ensures.comparisons in
+    c.loop-next.store c.act.new.self c.args.out.now.records
+    c.loop-next.out c.act.new.out c.in-Some.next c.loop-next.invariant.moving next acts in
+    let comparisons = rw c.in-Some.ensures.kept at c.act.ensures.comparisons in
     record {
       moving = moves.moving;
       counting =
           counting_on c.args.globals.now c.args.store.now
-          c.loop-next.store c.fire.new.store c.args.counts.now
+          c.loop-next.store c.act.new.self c.args.counts.now
           c.loop-next.counts c.compared-in-Some.new.self c.loop-next.invariant.counting
           (room_stays (firing_act c.args.globals.now) c.in-Some.next.slot c.in-Some.next.handle
-          c.loop-next.store c.fire.new.store c.loop-next.out c.fire.new.out next.0 acts)
+          c.loop-next.store c.act.new.self c.loop-next.out c.act.new.out next.0 acts)
           moves.fewer
-          (λ b lt. omega (arith, comparisons b lt, c.compared-in-Some.ensures.comparisons))
-          (c.compared-in-Some.ensures.tests ∙ c.fire.ensures.tests)
-          (omega (arith, c.compared-in-Some.ensures.look_ups, c.fire.ensures.look_ups));
+          (λ b lt. omega (
+            arith,
+            c.count_act.ensures.comparisons,
+            compared c.act.result (room_of c.loop-next.store) b comparisons lt,
+            c.compared-in-Some.ensures.comparisons,
+          ))
+          (c.compared-in-Some.ensures.tests ∙ c.count_act.ensures.tests)
+          (omega (
+            arith,
+            c.compared-in-Some.ensures.look_ups,
+            c.count_act.ensures.look_ups,
+            few_look_ups c.act.result,
+          ));
     }
 
 pub returns-clause-comparisons : goal.returns-clause-comparisons
