@@ -4,5 +4,4 @@ pub mod Noted
 pub mod Asked
 pub mod Sought
 pub mod Costs
-pub mod Arrivals
 pub mod Spelled

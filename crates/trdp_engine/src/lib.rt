@@ -47,7 +47,6 @@ mod notices;
 mod opening;
 mod publishers;
 mod pull;
-mod reception;
 mod repliers;
 mod requesters;
 mod requests;

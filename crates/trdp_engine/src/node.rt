@@ -3,7 +3,7 @@
 ghost use Rattle.trdp_engine.specs.NodeStates.{uncounted};
 ghost use Rattle.std.specs.Prelude.{nat_le, if◌then◌else◌, None, ◌≡◌, ◌≢◌, ℕ, ◌<◌, ◌≤◌};
 ghost use Rattle.std.specs.Prelude.{length, OnOk, OnErr, IfOk, IfErr, Err, Some, slice_get};
-ghost use Rattle.trdp_model.specs.Events.{MomentIs, TopologyIs, RoleIs, DatagramIs, CallIs};
+ghost use Rattle.trdp_model.specs.Events.{MomentIs, TopologyIs, RoleIs, CallIs};
 ghost use Rattle.trdp_model.specs.Events.{call_model, event_model};
 ghost use Rattle.trdp_model.specs.Slots.{SlotState};
 ghost use Rattle.trdp_marshal.specs.Items.{model_of};
@@ -13,21 +13,21 @@ ghost use Rattle.trdp_model.specs.Configs.{setup_of};
 use crate::addressee::Addressee;
 use crate::calls::{put_value, serve};
 use crate::moment::fire_all;
-use crate::reception::{Datagram, hear};
 use crate::setting::Setting;
 use crate::start::parts;
 use std::alloc::Global;
 use std::marker::Model;
-use trdp_base::{MOMENT_MAX, Place, Topo};
+use trdp_base::{MOMENT_MAX, Topo};
 use trdp_dataset::NodeConfig;
 use trdp_filter::{Globals, Groups};
 use trdp_marshal::Item;
-use trdp_model::{Call, Event, NodeFault, Protocol};
+use trdp_model::{Call, Event, NodeFault};
 use trdp_outbox::Outbox;
 use trdp_store::{Counts, Store};
 
 mod adding;
 mod looks;
+mod reception;
 
 /// The communication node of one end device. It serves each slot of its configuration, and those
 /// that are added.
@@ -197,66 +197,6 @@ impl Node {
         }
         self.globals.led.set(group, leader);
         self.counts = Counts::none();
-        Ok(())
-    }
-
-    /// Takes a datagram. One that is no telegram changes nothing.
-    ///
-    /// # Errors
-    /// `OutOfMemory`, where it concerns a slot.
-    fn step_datagram(
-        &mut self,
-        protocol: Protocol,
-        src: Place,
-        dst: Place,
-        bytes: &[u8],
-        out: &mut Outbox,
-    ) -> Result<(), NodeFault>
-        ensures fault { FaultIs
-            (refused_as (length self.old.slots) self.old.globals
-            (DatagramIs protocol src dst bytes.now)) result }
-        ensures kept { OnErr result (self.new ≡ self.old) }
-        ensures unrecorded { OnErr result (out.new.records ≡ out.old.records) }
-        ensures memory { result ≡ Err NodeFault.OutOfMemory
-            → MayTakeMemory (uncounted self.old) (DatagramIs protocol src dst bytes.now) }
-        ensures full { result ≡ Err NodeFault.OutOfMemory
-            → MayLackMemory (uncounted self.old) out.old (DatagramIs protocol src dst bytes.now) }
-        ensures still { result ≡ Err NodeFault.OutOfMemory
-            → MayLackMemory (uncounted self.old) out.new (DatagramIs protocol src dst bytes.now) }
-        ensures config { self.new.config ≡ self.old.config }
-        ensures globals { OnOk result (self.new.globals
-            ≡ globals_after self.old.globals (DatagramIs protocol src dst bytes.now)) }
-        ensures count { length self.new.slots ≡ length self.old.slots }
-        ensures outcomes { OnOk result ((s : ℕ) (slot : SlotState)
-            → slice_get self.old.slots s ≡ Some slot
-            → GetsOutcome (uncounted self.new) out.old.records out.new.records s
-            (plain_effect (setup_of self.old.config) s slot self.old.globals
-            (DatagramIs protocol src dst bytes.now))) }
-        ensures appends { Appends self.old.slots out.old.records out.new.records }
-        ensures cost { OnOk result (IsBounded self.old.slots
-            (DatagramIs protocol src dst bytes.now) self.new.counts) }
-    {
-        let mut counts = Counts::none();
-        let datagram = Datagram {
-            protocol,
-            src,
-            dst,
-            bytes,
-        };
-        let setting = Setting {
-            alloc: self.alloc,
-            config: &self.config,
-            globals: &self.globals,
-        };
-        hear(
-            &mut self.store,
-            &mut self.noted,
-            &datagram,
-            &setting,
-            out,
-            &mut counts,
-        )?;
-        self.counts = counts;
         Ok(())
     }
 

@@ -1,5 +1,5 @@
 -- What is counted is within the bounds.
--- For `Node::step`, `step_call`, `step_datagram`, and for `hear` and `receive`.
+-- For `Node::step` and `step_call`, and for `receive`.
 -- By arithmetic.
 use Rattle.std.proofs.Common.{◌≡◌, ℕ, ◌+◌, ◌*◌, ◌≤◌, List, length}
 use Rattle.std.proofs.Common.{Some, ap, arith, Result, Ok, Err, OnOk}
@@ -44,15 +44,6 @@ costs counts counts_then b telegram slots comparisons tests look_ups = record {
 pub costs_nothing : (counts most : Counts) → CostsAtMost counts counts most
 costs_nothing counts most =
     record { comparisons = omega arith; tests = omega arith; look_ups = omega arith }
-
--- all was counted since nothing was
-pub within_costs : (first counts most : Counts)
-    → first ≡ no_counts → CostsAtMost first counts most → IsWithin counts most
-within_costs first counts most is costs = record {
-  comparisons = omega (arith, costs.comparisons, ap (λ (c : Counts). c.comparisons) is);
-  tests = omega (arith, costs.tests, ap (λ (c : Counts). c.tests) is);
-  look_ups = omega (arith, costs.look_ups, ap (λ (c : Counts). c.look_ups) is);
-}
 
 within_none : (counts most : Counts) → counts ≡ no_counts → IsWithin counts most
 within_none counts most is = record {

@@ -1,6 +1,6 @@
 //! What a datagram does to a node, from its bytes on.
 
-ghost use Rattle.std.specs.Prelude.{◌≡◌, ℕ, ◌*◌, ◌≤◌, length, OnOk, OnErr, Some, true};
+ghost use Rattle.std.specs.Prelude.{◌≡◌, ℕ, ◌*◌, ◌≤◌, length, OnOk, OnErr, Err, Some, true};
 ghost use Rattle.std.specs.Prelude.{slice_get, vec_capacity, ◌<◌, ◌^◌};
 ghost use Rattle.std.specs.List.{list_any};
 ghost use Rattle.trdp_base.specs.Moments.{last_moment};
@@ -9,37 +9,27 @@ ghost use Rattle.trdp_table.specs.TableLaws.{object_limit};
 ghost use Rattle.trdp_model.specs.Configs.{setup_of};
 ghost use Rattle.trdp_model.specs.Slots.{SlotState};
 ghost use Rattle.trdp_store.specs.TableSlots.{slots_of};
-ghost use Rattle.trdp_engine.specs.Arrivals.{came_in};
 ghost use Rattle.trdp_model.specs.Datagrams.{is_request, received_if, concerns};
-ghost use Rattle.trdp_model.specs.NodeModels.{HasOutcome, Appends};
-ghost use Rattle.trdp_outbox.specs.Rooms.{LacksRoom, datagram_room};
-ghost use Rattle.trdp_engine.specs.Costs.{quota_total, datagram_bounds, CostsAtMost};
+ghost use Rattle.trdp_model.specs.Alone.{FaultIs, refused_as, globals_after, plain_effect};
+ghost use Rattle.trdp_model.specs.Events.{DatagramIs};
+ghost use Rattle.trdp_model.specs.NodeModels.{HasOutcome, GetsOutcome, Appends, MayTakeMemory};
+ghost use Rattle.trdp_outbox.specs.Rooms.{LacksRoom, MayLackMemory, datagram_room};
+ghost use Rattle.trdp_engine.specs.Costs.{quota_total, datagram_bounds, CostsAtMost, IsBounded};
+ghost use Rattle.trdp_engine.specs.NodeStates.{uncounted};
 
 use crate::addressee::Addressee;
 use crate::addressees::note_all;
 use crate::datagram::{is_valid_at, take_all};
+use crate::node::Node;
 use crate::requests::ask_all;
 use crate::setting::Setting;
 use std::alloc::AllocError;
 use trdp_base::Place;
 use trdp_filter::Telegram;
 use trdp_head::{MdKind, read_md, read_pd};
-use trdp_model::Protocol;
+use trdp_model::{NodeFault, Protocol};
 use trdp_outbox::Outbox;
 use trdp_store::{Counts, Store};
-
-/// What came in.
-#[derive(Clone, Copy)]
-pub struct Datagram<'a> {
-    /// The protocol whose port it came to.
-    pub protocol: Protocol,
-    /// Where it came from.
-    pub src: Place,
-    /// Where it was sent.
-    pub dst: Place,
-    /// Its bytes.
-    pub bytes: &'a [u8],
-}
 
 /// Whether the telegram is a request.
 fn is_request(telegram: &Telegram<'_>) -> bool
@@ -103,63 +93,70 @@ fn receive(
     Ok(())
 }
 
-/// Takes a datagram. One that is no telegram changes nothing.
-///
-/// # Errors
-/// Want of memory, where the datagram concerns a slot; nothing has changed.
-pub fn hear(
-    store: &mut Store,
-    noted: &mut Vec<Addressee>,
-    datagram: &Datagram<'_>,
-    setting: &Setting<'_>,
-    out: &mut Outbox,
-    counts: &mut Counts,
-) -> Result<(), AllocError>
-    requires capacity { 16 * object_limit ≤ vec_capacity noted.old }
-    requires now { setting.now.globals.now.now ≤ last_moment }
-    ensures count { length store.new ≡ length store.old }
-    ensures capacity { vec_capacity noted.new ≡ vec_capacity noted.old }
-    ensures parts { OnOk result ((s : ℕ) (slot : SlotState)
-        → slice_get (slots_of store.old) s ≡ Some slot
-        → HasOutcome (slots_of store.new) out.old.records out.new.records s
-        (received_if (setup_of setting.now.config.now) slot setting.now.globals.now
-        (came_in datagram.now))) }
-    ensures appends { Appends (slots_of store.old) out.old.records out.new.records }
-    ensures kept { OnErr result (store.new ≡ store.old) }
-    ensures unrecorded { OnErr result (out.new.records ≡ out.old.records) }
-    ensures memory { OnErr result
-        (list_any (concerns setting.now.globals.now (came_in datagram.now))
-        (slots_of store.old) ≡ true) }
-    ensures full { OnErr result (LacksRoom out.old
-        (datagram_room setting.now.globals.now (slots_of store.old)
-        (came_in datagram.now))) }
-    ensures still { OnErr result (LacksRoom out.new
-        (datagram_room setting.now.globals.now (slots_of store.old)
-        (came_in datagram.now))) }
-    ensures cost { (b : ℕ) → quota_total (slots_of store.old) < 2 ^ b
-        → CostsAtMost counts.old counts.new
-        (datagram_bounds b (slots_of store.old) (came_in datagram.now)) }
-{
-    let Datagram {
-        protocol,
-        src,
-        dst,
-        bytes,
-    } = *datagram;
-    match protocol {
-        Protocol::Pd => match read_pd(bytes) {
-            Err(_) => Ok(()),
-            Ok(view) => {
-                let telegram = Telegram::Pd { src, dst, view };
-                receive(store, noted, &telegram, setting, out, counts)
-            }
-        },
-        Protocol::Md => match read_md(bytes) {
-            Err(_) => Ok(()),
-            Ok(view) => {
-                let telegram = Telegram::Md { src, dst, view };
-                receive(store, noted, &telegram, setting, out, counts)
-            }
-        },
+impl Node {
+    /// Takes a datagram. One that is no telegram changes nothing.
+    ///
+    /// # Errors
+    /// `OutOfMemory`, where it concerns a slot.
+    pub(crate) fn step_datagram(
+        &mut self,
+        protocol: Protocol,
+        src: Place,
+        dst: Place,
+        bytes: &[u8],
+        out: &mut Outbox,
+    ) -> Result<(), NodeFault>
+        ensures fault { FaultIs
+            (refused_as (length self.old.slots) self.old.globals
+            (DatagramIs protocol src dst bytes.now)) result }
+        ensures kept { OnErr result (self.new ≡ self.old) }
+        ensures unrecorded { OnErr result (out.new.records ≡ out.old.records) }
+        ensures memory { result ≡ Err NodeFault.OutOfMemory
+            → MayTakeMemory (uncounted self.old) (DatagramIs protocol src dst bytes.now) }
+        ensures full { result ≡ Err NodeFault.OutOfMemory
+            → MayLackMemory (uncounted self.old) out.old (DatagramIs protocol src dst bytes.now) }
+        ensures still { result ≡ Err NodeFault.OutOfMemory
+            → MayLackMemory (uncounted self.old) out.new (DatagramIs protocol src dst bytes.now) }
+        ensures config { self.new.config ≡ self.old.config }
+        ensures globals { OnOk result (self.new.globals
+            ≡ globals_after self.old.globals (DatagramIs protocol src dst bytes.now)) }
+        ensures count { length self.new.slots ≡ length self.old.slots }
+        ensures outcomes { OnOk result ((s : ℕ) (slot : SlotState)
+            → slice_get self.old.slots s ≡ Some slot
+            → GetsOutcome (uncounted self.new) out.old.records out.new.records s
+            (plain_effect (setup_of self.old.config) s slot self.old.globals
+            (DatagramIs protocol src dst bytes.now))) }
+        ensures appends { Appends self.old.slots out.old.records out.new.records }
+        ensures cost { OnOk result (IsBounded self.old.slots
+            (DatagramIs protocol src dst bytes.now) self.new.counts) }
+    {
+        let mut counts = Counts::none();
+        let telegram = match protocol {
+            Protocol::Pd => match read_pd(bytes) {
+                Err(_) => None,
+                Ok(view) => Some(Telegram::Pd { src, dst, view }),
+            },
+            Protocol::Md => match read_md(bytes) {
+                Err(_) => None,
+                Ok(view) => Some(Telegram::Md { src, dst, view }),
+            },
+        };
+        if let Some(telegram) = telegram {
+            let setting = Setting {
+                alloc: self.alloc,
+                config: &self.config,
+                globals: &self.globals,
+            };
+            receive(
+                &mut self.store,
+                &mut self.noted,
+                &telegram,
+                &setting,
+                out,
+                &mut counts,
+            )?;
+        }
+        self.counts = counts;
+        Ok(())
     }
 }

@@ -13,7 +13,7 @@ use Rattle.trdp_engine.proofs.CostLemmas.Telegrams.{asks_unasked}
 use Rattle.trdp_engine.proofs.CostLemmas.Bounds.{costs, costs_nothing}
 use Rattle.trdp_engine.proofs.DatagramLemmas.Taken.{of_an_error, lacking_concerns}
 use Rattle.trdp_model.proofs.StepLemmas.{has_outcome}
-use Rattle.trdp_engine.proofs.reception.receive.Goals as goal
+use Rattle.trdp_engine.proofs.node.reception.receive.Goals as goal
 
 pub returns-in_err-reserve-clause-memory : goal.returns-in_err-reserve-clause-memory
 returns-in_err-reserve-clause-memory c =
