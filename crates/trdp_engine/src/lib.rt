@@ -36,7 +36,6 @@ mod addressees;
 mod asked;
 mod callers;
 mod calls;
-mod datagram;
 mod first_listeners;
 mod laws;
 mod listeners;

@@ -12,7 +12,7 @@ use Rattle.trdp_engine.proofs.DatagramLemmas.HandedInTurn.{goes_may}
 use Rattle.trdp_engine.proofs.DatagramLemmas.HandedInTurn.{goes_addressed, goes_on, goes_end}
 use Rattle.trdp_engine.proofs.DatagramLemmas.HandedInTurn.{reached_count, reached_parts}
 use Rattle.trdp_engine.proofs.DatagramLemmas.HandedInTurn.{reached_appends}
-use Rattle.trdp_engine.proofs.datagram.take_all.Goals as goal
+use Rattle.trdp_engine.proofs.node.reception.take_all.Goals as goal
 
 pub loop-addressee-init : goal.loop-addressee-init
 loop-addressee-init c = record {

@@ -5,7 +5,7 @@ use Rattle.trdp_table.specs.Tables.{room_of}
 use Rattle.trdp_store.specs.TableSlots.{slots_of}
 use Rattle.trdp_engine.proofs.DatagramLemmas.Handed.{aim_of}
 use Rattle.trdp_engine.proofs.DatagramLemmas.HandedInTurn.{Goes}
-use Rattle.trdp_engine.proofs.datagram.take_all.Given as goal
+use Rattle.trdp_engine.proofs.node.reception.take_all.Given as goal
 
 -- those that were noted and haven't had the telegram lead to what it makes of the slots
 abbrev pub invariant-loop-addressee : goal.invariant-loop-addressee

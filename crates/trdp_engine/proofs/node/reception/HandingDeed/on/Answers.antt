@@ -2,7 +2,7 @@ use Rattle.std.proofs.Common.{◌∙◌, sym, arith}
 use Rattle.trdp_filter.specs.Telegrams.{telegram_model}
 use Rattle.trdp_engine.proofs.DatagramLemmas.Taken.{kind_taken}
 use Rattle.trdp_store.proofs.OrderLemmas.Over.{over_replied, over_confirmed}
-use Rattle.trdp_engine.proofs.datagram.HandingDeed.on.Goals as goal
+use Rattle.trdp_engine.proofs.node.reception.HandingDeed.on.Goals as goal
 
 pub push_answer-requires-clause-bytes : goal.push_answer-requires-clause-bytes
 push_answer-requires-clause-bytes c =
