@@ -1,11 +1,9 @@
 //! What a datagram at one of the ports comes to.
 
 ghost use Rattle.std.specs.Prelude.{◌≡◌, length};
-ghost use Rattle.trdp_model.specs.Events.{DatagramIs};
 ghost use Rattle.trdp_script.specs.PortLines.{control_line_of, operator_line_of};
 ghost use Rattle.trdp_daemon.specs.Services.{ComesWith, IsSoundService, TakesOnce};
 ghost use Rattle.trdp_daemon.specs.Services.{service_state};
-ghost use Rattle.trdp_daemon.specs.Effects.{event_effect};
 ghost use Rattle.trdp_daemon.specs.Turns.{udp_room};
 ghost use Rattle.trdp_daemon.specs.Visits.{control_effect, datagram_effect, operator_effect};
 
@@ -58,35 +56,27 @@ impl Service {
             (datagram_effect (service_state self.old) port from bytes.now) }
     {
         match port {
-            Port::Pd => self.take_telegram(Protocol::Pd, from, self.home.pd, bytes, link),
-            Port::Md => self.take_telegram(Protocol::Md, from, self.home.md, bytes, link),
+            Port::Pd => {
+                let event = Event::Datagram {
+                    protocol: Protocol::Pd,
+                    src: from,
+                    dst: self.home.pd,
+                    bytes,
+                };
+                self.take_event(&event, link);
+            }
+            Port::Md => {
+                let event = Event::Datagram {
+                    protocol: Protocol::Md,
+                    src: from,
+                    dst: self.home.md,
+                    bytes,
+                };
+                self.take_event(&event, link);
+            }
             Port::Operator => self.take_operator(from, bytes, link),
             Port::Control(slot) => self.take_control(buffer, slot, from, bytes, link),
         }
-    }
-
-    /// Takes a datagram of process data or of message data.
-    fn take_telegram<W: Wire>(
-        &mut self,
-        protocol: Protocol,
-        src: Place,
-        dst: Place,
-        bytes: &[u8],
-        link: &mut Link<W>,
-    )
-        requires sound { IsSoundService self.old }
-        ensures sound { IsSoundService self.new }
-        ensures config { self.new.node.config ≡ self.old.node.config }
-        ensures comes { ComesWith W.takings W.gives self.old self.new link.old link.new
-            (event_effect (service_state self.old) (DatagramIs protocol src dst bytes.now)) }
-    {
-        let event = Event::Datagram {
-            protocol,
-            src,
-            dst,
-            bytes,
-        };
-        self.take_event(&event, link);
     }
 
     /// Takes a datagram that came to the operator's port.
