@@ -1,6 +1,6 @@
 //! One turn: the moment, and then a take at each port.
 
-ghost use Rattle.std.specs.Prelude.{◌≡◌, ◌∷◌, [], length, max, min};
+ghost use Rattle.std.specs.Prelude.{◌≡◌, length, max, min};
 ghost use Rattle.trdp_base.specs.Moments.{last_moment};
 ghost use Rattle.trdp_daemon.specs.Services.{IsSoundService, TakesAtPorts, TakesTurn};
 ghost use Rattle.trdp_daemon.specs.Turns.{udp_room};
@@ -49,27 +49,7 @@ fn visit_ports<W: Wire>(
         ports.now }
 {
     for i in 0..ports.len() {
-        visit_port(buffer, service, ports[i], room, link);
-    }
-}
-
-/// Takes at a port once, if it is there.
-fn visit_port<W: Wire>(
-    buffer: &mut Vec<u8>,
-    service: &mut Service,
-    port: Port,
-    room: &mut [u8],
-    link: &mut Link<W>,
-)
-    requires sound { IsSoundService service.old }
-    requires room { length room.old ≡ udp_room }
-    ensures sound { IsSoundService service.new }
-    ensures config { service.new.node.config ≡ service.old.node.config }
-    ensures takes { TakesAtPorts W.takings W.gives service.old service.new link.old link.new
-        (port ∷ []) }
-{
-    if service.is_there(port) {
-        service.visit(buffer, port, room, link);
+        service.visit(buffer, ports[i], room, link);
     }
 }
 

@@ -1,8 +1,8 @@
 //! What a datagram at one of the ports comes to.
 
-ghost use Rattle.std.specs.Prelude.{◌≡◌, length};
+ghost use Rattle.std.specs.Prelude.{◌≡◌, ◌∷◌, [], length};
 ghost use Rattle.trdp_script.specs.PortLines.{control_line_of, operator_line_of};
-ghost use Rattle.trdp_daemon.specs.Services.{ComesWith, IsSoundService, TakesOnce};
+ghost use Rattle.trdp_daemon.specs.Services.{ComesWith, IsSoundService, TakesAtPorts};
 ghost use Rattle.trdp_daemon.specs.Services.{service_state};
 ghost use Rattle.trdp_daemon.specs.Turns.{udp_room};
 ghost use Rattle.trdp_daemon.specs.Visits.{control_effect, datagram_effect, operator_effect};
@@ -17,7 +17,7 @@ use trdp_engine::{Event, Protocol};
 use trdp_script::{read_control, read_operator};
 
 impl Service {
-    /// Takes at a port once, and what comes is one event.
+    /// Takes at a port once, if the node has it, and what comes is one event.
     pub(crate) fn visit<W: Wire>(
         &mut self,
         buffer: &mut Vec<u8>,
@@ -29,8 +29,12 @@ impl Service {
         requires room { length room.old ≡ udp_room }
         ensures sound { IsSoundService self.new }
         ensures config { self.new.node.config ≡ self.old.node.config }
-        ensures takes { TakesOnce W.takings W.gives self.old self.new link.old link.new port }
+        ensures takes { TakesAtPorts W.takings W.gives self.old self.new link.old link.new
+            (port ∷ []) }
     {
+        if !self.is_there(port) {
+            return;
+        }
         match link.take(port, room) {
             Some((from, len)) => {
                 let (bytes, _) = room.split_at(len);

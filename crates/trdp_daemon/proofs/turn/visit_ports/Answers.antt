@@ -17,8 +17,8 @@ loop-i-preserved g c =
     let next : c.loop-i.i + 1 ≡ suc c.loop-i.i = omega arith in
     let more = ap (λ n. take n ports) next ∙ take-suc ports c.loop-i.i Pd c.loop-i-test.true in
     record {
-      is_sound = c.visit_port.ensures.sound;
-      config_is = c.visit_port.ensures.config ∙ c.loop-i.invariant.config_is;
+      is_sound = c.visit.ensures.sound;
+      config_is = c.visit.ensures.config ∙ c.loop-i.invariant.config_is;
       taken =
-          visits_next ports c.loop-i.i _ more c.loop-i.invariant.taken c.visit_port.ensures.takes;
+          visits_next ports c.loop-i.i _ more c.loop-i.invariant.taken c.visit.ensures.takes;
     }
