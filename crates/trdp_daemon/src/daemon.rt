@@ -10,11 +10,12 @@ use crate::port::Port;
 use crate::ports::ports_of;
 use crate::service::Service;
 use crate::totals::Totals;
-use crate::turn::take_turn;
+use crate::turn::{moment_of, visit_ports};
 use crate::wire::Wire;
 use std::alloc::{AllocError, Global};
 use std::marker::Model;
 use trdp_dataset::NodeConfig;
+use trdp_engine::Event;
 
 /// Room for a datagram, in bytes: more than the longest over UDP.
 const DATAGRAM_ROOM: usize = 65_536;
@@ -167,12 +168,14 @@ impl<W: Wire, C: Clock> Daemon<W, C> {
         ensures { TakesTurnAt W.takings W.gives C.readings result self.old self.new }
     {
         let reading = self.clock.now();
-        take_turn(
+        let moment = moment_of(&self.service.node, reading);
+        self.service
+            .take_event(&Event::Moment(moment), &mut self.link);
+        visit_ports(
             &mut self.buffer,
             &mut self.service,
             &self.ports,
             &mut self.room,
-            reading,
             &mut self.link,
         );
         reading
