@@ -174,12 +174,17 @@ class Ends(unittest.TestCase):
         ]:
             for turns in ("0", "3"):
                 self.assertEqual(self.ends(config, "serve", "--turns", turns), (status, output, errors))
-        self.assertEqual(self.ends(self.ONE_PORT, "daemon", "--totals", "1"), (4, "", "bind fault\n"))
+
+    def test_a_daemon_whose_ports_are_taken_ends(self) -> None:
+        status, output, errors = self.ends(self.ONE_PORT, "daemon", "--totals", "1")
+        self.assertEqual((status, output), (4, ""))
+        self.assertIn("\nbind fault\n", errors)
 
     def test_a_writer_that_fails_ends_the_service(self) -> None:
         with open("/dev/full", "w") as full:
             for words in (("serve", "--turns", "0"), ("daemon", "--totals", "1")):
-                self.assertEqual(self.ends(node(control(0)), *words, stdout=full), (4, None, "write fault\n"))
+                status, _, errors = self.ends(node(control(0)), *words, stdout=full)
+                self.assertEqual((status, errors.splitlines()[-1]), (4, "write fault"))
 
     def test_a_fault_that_cannot_be_told_keeps_its_status(self) -> None:
         with open("/dev/full", "w") as full:
