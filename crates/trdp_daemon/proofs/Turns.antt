@@ -1,5 +1,5 @@
 -- A turn, and turns one after another.
--- For `Service::visit`, `visit_ports` and `Daemon::timed_turn`, and for the daemon's turns.
+-- For `Service::visit` and `Daemon::timed_turn`, and for the daemon's turns.
 -- By induction on the visits: a turn is a moment and then the takes at each port.
 use Rattle.std.proofs.Common.{◌≡◌, ◌+◌, ℕ, Bool, true, false, List, [], ◌∷◌, ◌++◌, Option}
 use Rattle.std.proofs.Common.{refl, sym, ◌∙◌, ap, subst, map, take}

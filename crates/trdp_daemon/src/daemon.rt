@@ -1,6 +1,7 @@
 //! The daemon: turn after turn over a wire and a clock.
 
-ghost use Rattle.std.specs.Prelude.{◌≡◌, IfOk, length};
+ghost use Rattle.std.specs.Prelude.{◌≡◌, IfOk, length, max, min};
+ghost use Rattle.trdp_base.specs.Moments.{last_moment};
 ghost use Rattle.trdp_daemon.specs.Ports.{ports_of};
 ghost use Rattle.trdp_daemon.specs.Turns.{udp_room};
 
@@ -10,12 +11,12 @@ use crate::port::Port;
 use crate::ports::ports_of;
 use crate::service::Service;
 use crate::totals::Totals;
-use crate::turn::{moment_of, visit_ports};
 use crate::wire::Wire;
 use std::alloc::{AllocError, Global};
 use std::marker::Model;
+use trdp_base::MOMENT_MAX;
 use trdp_dataset::NodeConfig;
-use trdp_engine::Event;
+use trdp_engine::{Event, Node};
 
 /// Room for a datagram, in bytes: more than the longest over UDP.
 const DATAGRAM_ROOM: usize = 65_536;
@@ -163,21 +164,22 @@ impl<W: Wire, C: Clock> Daemon<W, C> {
         self.totals()
     }
 
-    /// Takes one turn. Answers the reading of the clock at which it began.
+    /// Takes one turn: the moment of a reading of the clock, and then at each port once that is
+    /// there when its place in the order comes. Answers the reading.
     fn timed_turn(&mut self) -> u64
         ensures { TakesTurnAt W.takings W.gives C.readings result self.old self.new }
     {
         let reading = self.clock.now();
-        let moment = moment_of(&self.service.node, reading);
-        self.service
-            .take_event(&Event::Moment(moment), &mut self.link);
-        visit_ports(
-            &mut self.buffer,
-            &mut self.service,
-            &self.ports,
-            &mut self.room,
-            &mut self.link,
-        );
+        let moment = Event::Moment(moment_of(&self.service.node, reading));
+        self.service.take_event(&moment, &mut self.link);
+        for i in 0..self.ports.len() {
+            self.service.visit(
+                &mut self.buffer,
+                self.ports[i],
+                &mut self.room,
+                &mut self.link,
+            );
+        }
         reading
     }
 
@@ -201,4 +203,11 @@ fn buffers(alloc: Global, config: &NodeConfig) -> Result<(Vec<Port>, Vec<u8>), A
     let ports = ports_of(alloc, config)?;
     let room = vec![in alloc; 0; DATAGRAM_ROOM]?;
     Ok((ports, room))
+}
+
+/// The moment of a reading of the clock: never before the node's, nor past the last one.
+fn moment_of(node: &Node, reading: u64) -> u64
+    ensures { result ≡ max node.now.globals.now (min reading last_moment) }
+{
+    node.now().max(reading.min(MOMENT_MAX))
 }

@@ -46,7 +46,6 @@ mod run_clock;
 mod service;
 mod telling;
 mod totals;
-mod turn;
 mod udp_wire;
 mod visit;
 mod wire;
