@@ -1,5 +1,5 @@
 -- What a datagram at a port came to.
--- For `Service::visit`, `take_datagram`, `take_operator` and `take_control`.
+-- For `Service::visit`, `take_operator` and `take_control`.
 -- By cases on the port, and on whether its line was read, skipped or refused.
 use Rattle.std.proofs.Common.{◌≡◌, ℕ, true, List, [], ◌∷◌, Option, Some, None}
 use Rattle.std.proofs.Common.{Result, Ok, Err, refl, sym, ◌∙◌, ap, subst, length, take}

@@ -5,7 +5,7 @@ ghost use Rattle.trdp_script.specs.PortLines.{control_line_of, operator_line_of}
 ghost use Rattle.trdp_daemon.specs.Services.{ComesWith, IsSoundService, TakesAtPorts};
 ghost use Rattle.trdp_daemon.specs.Services.{service_state};
 ghost use Rattle.trdp_daemon.specs.Turns.{udp_room};
-ghost use Rattle.trdp_daemon.specs.Visits.{control_effect, datagram_effect, operator_effect};
+ghost use Rattle.trdp_daemon.specs.Visits.{control_effect, operator_effect};
 
 use crate::answer::refuse;
 use crate::link::Link;
@@ -35,30 +35,10 @@ impl Service {
         if !self.is_there(port) {
             return;
         }
-        match link.take(port, room) {
-            Some((from, len)) => {
-                let (bytes, _) = room.split_at(len);
-                self.take_datagram(buffer, port, from, bytes, link);
-            }
-            None => {}
-        }
-    }
-
-    /// Takes a datagram that came to a port.
-    fn take_datagram<W: Wire>(
-        &mut self,
-        buffer: &mut Vec<u8>,
-        port: Port,
-        from: Place,
-        bytes: &[u8],
-        link: &mut Link<W>,
-    )
-        requires sound { IsSoundService self.old }
-        ensures sound { IsSoundService self.new }
-        ensures config { self.new.node.config ≡ self.old.node.config }
-        ensures comes { ComesWith W.takings W.gives self.old self.new link.old link.new
-            (datagram_effect (service_state self.old) port from bytes.now) }
-    {
+        let Some((from, len)) = link.take(port, room) else {
+            return;
+        };
+        let (bytes, _) = room.split_at(len);
         match port {
             Port::Pd => {
                 let event = Event::Datagram {
