@@ -47,7 +47,6 @@ mod service;
 mod telling;
 mod totals;
 mod udp_wire;
-mod visit;
 mod wire;
 
 pub use clock::Clock;

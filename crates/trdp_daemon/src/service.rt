@@ -1,21 +1,22 @@
-//! A node, and where its slots' applications are.
+//! A node, and where its slots' applications are; what a take at one of the ports comes to.
 
-ghost use Rattle.std.specs.Prelude.{◌≡◌, ◌≢◌, length, slice_set, IfSome, IfNone, IfOk};
-ghost use Rattle.std.specs.Prelude.{IfErr};
-ghost use Rattle.std.specs.Prelude.{OnOk, OnErr, Some};
+ghost use Rattle.std.specs.Prelude.{◌≡◌, ◌≢◌, ◌∷◌, [], length, slice_set, Some, IfSome, IfNone};
+ghost use Rattle.std.specs.Prelude.{IfOk, IfErr, OnOk, OnErr};
 ghost use Rattle.trdp_model.specs.Alone.{refused_as};
 ghost use Rattle.trdp_model.specs.Events.{event_model};
 ghost use Rattle.trdp_model.specs.NodeModels.{MayTakeMemory};
 ghost use Rattle.trdp_engine.specs.NodeStates.{uncounted};
 ghost use Rattle.trdp_model.specs.NodeModels.{node_after};
 ghost use Rattle.trdp_outbox.specs.SlotOrder.{by_slot};
+ghost use Rattle.trdp_script.specs.PortLines.{control_line_of, operator_line_of};
 ghost use Rattle.trdp_daemon.specs.Effects.{event_records, event_effect};
 ghost use Rattle.trdp_daemon.specs.Resting.{IsIdleTime};
-ghost use Rattle.trdp_daemon.specs.Services.{ComesWith, IsSoundService, service_state};
-ghost use Rattle.trdp_daemon.specs.Turns.{is_there, no_places, opened_service};
-ghost use Rattle.trdp_daemon.specs.Visits.{operator_event};
+ghost use Rattle.trdp_daemon.specs.Services.{ComesWith, IsSoundService, TakesAtPorts};
+ghost use Rattle.trdp_daemon.specs.Services.{service_state};
+ghost use Rattle.trdp_daemon.specs.Turns.{is_there, no_places, opened_service, udp_room};
+ghost use Rattle.trdp_daemon.specs.Visits.{control_effect, operator_effect, operator_event};
 
-use crate::answer::operator_text;
+use crate::answer::{operator_text, refuse};
 use crate::home::{Home, home_of};
 use crate::link::Link;
 use crate::port::Port;
@@ -24,7 +25,8 @@ use crate::wire::Wire;
 use std::alloc::{AllocError, Global};
 use trdp_base::Place;
 use trdp_dataset::NodeConfig;
-use trdp_engine::{Event, Node, NodeFault, Outbox};
+use trdp_engine::{Event, Node, NodeFault, Outbox, Protocol};
+use trdp_script::{read_control, read_operator};
 
 /// A node, with the control places of its slots and the lists that are used again from event to
 /// event.
@@ -77,7 +79,7 @@ impl Service {
     }
 
     /// Whether the node has a port: a control port has to be that of an open slot.
-    pub(crate) fn is_there(&self, port: Port) -> bool
+    fn is_there(&self, port: Port) -> bool
         ensures { result ≡ is_there (service_state self.now).node port }
     {
         match port {
@@ -98,6 +100,92 @@ impl Service {
         next.saturating_sub(reading)
     }
 
+    /// Takes at a port once, if the node has it, and what comes is one event.
+    pub(crate) fn visit<W: Wire>(
+        &mut self,
+        buffer: &mut Vec<u8>,
+        port: Port,
+        room: &mut [u8],
+        link: &mut Link<W>,
+    )
+        requires sound { IsSoundService self.old }
+        requires room { length room.old ≡ udp_room }
+        ensures sound { IsSoundService self.new }
+        ensures config { self.new.node.config ≡ self.old.node.config }
+        ensures takes { TakesAtPorts W.takings W.gives self.old self.new link.old link.new
+            (port ∷ []) }
+    {
+        if !self.is_there(port) {
+            return;
+        }
+        let Some((from, len)) = link.take(port, room) else {
+            return;
+        };
+        let (bytes, _) = room.split_at(len);
+        match port {
+            Port::Pd => {
+                let event = Event::Datagram {
+                    protocol: Protocol::Pd,
+                    src: from,
+                    dst: self.home.pd,
+                    bytes,
+                };
+                self.take_event(&event, link);
+            }
+            Port::Md => {
+                let event = Event::Datagram {
+                    protocol: Protocol::Md,
+                    src: from,
+                    dst: self.home.md,
+                    bytes,
+                };
+                self.take_event(&event, link);
+            }
+            Port::Operator => self.take_operator(from, bytes, link),
+            Port::Control(slot) => self.take_control(buffer, slot, from, bytes, link),
+        }
+    }
+
+    /// Takes a datagram that came to the operator's port.
+    fn take_operator<W: Wire>(&mut self, from: Place, bytes: &[u8], link: &mut Link<W>)
+        requires sound { IsSoundService self.old }
+        ensures sound { IsSoundService self.new }
+        ensures config { self.new.node.config ≡ self.old.node.config }
+        ensures comes { ComesWith W.takings W.gives self.old self.new link.old link.new
+            (operator_effect (service_state self.old) from (operator_line_of bytes.now)) }
+    {
+        match read_operator(bytes) {
+            Ok(Some(event)) => self.take_operator_event(&event, from, link),
+            Ok(None) => {}
+            Err(fault) => refuse(Port::Operator, from, fault, link),
+        }
+    }
+
+    /// Takes a datagram that came to the control port of a slot.
+    fn take_control<W: Wire>(
+        &mut self,
+        buffer: &mut Vec<u8>,
+        slot: u16,
+        from: Place,
+        bytes: &[u8],
+        link: &mut Link<W>,
+    )
+        requires sound { IsSoundService self.old }
+        ensures sound { IsSoundService self.new }
+        ensures config { self.new.node.config ≡ self.old.node.config }
+        ensures comes { ComesWith W.takings W.gives self.old self.new link.old link.new
+            (control_effect (service_state self.old) slot from (control_line_of slot bytes.now)) }
+    {
+        match read_control(buffer, slot, bytes) {
+            Ok(Some(event)) => {
+                self.set_place(slot, from);
+                self.take_event(&event, link);
+            }
+            Ok(None) => self.set_place(slot, from),
+            Err(fault) => refuse(Port::Control(slot), from, fault, link),
+        }
+    }
+
     /// Gives the node an event, and offers what its records send. An event that finds no memory is
     /// counted, and lost.
     pub(crate) fn take_event<W: Wire>(&mut self, event: &Event<'_>, link: &mut Link<W>)
@@ -115,12 +203,7 @@ impl Service {
 
     /// Gives the node an event of the operator, whose answer goes to that place behind what the
     /// event's records send. An event that finds no memory is counted, and lost: it has no answer.
-    pub(crate) fn take_operator_event<W: Wire>(
-        &mut self,
-        event: &Event<'_>,
-        from: Place,
-        link: &mut Link<W>,
-    )
+    fn take_operator_event<W: Wire>(&mut self, event: &Event<'_>, from: Place, link: &mut Link<W>)
         requires sound { IsSoundService self.old }
         ensures sound { IsSoundService self.new }
         ensures config { self.new.node.config ≡ self.old.node.config }
@@ -137,7 +220,7 @@ impl Service {
     }
 
     /// Sets the control place of a slot, if there is such a slot.
-    pub(crate) fn set_place(&mut self, slot: u16, from: Place)
+    fn set_place(&mut self, slot: u16, from: Place)
         ensures node { self.new.node ≡ self.old.node }
         ensures home { self.new.home ≡ self.old.home }
         ensures places { self.new.places.items
