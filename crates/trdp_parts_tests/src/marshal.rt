@@ -101,41 +101,53 @@ fn spells(
     Ok(())
 }
 
+/// The same over the datasets above.
+fn spells_here(
+    rt: &(impl Abort + AllocGlobal),
+    id: u32,
+    item: &Item,
+    bytes: &[u8],
+) -> Result<(), Fail> {
+    let registry = registry(rt.alloc())?;
+    spells(rt, rt.alloc(), &registry, id, item, bytes)
+}
+
 #[test]
 fn spells_a_counted_array(rt: HostRuntime) -> Result<(), Fail> {
-    let alloc = rt.alloc();
-    let registry = registry(alloc)?;
-    let item = counted(alloc)?;
-    spells(&rt, alloc, &registry, 1001, &item, &[2, 0, 1, 0, 2])
+    let item = counted(rt.alloc())?;
+    spells_here(&rt, 1001, &item, &[2, 0, 1, 0, 2])
+}
+
+/// A value of dataset 1002.
+fn nested(alloc: Global) -> Result<Item, AllocError> {
+    let last = uncounted(alloc, Item::U(0))?;
+    triple(alloc, Item::S(-2), Item::T48(1, 2), last)
 }
 
 #[test]
 fn spells_a_nested_dataset(rt: HostRuntime) -> Result<(), Fail> {
-    let alloc = rt.alloc();
-    let registry = registry(alloc)?;
-    let last = uncounted(alloc, Item::U(0))?;
-    let item = triple(alloc, Item::S(-2), Item::T48(1, 2), last)?;
-    let bytes = b"\xff\xfe\0\0\0\x01\0\x02\0";
-    spells(&rt, alloc, &registry, 1002, &item, bytes)
+    let item = nested(rt.alloc())?;
+    spells_here(&rt, 1002, &item, b"\xff\xfe\0\0\0\x01\0\x02\0")
+}
+
+/// A value of dataset 1004.
+fn dated(alloc: Global) -> Result<Item, AllocError> {
+    let text = pair(alloc, Item::U(0x4f), Item::U(0x4b))?;
+    triple(alloc, Item::T64(1, u32::MAX), text, Item::S(i64::MIN))
 }
 
 #[test]
 fn spells_times_and_texts(rt: HostRuntime) -> Result<(), Fail> {
-    let alloc = rt.alloc();
-    let registry = registry(alloc)?;
-    let text = pair(alloc, Item::U(0x4f), Item::U(0x4b))?;
-    let item = triple(alloc, Item::T64(1, u32::MAX), text, Item::S(i64::MIN))?;
+    let item = dated(rt.alloc())?;
     let bytes = b"\0\0\0\x01\xff\xff\xff\xffOK\x80\0\0\0\0\0\0\0";
-    spells(&rt, alloc, &registry, 1004, &item, bytes)
+    spells_here(&rt, 1004, &item, bytes)
 }
 
 #[test]
 fn spells_the_longest_item(rt: HostRuntime) -> Result<(), Fail> {
-    let alloc = rt.alloc();
-    let registry = registry(alloc)?;
-    let item = long(alloc, 65_384)?;
-    let bytes = longest_bytes(alloc)?;
-    spells(&rt, alloc, &registry, 1003, &item, &bytes)
+    let item = long(rt.alloc(), 65_384)?;
+    let bytes = longest_bytes(rt.alloc())?;
+    spells_here(&rt, 1003, &item, &bytes)
 }
 
 #[test]
