@@ -12,8 +12,8 @@ slots give, slots rising. A run tells how often each kind of line came, and fail
 takes the seed from the clock; it is printed.
 
 With `rows` the slots by themselves play all scripts that stand in the repository with their output: those of rows/ whose configuration is
-taken, and the examples. With `limits` both play a node at every limit, and a publisher's first ten thousand telegrams. The exit status is 0
-where all is alike.
+taken, and the examples. With `limits` both play a node at every limit, and a publisher's first ten thousand telegrams. The exit status is
+0 where all is alike.
 """
 import os
 import subprocess

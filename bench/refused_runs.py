@@ -13,8 +13,8 @@ on a byte at a time, some bytes, so that they end within lines, or all. What a r
     write     status 4 with `write fault`, and what the writes before passed on
 
 A line has the script, the kind of calls, the bytes that one passes on, how many there are, how many runs came to each end, and how many
-failed. Then come a script that takes 72,018 reads, and writes that are interrupted. The exit status is 0 where nothing failed, and else 1.
-gcc must be on PATH.
+failed. Then come a script that takes 72,018 reads, and writes that are interrupted. The exit status is 0 where nothing failed, and else
+1. gcc must be on PATH.
 """
 import collections
 import os
@@ -186,7 +186,9 @@ def comes_byte_by_byte(library, words):
 
 
 def writes_are_interrupted(library, words):
-    """How a script ends whose writes pass on a byte after 999 interruptions in a row, and after 1,000, which are a fault; answers the failures."""
+    """How a script ends whose writes pass on a byte after 999 interruptions in a row, or after 1,000, which are a fault; answers how
+    many of the two fail.
+    """
     lines = SCRIPTS["up to a bad line"]
     text, whole = "".join(line for line, _ in lines), whole_of(lines)
     failed = 0
