@@ -13,7 +13,7 @@ on a byte at a time, some bytes, so that they end within lines, or all. What a r
     write     status 4 with `write fault`, and what the writes before passed on
 
 A line has the script, the kind of calls, the bytes that one passes on, how many there are, how many runs came to each end, and how many
-failed. Then come a script that takes 72,018 reads, and writes that are interrupted. The exit status is 0 where nothing failed, and else
+failed. Then come a script that takes 72,019 reads, and writes that are interrupted. The exit status is 0 where nothing failed, and else
 1. gcc must be on PATH.
 """
 import collections
@@ -178,7 +178,7 @@ def failures(library, words, name, lines, kind, piece):
 
 
 def comes_byte_by_byte(library, words):
-    """Whether a script runs to its end that takes 72,018 reads, more than a number of 16 bits counts; answers 1 where it doesn't."""
+    """Whether a script runs to its end that takes 72,019 reads, more than a number of 16 bits counts; answers 1 where it doesn't."""
     script = "# remark\n" * 8000 + "moment 5\nmoment 4\n"
     reads, ran = library.count(words, "read", input=script, read_piece=1)
     print(f"byte by byte: {reads} reads, status {ran.returncode}, {ran.stdout}", end="")
