@@ -1,6 +1,8 @@
 //! What the program `trdpd` does, over any reader and writer: a script played over a node
 //! (`run_program`), or a node served over the system's sockets, for so many turns (`serve_program`)
-//! or until the program is stopped (`daemon_program`).
+//! or until the program is stopped (`daemon_program`); and with the words of `trdp_report`, which
+//! say what a configuration means, a check of it (`check_program`), and such a service that begins
+//! with them (`report_daemon`).
 //!
 //! ```text
 //! let status = run_program(&rt, config, &mut reader, &mut writer, &mut errors);    // 0, 1, 3 or 4
@@ -23,17 +25,26 @@
 //! nothing at 0, and else a front of the fault's line. No contract says that the outside works:
 //! each of the three that answers 1 at once meets its contract, as if memory had run out while the
 //! configuration was read.
+//!
+//! Of `check_program` and `report_daemon` the contracts say the exit status: 0 comes of a
+//! configuration alone, and 1 of one that isn't taken, or where memory ran out while it was read.
+//! The words of `trdp_report` are no contract's matter: one that answers 1 at once meets its own,
+//! and so does one that leaves a text out. The tests refuse both.
 #![tactic(auto)]
 
 mod attend;
+mod check;
 mod config_names;
+mod daemon;
 mod faults;
 mod program;
 mod serve;
 mod told;
 
 pub use attend::daemon_program;
+pub use check::check_program;
 pub use config_names::ConfigFaultText;
+pub use daemon::report_daemon;
 pub use faults::{SERVE_FAULT_STATUS, ScriptFaultText, ServeFault, script_status};
 pub use program::{CONFIG_STATUS, read_config, run_program};
 pub use serve::serve_program;

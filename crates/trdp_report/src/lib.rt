@@ -1,24 +1,17 @@
-//! What the program says of a configuration, in words: what it means, what its author may not have
-//! meant, and where its fault is.
-//!
-//! `check_program` says it and ends; `report_daemon` serves the node, says it before, and after a
-//! fault where that is: the place in the file, or the port that the system refuses.
+//! What there is to say of a configuration, in words: what it means, what its author may not have
+//! meant, where its fault is, and which of its ports the system refuses.
 //!
 //! ```text
-//! let status = check_program(alloc, config, &mut writer, &mut errors);    // 1, and on errors:
-//! config fault WrongType address
-//! at node, key address
+//! let text = report(alloc, config, &taken)?;              // node 10.0.0.1: process data at ..
+//! let text = fault_place(alloc, config, fault)?;          // at node, key address
+//! let text = refused_ports(rt, alloc, &taken)?;           // port 10.0.0.1:17224: ..
 //! ```
 //!
-//! The words are no proof's matter: which ones are told, and which place, is shown by tests. What
-//! the contracts say is the exit status: 0 comes of a configuration alone, and 1 of one that isn't
-//! taken, or where memory ran out while it was read. A `report_daemon` that answers 1 at once
-//! meets its contract, as if memory had run out, and so does a text that is left out: the tests
-//! refuse both.
+//! Each answers lines, or none where there is nothing to say. The words are no proof's matter: no
+//! function has clauses, so that a text which is left out breaks none. Which words are told, and
+//! which place, is shown by tests.
 #![tactic(auto)]
 
-mod check;
-mod daemon;
 mod datasets;
 mod find;
 mod meaning;
@@ -26,6 +19,7 @@ mod place;
 mod refused;
 mod unknown;
 mod warnings;
+mod words;
 
-pub use check::check_program;
-pub use daemon::report_daemon;
+pub use refused::refused_ports;
+pub use words::{fault_place, report};

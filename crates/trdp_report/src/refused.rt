@@ -7,17 +7,17 @@ use std::net::{Net, SocketAddr, SocketAddrV4, UdpSocket};
 use trdp_base::Ip;
 use trdp_dataset::NodeConfig;
 
-/// Adds a line for each port of a node that the system refuses, with its reason. It asks for each
-/// of them once more, and for none twice, and gives them back.
+/// A line for each port of a node that the system refuses, with its reason. It asks for each of
+/// them once more, and for none twice, and gives them back.
 ///
 /// # Errors
 /// Want of memory.
-pub(crate) fn push_refused<R: Net>(
+pub fn refused_ports<R: Net>(
     rt: &R,
     alloc: Global,
-    text: &mut String,
     config: &NodeConfig,
-) -> Result<(), AllocError> {
+) -> Result<String, AllocError> {
+    let mut text = String::new(alloc);
     // Held until all are asked for, so that a port which is named twice is refused.
     let mut held = Vec::new(alloc);
     for place in places_of(alloc, config)? {
@@ -26,7 +26,7 @@ pub(crate) fn push_refused<R: Net>(
             Err(error) => writeln!(text, "port {place}: {error}")?,
         }
     }
-    Ok(())
+    Ok(text)
 }
 
 /// The places of a node's ports, in the order in which they are bound.

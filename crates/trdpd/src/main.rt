@@ -31,9 +31,9 @@
 //!   the system refuses a port.
 //!
 //! What it does in each case, with the exit status, is the contract of `trdp_program`'s
-//! `run_program` and `serve_program`, and of `trdp_report`'s `check_program` and `report_daemon`.
-//! The functions here and in `command` have no clauses: how the command line is read, which is
-//! `clap`'s, how the file is read, and status 2 are tried by hand.
+//! `run_program`, `serve_program`, `check_program` and `report_daemon`. The functions here and in
+//! `command` have no clauses: how the command line is read, which is `clap`'s, how the file is
+//! read, and status 2 are tried by hand.
 #![tactic(auto)]
 
 mod command;
@@ -45,9 +45,9 @@ use std::process::ExitCode;
 use std::{env, fs, io};
 use trdp_dataset::ConfigFault;
 use trdp_program::{
-    CONFIG_STATUS, ConfigFaultText, ScriptFaultText, run_program, script_status, serve_program,
+    CONFIG_STATUS, ConfigFaultText, ScriptFaultText, check_program, report_daemon, run_program,
+    script_status, serve_program,
 };
-use trdp_report::{check_program, report_daemon};
 use trdp_script::ScriptFault;
 
 /// The exit status of words that are no task, and of a wish for help (profile).

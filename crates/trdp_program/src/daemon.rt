@@ -4,15 +4,14 @@ ghost use Rattle.std.specs.Prelude.{◌≡◌, ◌⊎◌};
 ghost use Rattle.std.specs.Io.KnownBytes.{Keeps};
 ghost use Rattle.trdp_program.specs.Programs.{IsConfig};
 
-use crate::check::{tell_place, write_report};
-use crate::refused::push_refused;
+use crate::attend::daemon_program;
+use crate::told::tell_text;
 use std::alloc::Global;
 use std::io::Write;
 use std::net::Net;
 use std::time::Clock;
 use trdp_dataset::NodeConfig;
-use trdp_program::daemon_program;
-use trdp_script::write_whole;
+use trdp_report::{fault_place, refused_ports, report};
 
 /// Serves a node as [`daemon_program`] does, and says on `errors` what its configuration means and
 /// what its author may not have meant, before; where it isn't taken, where its fault is; and where
@@ -38,8 +37,7 @@ pub fn report_daemon<H: Net + Clock + AllocGlobal, W: Write, E: Write>(
 /// that isn't taken.
 fn tell_meaning<E: Write>(alloc: Global, config: &[u8], errors: &mut E) {
     if let Ok(taken) = NodeConfig::from_toml(alloc, config) {
-        // What standard error does with the text changes nothing, and so does want of memory.
-        let _ = write_report(alloc, config, &taken, errors);
+        tell_text(report(alloc, config, &taken), errors);
     }
 }
 
@@ -48,19 +46,8 @@ fn tell_meaning<E: Write>(alloc: Global, config: &[u8], errors: &mut E) {
 fn tell_end<H: Net + AllocGlobal, E: Write>(rt: &H, config: &[u8], status: u8, errors: &mut E) {
     let alloc = rt.alloc();
     match NodeConfig::from_toml(alloc, config) {
-        Ok(taken) if status != 0 => tell_refused(rt, &taken, errors),
+        Ok(taken) if status != 0 => tell_text(refused_ports(rt, alloc, &taken), errors),
         Ok(_) => {}
-        Err(fault) => tell_place(alloc, config, fault, errors),
-    }
-}
-
-/// Tells which ports of a node the system refuses. Where memory is wanting for that, nothing is
-/// told.
-fn tell_refused<H: Net + AllocGlobal, E: Write>(rt: &H, config: &NodeConfig, errors: &mut E) {
-    let alloc = rt.alloc();
-    let mut text = String::new(alloc);
-    if push_refused(rt, alloc, &mut text, config).is_ok() {
-        // What standard error does with the text changes nothing.
-        let _ = write_whole(errors, text.as_bytes());
+        Err(fault) => tell_text(fault_place(alloc, config, fault), errors),
     }
 }

@@ -5,14 +5,13 @@ ghost use Rattle.std.specs.Io.KnownBytes.{Keeps};
 ghost use Rattle.trdp_dataset.specs.declared.fault.ConfigFault.{ConfigFault};
 ghost use Rattle.trdp_program.specs.Programs.{IsConfig, IsConfigFault};
 
-use crate::find::find_fault;
-use crate::meaning::push_meaning;
-use crate::warnings::push_warnings;
-use std::alloc::{AllocError, Global};
-use std::fmt::Write as _;
+use crate::faults::{SERVE_FAULT_STATUS, ServeFault};
+use crate::program::{CONFIG_STATUS, read_config};
+use crate::told::{tell_fault, tell_text};
+use std::alloc::Global;
 use std::io::Write;
-use trdp_dataset::{ConfigFault, NodeConfig};
-use trdp_program::{CONFIG_STATUS, SERVE_FAULT_STATUS, ServeFault, read_config, tell_fault};
+use trdp_dataset::NodeConfig;
+use trdp_report::{fault_place, report};
 use trdp_script::write_whole;
 
 /// Says what a configuration (TOML) means and what its author may not have meant, on the writer,
@@ -39,7 +38,7 @@ pub fn check_program<W: Write, E: Write>(
             }
         },
         Err(fault) => {
-            tell_place(alloc, config, fault, errors);
+            tell_text(fault_place(alloc, config, fault), errors);
             CONFIG_STATUS
         }
     }
@@ -49,7 +48,7 @@ pub fn check_program<W: Write, E: Write>(
 ///
 /// # Errors
 /// `Write` where the writer fails, and `OutOfMemory`.
-pub(crate) fn write_report<W: Write>(
+fn write_report<W: Write>(
     alloc: Global,
     config: &[u8],
     taken: &NodeConfig,
@@ -61,54 +60,5 @@ pub(crate) fn write_report<W: Write>(
     match write_whole(writer, text.as_bytes()) {
         Ok(()) => Ok(()),
         Err(_) => Err(ServeFault::Write),
-    }
-}
-
-/// What a configuration means, and what its author may not have meant.
-///
-/// # Errors
-/// Want of memory.
-fn report(alloc: Global, config: &[u8], taken: &NodeConfig) -> Result<String, AllocError> {
-    let mut text = String::new(alloc);
-    push_meaning(&mut text, taken)?;
-    match toml::table_from_slice(alloc, config) {
-        Ok(top) => push_warnings(&mut text, &top, taken)?,
-        Err(_) => return Err(AllocError),
-    }
-    Ok(text)
-}
-
-/// Tells where a configuration has a fault. Where memory is wanting for that, nothing is told.
-pub(crate) fn tell_place<E: Write>(
-    alloc: Global,
-    config: &[u8],
-    fault: ConfigFault,
-    errors: &mut E,
-) {
-    let mut text = String::new(alloc);
-    if push_spot(alloc, &mut text, config, fault).is_ok() {
-        // What standard error does with the text changes nothing.
-        let _ = write_whole(errors, text.as_bytes());
-    }
-}
-
-/// Adds the line of where a configuration has a fault; of a file that is no TOML what is wrong with
-/// it, and in which line.
-///
-/// # Errors
-/// Want of memory.
-fn push_spot(
-    alloc: Global,
-    text: &mut String,
-    config: &[u8],
-    fault: ConfigFault,
-) -> Result<(), AllocError> {
-    match toml::table_from_slice(alloc, config) {
-        Ok(top) => match find_fault(alloc, &top, fault)? {
-            Some(spot) => writeln!(text, "at {spot}"),
-            None => Ok(()),
-        },
-        Err(error) if error.is_memory() => Err(AllocError),
-        Err(error) => write!(text, "{error}"),
     }
 }
