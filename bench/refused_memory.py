@@ -13,7 +13,7 @@ import sys
 from refused import BENCH, built
 
 TESTS = [
-    ("trdp_parts_tests", "md_sessions::caller_keeps_its_payload"),
+    ("trdp_parts_tests", "objects::caller_keeps_its_payload"),
     ("trdp_parts_tests", "table::a_slot_is_added_again"),
     ("trdp_node_tests", "refused::an_event_is_given_again"),
     ("trdp_node_tests", "refused::a_configuration_is_read_again"),

@@ -1,6 +1,8 @@
 //! Texts and numbers that others gave, and the limits of what they stand for.
 
 use crate::same::same;
+use std::alloc::AllocError;
+use std::process::Abort;
 use std::test::Fail;
 use trdp_base::{
     Ip, MOMENT_MAX, Moment, Place, QUOTA_LIMIT, Quotas, SessionId, TextFault, Topo, URI_LIMIT, Uri,
@@ -81,23 +83,41 @@ fn reads_numbers(rt: HostRuntime) {
     }
 }
 
-static NO_BYTES: [&str; 5] = ["", "0A", "0a0", "0g", "--"];
+/// Texts, and the bytes that each is read as.
+static HEX: [(&str, Result<&[u8], TextFault>); 7] = [
+    ("0a0b", Ok(b"\x0a\x0b")),
+    ("-", Ok(b"")),
+    ("", Err(TextFault::BadText)),
+    ("0A", Err(TextFault::BadText)),
+    ("0a0", Err(TextFault::BadText)),
+    ("0g", Err(TextFault::BadText)),
+    ("--", Err(TextFault::BadText)),
+];
+
+/// The text is read as these bytes, or isn't.
+fn reads_as(rt: &(impl Abort + AllocGlobal), text: &str, wanted: Result<&[u8], TextFault>) {
+    match read_hex(rt.alloc(), text.as_bytes()) {
+        Ok(bytes) => same(rt, text, Ok(bytes.as_slice()), wanted),
+        Err(fault) => same(rt, text, Err(fault), wanted),
+    }
+}
 
 #[test]
-fn reads_bytes(rt: HostRuntime) -> Result<(), Fail> {
-    let alloc = rt.alloc();
-    same(
-        &rt,
-        "0a0b",
-        read_hex(alloc, b"0a0b")?.as_slice(),
-        [10, 11].as_slice(),
-    );
-    assert!(rt; read_hex(alloc, b"-")?.is_empty());
-    for text in &NO_BYTES {
-        let fault = read_hex(alloc, text.as_bytes()).err();
-        same(&rt, *text, fault, Some(TextFault::BadText));
+fn reads_bytes(rt: HostRuntime) {
+    for (text, wanted) in &HEX {
+        reads_as(&rt, *text, *wanted);
     }
-    Ok(())
+}
+
+/// How many of the bytes are 255.
+fn ones(bytes: &[u8]) -> usize {
+    let mut count = 0usize;
+    for byte in bytes {
+        if *byte == 255 {
+            count = count.saturating_add(1);
+        }
+    }
+    count
 }
 
 // More digits than a line of 140,000 bytes can hold behind its first word.
@@ -105,41 +125,58 @@ fn reads_bytes(rt: HostRuntime) -> Result<(), Fail> {
 fn reads_the_bytes_of_a_longest_line(rt: HostRuntime) -> Result<(), Fail> {
     let digits = vec![in rt.alloc(); b'f'; 139_998]?;
     let bytes = read_hex(rt.alloc(), &digits)?;
-    assert!(rt; bytes.len() == 69_999 && bytes.iter().all(|byte| *byte == 255));
+    same(&rt, "bytes", (bytes.len(), ones(&bytes)), (69_999, 69_999));
     Ok(())
 }
+
+/// Appends one of each.
+fn print_all(out: &mut Vec<u8>) -> Result<(), AllocError> {
+    push_number(out, u64::MAX)?;
+    push_hex(out, &[])?;
+    push_ip(out, ADDRESS)?;
+    push_hex(out, &[10, 11])?;
+    push_place(out, LAST_PLACE)?;
+    push_status(out, i32::MIN)?;
+    push_session(out, SessionId(1))
+}
+
+/// What it comes to.
+const PRINTED: &[u8] = b"18446744073709551615-10.0.0.20a0b255.255.255.255:65535\
+    -214748364800000000-0000-0000-0000-000000000001";
 
 #[test]
 fn prints(rt: HostRuntime) -> Result<(), Fail> {
     let mut out = Vec::new(rt.alloc());
-    push_number(&mut out, u64::MAX)?;
-    push_hex(&mut out, &[])?;
-    push_ip(&mut out, ADDRESS)?;
-    push_hex(&mut out, &[10, 11])?;
-    push_place(&mut out, LAST_PLACE)?;
-    same(
-        &rt,
-        "all that is printed",
-        out.as_slice(),
-        b"18446744073709551615-10.0.0.20a0b255.255.255.255:65535".as_slice(),
-    );
+    print_all(&mut out)?;
+    same(&rt, "all that is printed", out.as_slice(), PRINTED);
     Ok(())
+}
+
+/// The moment of a number.
+fn moment(number: u64) -> Option<u64> {
+    Some(Moment::new(number)?.get())
 }
 
 #[test]
 fn moments_have_a_last(rt: HostRuntime) {
-    let last = Moment::new(4_611_686_018_427_387_904).map(|moment| moment.get());
-    same(&rt, "the last", last, Some(4_611_686_018_427_387_904));
-    assert!(rt; Moment::new(4_611_686_018_427_387_905).is_none());
+    let ends = (
+        moment(4_611_686_018_427_387_904),
+        moment(4_611_686_018_427_387_905),
+    );
+    let wanted = (Some(4_611_686_018_427_387_904), None);
+    same(&rt, "the last and the next", ends, wanted);
+}
+
+/// The first of these quotas and the last.
+fn quotas(first: u16, last: u16) -> Option<(u16, u16)> {
+    let quotas = Quotas::new([first, 0, 1, 2, 3, last])?;
+    Some((quotas.get(0), quotas.get(5)))
 }
 
 #[test]
-fn quotas_have_a_limit(rt: HostRuntime) -> Result<(), Fail> {
-    let quotas = Quotas::new([256, 0, 1, 2, 3, 4]).ok_or("no quotas")?;
-    assert!(rt; quotas.get(0) == 256 && quotas.get(5) == 4);
-    assert!(rt; Quotas::new([257, 0, 0, 0, 0, 0]).is_none());
-    assert!(rt; Quotas::new([0, 0, 0, 0, 0, 257]).is_none());
-    Ok(())
+fn quotas_have_a_limit(rt: HostRuntime) {
+    let found = [quotas(256, 4), quotas(257, 0), quotas(0, 257)];
+    same(&rt, "256 and 257", found, [Some((256, 4)), None, None]);
 }
 
 #[test]
@@ -229,18 +266,4 @@ fn reads_sessions(rt: HostRuntime) {
             Err(TextFault::BadText),
         );
     }
-}
-
-#[test]
-fn prints_statuses_and_sessions(rt: HostRuntime) -> Result<(), Fail> {
-    let mut out = Vec::new(rt.alloc());
-    push_status(&mut out, i32::MIN)?;
-    push_session(&mut out, SessionId(1))?;
-    same(
-        &rt,
-        "both",
-        out.as_slice(),
-        b"-214748364800000000-0000-0000-0000-000000000001".as_slice(),
-    );
-    Ok(())
 }

@@ -4,75 +4,76 @@
 
 use crate::same::same;
 use std::alloc::Global;
+use std::process::Abort;
 use std::test::Fail;
 use trdp_dataset::{ConfigFault, Element, ElementKind, Key, Registry};
 
-/// Two datasets, of which the second holds the first.
-const CONFIG: &str = "[[dataset]]
+/// Two datasets of one length, of which the second holds three of the first, and two with an array
+/// of a counted size, of which the second holds the first.
+const LENGTHS: &[u8] = br#"
+[[dataset]]
 id = 1001
-element = [{ type = \"UINT8\" }, { type = \"UINT16\", size = 0 }]
+element = [{ type = "TIMEDATE48" }, { type = "UINT16", size = 4 }]
 [[dataset]]
 id = 1002
-element = [{ type = \"INT16\" }, { type = 15 }, { type = 1001 }]
-";
+element = [{ type = "UINT8" }, { type = 1001, size = 3 }]
+[[dataset]]
+id = 1003
+element = [{ type = "UINT8" }, { type = "UINT16", size = 0 }]
+[[dataset]]
+id = 1004
+element = [{ type = 1001 }, { type = 1003 }]
+"#;
+
+/// Identifiers, and how many bytes each value of their datasets takes.
+static SIZES: [(u32, Option<usize>); 5] = [
+    (1001, Some(14)),
+    (1002, Some(43)),
+    (1003, None),
+    (1004, None),
+    (1005, None),
+];
+
+/// Identifiers and indexes, and the element's type and size; None where there is none.
+static ELEMENTS: [(u32, usize, Option<(ElementKind, u16)>); 4] = [
+    (1003, 1, Some((ElementKind::Uint16, 0))),
+    (1002, 1, Some((ElementKind::Nested(1001), 3))),
+    (1001, 2, None),
+    (0, 0, None),
+];
+
+/// The type and the size of an element.
+fn element(registry: &Registry, id: u32, index: usize) -> Option<(ElementKind, u16)> {
+    let element = registry.element(id, index)?;
+    Some((element.kind, element.size))
+}
+
+/// The datasets have these sizes and elements.
+fn tells(rt: &(impl Abort + AllocGlobal), registry: &Registry) {
+    registry.sound();
+    assert!(rt; !registry.is_empty() && !registry.has(0) && registry.zero_size(0).is_none());
+    for (id, size) in &SIZES {
+        same(rt, *id, registry.fixed_size(*id), *size);
+    }
+    for (id, index, wanted) in &ELEMENTS {
+        same(rt, *id, element(registry, *id, *index), *wanted);
+    }
+}
+
+/// Why these bytes are no datasets.
+fn fault_of(rt: &(impl Abort + AllocGlobal), bytes: &[u8]) -> Option<ConfigFault> {
+    Registry::from_toml(rt.alloc(), bytes).err()
+}
 
 /// The file of datasets alone is read, whatever a node wants of the rest.
 #[test]
-fn reads_datasets_alone(rt: HostRuntime) {
-    let no_text = Registry::from_toml(rt.alloc(), &[0xff]).err();
-    same(&rt, "ff", no_text, Some(ConfigFault::Toml));
-    let no_datasets = Registry::from_toml(rt.alloc(), b"node = 5\nslot = 5").err();
-    same(&rt, "no datasets", no_datasets, None);
-}
-
-/// An element of the configuration's datasets; None where there is none.
-struct ElementRow {
-    id: u32,
-    index: usize,
-    element: Option<Element>,
-}
-
-static ELEMENTS: [ElementRow; 4] = [
-    ElementRow {
-        id: 1001,
-        index: 1,
-        element: Some(Element {
-            kind: ElementKind::Uint16,
-            size: 0,
-        }),
-    },
-    ElementRow {
-        id: 1002,
-        index: 2,
-        element: Some(Element {
-            kind: ElementKind::Nested(1001),
-            size: 1,
-        }),
-    },
-    ElementRow {
-        id: 1001,
-        index: 2,
-        element: None,
-    },
-    ElementRow {
-        id: 0,
-        index: 0,
-        element: None,
-    },
-];
-
-#[test]
-fn reads_elements(rt: HostRuntime) -> Result<(), Fail> {
-    let Ok(registry) = Registry::from_toml(rt.alloc(), CONFIG.as_bytes()) else {
-        return Err(Fail::from("refused"));
-    };
-    registry.sound();
-    assert!(rt; !registry.is_empty() && !registry.has(0) && registry.zero_size(0).is_none());
-    for row in &ELEMENTS {
-        let found = registry.element(row.id, row.index);
-        same(&rt, row.index, found, row.element);
+fn reads_datasets(rt: HostRuntime) {
+    let faults = [fault_of(&rt, &[0xff]), fault_of(&rt, b"node = 5\nslot = 5")];
+    same(&rt, "ff", faults, [Some(ConfigFault::Toml), None]);
+    match Registry::from_toml(rt.alloc(), LENGTHS) {
+        Ok(registry) => tells(&rt, &registry),
+        Err(fault) => same(&rt, "lengths", Some(fault), None),
     }
-    Ok(())
 }
 
 /// The names of all types, a pair of names for the first.
@@ -109,11 +110,15 @@ static KINDS: [ElementKind; 15] = [
 
 /// The type of an element of the one dataset of such a file.
 fn kind_at(alloc: Global, text: &str, index: usize) -> Option<ElementKind> {
-    let Ok(registry) = Registry::from_toml(alloc, text.as_bytes()) else {
-        return None;
-    };
-    let element = registry.element(4_294_967_295, index)?;
-    Some(element.kind)
+    match Registry::from_toml(alloc, text.as_bytes()) {
+        Ok(registry) => kind_in(&registry, index),
+        Err(_) => None,
+    }
+}
+
+/// The type of an element of that dataset.
+fn kind_in(registry: &Registry, index: usize) -> Option<ElementKind> {
+    Some(registry.element(4_294_967_295, index)?.kind)
 }
 
 #[test]
@@ -171,43 +176,6 @@ fn tells_faults(rt: HostRuntime) -> Result<(), Fail> {
     for (fault, sentence) in &SENTENCES {
         let told = format!(in alloc; "{fault}")?;
         same(&rt, "its sentence", told.as_str(), *sentence);
-    }
-    Ok(())
-}
-
-/// Two datasets of one length, of which the second holds three of the first, and two with an array
-/// of a counted size, of which the second holds the first.
-const LENGTHS: &[u8] = br#"
-[[dataset]]
-id = 1001
-element = [{ type = "TIMEDATE48" }, { type = "UINT16", size = 4 }]
-[[dataset]]
-id = 1002
-element = [{ type = "UINT8" }, { type = 1001, size = 3 }]
-[[dataset]]
-id = 1003
-element = [{ type = "UINT8" }, { type = "UINT16", size = 0 }]
-[[dataset]]
-id = 1004
-element = [{ type = 1001 }, { type = 1003 }]
-"#;
-
-/// Identifiers, and how many bytes each value of their datasets takes.
-static SIZES: [(u32, Option<usize>); 5] = [
-    (1001, Some(14)),
-    (1002, Some(43)),
-    (1003, None),
-    (1004, None),
-    (1005, None),
-];
-
-#[test]
-fn tells_datasets_of_one_length(rt: HostRuntime) -> Result<(), Fail> {
-    let Ok(registry) = Registry::from_toml(rt.alloc(), LENGTHS) else {
-        return Err(Fail::from("refused"));
-    };
-    for (id, size) in &SIZES {
-        same(&rt, *id, registry.fixed_size(*id), *size);
     }
     Ok(())
 }

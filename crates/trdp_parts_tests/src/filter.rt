@@ -1,14 +1,31 @@
-//! Worked examples.
+//! Which counts match, what passes at the ends of a range, and which groups a node leads. What
+//! passes the filters of objects otherwise, scripts show (`rows`).
 
 use crate::same::same;
 use trdp_base::{Ip, Place, SessionId, Topo, Uri};
 use trdp_filter::{Groups, MdFilter, PdFilter, topo_valid, valid};
 use trdp_head::{MdHead, MdKind, PdHead, PdKind};
 
-fn topo(etb: u32, op_trn: u32) -> Topo {
-    Topo { etb, op_trn }
+const ANY: Topo = Topo { etb: 0, op_trn: 0 };
+
+/// Two topology counts, and whether they match.
+static COUNTS: [(u32, u32, bool); 4] = [(7, 8, false), (7, 0, true), (0, 8, true), (7, 7, true)];
+
+/// Whether the counts match, by themselves and as either count of a node.
+fn matches(a: u32, b: u32) -> [bool; 3] {
+    let first = topo_valid(Topo { etb: a, op_trn: 1 }, Topo { etb: b, op_trn: 1 });
+    let last = topo_valid(Topo { etb: 1, op_trn: a }, Topo { etb: 1, op_trn: b });
+    [valid(a, b), first, last]
 }
 
+#[test]
+fn counts_match(rt: HostRuntime) {
+    for (index, (a, b, wanted)) in COUNTS.iter().enumerate() {
+        same(&rt, index, matches(*a, *b), [*wanted; 3]);
+    }
+}
+
+/// The place at an address.
 fn place(ip: u32) -> Place {
     Place {
         ip: Ip(ip),
@@ -16,306 +33,82 @@ fn place(ip: u32) -> Place {
     }
 }
 
-fn head(com_id: u32, etb: u32) -> PdHead {
-    PdHead {
-        counter: 0,
-        kind: PdKind::Data,
-        com_id,
-        topo: topo(etb, 0),
-        reply_com_id: 0,
-        reply_ip: Ip(0),
-    }
-}
-
-/// Two topology counts, and whether they match.
-struct Counts {
-    a: u32,
-    b: u32,
-    matches: bool,
-}
-
-static COUNTS: [Counts; 4] = [
-    Counts {
-        a: 7,
-        b: 8,
-        matches: false,
-    },
-    Counts {
-        a: 7,
-        b: 0,
-        matches: true,
-    },
-    Counts {
-        a: 0,
-        b: 8,
-        matches: true,
-    },
-    Counts {
-        a: 7,
-        b: 7,
-        matches: true,
-    },
-];
-
-#[test]
-fn counts_match(rt: HostRuntime) {
-    for (index, row) in COUNTS.iter().enumerate() {
-        let (a, b) = (row.a, row.b);
-        same(&rt, index, valid(a, b), row.matches);
-        same(&rt, index, topo_valid(topo(a, 1), topo(b, 1)), row.matches);
-        same(&rt, index, topo_valid(topo(1, a), topo(1, b)), row.matches);
-    }
-}
-
-const HERE: u32 = 0x0a00_0001;
-
-/// A telegram with its last topology count 0, and whether it passes a filter for comId 100, for
-/// the addresses from `low` to `high`, for the destination `HERE`, and for the counts 7 and 0.
-struct Passage {
-    low: u32,
-    high: u32,
-    source: u32,
-    destination: u32,
-    com_id: u32,
-    etb: u32,
-    node_etb: u32,
-    passes: bool,
-}
-
-/// Passes.
-const PASSAGE: Passage = Passage {
-    low: 0,
-    high: 0,
-    source: 0x0a00_0009,
-    destination: HERE,
-    com_id: 100,
-    etb: 7,
-    node_etb: 7,
-    passes: true,
-};
-
-/// Does not pass.
-const REFUSAL: Passage = Passage {
-    passes: false,
-    ..PASSAGE
-};
-
-static PASSAGES: [Passage; 14] = [
-    PASSAGE,
-    Passage {
-        com_id: 101,
-        ..REFUSAL
-    },
-    Passage {
-        destination: 0x0a00_0009,
-        ..REFUSAL
-    },
-    Passage { etb: 0, ..PASSAGE },
-    Passage {
-        etb: 8,
-        node_etb: 8,
-        ..REFUSAL
-    },
-    Passage {
-        node_etb: 0,
-        ..PASSAGE
-    },
-    Passage {
-        node_etb: 8,
-        ..REFUSAL
-    },
-    // The source range.
-    Passage {
-        low: 2,
-        high: 4,
-        source: 1,
-        ..REFUSAL
-    },
-    Passage {
-        low: 2,
-        high: 4,
-        source: 2,
-        ..PASSAGE
-    },
-    Passage {
-        low: 2,
-        high: 4,
-        source: 4,
-        ..PASSAGE
-    },
-    Passage {
-        low: 2,
-        high: 4,
-        source: 5,
-        ..REFUSAL
-    },
-    Passage {
-        high: 4,
-        source: 4,
-        ..PASSAGE
-    },
-    Passage {
-        high: 4,
-        source: 5,
-        ..REFUSAL
-    },
-    Passage {
-        low: 2,
-        source: 3,
-        ..REFUSAL
-    },
-];
-
-/// Whether the telegram passes.
-fn passes(row: &Passage) -> bool {
+/// Whether process data from the source passes a filter for the addresses from `low` to `high`.
+fn data_passes(low: u32, high: u32, source: u32) -> bool {
     let filter = PdFilter {
         com_id: 100,
-        low: Ip(row.low),
-        high: Ip(row.high),
-        dest: Ip(HERE),
-        topo: topo(7, 0),
+        low: Ip(low),
+        high: Ip(high),
+        dest: Ip(0),
+        topo: ANY,
     };
-    filter.passes(
-        place(row.source),
-        place(row.destination),
-        &head(row.com_id, row.etb),
-        topo(row.node_etb, 0),
-    )
+    let head = PdHead {
+        counter: 0,
+        kind: PdKind::Data,
+        com_id: 100,
+        topo: ANY,
+        reply_com_id: 0,
+        reply_ip: Ip(0),
+    };
+    filter.passes(place(source), place(1), &head, ANY)
 }
 
-#[test]
-fn telegrams_pass_by_their_parts(rt: HostRuntime) {
-    for (index, row) in PASSAGES.iter().enumerate() {
-        same(&rt, index, passes(row), row.passes);
-    }
-}
-
-/// A message of comId 300 with its last topology count 0, and whether it passes a filter for the
-/// wanted comId and URI, for the addresses from `low` to 4, and for the counts 7 and 0.
-struct Message {
-    wanted: Option<u32>,
-    low: u32,
-    dest: u32,
-    uri: &'static [u8],
-    source_uri: &'static [u8],
-    dest_uri: &'static [u8],
-    etb: u32,
-    node_etb: u32,
-    passes: bool,
-}
-
-/// Passes.
-const HEARD: Message = Message {
-    wanted: None,
-    low: 2,
-    dest: HERE,
-    uri: b"",
-    source_uri: b"car1",
-    dest_uri: b"car2",
-    etb: 7,
-    node_etb: 7,
-    passes: true,
-};
-
-/// Does not pass.
-const UNHEARD: Message = Message {
-    passes: false,
-    ..HEARD
-};
-
-static MESSAGES: [Message; 12] = [
-    HEARD,
-    Message {
-        wanted: Some(300),
-        ..HEARD
-    },
-    Message {
-        wanted: Some(301),
-        ..UNHEARD
-    },
-    // The destination URI.
-    Message {
-        uri: b"car2",
-        ..HEARD
-    },
-    Message {
-        uri: b"car3",
-        ..UNHEARD
-    },
-    Message {
-        uri: b"car1",
-        ..UNHEARD
-    },
-    Message {
-        uri: b"car2",
-        dest_uri: b"",
-        ..UNHEARD
-    },
-    // The addresses and the counts.
-    Message { low: 4, ..UNHEARD },
-    Message { dest: 0, ..HEARD },
-    Message { dest: 9, ..UNHEARD },
-    Message {
-        etb: 8,
-        node_etb: 8,
-        ..UNHEARD
-    },
-    Message {
-        node_etb: 8,
-        ..UNHEARD
-    },
-];
-
-/// The URI of these bytes.
-fn uri(bytes: &[u8]) -> Uri {
-    Uri::new(bytes).unwrap_or(Uri::empty())
-}
-
-/// The head of that message.
-fn head_of(row: &Message) -> MdHead {
-    MdHead {
+/// Whether a message from the source passes such a filter.
+fn message_passes(low: u32, high: u32, source: u32) -> bool {
+    let filter = MdFilter {
+        com_id: None,
+        low: Ip(low),
+        high: Ip(high),
+        dest: Ip(0),
+        uri: Uri::empty(),
+        topo: ANY,
+    };
+    let head = MdHead {
         counter: 0,
         kind: MdKind::Notify,
         com_id: 300,
-        topo: topo(row.etb, 0),
+        topo: ANY,
         status: 0,
         session: SessionId(0),
         timeout: 0,
-        source_uri: uri(row.source_uri),
-        dest_uri: uri(row.dest_uri),
-    }
+        source_uri: Uri::empty(),
+        dest_uri: Uri::empty(),
+    };
+    filter.passes(place(source), place(1), &head, ANY)
 }
 
-/// Whether the message passes.
-fn is_let_in(row: &Message) -> bool {
-    let filter = MdFilter {
-        com_id: row.wanted,
-        low: Ip(row.low),
-        high: Ip(4),
-        dest: Ip(row.dest),
-        uri: uri(row.uri),
-        topo: topo(7, 0),
-    };
-    filter.passes(place(3), place(HERE), &head_of(row), topo(row.node_etb, 0))
-}
+/// The ends of a range, a source, and whether what comes from there passes. No script has a range
+/// whose end is below its beginning.
+static RANGES: [(u32, u32, u32, bool); 4] = [
+    (0, 0, 9, true),
+    (0, 4, 4, true),
+    (0, 4, 5, false),
+    (2, 0, 3, false),
+];
 
 #[test]
-fn messages_pass_by_their_parts(rt: HostRuntime) {
-    for (index, row) in MESSAGES.iter().enumerate() {
-        same(&rt, index, is_let_in(row), row.passes);
+fn ranges_have_both_their_ends(rt: HostRuntime) {
+    for (index, (low, high, source, wanted)) in RANGES.iter().enumerate() {
+        let data = data_passes(*low, *high, *source);
+        let message = message_passes(*low, *high, *source);
+        same(&rt, index, (data, message), (*wanted, *wanted));
     }
+}
+
+/// Whether the first group and the last one are led.
+fn ends(led: &Groups) -> (bool, bool) {
+    (led.leads(1), led.leads(255))
 }
 
 #[test]
 fn a_node_leads_groups_1_to_255(rt: HostRuntime) {
     let mut led = Groups::none();
-    let at_first = (led.leads(1), led.leads(255));
+    let at_first = ends(&led);
     led.set(1, true);
-    let the_first = (led.leads(1), led.leads(255));
+    let the_first = ends(&led);
     led.set(255, true);
     led.set(1, false);
-    let the_last = (led.leads(1), led.leads(255));
     same(&rt, "none", at_first, (false, false));
     same(&rt, "the first", the_first, (true, false));
-    same(&rt, "the last", the_last, (false, true));
+    same(&rt, "the last", ends(&led), (false, true));
 }

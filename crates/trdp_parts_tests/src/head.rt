@@ -45,15 +45,18 @@ const REQUEST_HEAD: PdHead = PdHead {
     reply_ip: Ip(0x0a00_0007),
 };
 
+/// Whether the bytes are a telegram with this header and payload.
+fn reads(bytes: &[u8], head: PdHead, payload: &[u8]) -> bool {
+    match read_pd(bytes) {
+        Ok(view) => view.head == head && view.payload == payload,
+        Err(_) => false,
+    }
+}
+
 #[test]
-fn telegrams_are_read(rt: HostRuntime) -> Result<(), Fail> {
-    let data = read_pd(&DATA)?;
-    same(&rt, "Pd", data.head, DATA_HEAD);
-    same(&rt, "Pd", data.payload, b"\x0a\x0b");
-    let request = read_pd(&REQUEST)?;
-    same(&rt, "Pr", request.head, REQUEST_HEAD);
-    same(&rt, "Pr", request.payload, b"\x0a\x0b\x0c");
-    Ok(())
+fn telegrams_are_read(rt: HostRuntime) {
+    assert!(rt; reads(&DATA, DATA_HEAD, b"\x0a\x0b"));
+    assert!(rt; reads(&REQUEST, REQUEST_HEAD, b"\x0a\x0b\x0c"));
 }
 
 #[test]
@@ -76,22 +79,11 @@ fn telegrams_are_written(rt: HostRuntime) {
 }
 
 #[test]
-fn a_longest_telegram_is_written_and_read(rt: HostRuntime) -> Result<(), Fail> {
+fn a_longest_telegram_is_written_and_read(rt: HostRuntime) {
     let payload = [7; PD_PAYLOAD_MAX];
     let mut room = [0xff; PD_TELEGRAM_MAX];
-    same(
-        &rt,
-        "its length",
-        write_pd(&DATA_HEAD, &payload, &mut room),
-        1472,
-    );
-    same(
-        &rt,
-        "its payload",
-        read_pd(&room)?.payload,
-        payload.as_slice(),
-    );
-    Ok(())
+    assert!(rt; write_pd(&DATA_HEAD, &payload, &mut room) == 1472);
+    assert!(rt; reads(&room, DATA_HEAD, &payload));
 }
 
 #[test]
@@ -108,6 +100,14 @@ fn telegrams_are_added_to_a_list(rt: HostRuntime) -> Result<(), Fail> {
     same(&rt, "Pd", first, DATA.as_slice());
     same(&rt, "Pr", second, REQUEST.as_slice());
     Ok(())
+}
+
+/// The length of the payload that is read of the bytes.
+fn payload_length(bytes: &[u8]) -> Result<usize, HeadFault> {
+    match read_pd(bytes) {
+        Ok(view) => Ok(view.payload.len()),
+        Err(fault) => Err(fault),
+    }
 }
 
 /// A telegram with two other bytes at an offset, its frame check, and what is read of it: the
@@ -177,25 +177,24 @@ fn changed_telegrams_have_their_faults(rt: HostRuntime) {
         let offset = row.offset;
         assert!(rt; offset <= 38);
         let telegram = data_with(offset, row.bytes, row.check);
-        let read = read_pd(&telegram).map(|view| view.payload.len());
-        same(&rt, offset, read, row.read);
+        same(&rt, offset, payload_length(&telegram), row.read);
     }
 }
 
-/// What is read of so many bytes of the telegram.
-fn cut_to(length: usize) -> Result<&'static [u8], HeadFault> {
+/// What is read of so many bytes of the telegram: the length of its payload.
+fn cut_to(length: usize) -> Result<usize, HeadFault> {
     match length {
         0..=39 => Err(HeadFault::Short),
         40 | 41 => Err(HeadFault::Length),
-        _ => Ok(b"\x0a\x0b"),
+        _ => Ok(2),
     }
 }
 
 #[test]
 fn a_telegram_is_cut(rt: HostRuntime) {
     for length in 0..DATA.len() + 1 {
-        let read = read_pd(&DATA[..length]).map(|view| view.payload);
-        same(&rt, length, read, cut_to(length));
+        let (front, _) = DATA.split_at(length);
+        same(&rt, length, payload_length(front), cut_to(length));
     }
 }
 
@@ -211,7 +210,7 @@ fn each_changed_bit_of_the_header_is_found(rt: HostRuntime) {
     for bit in 0..320 {
         let mut telegram = DATA;
         change_bit(&mut telegram, bit);
-        same(&rt, bit, read_pd(&telegram).err(), Some(HeadFault::Fcs));
+        same(&rt, bit, payload_length(&telegram), Err(HeadFault::Fcs));
     }
 }
 
@@ -223,7 +222,7 @@ fn telegrams_have_at_most_1472_bytes(rt: HostRuntime) {
         (longest, HeadFault::Fcs),
         (zeros.as_slice(), HeadFault::TooLong),
     ] {
-        same(&rt, bytes.len(), read_pd(bytes).err(), Some(fault));
+        same(&rt, bytes.len(), payload_length(bytes), Err(fault));
     }
 }
 

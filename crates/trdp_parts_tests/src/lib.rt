@@ -1,7 +1,7 @@
 //! Worked examples of the crates below the node, with values from outside: texts, telegrams from
-//! the standard's layout with zlib's CRC-32, datasets, values beside their bytes, and what objects,
-//! filters, tables, indexes and timers do step by step. What each of them does is proved where it
-//! stands.
+//! the standard's layout with zlib's CRC-32, datasets, values beside their bytes, and the calls of
+//! objects, filters, tables, indexes and timers. What each of them does is proved where it stands,
+//! and what a script can say of it stands in `rows`.
 #![tactic(auto)]
 
 #[cfg(test)]
@@ -19,13 +19,9 @@ mod index;
 #[cfg(test)]
 mod marshal;
 #[cfg(test)]
-mod md;
-#[cfg(test)]
 mod md_head;
 #[cfg(test)]
-mod md_sessions;
-#[cfg(test)]
-mod pd;
+mod objects;
 #[cfg(test)]
 mod plain;
 #[cfg(test)]

@@ -4,7 +4,7 @@ use crate::same::same;
 use std::alloc::{AllocError, Global};
 use std::process::Abort;
 use std::test::Fail;
-use trdp_dataset::{ConfigFault, Registry};
+use trdp_dataset::Registry;
 use trdp_marshal::{Item, MarshalFault, decode, encode, fits, write_zero};
 
 /// Datasets of one length (1004, 1005) and with arrays of a counted size, of which 1006 has one of
@@ -32,10 +32,6 @@ element = [{ type = "BOOL8", size = 3 }, { type = "UINT16" }, { type = 1001, siz
 id = 1007
 element = [{ type = "UINT8" }, { type = 1004, size = 0 }, { type = "INT32" }]
 "#;
-
-fn registry(alloc: Global) -> Result<Registry, ConfigFault> {
-    Registry::from_toml(alloc, DATASETS)
-}
 
 /// A list of two items.
 fn pair(alloc: Global, first: Item, second: Item) -> Result<Item, AllocError> {
@@ -85,37 +81,30 @@ fn longest_bytes(alloc: Global) -> Result<Vec<u8>, AllocError> {
 /// The item is spelled by these bytes, and its clone is equal to it.
 fn spells(
     rt: &(impl Abort + AllocGlobal),
-    alloc: Global,
+    registry: &Registry,
+    id: u32,
+    item: Item,
+    bytes: &[u8],
+) -> Result<(), Fail> {
+    assert!(rt; fits(registry, id, bytes), "at {id}");
+    let decoded = decode(rt.alloc(), registry, id, bytes)?;
+    assert!(rt; decoded == item, "at {id}");
+    is_written(rt, registry, id, &item, bytes)
+}
+
+/// The item gives these bytes, and its clone is equal to it.
+fn is_written(
+    rt: &(impl Abort + AllocGlobal),
     registry: &Registry,
     id: u32,
     item: &Item,
     bytes: &[u8],
 ) -> Result<(), Fail> {
-    assert!(rt; fits(registry, id, bytes), "at {id}");
-    let decoded = decode(alloc, registry, id, bytes)?;
-    assert!(rt; decoded == *item, "at {id}");
-    let encoded = encode(alloc, registry, id, item)?;
+    let encoded = encode(rt.alloc(), registry, id, item)?;
     same(rt, id, encoded.as_slice(), bytes);
-    let copy = item.try_clone(alloc)?;
+    let copy = item.try_clone(rt.alloc())?;
     assert!(rt; copy == *item, "at {id}");
     Ok(())
-}
-
-/// The same over the datasets above.
-fn spells_here(
-    rt: &(impl Abort + AllocGlobal),
-    id: u32,
-    item: &Item,
-    bytes: &[u8],
-) -> Result<(), Fail> {
-    let registry = registry(rt.alloc())?;
-    spells(rt, rt.alloc(), &registry, id, item, bytes)
-}
-
-#[test]
-fn spells_a_counted_array(rt: HostRuntime) -> Result<(), Fail> {
-    let item = counted(rt.alloc())?;
-    spells_here(&rt, 1001, &item, &[2, 0, 1, 0, 2])
 }
 
 /// A value of dataset 1002.
@@ -124,40 +113,22 @@ fn nested(alloc: Global) -> Result<Item, AllocError> {
     triple(alloc, Item::S(-2), Item::T48(1, 2), last)
 }
 
-#[test]
-fn spells_a_nested_dataset(rt: HostRuntime) -> Result<(), Fail> {
-    let item = nested(rt.alloc())?;
-    spells_here(&rt, 1002, &item, b"\xff\xfe\0\0\0\x01\0\x02\0")
-}
-
 /// A value of dataset 1004.
 fn dated(alloc: Global) -> Result<Item, AllocError> {
     let text = pair(alloc, Item::U(0x4f), Item::U(0x4b))?;
     triple(alloc, Item::T64(1, u32::MAX), text, Item::S(i64::MIN))
 }
 
-#[test]
-fn spells_times_and_texts(rt: HostRuntime) -> Result<(), Fail> {
-    let item = dated(rt.alloc())?;
-    let bytes = b"\0\0\0\x01\xff\xff\xff\xffOK\x80\0\0\0\0\0\0\0";
-    spells_here(&rt, 1004, &item, bytes)
-}
-
-#[test]
-fn spells_the_longest_item(rt: HostRuntime) -> Result<(), Fail> {
-    let item = long(rt.alloc(), 65_384)?;
-    let bytes = longest_bytes(rt.alloc())?;
-    spells_here(&rt, 1003, &item, &bytes)
-}
-
-#[test]
-fn refuses_a_longer_item(rt: HostRuntime) -> Result<(), Fail> {
+/// A counted array, a nested dataset, times and a text, and the longest value.
+fn spell_all(rt: &(impl Abort + AllocGlobal), registry: &Registry) -> Result<(), Fail> {
     let alloc = rt.alloc();
-    let registry = registry(alloc)?;
-    let item = long(alloc, 65_385)?;
-    let fault = encode(alloc, &registry, 1003, &item).err();
-    same(&rt, "one more", fault, Some(MarshalFault::TooLong));
-    Ok(())
+    spells(rt, registry, 1001, counted(alloc)?, &[2, 0, 1, 0, 2])?;
+    let bytes = b"\xff\xfe\0\0\0\x01\0\x02\0";
+    spells(rt, registry, 1002, nested(alloc)?, bytes)?;
+    let bytes = b"\0\0\0\x01\xff\xff\xff\xffOK\x80\0\0\0\0\0\0\0";
+    spells(rt, registry, 1004, dated(alloc)?, bytes)?;
+    let bytes = longest_bytes(alloc)?;
+    spells(rt, registry, 1003, long(alloc, 65_384)?, &bytes)
 }
 
 /// Datasets and bytes that may be their payload, and why these have no item.
@@ -192,34 +163,23 @@ static PAYLOADS: [(u32, &[u8], Option<MarshalFault>); 17] = [
 /// The bytes are a payload and have an item, or neither.
 fn judges(
     rt: &(impl Abort + AllocGlobal),
-    alloc: Global,
     registry: &Registry,
     id: u32,
     bytes: &[u8],
     fault: Option<MarshalFault>,
 ) {
     same(rt, id, fits(registry, id, bytes), fault.is_none());
-    same(rt, id, decode(alloc, registry, id, bytes).err(), fault);
+    same(rt, id, decode(rt.alloc(), registry, id, bytes).err(), fault);
 }
 
-#[test]
-fn judges_bytes(rt: HostRuntime) -> Result<(), Fail> {
-    let alloc = rt.alloc();
-    let registry = registry(alloc)?;
+/// The same of all payloads; any bytes fit dataset 0, and have no item.
+fn judge_all(rt: &(impl Abort + AllocGlobal), registry: &Registry) {
     for (id, bytes, fault) in &PAYLOADS {
-        judges(&rt, alloc, &registry, *id, bytes, *fault);
+        judges(rt, registry, *id, bytes, *fault);
     }
-    Ok(())
-}
-
-#[test]
-fn takes_any_bytes_of_dataset_0(rt: HostRuntime) -> Result<(), Fail> {
-    let alloc = rt.alloc();
-    let registry = registry(alloc)?;
-    assert!(rt; fits(&registry, 0, b"any"));
-    let fault = decode(alloc, &registry, 0, b"any").err();
-    same(&rt, "dataset 0", fault, Some(MarshalFault::NoDataset));
-    Ok(())
+    assert!(rt; fits(registry, 0, b"any"));
+    let fault = decode(rt.alloc(), registry, 0, b"any").err();
+    same(rt, "dataset 0", fault, Some(MarshalFault::NoDataset));
 }
 
 /// First entries that with an empty array are no value of a dataset, and why not.
@@ -231,43 +191,47 @@ static REFUSED: [(u32, u64, MarshalFault); 5] = [
     (1001, u64::MAX, MarshalFault::Shape),
 ];
 
-/// Why this first entry and an empty array are no value of a dataset.
-fn fault_of(
-    alloc: Global,
+/// The item is no value of the dataset, for that fault.
+fn refuses(
+    rt: &(impl Abort + AllocGlobal),
     registry: &Registry,
     id: u32,
-    first: Item,
-) -> Result<Option<MarshalFault>, AllocError> {
-    let item = uncounted(alloc, first)?;
-    Ok(encode(alloc, registry, id, &item).err())
+    item: Item,
+    fault: MarshalFault,
+) {
+    let found = encode(rt.alloc(), registry, id, &item).err();
+    same(rt, id, found, Some(fault));
 }
 
-#[test]
-fn refuses_items(rt: HostRuntime) -> Result<(), Fail> {
+/// The same of these entries, of a signed count, and of an array with one item more than the
+/// longest.
+fn refuse_all(rt: &(impl Abort + AllocGlobal), registry: &Registry) -> Result<(), AllocError> {
     let alloc = rt.alloc();
-    let registry = registry(alloc)?;
     for (id, first, fault) in &REFUSED {
-        let found = fault_of(alloc, &registry, *id, Item::U(*first))?;
-        same(&rt, *id, found, Some(*fault));
+        let item = uncounted(alloc, Item::U(*first))?;
+        refuses(rt, registry, *id, item, *fault);
     }
-    let found = fault_of(alloc, &registry, 1001, Item::S(0))?;
-    same(&rt, "a signed count", found, Some(MarshalFault::Shape));
+    let signed = uncounted(alloc, Item::S(0))?;
+    refuses(rt, registry, 1001, signed, MarshalFault::Shape);
+    let longer = long(alloc, 65_385)?;
+    refuses(rt, registry, 1003, longer, MarshalFault::TooLong);
     Ok(())
 }
 
-#[test]
-fn writes_zeros(rt: HostRuntime) -> Result<(), Fail> {
-    let registry = registry(rt.alloc())?;
+/// The zero value of dataset 1002 has nine bytes, and is one of its values.
+fn write_zeros(rt: &(impl Abort + AllocGlobal), registry: &Registry) {
     let mut room = [0xaa; 10];
-    assert!(rt; registry.has(1002));
-    assert!(rt; registry.zero_size(1002) == Some(9));
-    assert!(rt; write_zero(&registry, 1002, &mut room) == 9);
-    same(
-        &rt,
-        "zeros",
-        room.as_slice(),
-        &[0, 0, 0, 0, 0, 0, 0, 0, 0, 0xaa],
-    );
-    assert!(rt; fits(&registry, 1002, &room[..9]));
-    Ok(())
+    assert!(rt; registry.has(1002) && registry.zero_size(1002) == Some(9));
+    assert!(rt; write_zero(registry, 1002, &mut room) == 9);
+    same(rt, "zeros", room, [0, 0, 0, 0, 0, 0, 0, 0, 0, 0xaa]);
+    assert!(rt; fits(registry, 1002, &[0; 9]));
+}
+
+#[test]
+fn values_have_their_bytes(rt: HostRuntime) -> Result<(), Fail> {
+    let registry = Registry::from_toml(rt.alloc(), DATASETS)?;
+    write_zeros(&rt, &registry);
+    judge_all(&rt, &registry);
+    refuse_all(&rt, &registry)?;
+    spell_all(&rt, &registry)
 }

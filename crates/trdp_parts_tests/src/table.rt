@@ -1,22 +1,21 @@
-//! Worked examples: kinds, handles, quotas and the last handle, and slots that are added.
+//! Handles, the last one too, keys and room of a table, and a slot that is added. Which slots and
+//! objects a node takes scripts show (`rows`).
 
 use crate::same::same;
 use std::alloc::{AllocError, Global};
 use std::process::Abort;
 use std::test::Fail;
-use trdp_base::{Ip, Place, Quotas, Topo, Uri};
-use trdp_filter::MdFilter;
-use trdp_md::Listener;
+use trdp_base::{Ip, Place, Quotas, Topo};
 use trdp_model::{AnyObject, Kind};
-use trdp_pd::{Object, Publisher, PublisherTerms, Requester, RequesterTerms};
+use trdp_pd::{Requester, RequesterTerms};
 use trdp_table::{Table, TableFault, room_of};
 
 /// What is done to a table.
 #[derive(Clone, Copy)]
 enum Does {
-    /// A slot for so many publishers is added, and this is the answer.
-    AddSlot(u16, Result<u16, TableFault>),
-    /// A publisher of this comId is added to the slot, and this is the answer.
+    /// A slot for so many requesters is added, and this is its number.
+    AddSlot(u16, u16),
+    /// A requester of this comId is added to the slot, and this is the answer.
     Add(u16, u32, Result<u32, TableFault>),
     /// The slot's object of this handle is removed, which there is or isn't.
     Remove(u16, u32, bool),
@@ -24,150 +23,115 @@ enum Does {
     Raise(u16, u32),
 }
 
-/// One publisher in slot 0, two in slots 1 and 2, and two in slot 3, which is added last and has
-/// handles of its own; what is there stays. A key that is free again stands under the slot and the
-/// handle of its next object.
-static ROWS: [Does; 27] = [
-    Does::AddSlot(1, Ok(0)),
-    Does::AddSlot(2, Ok(1)),
-    Does::AddSlot(2, Ok(2)),
+/// Two slots, and a third one that is added last; what is there stays. A key that is free again
+/// stands under the slot and the handle of its next object.
+static ROWS: [Does; 14] = [
+    Does::AddSlot(1, 0),
+    Does::AddSlot(2, 1),
     Does::Add(0, 100, Ok(1)),
     Does::Add(0, 101, Err(TableFault::Quota)),
     Does::Remove(0, 1, true),
     Does::Remove(0, 1, false),
-    Does::Add(1, 103, Ok(1)),
+    Does::Add(1, 102, Ok(1)),
+    Does::Raise(1, 4_294_967_295),
+    Does::Add(1, 103, Ok(4_294_967_295)),
     Does::Remove(1, 1, true),
-    Does::Add(0, 102, Ok(2)),
-    Does::Add(1, 103, Ok(2)),
-    Does::Add(2, 104, Ok(1)),
-    Does::Add(1, 105, Ok(3)),
-    Does::Add(2, 106, Ok(2)),
-    Does::Add(2, 107, Err(TableFault::Quota)),
-    Does::Remove(2, 1, true),
-    Does::Raise(2, 4_294_967_295),
-    Does::Add(2, 108, Ok(4_294_967_295)),
-    Does::Remove(2, 2, true),
-    Does::Add(2, 109, Err(TableFault::Exhausted)),
-    Does::AddSlot(2, Ok(3)),
-    Does::Add(3, 110, Ok(1)),
-    Does::Add(3, 111, Ok(2)),
-    Does::Add(3, 112, Err(TableFault::Quota)),
-    Does::Remove(0, 2, true),
-    Does::Remove(1, 3, true),
-    Does::Remove(2, 4_294_967_295, true),
+    Does::Add(1, 104, Err(TableFault::Exhausted)),
+    Does::AddSlot(1, 2),
+    Does::Add(2, 105, Ok(1)),
+    Does::Remove(1, 4_294_967_295, true),
 ];
 
-/// What a publisher of a comId sends, and where to.
-fn terms(com_id: u32) -> PublisherTerms {
-    PublisherTerms {
+/// A requester of that comId.
+fn requester(com_id: u32) -> AnyObject {
+    AnyObject::Requester(Requester::new(&RequesterTerms {
         com_id,
-        dataset: 0,
-        cycle: 0,
-        group: 0,
+        reply_com_id: 0,
+        reply_ip: Ip(0),
         topo: Topo { etb: 0, op_trn: 0 },
-        to: Place {
-            ip: Ip(0x0a00_0002),
-            port: 17224,
-        },
-    }
+        to: Place { ip: Ip(0), port: 0 },
+    }))
 }
 
-/// A publisher of that comId.
-fn publisher(alloc: Global, com_id: u32) -> Result<AnyObject, AllocError> {
-    Ok(AnyObject::Publisher(Publisher::new(alloc, &terms(com_id), 0)?))
-}
-
-/// Whether it is a publisher of that comId.
-fn is_of(object: &AnyObject, com_id: u32) -> bool {
+/// The comId of a requester; None for another object.
+fn com_id_of(object: &AnyObject) -> Option<u32> {
     match object {
-        AnyObject::Publisher(publisher) => publisher.com_id() == com_id,
-        _ => false,
+        AnyObject::Requester(requester) => Some(requester.com_id()),
+        _ => None,
     }
 }
 
-/// Whether the key has a publisher of that comId, to look at and to change.
-fn has(table: &mut Table, key: usize, com_id: u32) -> bool {
-    match table.get(key) {
-        Some(object) if is_of(object, com_id) => match table.get_mut(key) {
-            Some(object) => is_of(object, com_id),
-            None => false,
-        },
-        _ => false,
-    }
+/// The comId of the requester of that key, to look at and to change.
+fn com_ids(table: &mut Table, key: usize) -> Option<(Option<u32>, Option<u32>)> {
+    let seen = com_id_of(table.get(key)?);
+    let changed = com_id_of(table.get_mut(key)?);
+    Some((seen, changed))
 }
 
-/// Whether the publisher of that handle and comId stands last in the slot, and is reached by its
-/// key.
-fn stands_last(table: &mut Table, slot: u16, handle: u32, com_id: u32) -> bool {
-    if usize::from(slot) >= table.slots() {
-        return false;
-    }
-    let Some(key) = table.find(slot, handle) else {
-        return false;
-    };
+/// The requester of that handle and comId stands last in the slot, and is reached by its key.
+fn stands_last(
+    rt: &(impl Abort + AllocGlobal),
+    table: &mut Table,
+    slot: u16,
+    handle: u32,
+    com_id: u32,
+) {
+    assert!(rt; usize::from(slot) < table.slots());
     let last = table.count(slot).saturating_sub(1);
-    key < table.room()
-        && table.at(slot, last) == Some(key)
-        && table.owner(key) == Some((slot, handle))
-        && has(table, key, com_id)
+    let at = table.at(slot, last);
+    let found = (table.find(slot, handle), table.find_near(slot, handle, at));
+    same(rt, com_id, found, (at, at));
+    let key = at.unwrap_or(table.room());
+    same(rt, com_id, table.owner(key), Some((slot, handle)));
+    let wanted = Some((Some(com_id), Some(com_id)));
+    same(rt, com_id, com_ids(table, key), wanted);
 }
 
-/// Adds a publisher, which gets a handle or comes back with the fault that was foretold.
+/// Adds a requester, which gets a handle or comes back with the fault that was foretold.
 fn add(
     rt: &(impl Abort + AllocGlobal),
     table: &mut Table,
     slot: u16,
     com_id: u32,
-) -> Result<Result<u32, TableFault>, AllocError> {
-    let object = publisher(rt.alloc(), com_id)?;
+) -> Result<u32, TableFault> {
     assert!(rt; usize::from(slot) < table.slots());
-    let foretold = table.refuses(slot, Kind::of(&object));
-    Ok(match table.add(slot, object) {
+    let foretold = table.refuses(slot, Kind::Requester);
+    match table.add(slot, requester(com_id)) {
         Ok(handle) => {
-            assert!(rt; foretold.is_none() && stands_last(table, slot, handle, com_id));
+            stands_last(rt, table, slot, handle, com_id);
             Ok(handle)
         }
         Err((object, fault)) => {
-            assert!(rt; foretold == Some(fault) && is_of(&object, com_id));
+            assert!(rt; foretold == Some(fault) && com_id_of(&object) == Some(com_id));
             Err(fault)
         }
-    })
+    }
 }
 
 /// Removes an object, whose key is nobody's then, and answers whether it was there.
 fn remove(rt: &impl Abort, table: &mut Table, slot: u16, handle: u32) -> bool {
     assert!(rt; usize::from(slot) < table.slots());
-    let Some(key) = table.find(slot, handle) else {
-        return table.remove(slot, handle).is_some();
-    };
-    table.remove(slot, handle).is_some() && table.owner(key).is_none()
+    let key = table.find(slot, handle).unwrap_or(table.room());
+    let removed = table.remove(slot, handle).is_some();
+    removed && table.owner(key).is_none()
 }
 
-/// Adds a slot for so many publishers, for which the table gets room.
-fn add_slot(rt: &impl Abort, table: &mut Table, publishers: u16) -> Result<u16, TableFault> {
-    let Some(quotas) = Quotas::new([publishers, 0, 0, 0, 0, 0]) else {
-        return Err(TableFault::Quota);
-    };
-    let (slots, room) = (table.slots(), table.room());
-    let added = table.add_slot(quotas);
-    let more = if added.is_ok() { 1 } else { 0 };
-    assert!(rt; table.slots() - slots == more);
-    assert!(rt; table.room() == room || added.is_ok() && table.room() - room == room_of(quotas));
-    added
+/// Adds a slot for so many requesters, for which the table gets room.
+fn add_slot(table: &mut Table, requesters: u16) -> Option<(u16, bool)> {
+    let quotas = Quotas::new([0, 0, requesters, 0, 0, 0])?;
+    let room = table.room();
+    let number = table.add_slot(quotas).ok()?;
+    let more = table.room().saturating_sub(room);
+    Some((number, more == room_of(quotas)))
 }
 
 /// Does this to the table, which answers as it says.
-fn act(
-    rt: &(impl Abort + AllocGlobal),
-    table: &mut Table,
-    case: usize,
-    does: Does,
-) -> Result<(), AllocError> {
+fn act(rt: &(impl Abort + AllocGlobal), table: &mut Table, case: usize, does: Does) {
     match does {
-        Does::AddSlot(publishers, wanted) => {
-            same(rt, case, add_slot(rt, table, publishers), wanted);
+        Does::AddSlot(requesters, number) => {
+            same(rt, case, add_slot(table, requesters), Some((number, true)));
         }
-        Does::Add(slot, com_id, wanted) => same(rt, case, add(rt, table, slot, com_id)?, wanted),
+        Does::Add(slot, com_id, wanted) => same(rt, case, add(rt, table, slot, com_id), wanted),
         Does::Remove(slot, handle, there) => {
             same(rt, case, remove(rt, table, slot, handle), there);
         }
@@ -176,87 +140,49 @@ fn act(
             table.raise(slot, next);
         }
     }
-    Ok(())
 }
 
-/// The index of the object's kind, when it is due, and its dataset.
-fn outline(object: &AnyObject) -> (usize, Option<u64>, Option<u32>) {
-    (Kind::of(object).index(), object.due(), object.dataset())
-}
-
-#[test]
-fn kinds(rt: HostRuntime) -> Result<(), Fail> {
-    let mut cyclic = terms(100);
-    cyclic.cycle = 5_000;
-    cyclic.dataset = 1001;
-    let publisher = AnyObject::Publisher(Publisher::new(rt.alloc(), &cyclic, 1_000)?);
-    same(
-        &rt,
-        "publisher",
-        outline(&publisher),
-        (0, Some(6_000), Some(1001)),
-    );
-    let requester = AnyObject::Requester(Requester::new(&RequesterTerms {
-        com_id: 100,
-        reply_com_id: 0,
-        reply_ip: Ip(0),
-        topo: cyclic.topo,
-        to: cyclic.to,
-    }));
-    same(&rt, "requester", outline(&requester), (2, None, None));
-    let listener = AnyObject::Listener(Listener::new(&MdFilter {
-        com_id: None,
-        low: Ip(0),
-        high: Ip(0),
-        dest: Ip(0),
-        uri: Uri::empty(),
-        topo: cyclic.topo,
-    }));
-    same(&rt, "listener", outline(&listener), (3, None, None));
-    Ok(())
+/// Does all of it.
+fn act_all(rt: &(impl Abort + AllocGlobal), table: &mut Table) {
+    for (case, does) in ROWS.iter().enumerate() {
+        act(rt, table, case, *does);
+        table.sound();
+    }
 }
 
 #[test]
 fn tables_do_as_their_rows_say(rt: HostRuntime) -> Result<(), Fail> {
     let mut table = Table::new(rt.alloc(), &[])?;
-    for (case, does) in ROWS.iter().enumerate() {
-        act(&rt, &mut table, case, *does)?;
-        table.sound();
-    }
+    act_all(&rt, &mut table);
     Ok(())
 }
 
-#[test]
-fn the_seventeenth_slot(rt: HostRuntime) -> Result<(), Fail> {
-    let mut table = Table::new(rt.alloc(), &[])?;
-    for number in 0..16u16 {
-        same(&rt, number, add_slot(&rt, &mut table, 0), Ok(number));
+/// The answer to one more slot, which is asked for again where memory was refused and nothing has
+/// changed.
+fn added(rt: &impl Abort, table: &mut Table, quotas: Quotas) -> Result<u16, TableFault> {
+    match table.add_slot(quotas) {
+        Err(TableFault::OutOfMemory) => {
+            assert!(rt; table.slots() == 2 && table.room() == 4);
+            table.add_slot(quotas)
+        }
+        answer => answer,
     }
-    for case in ["the seventeenth", "once more"] {
-        same(
-            &rt,
-            case,
-            add_slot(&rt, &mut table, 0),
-            Err(TableFault::SlotsFull),
-        );
+}
+
+/// A table of two slots, which is asked for again where memory was refused.
+fn two_slots(alloc: Global, two: Quotas) -> Result<Table, AllocError> {
+    match Table::new(alloc, &[two, two]) {
+        Ok(table) => Ok(table),
+        Err(_) => Table::new(alloc, &[two, two]),
     }
-    Ok(())
 }
 
 /// It passes whichever request for memory is refused.
 #[test]
 fn a_slot_is_added_again(rt: HostRuntime) -> Result<(), Fail> {
     let two = Quotas::new([2, 0, 0, 0, 0, 0]).ok_or("no quotas")?;
-    let mut table = match Table::new(rt.alloc(), &[two, two]) {
-        Ok(table) => table,
-        Err(_) => Table::new(rt.alloc(), &[two, two])?,
-    };
-    let mut added = table.add_slot(two);
-    if added == Err(TableFault::OutOfMemory) {
-        assert!(rt; table.slots() == 2 && table.room() == 4);
-        added = table.add_slot(two);
-    }
-    same(&rt, "the third slot", added, Ok(2));
-    assert!(rt; table.slots() == 3 && table.room() == 6);
+    let mut table = two_slots(rt.alloc(), two)?;
+    same(&rt, "the third slot", added(&rt, &mut table, two), Ok(2));
+    same(&rt, "slots and room", (table.slots(), table.room()), (3, 6));
     Ok(())
 }
