@@ -83,6 +83,28 @@ class Ports(Case):
         ]:
             self.answers(self.client(port), line, answer)
 
+    def test_what_a_datagram_says_at_each_port(self) -> None:
+        self.daemon(node(control(0)))
+        unknown, count, bad_word = (f"line fault {it}\n".encode() for it in ("Unknown", "Count", "BadWord"))
+        got = b"0 refused NoHandle\n"
+        clients = self.client(CONTROL), self.client(OPERATOR)
+        for line, *answers in [
+            (b"topology 8 0", unknown, b"ok\n"), (b"role 1 follower\r\n", unknown, b"ok\n"),
+            (b"moment 1", unknown, unknown), (b"call 0 get 1", unknown, unknown),
+            (b"topology 8", unknown, count), (b"topology 8 0\r", unknown, bad_word),
+            (b"get 1", got, unknown), (b"get 1\n", got, unknown), (b"pull 7\r\n", got, unknown),
+            (b"get 1\r", bad_word, unknown), (b"get 1\n\n", bad_word, unknown), (b"get 1\nget 2", count, unknown),
+            (b" get 1", unknown, unknown), (b"\r", unknown, unknown),
+            # What is skipped isn't answered.
+            (b"", b"", b""), (b"\n", b"", b""), (b"\r\n", b"", b""), (b"# get 1", b"", b""), (b"# moment 1", b"", b""),
+        ]:
+            for client, answer in zip(clients, answers):
+                if answer:
+                    self.answers(client, line, answer)
+                else:
+                    client.send(line)
+                    self.is_quiet(client)
+
     def test_no_two_daemons_share_a_port(self) -> None:
         self.daemon(node(control(0)))
         with self.assertRaisesRegex(RuntimeError, "bind fault"):
