@@ -4,7 +4,7 @@
 //! half before it or behind it. The rows of a comId are found by two searches, for the first of
 //! them, and for the first behind them among the rows from there on.
 
-use crate::bench::Bench;
+use crate::node_bench::NodeBench;
 use crate::same::same;
 use crate::two_slots::CONFIG;
 use std::alloc::Global;
@@ -95,14 +95,14 @@ static COSTINGS: [Costing; 4] = [
 ];
 
 /// What a line costs the node.
-fn cost(bench: &mut Bench, alloc: Global, line: &str) -> Result<[u64; 3], Fail> {
+fn cost(bench: &mut NodeBench, alloc: Global, line: &str) -> Result<[u64; 3], Fail> {
     bench.take(alloc, line)?;
     Ok(bench.node.counts())
 }
 
 /// What the datagram of the row costs the node.
 fn counts_of(alloc: Global, row: &Costing) -> Result<[u64; 3], Fail> {
-    let mut bench = Bench::after(alloc, CONFIG, row.before)?;
+    let mut bench = NodeBench::after(alloc, CONFIG, row.before)?;
     cost(&mut bench, alloc, row.datagram)
 }
 

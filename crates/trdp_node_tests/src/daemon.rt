@@ -7,8 +7,47 @@ use trdp_base::Place;
 use trdp_daemon::{Daemon, MemoryClock, MemoryWire, Port, Totals};
 use trdp_dataset::NodeConfig;
 
-/// A daemon in memory.
-pub type MemoryDaemon = Daemon<MemoryWire, MemoryClock>;
+/// A daemon in memory. What it does promises nothing of what [`Daemon`] does, so that whoever calls
+/// it has less to prove.
+#[derive(Drop)]
+pub struct MemoryDaemon {
+    daemon: Daemon<MemoryWire, MemoryClock>,
+}
+
+impl MemoryDaemon {
+    /// A daemon over a wire, whose clock reads these moments; None for want of memory.
+    pub fn new(
+        alloc: Global,
+        config: &[u8],
+        wire: MemoryWire,
+        moments: &[u64],
+    ) -> Option<MemoryDaemon> {
+        let config = NodeConfig::from_toml(alloc, config).ok()?;
+        let clock = MemoryClock::new(alloc, moments).ok()?;
+        let daemon = Daemon::new(alloc, config, wire, clock).ok()?;
+        Some(MemoryDaemon { daemon })
+    }
+
+    /// Its wire.
+    pub fn wire(&self) -> &MemoryWire {
+        self.daemon.wire()
+    }
+
+    /// One turn.
+    pub fn turn(&mut self) {
+        self.daemon.turn();
+    }
+
+    /// So many turns, and what it has counted then.
+    pub fn run(&mut self, turns: u32) -> Totals {
+        self.daemon.run(turns)
+    }
+
+    /// Its turns and rests until a moment, and what it has counted then.
+    pub fn attend(&mut self, until: u64) -> Totals {
+        self.daemon.attend(until)
+    }
+}
 
 /// Totals without want of memory.
 pub const fn totals(taken: u64, offered: u64, lost: u64, unread: u64) -> Totals {
@@ -19,18 +58,6 @@ pub const fn totals(taken: u64, offered: u64, lost: u64, unread: u64) -> Totals 
         unread,
         memory: 0,
     }
-}
-
-/// A daemon over a wire, whose clock reads these moments; None for want of memory.
-pub fn memory_daemon(
-    alloc: Global,
-    config: &[u8],
-    wire: MemoryWire,
-    moments: &[u64],
-) -> Option<MemoryDaemon> {
-    let config = NodeConfig::from_toml(alloc, config).ok()?;
-    let clock = MemoryClock::new(alloc, moments).ok()?;
-    Daemon::new(alloc, config, wire, clock).ok()
 }
 
 /// Asserts what so many turns offer and count; the text of a failure has the case's number.

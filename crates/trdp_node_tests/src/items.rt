@@ -1,30 +1,60 @@
 //! Values that are handed over and shown as items, and the look at a subscription from outside.
 
-use crate::bench::Bench;
+use crate::node_bench::NodeBench;
 use crate::same::same;
-use crate::two_slots::CONFIG;
-use std::alloc::Global;
+use std::alloc::{AllocError, Global};
 use std::process::Abort;
 use std::test::Fail;
-use trdp_engine::{Answer, NodeFault, PeekFault, Record, ValueFault, What};
+use trdp_engine::{Node, NodeFault, Outbox, Peek, PeekFault, ValueFault, ValueState};
 use trdp_marshal::Item;
-use trdp_script::print_record;
 
-/// The item of n numbers of 1 to 250.
-fn numbers(alloc: Global, n: u16) -> Result<Item, Fail> {
+/// A slot, and two datasets: a count and so many 16-bit numbers, and a longer count and so many
+/// bytes.
+static CONFIG: &[u8] = b"\
+[node]
+address = \"10.0.0.1\"
+[[slot]]
+publishers = 3
+subscriptions = 2
+[[dataset]]
+id = 1001
+element = [{ type = \"UINT8\" }, { type = \"UINT16\", size = 0 }]
+[[dataset]]
+id = 2001
+element = [{ type = \"UINT16\" }, { type = \"UINT8\", size = 0 }]
+";
+
+/// Publishers of dataset 1001, of dataset 2001 and of dataset 0, and subscriptions of dataset 1001
+/// and of dataset 0.
+static OBJECTS: [&str; 5] = [
+    "call 0 publish 100 1001 0 0 0 0 10.0.0.2:17224",
+    "call 0 publish 200 2001 0 0 0 0 10.0.0.2:17224",
+    "call 0 publish 300 0 0 0 0 0 10.0.0.2:17224",
+    "call 0 subscribe 100 1001 0.0.0.0 0.0.0.0 0.0.0.0 0 0 50000 zero",
+    "call 0 subscribe 200 0 0.0.0.0 0.0.0.0 0.0.0.0 0 0 0 keep",
+];
+
+/// The item of a number n and of n numbers of 1 to 250, which it counts.
+fn counted(alloc: Global, n: u16) -> Result<Item, AllocError> {
     let mut numbers = Vec::new(alloc);
     for index in 0..n {
         numbers.push(Item::U(u64::from(index % 250) + 1))?;
     }
-    Ok(Item::List(numbers))
-}
-
-/// The item of a number n and of n numbers, which it counts.
-fn counted(alloc: Global, n: u16) -> Result<Item, Fail> {
-    let numbers = numbers(alloc, n)?;
-    let items = Vec::from_array(alloc, [Item::U(u64::from(n)), numbers])?;
+    let items = Vec::from_array(alloc, [Item::U(u64::from(n)), Item::List(numbers)])?;
     Ok(Item::List(items))
 }
+
+/// The slot and the object that an item is put into, how many numbers that counts, and what the
+/// node says to it.
+static PUTTINGS: [(u16, u32, u16, &str); 7] = [
+    (0, 1, 256, "0 refused Shape\n"),
+    (0, 1, 2, "0 done\n"),
+    (0, 2, 1431, "0 refused TooLong\n"),
+    (0, 2, 1430, "0 done\n"),
+    (0, 3, 0, "0 refused NoDataset\n"),
+    (0, 4, 0, "0 refused WrongKind\n"),
+    (0, 9, 0, "0 refused NoHandle\n"),
+];
 
 /// The pull request for comId 100, from 10.0.0.2.
 static PULL: &str = "\
@@ -37,301 +67,102 @@ static PULLED: &str = "\
     00000000010050700000006400000000000000000000000500000000000000000000000060fe4938\
     0200010002000000\n";
 
-/// What an item is put into, and what the node says to it.
-struct Putting {
+/// Hands an item to a publisher. It promises nothing of what [`Node::put_value`] does, so that
+/// whoever calls it has less to prove.
+fn put_item(
+    node: &mut Node,
+    alloc: Global,
     slot: u16,
     handle: u32,
-    /// How many numbers the item counts.
-    count: u16,
-    ending: Result<(), NodeFault>,
-    answer: &'static str,
+    item: &Item,
+    out: &mut Outbox,
+) -> Result<(), NodeFault> {
+    node.put_value(alloc, slot, handle, item, out)
 }
 
-/// A publisher of dataset 1001, one of dataset 0 and a subscription of dataset 1001.
-static THREE: [&str; 3] = [
-    "call 0 publish 100 1001 0 0 0 0 10.0.0.2:17224",
-    "call 0 publish 200 0 0 0 0 0 10.0.0.2:17224",
-    "call 0 subscribe 100 1001 0.0.0.0 0.0.0.0 0.0.0.0 0 0 0 keep",
-];
-
-static PUTTINGS: [Putting; 7] = [
-    Putting {
-        slot: 0,
-        handle: 1,
-        count: 255,
-        ending: Ok(()),
-        answer: "0 done\n",
-    },
-    Putting {
-        slot: 0,
-        handle: 1,
-        count: 256,
-        ending: Ok(()),
-        answer: "0 refused Shape\n",
-    },
-    Putting {
-        slot: 0,
-        handle: 1,
-        count: 2,
-        ending: Ok(()),
-        answer: "0 done\n",
-    },
-    Putting {
-        slot: 0,
-        handle: 2,
-        count: 0,
-        ending: Ok(()),
-        answer: "0 refused NoDataset\n",
-    },
-    Putting {
-        slot: 0,
-        handle: 3,
-        count: 0,
-        ending: Ok(()),
-        answer: "0 refused WrongKind\n",
-    },
-    Putting {
-        slot: 0,
-        handle: 4,
-        count: 0,
-        ending: Ok(()),
-        answer: "0 refused NoHandle\n",
-    },
-    Putting {
-        slot: 2,
-        handle: 1,
-        count: 0,
-        ending: Err(NodeFault::NoSlot),
-        answer: "",
-    },
-];
-
-/// What the node says to that item for that object.
-fn put_counted(
-    bench: &mut Bench,
+/// Puts an item that counts so many numbers.
+fn put(
+    bench: &mut NodeBench,
     alloc: Global,
-    row: &Putting,
+    (slot, handle): (u16, u32),
+    count: u16,
 ) -> Result<Result<(), NodeFault>, Fail> {
-    let item = counted(alloc, row.count)?;
-    Ok(
-        bench
-            .node
-            .put_value(alloc, row.slot, row.handle, &item, &mut bench.out),
-    )
+    let item = counted(alloc, count)?;
+    let NodeBench { node, out } = bench;
+    Ok(put_item(node, alloc, slot, handle, &item, out))
 }
 
 /// Puts each item, and compares what the node says to it.
-fn put_each(
-    rt: &(impl Abort + AllocGlobal),
-    bench: &mut Bench,
-    rows: &'static [Putting],
-) -> Result<(), Fail> {
-    for (case, row) in rows.iter().enumerate() {
-        let ending = put_counted(bench, rt.alloc(), row)?;
-        same(rt, case, ending, row.ending);
-        bench.tells(rt, row.answer)?;
+fn put_each(rt: &(impl Abort + AllocGlobal), bench: &mut NodeBench) -> Result<(), Fail> {
+    for (slot, handle, count, answer) in PUTTINGS {
+        let ending = put(bench, rt.alloc(), (slot, handle), count)?;
+        same(rt, answer, ending, Ok(()));
+        bench.tells(rt, answer)?;
     }
-    Ok(())
-}
-
-/// Puts each item, and pulls the last value that was put.
-fn put_and_pull(rt: &(impl Abort + AllocGlobal), bench: &mut Bench) -> Result<(), Fail> {
-    put_each(rt, bench, &PUTTINGS)?;
-    bench.take(rt.alloc(), PULL)?;
-    bench.tells(rt, PULLED)
+    let ending = put(bench, rt.alloc(), (2, 1), 0)?;
+    same(rt, "no slot", ending, Err(NodeFault::NoSlot));
+    bench.tells(rt, "")
 }
 
 #[test]
 fn items_are_put_as_their_bytes(rt: HostRuntime) -> Result<(), Fail> {
-    let mut bench = Bench::after(rt.alloc(), CONFIG, &THREE)?;
-    put_and_pull(&rt, &mut bench)
+    let mut bench = NodeBench::after(rt.alloc(), CONFIG, &OBJECTS)?;
+    put_each(&rt, &mut bench)?;
+    bench.take(rt.alloc(), PULL)?;
+    bench.tells(&rt, PULLED)
 }
 
-/// What a subscription of dataset 1001 shows after lines.
-struct Showing {
-    lines: &'static [&'static str],
-    /// Its state, the counter and the bytes, as the line that a call `get` gives.
-    peek: &'static str,
-    /// How many numbers its item counts.
-    count: u16,
-}
-
-/// The data of comId 100 with counter 7, which carries 2 and the 16-bit numbers 1 and 2.
+/// The data of comId 100 with counter 7, which carries the same.
 const DATA: &str = "\
     pd 10.0.0.2:17224 10.0.0.1:17224 \
     0000000701005064000000640000000000000000000000050000000000000000000000006de33269\
     0200010002000000";
 
-static SHOWINGS: [Showing; 4] = [
-    Showing {
-        lines: &["call 0 subscribe 100 1001 0.0.0.0 0.0.0.0 0.0.0.0 0 0 0 keep"],
-        peek: "0 value Never 0 00\n",
-        count: 0,
-    },
-    Showing {
-        lines: &[
-            "call 0 subscribe 100 1001 0.0.0.0 0.0.0.0 0.0.0.0 0 0 50000 zero",
-            DATA,
-        ],
-        peek: "0 value Valid 7 0200010002\n",
-        count: 2,
-    },
-    Showing {
-        lines: &[
-            "call 0 subscribe 100 1001 0.0.0.0 0.0.0.0 0.0.0.0 0 0 50000 zero",
-            DATA,
-            "moment 50000",
-        ],
-        peek: "0 value Silent 7 00\n",
-        count: 0,
-    },
-    Showing {
-        lines: &[
-            "call 0 subscribe 100 1001 0.0.0.0 0.0.0.0 0.0.0.0 0 0 50000 keep",
-            DATA,
-            "moment 50000",
-        ],
-        peek: "0 value Silent 7 0200010002\n",
-        count: 2,
-    },
-];
-
-/// Asserts that the subscription of handle 1 shows what that line of a call `get` says.
-fn shows_line(
-    rt: &(impl Abort + AllocGlobal),
-    bench: &Bench,
-    line: &'static str,
-) -> Result<(), Fail> {
-    let what = What::Answer(Answer::Value(bench.node.peek(0, 1)?));
-    let mut text = Vec::new(rt.alloc());
-    print_record(&mut text, &Record { slot: 0, what })?;
-    same(rt, "a look", str::from_utf8(&text)?, line);
-    Ok(())
-}
-
-/// Whether the subscription of that handle shows an item of so many numbers.
-fn shows_item(bench: &Bench, alloc: Global, handle: u32, count: u16) -> Result<bool, Fail> {
-    let item = counted(alloc, count)?;
-    Ok(bench.node.value_of(alloc, 0, handle)? == item)
-}
-
-/// Asserts that the subscription of handle 1 shows what the row says.
-fn shows(
-    rt: &(impl Abort + AllocGlobal),
-    bench: &Bench,
-    row: &'static Showing,
-) -> Result<(), Fail> {
-    shows_line(rt, bench, row.peek)?;
-    assert!(rt; shows_item(bench, rt.alloc(), 1, row.count)?);
-    Ok(())
-}
-
-/// Asserts what a subscription shows after the lines of the row.
-fn shows_after(rt: &(impl Abort + AllocGlobal), row: &'static Showing) -> Result<(), Fail> {
-    let bench = Bench::after(rt.alloc(), CONFIG, row.lines)?;
-    shows(rt, &bench, row)
-}
-
-#[test]
-fn subscriptions_show_bytes_and_their_item(rt: HostRuntime) -> Result<(), Fail> {
-    for row in &SHOWINGS {
-        shows_after(&rt, row)?;
+/// Whether a subscription shows that.
+fn is_data(peek: Result<Peek<'_>, PeekFault>) -> bool {
+    match peek {
+        Ok(
+            Peek {
+                state: ValueState::Valid,
+                counter: 7,
+                bytes,
+            },
+        ) => bytes == b"\x02\0\x01\0\x02".as_slice(),
+        _ => false,
     }
-    Ok(())
 }
 
-/// Where nothing is to be seen, and why.
-struct Unseen {
-    slot: u16,
-    handle: u32,
-    /// None where the bytes are shown and the item alone isn't.
-    peek: Option<PeekFault>,
-    item: ValueFault,
-}
-
-static UNSEEN: [Unseen; 4] = [
-    Unseen {
-        slot: 2,
-        handle: 1,
-        peek: Some(PeekFault::NoSlot),
-        item: ValueFault::NoSlot,
-    },
-    Unseen {
-        slot: 0,
-        handle: 9,
-        peek: Some(PeekFault::NoHandle),
-        item: ValueFault::NoHandle,
-    },
-    Unseen {
-        slot: 0,
-        handle: 1,
-        peek: Some(PeekFault::WrongKind),
-        item: ValueFault::WrongKind,
-    },
-    Unseen {
-        slot: 0,
-        handle: 2,
-        peek: None,
-        item: ValueFault::NoDataset,
-    },
+/// The slot and the object that aren't shown as an item, and why; and why the bytes aren't shown,
+/// where they aren't.
+static UNSEEN: [(u16, u32, ValueFault, Option<PeekFault>); 4] = [
+    (2, 4, ValueFault::NoSlot, Some(PeekFault::NoSlot)),
+    (0, 9, ValueFault::NoHandle, Some(PeekFault::NoHandle)),
+    (0, 1, ValueFault::WrongKind, Some(PeekFault::WrongKind)),
+    (0, 5, ValueFault::NoDataset, None),
 ];
 
-/// A publisher and a subscription of dataset 0.
-static UNTYPED: [&str; 2] = [
-    "call 0 publish 100 1001 0 0 0 0 10.0.0.2:17224",
-    "call 0 subscribe 100 0 0.0.0.0 0.0.0.0 0.0.0.0 0 0 0 keep",
-];
-
-#[test]
-fn a_look_that_finds_nothing_says_why(rt: HostRuntime) -> Result<(), Fail> {
-    let alloc = rt.alloc();
-    let bench = Bench::after(alloc, CONFIG, &UNTYPED)?;
-    for (case, row) in UNSEEN.iter().enumerate() {
-        let peek = bench.node.peek(row.slot, row.handle);
-        same(&rt, case, peek.err(), row.peek);
-        let item = bench.node.value_of(alloc, row.slot, row.handle);
-        same(&rt, case, item.err(), Some(row.item));
+/// Asserts where no item is shown, and why.
+fn unseen(rt: &(impl Abort + AllocGlobal), node: &Node) {
+    for (slot, handle, fault, peek) in UNSEEN {
+        let item = node.value_of(rt.alloc(), slot, handle);
+        same(rt, "no item", item.err(), Some(fault));
+        same(rt, "no bytes", node.peek(slot, handle).err(), peek);
     }
+}
+
+/// Asserts that the subscription of dataset 1001 shows an item that counts so many numbers.
+fn shows(rt: &(impl Abort + AllocGlobal), node: &Node, count: u16) -> Result<(), Fail> {
+    let shown = node.value_of(rt.alloc(), 0, 4)? == counted(rt.alloc(), count)?;
+    same(rt, count, shown, true);
     Ok(())
 }
 
-/// A slot with one publisher and one subscription, and a dataset: a count and so many bytes.
-static LARGE: &[u8] = b"\
-[node]
-address = \"10.0.0.1\"
-[[slot]]
-publishers = 1
-subscriptions = 1
-[[dataset]]
-id = 2001
-element = [{ type = \"UINT16\" }, { type = \"UINT8\", size = 0 }]
-";
-
-/// A publisher and a subscription of that dataset.
-static PAIR: [&str; 2] = [
-    "call 0 publish 100 2001 0 0 0 0 10.0.0.2:17224",
-    "call 0 subscribe 100 2001 0.0.0.0 0.0.0.0 0.0.0.0 0 0 0 keep",
-];
-
-static LARGEST: [Putting; 2] = [
-    Putting {
-        slot: 0,
-        handle: 1,
-        count: 1431,
-        ending: Ok(()),
-        answer: "0 refused TooLong\n",
-    },
-    Putting {
-        slot: 0,
-        handle: 1,
-        count: 1430,
-        ending: Ok(()),
-        answer: "0 done\n",
-    },
-];
-
 #[test]
-fn an_item_of_1432_bytes_is_put(rt: HostRuntime) -> Result<(), Fail> {
-    let mut bench = Bench::after(rt.alloc(), LARGE, &PAIR)?;
-    put_each(&rt, &mut bench, &LARGEST)
+fn a_subscription_shows_its_bytes_and_their_item(rt: HostRuntime) -> Result<(), Fail> {
+    let mut bench = NodeBench::after(rt.alloc(), CONFIG, &OBJECTS)?;
+    unseen(&rt, &bench.node);
+    shows(&rt, &bench.node, 0)?;
+    bench.take(rt.alloc(), DATA)?;
+    same(&rt, "its bytes", is_data(bench.node.peek(0, 4)), true);
+    shows(&rt, &bench.node, 2)
 }

@@ -1,6 +1,6 @@
 //! The node's calls that no line makes.
 
-use crate::bench::Bench;
+use crate::node_bench::NodeBench;
 use crate::same::same;
 use crate::two_slots::CONFIG;
 use std::process::Abort;
@@ -22,44 +22,34 @@ const TERMS: PublisherTerms = PublisherTerms {
     },
 };
 
+/// That publisher is made in a slot.
+fn publish(slot: u16) -> Event<'static> {
+    let call = Call::Publish(TERMS);
+    Event::Call { slot, call }
+}
+
+/// The first object of slot 0 gets a value.
+fn put() -> Event<'static> {
+    let call = Call::Put {
+        handle: 1,
+        bytes: b"\x0a\x0b",
+    };
+    Event::Call { slot: 0, call }
+}
+
 /// The publisher is made, gets its value, and is due.
 fn events() -> [Event<'static>; 3] {
-    [
-        Event::Call {
-            slot: 0,
-            call: Call::Publish(TERMS),
-        },
-        Event::Call {
-            slot: 0,
-            call: Call::Put {
-                handle: 1,
-                bytes: b"\x0a\x0b",
-            },
-        },
-        Event::Moment(100_000),
-    ]
+    [publish(0), put(), Event::Moment(100_000)]
 }
 
 /// The same for slot 0, with a call of slot 1, a moment that changes nothing and a last one that is
 /// refused.
 fn other_events() -> [Event<'static>; 6] {
     [
-        Event::Call {
-            slot: 1,
-            call: Call::Publish(TERMS),
-        },
-        Event::Call {
-            slot: 0,
-            call: Call::Publish(TERMS),
-        },
+        publish(1),
+        publish(0),
         Event::Moment(0),
-        Event::Call {
-            slot: 0,
-            call: Call::Put {
-                handle: 1,
-                bytes: b"\x0a\x0b",
-            },
-        },
+        put(),
         Event::Moment(100_000),
         Event::Moment(7),
     ]
@@ -72,21 +62,6 @@ static FIRST_TELEGRAM: &str = "\
     0 send pd 10.0.0.2:17224 \
     000000000100506400000064000000000000000000000002000000000000000000000000ec179c94\
     0a0b0000\n";
-
-/// Asserts what the events give a new node.
-fn run(rt: &(impl Abort + AllocGlobal), bench: &mut Bench) -> Result<(), Fail> {
-    assert!(rt; bench.out.is_empty());
-    let taken = bench.node.run(&events(), &mut bench.out);
-    assert!(rt; taken == 3);
-    assert!(rt; bench.out.get(3).is_none());
-    bench.tells(rt, FIRST_TELEGRAM)
-}
-
-#[test]
-fn a_run_takes_all_events(rt: HostRuntime) -> Result<(), Fail> {
-    let mut bench = Bench::new(rt.alloc(), CONFIG)?;
-    run(&rt, &mut bench)
-}
 
 /// The datasets, the address and the ports of the other configuration, the same slot 0, and a
 /// slot 1 that holds nothing.
@@ -124,21 +99,25 @@ static OTHER_TELEGRAM: &str = "\
     000000000100506400000064000000000000000000000002000000000000000000000000ec179c94\
     0a0b0000\n";
 
-/// Asserts what both lists of events give two new nodes.
-fn run_two(
-    rt: &(impl Abort + AllocGlobal),
-    first: &mut Bench,
-    second: &mut Bench,
-) -> Result<(), Fail> {
-    let taken = run_both(
+/// Runs both lists of events, and answers how many were taken of each.
+fn run_lists(first: &mut NodeBench, second: &mut NodeBench) -> (usize, usize) {
+    run_both(
         &mut first.node,
         &mut second.node,
         &events(),
         &other_events(),
         &mut first.out,
         &mut second.out,
-    );
-    assert!(rt; taken == (3, 6));
+    )
+}
+
+/// Asserts what both lists of events give two new nodes.
+fn run_two(
+    rt: &(impl Abort + AllocGlobal),
+    first: &mut NodeBench,
+    second: &mut NodeBench,
+) -> Result<(), Fail> {
+    same(rt, "taken", run_lists(first, second), (3, 6));
     same_view();
     view_drops_nothing();
     first.tells(rt, FIRST_TELEGRAM)?;
@@ -146,13 +125,13 @@ fn run_two(
 }
 
 /// Runs the first node beside one of the other configuration.
-fn run_beside(rt: &(impl Abort + AllocGlobal), first: &mut Bench) -> Result<(), Fail> {
-    let mut second = Bench::new(rt.alloc(), OTHER_CONFIG)?;
+fn run_beside(rt: &(impl Abort + AllocGlobal), first: &mut NodeBench) -> Result<(), Fail> {
+    let mut second = NodeBench::new(rt.alloc(), OTHER_CONFIG)?;
     run_two(rt, first, &mut second)
 }
 
 #[test]
 fn two_nodes_run_alike(rt: HostRuntime) -> Result<(), Fail> {
-    let mut first = Bench::new(rt.alloc(), CONFIG)?;
+    let mut first = NodeBench::new(rt.alloc(), CONFIG)?;
     run_beside(&rt, &mut first)
 }

@@ -7,6 +7,7 @@
 
 ghost use Rattle.std.specs.Prelude.{◌≡◌};
 
+use crate::node_bench::step;
 use crate::same::same;
 use crate::two_slots;
 use std::alloc::{AllocError, Global};
@@ -144,7 +145,7 @@ static ROWS: [Row; 7] = [
 fn take(alloc: Global, node: &mut Node, line: &str, out: &mut Outbox) -> bool {
     let mut buffer = Vec::new(alloc);
     match read_line(&mut buffer, line.as_bytes()) {
-        Ok(Some(event)) => node.step(&event, out).is_ok(),
+        Ok(Some(event)) => step(node, &event, out).is_ok(),
         Ok(None) | Err(_) => false,
     }
 }
@@ -162,6 +163,11 @@ fn node_after(alloc: Global, lines: &[&str]) -> Option<Node> {
     Some(node)
 }
 
+/// The node's moment, and how many records there are.
+fn state(node: &Node, out: &Outbox) -> (u64, usize) {
+    (node.now(), out.len())
+}
+
 /// Hands an event to a node, and once more where it says that memory is wanting.
 fn step_again(
     rt: &(impl Abort + AllocGlobal),
@@ -170,11 +176,11 @@ fn step_again(
     event: &Event<'_>,
     out: &mut Outbox,
 ) {
-    let before = (node.now(), out.len());
-    match node.step(event, out) {
+    let before = state(node, out);
+    match step(node, event, out) {
         Err(NodeFault::OutOfMemory) => {
-            same(rt, name, (node.now(), out.len()), before);
-            same(rt, name, node.step(event, out), Ok(()));
+            same(rt, name, state(node, out), before);
+            same(rt, name, step(node, event, out), Ok(()));
         }
         taken => same(rt, name, taken, Ok(())),
     }

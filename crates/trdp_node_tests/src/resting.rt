@@ -1,10 +1,9 @@
 //! A daemon that rests between its turns, over a wire that remembers each rest.
 
-use crate::daemon::{MemoryDaemon, memory_daemon, totals};
+use crate::daemon::{MemoryDaemon, totals};
 use crate::same::same;
 use std::alloc::Global;
 use std::process::Abort;
-use std::test::Fail;
 use trdp_base::{Ip, Place};
 use trdp_daemon::{MemoryWire, Port, Rest};
 
@@ -28,12 +27,27 @@ const READINGS: [u64; 6] = [0, 100, 40_000, 100_000, 100_010, 150_000];
 
 /// The rests between these turns, where the daemon is attended to until 150,000: up to 100,000,
 /// and then not up to 200,000.
-static RESTS: [(usize, u64); 5] = [
-    (3, 100_000),
-    (6, 99_900),
-    (9, 60_000),
-    (12, 50_000),
-    (15, 49_990),
+static RESTS: [Rest; 5] = [
+    Rest {
+        takes: 3,
+        most: 100_000,
+    },
+    Rest {
+        takes: 6,
+        most: 99_900,
+    },
+    Rest {
+        takes: 9,
+        most: 60_000,
+    },
+    Rest {
+        takes: 12,
+        most: 50_000,
+    },
+    Rest {
+        takes: 15,
+        most: 49_990,
+    },
 ];
 
 /// A daemon whose slot publishes every 100,000 microseconds from its first turn on; None for want
@@ -42,31 +56,20 @@ fn publishing(alloc: Global) -> Option<MemoryDaemon> {
     let publish = b"publish 100 0 100000 0 0 0 10.0.0.2:17224";
     let mut wire = MemoryWire::new(alloc, 100, 100, 4096).ok()?;
     wire.arrive(Port::Control(0), 1, APPLICATION, publish).ok()?;
-    memory_daemon(alloc, PUBLISHER, wire, &READINGS)
-}
-
-/// Asserts that a daemon rested so.
-fn rested(rt: &(impl Abort + AllocGlobal), rests: &[Rest]) {
-    same(rt, "rests", rests.len(), RESTS.len());
-    for (index, (takes, most)) in RESTS.iter().enumerate() {
-        let wanted = Rest {
-            takes: *takes,
-            most: *most,
-        };
-        same(rt, index, rests.get(index).copied(), Some(wanted));
-    }
+    MemoryDaemon::new(alloc, PUBLISHER, wire, &READINGS)
 }
 
 /// Attends to a daemon until its end, and asserts what it took and how it rested.
 fn attends(rt: &(impl Abort + AllocGlobal), daemon: &mut MemoryDaemon) {
     // The answer of the call; nothing is sent, since the publisher has no value.
     same(rt, "totals", daemon.attend(150_000), totals(1, 1, 0, 0));
-    rested(rt, daemon.wire().rests());
+    same(rt, "rests", daemon.wire().rests(), RESTS.as_slice());
 }
 
 #[test]
-fn rests_until_something_is_due(rt: HostRuntime) -> Result<(), Fail> {
-    let mut daemon = publishing(rt.alloc()).ok_or("no memory")?;
-    attends(&rt, &mut daemon);
-    Ok(())
+fn rests_until_something_is_due(rt: HostRuntime) {
+    match publishing(rt.alloc()) {
+        Some(mut daemon) => attends(&rt, &mut daemon),
+        None => assert!(rt; false, "no memory"),
+    }
 }

@@ -1,10 +1,8 @@
 //! A daemon over a wire and a clock in memory, whose takes, gives and memory fail in turn.
 
-use crate::daemon::{MemoryDaemon, memory_daemon, offers_are, totals, turns_give};
-use crate::same::same;
+use crate::daemon::{MemoryDaemon, offers_are, totals, turns_give};
 use std::alloc::{AllocError, Global};
 use std::process::Abort;
-use std::test::Fail;
 use trdp_base::{Ip, Place};
 use trdp_daemon::{MemoryWire, Port, Totals};
 
@@ -37,31 +35,17 @@ const FOUR_TURNS: &[u8] = b"0 handle 1\n0 done\n\
     \0\0\0\x01\x01\0\x50\x64\0\0\0\x64\0\0\0\0\0\0\0\0\0\0\0\x02\
     \0\0\0\0\0\0\0\0\0\0\0\0\x1f\x87\x6e\xa2\x0a\x0b\0\0";
 
-/// A run: the take and the give that fail, 0 for none, its turns, what they offer, and how many
-/// datagrams came, were offered, got lost, and weren't read. Each turn takes at process data,
-/// message data, the operator's port and the control port of slot 0.
-type Row = (usize, usize, u32, &'static [u8], [u64; 4]);
-
-/// Each take of three turns failing, and each give.
-static ROWS: [Row; 17] = [
-    (0, 0, 3, THREE_TURNS, [2, 3, 0, 0]),
-    (1, 0, 3, THREE_TURNS, [2, 3, 0, 1]),
-    (2, 0, 3, THREE_TURNS, [2, 3, 0, 1]),
-    (3, 0, 3, THREE_TURNS, [2, 3, 0, 1]),
-    (4, 0, 3, b"0 refused NoHandle\n", [1, 1, 0, 1]),
-    (5, 0, 3, THREE_TURNS, [2, 3, 0, 1]),
-    (6, 0, 3, THREE_TURNS, [2, 3, 0, 1]),
-    (7, 0, 3, THREE_TURNS, [2, 3, 0, 1]),
-    (8, 0, 3, b"0 handle 1\n", [1, 1, 0, 1]),
-    (9, 0, 3, THREE_TURNS, [2, 3, 0, 1]),
-    (10, 0, 3, THREE_TURNS, [2, 3, 0, 1]),
-    (11, 0, 3, THREE_TURNS, [2, 3, 0, 1]),
-    (12, 0, 3, THREE_TURNS, [2, 3, 0, 1]),
-    (0, 1, 3, THREE_TURNS, [2, 3, 1, 0]),
-    (0, 2, 3, THREE_TURNS, [2, 3, 1, 0]),
-    (0, 3, 3, THREE_TURNS, [2, 3, 1, 0]),
-    (0, 3, 4, FOUR_TURNS, [2, 4, 1, 0]),
-];
+/// What three turns offer and count where the take of that number fails, counted from 1, 0 for
+/// none. Each turn takes at process data, message data, the operator's port and the control port of
+/// slot 0: the fourth and the eighth take find the application's lines.
+fn without_take(take: usize) -> (&'static [u8], Totals) {
+    match take {
+        0 => (THREE_TURNS, totals(2, 3, 0, 0)),
+        4 => (b"0 refused NoHandle\n", totals(1, 1, 0, 1)),
+        8 => (b"0 handle 1\n", totals(1, 1, 0, 1)),
+        _ => (THREE_TURNS, totals(2, 3, 0, 1)),
+    }
+}
 
 /// What four turns offer, how many datagrams that is, and how often memory was wanting: where it
 /// never was, where it was for the publisher, for the value, and for the moment of the first
@@ -91,35 +75,31 @@ fn lay_down(
 fn daemon(alloc: Global, failing_take: usize, failing_give: usize) -> Option<MemoryDaemon> {
     let mut wire = MemoryWire::new(alloc, 100, 100, 4096).ok()?;
     lay_down(&mut wire, failing_take, failing_give).ok()?;
-    memory_daemon(alloc, CONFIG, wire, &[0, 1, 100_000, 200_000])
+    MemoryDaemon::new(alloc, CONFIG, wire, &[0, 1, 100_000, 200_000])
 }
 
 /// Asserts what so many turns offer and count over which this take and this give fail.
-fn failing_give(
+fn failing(
     rt: &(impl Abort + AllocGlobal),
-    case: usize,
     (take, give): (usize, usize),
     turns: u32,
     wanted: (&[u8], Totals),
-) -> Result<(), Fail> {
-    let mut daemon = daemon(rt.alloc(), take, give).ok_or("no memory")?;
-    turns_give(rt, case, &mut daemon, turns, wanted);
-    Ok(())
-}
-
-/// Asserts what a run offers and counts.
-fn row_gives(rt: &(impl Abort + AllocGlobal), case: usize, row: Row) -> Result<(), Fail> {
-    let (take, give, turns, offers, [taken, offered, lost, unread]) = row;
-    let counts = totals(taken, offered, lost, unread);
-    failing_give(rt, case, (take, give), turns, (offers, counts))
+) {
+    match daemon(rt.alloc(), take, give) {
+        Some(mut daemon) => turns_give(rt, take, &mut daemon, turns, wanted),
+        None => assert!(rt; false, "no memory"),
+    }
 }
 
 #[test]
-fn takes_and_gives_fail_in_turn(rt: HostRuntime) -> Result<(), Fail> {
-    for case in 0..ROWS.len() {
-        row_gives(&rt, case, ROWS[case])?;
+fn takes_and_gives_fail_in_turn(rt: HostRuntime) {
+    for take in 0..13 {
+        failing(&rt, (take, 0), 3, without_take(take));
     }
-    Ok(())
+    for give in 1..4 {
+        failing(&rt, (0, give), 3, (THREE_TURNS, totals(2, 3, 1, 0)));
+    }
+    failing(&rt, (0, 3), 4, (FOUR_TURNS, totals(2, 4, 1, 0)));
 }
 
 /// Whether a run came to one of the losses.
@@ -169,13 +149,14 @@ fn leave_from_their_ports(rt: &(impl Abort + AllocGlobal), wire: &MemoryWire) {
 /// Asserts from where to where the offers of three turns go, of which one is taken by itself.
 fn three_turns(rt: &(impl Abort + AllocGlobal), daemon: &mut MemoryDaemon) {
     daemon.turn();
-    same(rt, "three turns", daemon.run(2), totals(2, 3, 0, 0));
+    turns_give(rt, 0, daemon, 2, (THREE_TURNS, totals(2, 3, 0, 0)));
     leave_from_their_ports(rt, daemon.wire());
 }
 
 #[test]
-fn offers_leave_from_their_ports(rt: HostRuntime) -> Result<(), Fail> {
-    let mut daemon = daemon(rt.alloc(), 0, 0).ok_or("no memory")?;
-    three_turns(&rt, &mut daemon);
-    Ok(())
+fn offers_leave_from_their_ports(rt: HostRuntime) {
+    match daemon(rt.alloc(), 0, 0) {
+        Some(mut daemon) => three_turns(&rt, &mut daemon),
+        None => assert!(rt; false, "no memory"),
+    }
 }

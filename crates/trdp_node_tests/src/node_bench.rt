@@ -5,23 +5,29 @@ use std::alloc::Global;
 use std::process::Abort;
 use std::test::Fail;
 use trdp_dataset::NodeConfig;
-use trdp_engine::{Node, Outbox};
+use trdp_engine::{Event, Node, NodeFault, Outbox};
 use trdp_script::{print_record, read_line};
+
+/// Hands an event to a node, as the nodes of a network take theirs. It promises nothing of what
+/// [`Node::step`] does, so that whoever calls it has less to prove.
+pub fn step(node: &mut Node, event: &Event<'_>, out: &mut Outbox) -> Result<(), NodeFault> {
+    trdp_net::step(node, event, out)
+}
 
 /// A node, with the records that it has given.
 #[derive(Drop)]
-pub struct Bench {
+pub struct NodeBench {
     pub node: Node,
     pub out: Outbox,
 }
 
-impl Bench {
+impl NodeBench {
     /// A new node of that configuration, whose outbox is empty.
-    pub fn new(alloc: Global, config: &[u8]) -> Result<Bench, Fail> {
+    pub fn new(alloc: Global, config: &[u8]) -> Result<NodeBench, Fail> {
         let config = NodeConfig::from_toml(alloc, config)?;
         let node = Node::new(alloc, config).ok().ok_or("no memory")?;
         let out = Outbox::new(alloc);
-        Ok(Bench { node, out })
+        Ok(NodeBench { node, out })
     }
 
     /// Hands the event of a line to the node.
@@ -29,14 +35,14 @@ impl Bench {
         let mut buffer = Vec::new(alloc);
         match read_line(&mut buffer, line.as_bytes()) {
             Ok(None) => Ok(()),
-            Ok(Some(event)) => Ok(self.node.step(&event, &mut self.out)?),
+            Ok(Some(event)) => Ok(step(&mut self.node, &event, &mut self.out)?),
             Err(fault) => Err(fault.into()),
         }
     }
 
     /// A new node of that configuration that has taken the lines, and whose outbox is empty.
-    pub fn after(alloc: Global, config: &[u8], lines: &[&str]) -> Result<Bench, Fail> {
-        let mut bench = Bench::new(alloc, config)?;
+    pub fn after(alloc: Global, config: &[u8], lines: &[&str]) -> Result<NodeBench, Fail> {
+        let mut bench = NodeBench::new(alloc, config)?;
         for line in lines {
             bench.take(alloc, line)?;
         }

@@ -1,10 +1,15 @@
 //! A request to a group address, which two nodes answer: one by a reply, the other by a query.
 
-use crate::bench::{Act, Step, play};
+use super::{Act, NetworkBench, Step};
+use crate::same::same;
 use std::test::Fail;
+use trdp_base::Ip;
+use trdp_net::Sent;
 
-/// Two nodes hear what is sent to the group; the reply of the first comes twice.
-static REPLIED: [Step; 7] = [
+/// Two nodes hear what is sent to the group; the first is asked once and replies, and is asked
+/// again when the request comes again. The reply comes twice, and is told once. The second answers
+/// by a query, which is confirmed.
+static STEPS: [Step; 13] = [
     Step {
         node: 1,
         act: Act::Take("call 0 listen 300 0.0.0.0 0.0.0.0 0.0.0.0 - 0 0"),
@@ -55,10 +60,12 @@ static REPLIED: [Step; 7] = [
         act: Act::Deliver(1),
         tells: "",
     },
-];
-
-/// The second is asked, and answers by a query.
-static QUERIED: [Step; 2] = [
+    Step {
+        node: 1,
+        act: Act::Deliver(0),
+        tells: "\
+            0 asked 1 3 00000000-0000-0000-0000-000000000001 10.0.0.1:17225 300 - - 0d\n",
+    },
     Step {
         node: 2,
         act: Act::Deliver(0),
@@ -75,10 +82,6 @@ static QUERIED: [Step; 2] = [
             000000010007a1200000000000000000000000000000000000000000000000000000000000000000\
             0000000000000000000000000000000000000000000000000000000000000000911382c70e000000\n",
     },
-];
-
-/// The query arrives, and its confirmation.
-static CONFIRMED: [Step; 3] = [
     Step {
         node: 0,
         act: Act::Deliver(2),
@@ -102,37 +105,29 @@ static CONFIRMED: [Step; 3] = [
     },
 ];
 
-/// The time of the request is over.
-static OVER: [Step; 1] = [Step {
-    node: 0,
-    act: Act::Take("moment 1000000"),
-    tells: "0 closed 1 NotAllReplies\n",
-}];
-
-/// The query arrives when nobody waits for it.
-static LATE: [Step; 1] = [Step {
-    node: 0,
-    act: Act::Deliver(2),
-    tells: "",
-}];
-
-/// The query arrives, and nobody confirms it in time.
-static UNCONFIRMED: [Step; 2] = [
-    Step {
-        node: 0,
-        act: Act::Deliver(2),
-        tells: "0 replied 1 10.0.0.3:17225 Mq 0 301 0e\n",
-    },
-    Step {
-        node: 0,
-        act: Act::Take("moment 1000000"),
-        tells: "0 closed 1 NotConfirmed\n",
-    },
+/// From where to where the telegrams went, and that they are no more.
+static WAYS: [Option<(Ip, Ip)>; 5] = [
+    Some((Ip(0x0a00_0001), Ip(0xef00_0001))),
+    Some((Ip(0x0a00_0002), Ip(0x0a00_0001))),
+    Some((Ip(0x0a00_0003), Ip(0x0a00_0001))),
+    Some((Ip(0x0a00_0001), Ip(0x0a00_0003))),
+    None,
 ];
+
+/// From where to where a telegram went.
+fn way(sent: Option<Sent<'_>>) -> Option<(Ip, Ip)> {
+    match sent {
+        Some(sent) => Some((sent.from.ip, sent.to.ip)),
+        None => None,
+    }
+}
 
 #[test]
 fn a_group_answers(rt: HostRuntime) -> Result<(), Fail> {
-    play(&rt, "all in time", &[&REPLIED, &QUERIED, &CONFIRMED])?;
-    play(&rt, "a late query", &[&REPLIED, &OVER, &QUERIED, &LATE])?;
-    play(&rt, "no confirmation", &[&REPLIED, &QUERIED, &UNCONFIRMED])
+    let mut bench = NetworkBench::new(rt.alloc())?;
+    bench.play(&rt, "a request to a group", &STEPS)?;
+    for (which, wanted) in WAYS.iter().enumerate() {
+        same(&rt, which, way(bench.network.sent(which)), *wanted);
+    }
+    Ok(())
 }
