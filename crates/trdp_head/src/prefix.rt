@@ -13,7 +13,6 @@
 
 ghost use Rattle.std.specs.Prelude.{ℕ, ◌≡◌, ◌≤◌, ◌+◌, length, take, drop};
 ghost use Rattle.std.specs.Prelude.{Some, None, IfOk, IfErr};
-ghost use Rattle.trdp_head.specs.Checks.{is_checked};
 ghost use Rattle.trdp_head.specs.Fields.{field};
 ghost use Rattle.trdp_head.specs.Prefixes.{prefix_in, prefix_bytes, IsPrefix};
 ghost use Rattle.trdp_head.specs.Faults.{prefix_fault_of, payload_fault_of};
@@ -66,19 +65,9 @@ pub(crate) struct Prefix {
     pub topo: Topo,
 }
 
-/// Whether the four bytes at the offset are the frame check of the bytes before them, least
-/// significant byte first (IEC 61375-2-3).
-fn passes_check(bytes: &[u8], offset: usize) -> bool
-    requires { offset + 4 ≤ length bytes.now }
-    ensures { result ≡ is_checked offset bytes.now }
-{
-    let (checked, _) = bytes.split_at(offset);
-    little_u32_at(bytes, offset) == frame_check(checked)
-}
-
 /// The first fields of the telegram in the bytes, or the first fault but for its type and its
 /// payload, where headers have so many bytes and telegrams at most so many.
-#[tactic(auto, unfolding(crate::specs::Faults::prefix_fault_of))]
+#[tactic(auto, unfolding(crate::specs::Faults::prefix_fault_of, crate::specs::Checks::is_checked))]
 pub(crate) fn read_prefix(bytes: &[u8], size: usize, longest: usize) -> Result<Prefix, HeadFault>
     requires { 28 ≤ size }
     ensures value { IfOk result (λ prefix. prefix ≡ prefix_in bytes.now) }
@@ -92,7 +81,9 @@ pub(crate) fn read_prefix(bytes: &[u8], size: usize, longest: usize) -> Result<P
     if bytes.len() > longest {
         return Err(HeadFault::TooLong);
     }
-    if !passes_check(bytes, size - CHECK_LENGTH) {
+    // The header ends with the frame check of the bytes before it, least significant byte first.
+    let (checked, _) = bytes.split_at(size - CHECK_LENGTH);
+    if little_u32_at(bytes, size - CHECK_LENGTH) != frame_check(checked) {
         return Err(HeadFault::Fcs);
     }
     if bytes[VERSION] != MAIN_VERSION {

@@ -2,9 +2,8 @@
 
 ghost use Rattle.std.specs.Prelude.{◌≡◌, ◌≤◌, ◌+◌, List, ℕ, length};
 ghost use Rattle.std.specs.Prelude.{Some, None, IfOk, IfErr, IsOkAnd};
-ghost use Rattle.trdp_head.specs.Prefixes.{prefix_in};
 ghost use Rattle.trdp_head.specs.MdKinds.{md_kind_of};
-ghost use Rattle.trdp_head.specs.MdHeads.{uri_in, md_head_in};
+ghost use Rattle.trdp_head.specs.MdHeads.{uri_in};
 ghost use Rattle.trdp_head.specs.IsMdTelegram.{IsMdTelegram};
 ghost use Rattle.trdp_head.specs.MdFaults.{md_fault_of};
 ghost use Rattle.trdp_head.specs.MdTelegrams.{md_telegram_of};
@@ -13,7 +12,7 @@ ghost use Rattle.trdp_head.specs.declared.md.MdHead.{MdHead};
 use crate::fault::HeadFault;
 use crate::fields::{i32_at, u32_at, u128_at};
 use crate::md::{MD_HEAD, MD_TELEGRAM_MAX, MdHead, MdKind, MdView, layout};
-use crate::prefix::{Prefix, read_payload, read_prefix};
+use crate::prefix::{read_payload, read_prefix};
 use trdp_base::{SessionId, URI_LIMIT, Uri};
 
 /// The type of a code, if it is one of message data.
@@ -39,25 +38,6 @@ fn uri_at(bytes: &[u8], offset: usize) -> Uri
     let (_, rest) = bytes.split_at(offset);
     let (field, _) = rest.split_at(URI_LIMIT);
     Uri::from_field(field)
-}
-
-/// The fields that stand in a header, with this type.
-fn head_of(bytes: &[u8], prefix: Prefix, kind: MdKind) -> MdHead
-    requires room { 116 ≤ length bytes.now }
-    requires prefix { prefix ≡ prefix_in bytes.now }
-    ensures { result ≡ md_head_in bytes.now kind }
-{
-    MdHead {
-        counter: prefix.counter,
-        kind,
-        com_id: prefix.com_id,
-        topo: prefix.topo,
-        status: i32_at(bytes, layout::STATUS),
-        session: SessionId(u128_at(bytes, layout::SESSION)),
-        timeout: u32_at(bytes, layout::TIMEOUT),
-        source_uri: uri_at(bytes, layout::SOURCE_URI),
-        dest_uri: uri_at(bytes, layout::DEST_URI),
-    }
 }
 
 /// The message data telegram in the bytes, whose payload it lends (IEC 61375-2-3).
@@ -89,8 +69,16 @@ pub fn read_md(bytes: &[u8]) -> Result<MdView<'_>, HeadFault>
         return Err(HeadFault::Kind);
     };
     let payload = read_payload(bytes, MD_HEAD)?;
-    Ok(MdView {
-        head: head_of(bytes, prefix, kind),
-        payload,
-    })
+    let head = MdHead {
+        counter: prefix.counter,
+        kind,
+        com_id: prefix.com_id,
+        topo: prefix.topo,
+        status: i32_at(bytes, layout::STATUS),
+        session: SessionId(u128_at(bytes, layout::SESSION)),
+        timeout: u32_at(bytes, layout::TIMEOUT),
+        source_uri: uri_at(bytes, layout::SOURCE_URI),
+        dest_uri: uri_at(bytes, layout::DEST_URI),
+    };
+    Ok(MdView { head, payload })
 }

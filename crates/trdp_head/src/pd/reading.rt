@@ -1,9 +1,7 @@
 //! Reading a process data telegram.
 
-ghost use Rattle.std.specs.Prelude.{◌≡◌, ◌≤◌, List, ℕ, length, Some, None, IfOk, IfErr, IsOkAnd};
+ghost use Rattle.std.specs.Prelude.{◌≡◌, List, ℕ, Some, None, IfOk, IfErr, IsOkAnd};
 ghost use Rattle.trdp_head.specs.PdKinds.{pd_kind_of};
-ghost use Rattle.trdp_head.specs.Prefixes.{prefix_in};
-ghost use Rattle.trdp_head.specs.PdHeads.{head_in};
 ghost use Rattle.trdp_head.specs.IsPdTelegram.{IsPdTelegram};
 ghost use Rattle.trdp_head.specs.PdFaults.{pd_fault_of};
 ghost use Rattle.trdp_head.specs.PdTelegrams.{pd_telegram_of};
@@ -12,7 +10,7 @@ ghost use Rattle.trdp_head.specs.declared.pd.PdHead.{PdHead};
 use crate::fault::HeadFault;
 use crate::fields::u32_at;
 use crate::pd::{PD_HEAD, PD_TELEGRAM_MAX, PdHead, PdKind, PdView, layout};
-use crate::prefix::{Prefix, read_payload, read_prefix};
+use crate::prefix::{read_payload, read_prefix};
 use trdp_base::Ip;
 
 /// The type of a code, if it is one of process data.
@@ -25,22 +23,6 @@ fn kind_of_code(code: u16) -> Option<PdKind>
         0x5072 => Some(PdKind::PullRequest),
         0x5065 => Some(PdKind::Error),
         _ => None,
-    }
-}
-
-/// The fields that stand in a header, with this type.
-fn head_of(bytes: &[u8], prefix: Prefix, kind: PdKind) -> PdHead
-    requires room { 40 ≤ length bytes.now }
-    requires prefix { prefix ≡ prefix_in bytes.now }
-    ensures { result ≡ head_in bytes.now kind }
-{
-    PdHead {
-        counter: prefix.counter,
-        kind,
-        com_id: prefix.com_id,
-        topo: prefix.topo,
-        reply_com_id: u32_at(bytes, layout::REPLY_COM_ID),
-        reply_ip: Ip(u32_at(bytes, layout::REPLY_IP)),
     }
 }
 
@@ -72,8 +54,13 @@ pub fn read_pd(bytes: &[u8]) -> Result<PdView<'_>, HeadFault>
         return Err(HeadFault::Kind);
     };
     let payload = read_payload(bytes, PD_HEAD)?;
-    Ok(PdView {
-        head: head_of(bytes, prefix, kind),
-        payload,
-    })
+    let head = PdHead {
+        counter: prefix.counter,
+        kind,
+        com_id: prefix.com_id,
+        topo: prefix.topo,
+        reply_com_id: u32_at(bytes, layout::REPLY_COM_ID),
+        reply_ip: Ip(u32_at(bytes, layout::REPLY_IP)),
+    };
+    Ok(PdView { head, payload })
 }

@@ -1,4 +1,4 @@
-use Rattle.std.proofs.Common.{◌≡◌, Some, sym, ap, ◌∙◌}
+use Rattle.std.proofs.Common.{◌≡◌, Some, sym, ap, ◌∙◌, rules}
 use Rattle.std.proofs.lemmas.Option.{none-some}
 use Rattle.trdp_head.specs.declared.prefix.Prefix.{Prefix}
 use Rattle.trdp_head.specs.declared.fault.HeadFault.TheVariants.{Kind}
@@ -69,7 +69,7 @@ returns-clause-telegram c =
     _ c.in_ok-payload.payload.now c.in_ok-prefix.ensures.none c.in_ok-payload.ensures.none
     (ap (λ (p : Prefix). md_kind_of p.code) (sym c.in_ok-prefix.ensures.value)
     ∙ sym c.kind_of_code.ensures ∙ c.in-Some.is)
-    c.head_of.ensures c.in_ok-payload.ensures.value
+    (search rules) c.in_ok-payload.ensures.value
 
 pub returns-clause-no_fault : goal.returns-clause-no_fault
 returns-clause-no_fault c = md-no_fault (returns-clause-telegram c)
