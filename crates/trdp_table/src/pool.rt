@@ -115,39 +115,12 @@ impl Pool {
     }
 
     /// What is held under that key; None where the key is free or there is no such key.
-    fn held(&self, key: usize) -> Option<&Held>
+    pub fn get(&self, key: usize) -> Option<&Held>
         ensures { option_copied result ≡ held_in self.now key }
     {
         match self.places.get(key) {
             Some(Some(place)) => self.slab.get(*place),
             _ => None,
-        }
-    }
-
-    /// Whether an object is held under that key.
-    pub fn holds(&self, key: usize) -> bool
-        ensures { result ≡ is_some (held_in self.now key) }
-    {
-        self.held(key).is_some()
-    }
-
-    /// The object of that key; None where the key is free or there is no such key.
-    pub fn object(&self, key: usize) -> Option<&AnyObject>
-        ensures { option_copied result ≡ option_map (λ held. held.object) (held_in self.now key) }
-    {
-        match self.held(key) {
-            Some(held) => Some(&held.object),
-            None => None,
-        }
-    }
-
-    /// The slot and the handle of the object of that key; None where there is no object.
-    pub fn owner(&self, key: usize) -> Option<(u16, u32)>
-        ensures { result ≡ owner_in self.now key }
-    {
-        match self.held(key) {
-            Some(held) => Some((held.slot, held.handle)),
-            None => None,
         }
     }
 

@@ -170,10 +170,14 @@ impl Table {
             ≡ option_map (λ keyed. keyed.key)
             (by_handle handle (slot_in slot self.now).objects) }
     {
-        match known {
-            Some(key) if self.pool.owner(key) == Some((slot, handle)) => Some(key),
-            _ => self.find(slot, handle),
+        if let Some(key) = known
+            && let Some(held) = self.pool.get(key)
+            && held.slot == slot
+            && held.handle == handle
+        {
+            return Some(key);
         }
+        self.find(slot, handle)
     }
 
     /// The object of that key; None where no slot has one.
@@ -181,7 +185,10 @@ impl Table {
         ensures { option_copied result
             ≡ option_map (λ keyed. keyed.object) (by_key key (all_objects self.now)) }
     {
-        self.pool.object(key)
+        match self.pool.get(key) {
+            Some(held) => Some(&held.object),
+            None => None,
+        }
     }
 
     /// The slot and the handle of the object of that key; None where no slot has one.
@@ -191,7 +198,10 @@ impl Table {
             ≡ by_key key (all_objects self.now)) }
         ensures variant { is_some result ≡ is_some (by_key key (all_objects self.now)) }
     {
-        self.pool.owner(key)
+        match self.pool.get(key) {
+            Some(held) => Some((held.slot, held.handle)),
+            None => None,
+        }
     }
 
     /// Why a slot takes no further object of a kind: the first that applies of its quota and its
@@ -277,7 +287,7 @@ impl Table {
         ensures value { option_copied_mut result
             ≡ option_map (λ keyed. keyed.object) (by_key key (all_objects self.old)) }
     {
-        if self.pool.holds(key) {
+        if self.pool.get(key).is_some() {
             Some(self.pool.object_mut(key))
         } else {
             None
