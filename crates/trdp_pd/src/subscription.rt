@@ -124,8 +124,7 @@ fn taken_in(state: ValueState) -> Taken
 impl Subscription {
     ghost use Rattle.trdp_head.specs.PdTelegrams.{PdTelegram};
     ghost use Rattle.trdp_pd.specs.Subscriptions.{SubscriptionState, subscribed};
-    ghost use Rattle.trdp_pd.specs.Subscriptions.{is_for_subscription};
-    ghost use Rattle.trdp_pd.specs.Subscriptions.{is_accepted_value, storing, value_after_time_out};
+    ghost use Rattle.trdp_pd.specs.Subscriptions.{storing, value_after_time_out};
     ghost use Rattle.trdp_pd.specs.Peeks.{peek_model, shown};
     ghost use Rattle.trdp_head.specs.Limits.{pd_payload_limit};
 
@@ -185,22 +184,6 @@ impl Subscription {
             counter: self.counter,
             bytes: self.value.bytes(),
         }
-    }
-
-    /// Whether the telegram is data or a pull reply that the filter passes.
-    #[tactic(auto, unfolding(crate::specs::Subscriptions::is_for_subscription))]
-    fn is_for(&self, src: Place, dst: Place, head: &PdHead, globals: &Globals) -> bool
-        ensures { result ≡ is_for_subscription self.now src dst head.now globals.entry.now }
-    {
-        carries_value(head.kind) && self.terms.filter.passes(src, dst, head, globals.topo)
-    }
-
-    /// Whether it takes the telegram: it is for it, the payload fits, and it isn't stale.
-    #[tactic(auto, unfolding(crate::specs::Subscriptions::is_accepted_value))]
-    fn accepts(&self, src: Place, dst: Place, head: &PdHead, globals: &Globals, fits: bool) -> bool
-        ensures { result ≡ is_accepted_value self.now src dst head.now globals.entry.now fits }
-    {
-        self.is_for(src, dst, head, globals) && fits && !is_stale(self.latest, src.ip, head)
     }
 
     /// Stores a telegram that it takes.
@@ -283,18 +266,26 @@ impl Object for Subscription {
     }
 
     /// Data and pull replies that its filter passes are for it.
+    #[tactic(auto, unfolding(crate::specs::Subscriptions::is_for_subscription))]
     fn addressed(&self, telegram: &Telegram<'_>, globals: &Globals) -> bool {
         match *telegram {
-            Telegram::Pd { src, dst, view } => self.is_for(src, dst, &view.head, globals),
+            Telegram::Pd { src, dst, view } => {
+                carries_value(view.head.kind)
+                    && self.terms.filter.passes(src, dst, &view.head, globals.topo)
+            }
             Telegram::Md { .. } => false,
         }
     }
 
-    /// Stores a telegram that it accepts, and changes nothing by any other.
+    /// Stores a telegram that is for it, fits and isn't stale; changes nothing by any other.
+    #[tactic(auto, unfolding(crate::specs::Subscriptions::is_accepted_value))]
     fn take(&mut self, telegram: &Telegram<'_>, globals: &Globals, fits: bool) -> Taken {
         match *telegram {
-            Telegram::Pd { src, dst, view } => {
-                if !self.accepts(src, dst, &view.head, globals, fits) {
+            Telegram::Pd { src, view, .. } => {
+                let accepts = self.addressed(telegram, globals)
+                    && fits
+                    && !is_stale(self.latest, src.ip, &view.head);
+                if !accepts {
                     return Taken::Nothing;
                 }
                 let taken = taken_in(self.state);
