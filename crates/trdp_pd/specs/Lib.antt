@@ -1,4 +1,3 @@
-pub mod Payloads
 pub mod Effects
 pub mod Due
 pub mod Publishers

@@ -22,7 +22,6 @@
 //! `fire` when an object is due.
 #![tactic(auto)]
 
-mod buffer;
 mod laws;
 mod object;
 mod publisher;

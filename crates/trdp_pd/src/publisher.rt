@@ -4,14 +4,13 @@ ghost use Rattle.std.specs.Prelude.{◌≡◌, ℕ, ◌≤◌, length, Some, IfO
 ghost use Rattle.trdp_base.specs.Moments.{last_moment};
 ghost use Rattle.trdp_pd.specs.Publishers.{asks_for_value, asked_com_id};
 
-use crate::buffer::PayloadBuffer;
 use crate::object::{Fired, Object, Taken};
 use crate::terms::PublisherTerms;
 use std::alloc::{AllocError, Global};
 use std::marker::Model;
 use trdp_base::{Ip, Place, Topo};
 use trdp_filter::{Globals, Telegram, topo_valid};
-use trdp_head::{PdHead, PdKind};
+use trdp_head::{PD_PAYLOAD_MAX, PdHead, PdKind};
 
 /// A publisher, with room for the longest value.
 #[derive(Drop)]
@@ -20,8 +19,8 @@ pub struct Publisher {
     terms: PublisherTerms,
     /// When its cycle is next due, in microseconds; looked at for a cycle above 0 alone.
     due: u64,
-    /// The bytes of its value; empty before the first put.
-    buffer: PayloadBuffer,
+    /// The bytes of its value, with room for the longest; empty before the first put.
+    buffer: Vec<u8>,
     /// Whether a value was put: a value may be empty.
     has_value: bool,
     /// The sequence counter that its next telegram carries, data or pull reply.
@@ -30,18 +29,21 @@ pub struct Publisher {
 
 impl Model for Publisher {
     ghost use Rattle.std.specs.Prelude.{Some, None, if◌then◌else◌, ◌^◌, ◌≤◌};
+    ghost use Rattle.std.specs.Prelude.{vec_len, vec_capacity};
     ghost use Rattle.trdp_pd.specs.Publishers.{PublisherState};
+    ghost use Rattle.trdp_head.specs.Limits.{pd_payload_limit};
 
     ghost Value = { PublisherState };
 
     ghost view = { λ p. record {
       terms = p.terms;
       due = p.due;
-      value = if p.has_value then Some p.buffer.bytes else None;
+      value = if p.has_value then Some p.buffer.items else None;
       counter = p.counter;
     } };
 
-    ghost invariant = { λ p. p.due ≤ 2 ^ 63 };
+    ghost invariant = { λ p. (p.due ≤ 2 ^ 63) × (vec_len p.buffer ≤ pd_payload_limit)
+        × (pd_payload_limit ≤ vec_capacity p.buffer) };
 }
 
 /// Whether telegrams of this type ask for a value.
@@ -80,7 +82,7 @@ impl Publisher {
         requires { now ≤ last_moment }
         ensures { IfOk result (λ p. p ≡ published terms.now now) }
     {
-        let buffer = PayloadBuffer::new(alloc)?;
+        let buffer = Vec::with_capacity(alloc, PD_PAYLOAD_MAX)?;
         let due = now + u64::from(terms.cycle);
         Ok(Publisher {
             terms: *terms,
@@ -96,7 +98,8 @@ impl Publisher {
         requires { length bytes.now ≤ pd_payload_limit }
         ensures { self.new ≡ record self.old { value = Some bytes.now } }
     {
-        self.buffer.set(bytes);
+        self.buffer.clear();
+        self.buffer.extend_from_slice(bytes).unwrap();
         self.has_value = true;
     }
 
@@ -106,7 +109,7 @@ impl Publisher {
         ensures within { IfSome result (λ bytes. length bytes.now ≤ pd_payload_limit) }
     {
         if self.has_value {
-            Some(self.buffer.bytes())
+            Some(self.buffer.as_slice())
         } else {
             None
         }

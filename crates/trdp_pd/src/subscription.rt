@@ -6,14 +6,13 @@ ghost use Rattle.trdp_pd.specs.Subscriptions.{first_size, deadline_from, carries
 ghost use Rattle.trdp_pd.specs.Subscriptions.{taken_in};
 ghost use Rattle.trdp_head.specs.Limits.{pd_payload_limit};
 
-use crate::buffer::PayloadBuffer;
 use crate::object::{Fired, Object, Taken};
 use crate::terms::{Behaviour, Latest, Peek, SubscriptionTerms, ValueState};
 use std::alloc::{AllocError, Global};
 use std::marker::Model;
 use trdp_base::{Ip, Place};
 use trdp_filter::{Globals, Telegram};
-use trdp_head::{PdHead, PdKind, PdView};
+use trdp_head::{PD_PAYLOAD_MAX, PdHead, PdKind, PdView};
 
 /// A telegram less than this many counters behind the latest one is stale (profile).
 const STALE_WINDOW: u32 = 16;
@@ -36,12 +35,13 @@ pub struct Subscription {
     /// The latest telegram that it took, for comparison with the next one; None before the first,
     /// and from a time-out to the next one that it takes.
     latest: Option<Latest>,
-    /// The bytes of its value: of the latest telegram that it took, or zeros.
-    value: PayloadBuffer,
+    /// The bytes of its value, with room for the longest: of the latest telegram that it took, or
+    /// zeros.
+    value: Vec<u8>,
 }
 
 impl Model for Subscription {
-    ghost use Rattle.std.specs.Prelude.{◌≤◌};
+    ghost use Rattle.std.specs.Prelude.{◌≤◌, vec_len, vec_capacity};
     ghost use Rattle.trdp_pd.specs.Subscriptions.{SubscriptionState};
     ghost use Rattle.trdp_head.specs.Limits.{pd_payload_limit};
 
@@ -54,10 +54,11 @@ impl Model for Subscription {
       state = s.state;
       counter = s.counter;
       latest = s.latest;
-      value = s.value.bytes;
+      value = s.value.items;
     } };
 
-    ghost invariant = { λ s. s.zero_size ≤ pd_payload_limit };
+    ghost invariant = { λ s. (s.zero_size ≤ pd_payload_limit) × (vec_len s.value ≤ pd_payload_limit)
+        × (pd_payload_limit ≤ vec_capacity s.value) };
 }
 
 /// The length of a new subscription's value in bytes: that of its dataset's zero value, which is
@@ -147,8 +148,8 @@ impl Subscription {
         ensures { IfOk result (λ s. s ≡ subscribed terms.now zero_size now) }
     {
         let zero_size = first_size(terms, zero_size);
-        let mut value = PayloadBuffer::new(alloc)?;
-        value.set_zeros(zero_size);
+        let mut value = Vec::with_capacity(alloc, PD_PAYLOAD_MAX)?;
+        value.resize(zero_size, 0).unwrap();
         Ok(Subscription {
             terms: *terms,
             zero_size,
@@ -182,7 +183,7 @@ impl Subscription {
         Peek {
             state: self.state,
             counter: self.counter,
-            bytes: self.value.bytes(),
+            bytes: self.value.as_slice(),
         }
     }
 
@@ -201,7 +202,8 @@ impl Subscription {
             kind: view.head.kind,
             counter: view.head.counter,
         });
-        self.value.set(view.payload);
+        self.value.clear();
+        self.value.extend_from_slice(view.payload).unwrap();
     }
 
     /// What a time-out does to the value.
@@ -215,11 +217,12 @@ impl Subscription {
             Behaviour::Keep => {}
             Behaviour::Zero => {
                 let size = if self.terms.dataset == 0 {
-                    self.value.bytes().len()
+                    self.value.len()
                 } else {
                     self.zero_size
                 };
-                self.value.set_zeros(size);
+                self.value.clear();
+                self.value.resize(size, 0).unwrap();
             }
         }
     }
