@@ -324,7 +324,6 @@ impl Caller {
 }
 
 impl Object for Caller {
-    ghost use Rattle.std.specs.Prelude.{None};
     ghost use Rattle.trdp_md.specs.Callers.{caller_due, caller_addressed};
     ghost use Rattle.trdp_md.specs.Callers.{caller_taking, caller_firing};
     ghost use Rattle.trdp_md.specs.CallerLaws.{caller_taking-unaddressed};
@@ -333,8 +332,6 @@ impl Object for Caller {
     ghost use Rattle.trdp_md.specs.CallerLaws.{caller_sound-firing, caller_sound-taking};
 
     ghost due_of = { caller_due };
-
-    ghost dataset_of = { λ _. None };
 
     ghost is_sound = { is_sound_caller };
 
@@ -357,11 +354,6 @@ impl Object for Caller {
     /// When it sends its request again or closes, in microseconds; None once it closed.
     fn due(&self) -> Option<u64> {
         self.deadline
-    }
-
-    /// A caller has no value.
-    fn dataset(&self) -> Option<u32> {
-        None
     }
 
     /// The answers of its session are for it, with counts that match its own.

@@ -51,15 +51,13 @@ impl Listener {
 }
 
 impl Object for Listener {
-    ghost use Rattle.std.specs.Prelude.{None, true};
+    ghost use Rattle.std.specs.Prelude.{true};
     ghost use Rattle.trdp_md.specs.Listeners.{listener_due, listener_addressed};
     ghost use Rattle.trdp_md.specs.Listeners.{listener_taking, listener_firing};
     ghost use Rattle.trdp_md.specs.ListenerLaws.{listener_taking-unaddressed};
     ghost use Rattle.trdp_md.specs.ListenerLaws.{listener_due-firing, listener_due-taking};
 
     ghost due_of = { listener_due };
-
-    ghost dataset_of = { λ _. None };
 
     ghost is_sound = { λ _. true };
 
@@ -81,11 +79,6 @@ impl Object for Listener {
 
     /// A listener is never due.
     fn due(&self) -> Option<u64> {
-        None
-    }
-
-    /// A listener has no value.
-    fn dataset(&self) -> Option<u32> {
         None
     }
 

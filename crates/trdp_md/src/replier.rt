@@ -195,15 +195,13 @@ impl Replier {
 }
 
 impl Object for Replier {
-    ghost use Rattle.std.specs.Prelude.{None, true};
+    ghost use Rattle.std.specs.Prelude.{true};
     ghost use Rattle.trdp_md.specs.Repliers.{replier_due, replier_addressed};
     ghost use Rattle.trdp_md.specs.Repliers.{replier_taking, replier_firing};
     ghost use Rattle.trdp_md.specs.ReplierLaws.{replier_taking-unaddressed};
     ghost use Rattle.trdp_md.specs.ReplierLaws.{replier_due-firing, replier_due-taking};
 
     ghost due_of = { replier_due };
-
-    ghost dataset_of = { λ _. None };
 
     ghost is_sound = { λ _. true };
 
@@ -226,11 +224,6 @@ impl Object for Replier {
     /// When it closes, in microseconds; None once it is over.
     fn due(&self) -> Option<u64> {
         self.deadline
-    }
-
-    /// A replier has no value.
-    fn dataset(&self) -> Option<u32> {
-        None
     }
 
     /// The confirmation that it awaits is for it.

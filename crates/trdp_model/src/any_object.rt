@@ -22,14 +22,12 @@ pub enum AnyObject {
 }
 
 impl Object for AnyObject {
-    ghost use Rattle.trdp_model.specs.Objects.{due_of, dataset_of, is_sound, is_addressed};
+    ghost use Rattle.trdp_model.specs.Objects.{due_of, is_sound, is_addressed};
     ghost use Rattle.trdp_model.specs.Objects.{taking, firing};
     ghost use Rattle.trdp_model.specs.ObjectLaws.{taking-unaddressed, due-firing, due-taking};
     ghost use Rattle.trdp_model.specs.ObjectLaws.{is_sound-taking, is_sound-firing};
 
     ghost due_of = { due_of };
-
-    ghost dataset_of = { dataset_of };
 
     ghost is_sound = { is_sound };
 
@@ -57,17 +55,6 @@ impl Object for AnyObject {
             AnyObject::Listener(listener) => listener.due(),
             AnyObject::Caller(caller) => caller.due(),
             AnyObject::Replier(replier) => replier.due(),
-        }
-    }
-
-    fn dataset(&self) -> Option<u32> {
-        match self {
-            AnyObject::Publisher(publisher) => Object::dataset(publisher),
-            AnyObject::Subscription(subscription) => Object::dataset(subscription),
-            AnyObject::Requester(requester) => requester.dataset(),
-            AnyObject::Listener(listener) => listener.dataset(),
-            AnyObject::Caller(caller) => caller.dataset(),
-            AnyObject::Replier(replier) => replier.dataset(),
         }
     }
 

@@ -147,7 +147,6 @@ fn publisher(rt: HostRuntime) -> Result<(), Fail> {
     p.put(b"\x0a\x0b");
     assert!(rt; had_none && p.value() == Some(b"\x0a\x0b".as_slice()));
     assert!(rt; p.com_id() == 100 && p.dataset() == 1001 && p.to() == THERE);
-    assert!(rt; Object::dataset(&p) == Some(1001));
     let pulled = Some(Taken::Pulled(data(PdKind::PullReply, 0)));
     on_data(&rt, &mut p, PdKind::PullRequest, pulled);
     let sent = Some(Fired::Data(data(PdKind::Data, 1)));
@@ -180,7 +179,6 @@ fn subscription(rt: HostRuntime) -> Result<(), Fail> {
     let mut s = Subscription::new(rt.alloc(), &SUBSCRIBED, 1432, 0)?;
     shows(&rt, &s, ValueState::Never, 0);
     assert!(rt; s.com_id() == 100 && s.dataset() == 1001);
-    assert!(rt; Object::dataset(&s) == Some(1001));
     on_data(&rt, &mut s, PdKind::Data, Some(Taken::Stored));
     on_moment(&rt, &mut s, 50_000, Some(Fired::Silent));
     shows(&rt, &s, ValueState::Silent, 7);
@@ -199,7 +197,7 @@ const PULLED: RequesterTerms = RequesterTerms {
 fn requester(rt: HostRuntime) {
     let mut r = Requester::new(&PULLED);
     same(&rt, "pulls", r.pull(), data(PdKind::PullRequest, 0));
-    assert!(rt; r.com_id() == 100 && r.topo() == ANY && r.to() == THERE && r.dataset().is_none());
+    assert!(rt; r.com_id() == 100 && r.topo() == ANY && r.to() == THERE);
     on_data(&rt, &mut r, PdKind::PullRequest, None);
     on_moment(&rt, &mut r, u32::MAX, None);
 }
@@ -219,7 +217,7 @@ fn heard() -> MdFilter {
 #[test]
 fn listener(rt: HostRuntime) {
     let mut l = Listener::new(&heard());
-    assert!(rt; l.com_id() == Some(300) && l.dataset().is_none());
+    assert!(rt; l.com_id() == Some(300));
     on_message(&rt, &mut l, MdKind::Notify, Some(Taken::Heard));
     on_moment(&rt, &mut l, u32::MAX, None);
 }
@@ -263,7 +261,7 @@ fn is_confirmed(rt: &impl Abort, caller: &mut Caller) {
 fn caller(rt: HostRuntime) -> Result<(), Fail> {
     let terms = asks();
     let mut c = Caller::new(rt.alloc(), &terms, b"", 0)?;
-    assert!(rt; c.session() == SessionId(9) && c.dataset().is_none());
+    assert!(rt; c.session() == SessionId(9));
     let again = Some(Fired::Again(request_head(&terms, 1)));
     on_moment(&rt, &mut c, 1000, again);
     on_message(&rt, &mut c, MdKind::Query, Some(Taken::Replied));
@@ -274,7 +272,7 @@ fn caller(rt: HostRuntime) -> Result<(), Fail> {
 #[test]
 fn replier(rt: HostRuntime) {
     let mut r = Replier::new(THERE, &message(MdKind::Request, 0), 0);
-    assert!(rt; r.peer() == THERE && r.session() == SessionId(9) && r.dataset().is_none());
+    assert!(rt; r.peer() == THERE && r.session() == SessionId(9));
     r.query(100, 1000);
     assert!(rt; r.state() == Stage::AwaitConfirm);
     on_message(&rt, &mut r, MdKind::Confirm, Some(Taken::Confirmed(7)));
@@ -285,7 +283,7 @@ fn replier(rt: HostRuntime) {
 fn any_object(rt: HostRuntime) {
     let asked = Replier::new(THERE, &message(MdKind::Request, 0), 0);
     let mut any = AnyObject::Replier(asked);
-    assert!(rt; Kind::of(&any).index() == 5 && any.dataset().is_none());
+    assert!(rt; Kind::of(&any).index() == 5);
     on_message(&rt, &mut any, MdKind::Confirm, None);
     let missed = Some(Fired::Closed(Reason::ReplyMissed));
     on_moment(&rt, &mut any, 5_000_000, missed);

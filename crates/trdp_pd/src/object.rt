@@ -70,9 +70,6 @@ pub trait Object {
     /// When the object is to act next.
     ghost due_of: { Self → Option ℕ };
 
-    /// The dataset that the object's value is one of; None where its kind has no values.
-    ghost dataset_of: { Self → Option ℕ };
-
     /// What the laws below ask of an object: each object that a node holds is sound. Objects of a
     /// kind whose laws ask nothing are always sound.
     ghost is_sound: { Self → Bool };
@@ -90,10 +87,6 @@ pub trait Object {
     /// When it is to act next, in microseconds; None for never.
     fn due(&self) -> Option<u64>
         ensures { result ≡ due_of self.now };
-
-    /// The dataset that its value is one of, 0 for any bytes; None where its kind has no values.
-    fn dataset(&self) -> Option<u32>
-        ensures { result ≡ dataset_of self.now };
 
     /// Whether the telegram is for it.
     fn addressed(&self, telegram: &Telegram<'_>, globals: &Globals) -> bool

@@ -185,15 +185,13 @@ impl Publisher {
 }
 
 impl Object for Publisher {
-    ghost use Rattle.std.specs.Prelude.{Some, true};
+    ghost use Rattle.std.specs.Prelude.{true};
     ghost use Rattle.trdp_pd.specs.Publishers.{publisher_due, publisher_addressed};
     ghost use Rattle.trdp_pd.specs.Publishers.{publisher_taking, publisher_firing};
     ghost use Rattle.trdp_pd.specs.PublisherLaws.{publisher_taking-unaddressed};
     ghost use Rattle.trdp_pd.specs.PublisherLaws.{publisher_due-firing, publisher_due-taking};
 
     ghost due_of = { publisher_due };
-
-    ghost dataset_of = { λ p. Some p.terms.dataset };
 
     ghost is_sound = { λ _. true };
 
@@ -220,11 +218,6 @@ impl Object for Publisher {
         } else {
             Some(self.due)
         }
-    }
-
-    /// The dataset that its value is one of; 0 for any bytes.
-    fn dataset(&self) -> Option<u32> {
-        Some(self.terms.dataset)
     }
 
     /// Pull requests that ask for its comId are for it, with topology counts that match its own.

@@ -79,15 +79,13 @@ impl Requester {
 }
 
 impl Object for Requester {
-    ghost use Rattle.std.specs.Prelude.{None, true};
+    ghost use Rattle.std.specs.Prelude.{true};
     ghost use Rattle.trdp_pd.specs.Requesters.{requester_due, requester_addressed};
     ghost use Rattle.trdp_pd.specs.Requesters.{requester_taking, requester_firing};
     ghost use Rattle.trdp_pd.specs.RequesterLaws.{requester_taking-unaddressed};
     ghost use Rattle.trdp_pd.specs.RequesterLaws.{requester_due-firing, requester_due-taking};
 
     ghost due_of = { requester_due };
-
-    ghost dataset_of = { λ _. None };
 
     ghost is_sound = { λ _. true };
 
@@ -109,11 +107,6 @@ impl Object for Requester {
 
     /// A requester is never due.
     fn due(&self) -> Option<u64> {
-        None
-    }
-
-    /// A requester has no value.
-    fn dataset(&self) -> Option<u32> {
         None
     }
 

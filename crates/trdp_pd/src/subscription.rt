@@ -229,7 +229,7 @@ impl Subscription {
 }
 
 impl Object for Subscription {
-    ghost use Rattle.std.specs.Prelude.{Some, true};
+    ghost use Rattle.std.specs.Prelude.{true};
     ghost use Rattle.trdp_pd.specs.Subscriptions.{subscription_addressed, subscription_taking};
     ghost use Rattle.trdp_pd.specs.Subscriptions.{subscription_firing};
     ghost use Rattle.trdp_pd.specs.SubscriptionLaws.{subscription_taking-unaddressed};
@@ -237,8 +237,6 @@ impl Object for Subscription {
     ghost use Rattle.trdp_pd.specs.SubscriptionLaws.{subscription_due-taking};
 
     ghost due_of = { λ s. s.deadline };
-
-    ghost dataset_of = { λ s. Some s.terms.dataset };
 
     ghost is_sound = { λ _. true };
 
@@ -261,11 +259,6 @@ impl Object for Subscription {
     /// Its deadline, in microseconds; None where no supervision time runs.
     fn due(&self) -> Option<u64> {
         self.deadline
-    }
-
-    /// The dataset that its value is one of; 0 for any bytes.
-    fn dataset(&self) -> Option<u32> {
-        Some(self.terms.dataset)
     }
 
     /// Data and pull replies that its filter passes are for it.
