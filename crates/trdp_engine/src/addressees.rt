@@ -16,7 +16,7 @@ ghost use Rattle.trdp_engine.specs.Noted.{noted_as, noted_from};
 ghost use Rattle.trdp_store.specs.Indexed.{rows_from};
 ghost use Rattle.trdp_base.specs.declared.session.SessionId.{SessionId};
 ghost use Rattle.trdp_index.specs.declared.session_row.Role.{Role};
-ghost use Rattle.trdp_engine.specs.Sought.{sought_by, hit, hits, noted_rows, part_of};
+ghost use Rattle.trdp_engine.specs.Sought.{sought_by, hits, noted_rows, part_of};
 ghost use Rattle.trdp_engine.specs.Sought.{comes_unasked, noted_listener, listener_room};
 ghost use Rattle.trdp_engine.specs.Sought.{rows_heard};
 ghost use Rattle.trdp_engine.specs.Costs.{meant_in, meant_of};
@@ -26,7 +26,7 @@ use crate::first_listeners::{Heard, hearers};
 use trdp_base::SessionId;
 use trdp_filter::{Globals, Telegram};
 use trdp_head::{MD_PAYLOAD_MAX, MdKind, PdHead, PdKind};
-use trdp_index::{ComRow, Role};
+use trdp_index::Role;
 use trdp_outbox::Room;
 use trdp_store::{Counts, Store};
 
@@ -129,38 +129,6 @@ fn sought_by(head: &PdHead) -> u32
     }
 }
 
-/// Notes the object of a row if the telegram is for it, and answers the room for what it may give.
-fn note_row(
-    store: &Store,
-    row: &ComRow,
-    telegram: &Telegram<'_>,
-    globals: &Globals,
-    noted: &mut Vec<Addressee>,
-    counts: &mut Counts,
-) -> Room
-    requires { vec_len noted.old < vec_capacity noted.old }
-    ensures noted { noted.new.items ≡ noted.old.items ++ noted_as row.now.slot
-        (hit (telegram_model telegram.now) globals.entry.now store.now row.now) }
-    ensures room { result
-        ≡ entries_room (hit (telegram_model telegram.now) globals.entry.now store.now row.now) }
-    ensures rows { result.rows ≤ room_rows_limit }
-    ensures bytes { result.bytes ≤ room_bytes_limit }
-    ensures capacity { vec_capacity noted.new ≡ vec_capacity noted.old }
-    ensures length { vec_len noted.new ≤ vec_len noted.old + 1 }
-    ensures comparisons { counts.new.comparisons ≡ counts.old.comparisons }
-    ensures tests { counts.new.tests ≤ counts.old.tests + 1 }
-    ensures look_ups { counts.new.look_ups ≡ counts.old.look_ups }
-{
-    let Some(object) = store.get(row.key) else {
-        return Room::none();
-    };
-    if !is_for(object, telegram, globals, counts) {
-        return Room::none();
-    }
-    noted.push_reserved(Addressee::new(row.slot, row.handle, row.key));
-    Room::of(object)
-}
-
 /// Notes those of the objects that telegrams look for under a comId that the telegram is for, and
 /// answers the room for what they may give.
 fn note_run(
@@ -190,7 +158,12 @@ fn note_run(
     let rows = store.run(Some(com_id), &mut comparisons);
     let mut room = Room::none();
     for row in rows {
-        room = room.plus(note_row(store, row, telegram, globals, noted, counts));
+        if let Some(object) = store.get(row.key) {
+            if is_for(object, telegram, globals, counts) {
+                noted.push_reserved(Addressee::new(row.slot, row.handle, row.key));
+                room = room.plus(Room::of(object));
+            }
+        }
     }
     counts.compared(comparisons);
     room

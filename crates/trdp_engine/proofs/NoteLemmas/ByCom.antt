@@ -5,14 +5,14 @@ use Rattle.trdp_store.proofs.StoreLemmas.Keys.{KeysTell}
 use Rattle.trdp_model.proofs.Tests.{and_right}
 use Rattle.std.proofs.Common.{◌≡◌, ℕ, suc, ◌+◌, ◌<◌, ◌≤◌, List, [], ◌∷◌, ◌++◌, length}
 use Rattle.std.proofs.Common.{map, drop, filter, not, Some, Bool, true, false, refl}
-use Rattle.std.proofs.Common.{◌∙◌, sym, ap, arith, append_assoc, append-nil, None}
-use Rattle.std.specs.Prelude.{slice_get, ◌==◌, ◌&&◌}
+use Rattle.std.proofs.Common.{◌∙◌, sym, ap, subst, arith, append_assoc, append-nil, None, Option}
+use Rattle.std.specs.Prelude.{slice_get, ◌==◌, ◌&&◌, option_map}
 use Rattle.std.proofs.lemmas.Bool.{false≢true}
 use Rattle.std.proofs.lemmas.Bool.Decides.{nat_tests}
 use Rattle.std.proofs.lemmas.List.{map-append, drop_all}
 use Rattle.std.proofs.lemmas.List.Concat.{flat_map-cons}
 use Rattle.std.proofs.lemmas.Grind.{flat_map-append}
-use Rattle.std.proofs.lemmas.Option.{same_Some}
+use Rattle.std.proofs.lemmas.Option.{same_Some, none-some}
 use Rattle.trdp_base.specs.declared.place.Place.{Place}
 use Rattle.trdp_head.specs.declared.pd.PdHead.{PdHead}
 use Rattle.trdp_head.specs.declared.pd.PdKind.{PdKind}
@@ -39,8 +39,9 @@ use Rattle.trdp_outbox.specs.Rooms.{entries_room}
 use Rattle.trdp_model.specs.Datagrams.{is_for_entry, is_listening, acting, hearing}
 use Rattle.trdp_engine.specs.Noted.{noted_as, noted_from}
 use Rattle.trdp_store.specs.Indexed.{com_of, is_com, is_listed, listed_as, rows_in, rows_from}
-use Rattle.trdp_engine.specs.Sought.{sought_as, sought_by, hit, hits, noted_rows}
+use Rattle.trdp_engine.specs.Sought.{sought_as, sought_by, hit_by, hit, hits, noted_rows}
 use Rattle.trdp_model.proofs.UnheardTelegrams.{acting_all}
+use Rattle.trdp_engine.proofs.NoteLemmas.BySession.{IsOne, one_entry}
 use Rattle.trdp_engine.proofs.NoteLemmas.Noted.{split, Notes, both_rooms, same_room, acting_in}
 use Rattle.trdp_engine.proofs.NoteLemmas.Noted.{rows_of-append, bytes_of-append}
 
@@ -283,6 +284,52 @@ pub run_room : (table : TableState) (src dst : Place) (t : PdTelegram) (globals 
 run_room table src dst t globals tell =
     ap entries_room (sym (all_hits table 0 src dst t globals table (keyed_slots table tell)))
 
+-- What the object of a row's key is to a telegram.
+
+pub hit_gone : (telegram : TelegramModel) (globals : Globals) (table : TableState) (row : ComRow)
+    → None ≡ option_map (λ keyed. keyed.object) (by_key row.key (all_objects table))
+    → hit telegram globals table row ≡ []
+hit_gone telegram globals table row gone = either (by_key row.key (all_objects table)) gone
+  where
+    either : (o : Option Keyed) → None ≡ option_map (λ keyed. keyed.object) o
+        → hit_by telegram globals row o ≡ []
+    either None gone = refl
+    either (Some k) gone = absurd (none-some k.object gone)
+
+pub hit_not : (telegram : TelegramModel) (globals : Globals) (table : TableState) (row : ComRow)
+    (object : AnyObject)
+    → Some object ≡ option_map (λ keyed. keyed.object) (by_key row.key (all_objects table))
+    → is_addressed object telegram globals ≡ false → hit telegram globals table row ≡ []
+hit_not telegram globals table row object there not =
+    either (by_key row.key (all_objects table)) there
+  where
+    either : (o : Option Keyed) → Some object ≡ option_map (λ keyed. keyed.object) o
+        → hit_by telegram globals row o ≡ []
+    either None there = refl
+    either (Some k) there =
+        let test : is_addressed k.object telegram globals ≡ false = ap (λ (x : AnyObject).
+        is_addressed x telegram globals) (sym (same_Some object k.object there)) ∙ not in
+        rw test refl
+
+pub hit_one : (telegram : TelegramModel) (globals : Globals) (table : TableState) (row : ComRow)
+    (object : AnyObject)
+    → Some object ≡ option_map (λ keyed. keyed.object) (by_key row.key (all_objects table))
+    → is_addressed object telegram globals ≡ true
+    → IsOne row.slot row.handle object (hit telegram globals table row)
+hit_one telegram globals table row object there for =
+    either (by_key row.key (all_objects table)) there
+  where
+    either : (o : Option Keyed) → Some object ≡ option_map (λ keyed. keyed.object) o
+        → IsOne row.slot row.handle object (hit_by telegram globals row o)
+    either None there = absurd (none-some object (sym there))
+    either (Some k) there =
+        let same : object ≡ k.object = same_Some object k.object there in
+        let test : is_addressed k.object telegram globals ≡ true =
+        ap (λ (x : AnyObject). is_addressed x telegram globals) (sym same) ∙ for in
+        rw test (subst (λ (x : AnyObject). IsOne row.slot row.handle object
+        (record { handle = row.handle; object = x } ∷ [])) same
+        (one_entry row.slot row.handle object))
+
 -- A walk over rows.
 
 -- those of the rows from an index on are still to come
@@ -338,6 +385,33 @@ run_next telegram globals table rows row before
         bytes_of-append own (hits telegram globals table others),
         ap (λ (r : Room). r.bytes) within,
       );
+    }
+
+-- a row with no object that the telegram is for adds nothing
+pub run_past : (telegram : TelegramModel) (globals : Globals) (table : TableState)
+    (rows : List ComRow) (row : ComRow) (before noted : List Addressed) (room : Room) (i : ℕ)
+    → i < length rows → slice_get rows i ≡ Some row
+    → NotesRun telegram globals table rows before noted room i
+    → hit telegram globals table row ≡ []
+    → NotesRun telegram globals table rows before noted room (i + 1)
+run_past telegram globals table rows row before noted room i lt there notes none =
+    let one = split rows i lt in
+    let is : one.item ≡ row = same_Some one.item row (sym one.at ∙ there) in
+    let left : drop i rows ≡ row ∷ drop (i + 1) rows = rw is at one.rest in
+    let others : List ComRow = drop (i + 1) rows in
+    let hits_left : hits telegram globals table (drop i rows) ≡ hits telegram globals table others =
+    ap (hits telegram globals table) left
+    ∙ (flat_map-cons (hit telegram globals table) row others
+    ∙ ap (λ (es : List Entry). es ++ hits telegram globals table others) none) in
+    let notes_left : noted_rows telegram globals table (drop i rows)
+    ≡ noted_rows telegram globals table others = ap (noted_rows telegram globals table) left
+    ∙ (flat_map-cons (λ row. noted_as row.slot (hit telegram globals table row)) row others
+    ∙ ap (λ (es : List Entry). noted_as row.slot es ++ noted_rows telegram globals table others)
+    none) in
+    record {
+      items = rw notes_left at notes.items;
+      rows = rw hits_left at notes.rows;
+      bytes = rw hits_left at notes.bytes;
     }
 
 pub run_end_items : (telegram : TelegramModel) (globals : Globals)

@@ -1,5 +1,5 @@
 -- A message of a session is for one object of a slot at most: the one that is in it.
--- For `note_part`, and for `ActLemmas.Deeds`.
+-- For `note_part`, and for `ActLemmas.Deeds` and `NoteLemmas.ByCom`.
 -- By cases on the kind of message: who awaits it is in its session, in the role that it names.
 use Rattle.std.proofs.Common.{◌≡◌, ◌≢◌, ℕ, zero, suc, ◌<◌, List, [], ◌∷◌, map, filter, Option, Some}
 use Rattle.std.proofs.Common.{None, Bool, true, false, refl, ◌∙◌, sym, ap, subst, arith}
@@ -263,6 +263,19 @@ acts_not table s h telegram globals own object sound part tells there not =
 pub record IsOne (s h : ℕ) (object : AnyObject) (es : List Entry) : Type 0 where
   pub noted : noted_as s es ≡ record { slot = s; handle = h } ∷ []
   pub room : entries_room es ≡ kind_room (kind_of object)
+
+pub one_entry : (s h : ℕ) (object : AnyObject)
+    → IsOne s h object (record { handle = h; object = object } ∷ [])
+one_entry s h object =
+    let e : Entry = record { handle = h; object = object } in
+    let rows = sum_by-cons entry_rows e [] in
+    let bytes = sum_by-cons entry_bytes e [] in
+    record {
+      noted = refl;
+      room =
+          same_room (entries_room (e ∷ [])) (kind_room (kind_of object))
+          (omega (arith, rows)) (omega (arith, bytes));
+    }
 
 pub handle_is : (h : ℕ) (es : List Entry) (e : Entry) → entry_under h es ≡ Some e → e.handle ≡ h
 handle_is h [] e at = absurd (none-some e at)
