@@ -21,14 +21,56 @@ ghost use Rattle.trdp_engine.specs.Sought.{comes_unasked, noted_listener, listen
 ghost use Rattle.trdp_engine.specs.Sought.{rows_heard};
 ghost use Rattle.trdp_engine.specs.Costs.{meant_in, meant_of};
 
-use crate::addressee::{Addressee, is_for};
 use crate::first_listeners::{Heard, hearers};
+use std::marker::Model;
 use trdp_base::SessionId;
 use trdp_filter::{Globals, Telegram};
 use trdp_head::{MD_PAYLOAD_MAX, MdKind, PdHead, PdKind};
 use trdp_index::Role;
 use trdp_outbox::Room;
-use trdp_store::{Counts, Store};
+use trdp_pd::Object;
+use trdp_store::{Counts, Sought, Store};
+
+/// An object that is to act. It is seen as its slot and its handle there: the key that it was found
+/// under saves a search, and decides nothing.
+#[derive(Drop)]
+pub struct Addressee {
+    /// The number of its slot.
+    slot: u16,
+    /// Its handle there.
+    handle: u32,
+    /// Its key as it was found.
+    key: usize,
+}
+
+impl Model for Addressee {
+    ghost use Rattle.trdp_engine.specs.Noted.{Addressed};
+
+    ghost Value = { Addressed };
+
+    ghost view = { λ a. record { slot = a.slot; handle = a.handle } };
+}
+
+impl Addressee {
+    /// The object of that handle in that slot, found under that key.
+    pub fn new(slot: u16, handle: u32, key: usize) -> Addressee
+        ensures { result ≡ record { slot = slot; handle = handle } }
+    {
+        Addressee { slot, handle, key }
+    }
+
+    /// Where it is sought.
+    pub fn sought(&self) -> Sought
+        ensures slot { result.slot ≡ self.now.slot }
+        ensures handle { result.handle ≡ self.now.handle }
+    {
+        Sought {
+            slot: self.slot,
+            handle: self.handle,
+            key: Some(self.key),
+        }
+    }
+}
 
 /// The session of the telegram, if it is a message that one of its objects awaits, and what that
 /// object is there.
@@ -104,7 +146,8 @@ fn note_part(
     let Some(object) = store.get(key) else {
         return Room::none();
     };
-    if !is_for(object, telegram, globals, counts) {
+    counts.tested();
+    if !object.addressed(telegram, globals) {
         return Room::none();
     }
     noted.push_reserved(Addressee::new(s, handle, key));
@@ -159,7 +202,8 @@ fn note_run(
     let mut room = Room::none();
     for row in rows {
         if let Some(object) = store.get(row.key) {
-            if is_for(object, telegram, globals, counts) {
+            counts.tested();
+            if object.addressed(telegram, globals) {
                 noted.push_reserved(Addressee::new(row.slot, row.handle, row.key));
                 room = room.plus(Room::of(object));
             }
@@ -219,8 +263,8 @@ fn note_listener(heard: &Heard, s: u16, noted: &mut Vec<Addressee>) -> Room
 {
     match heard.first(s) {
         None => Room::none(),
-        Some(listener) => {
-            noted.push_reserved(listener);
+        Some((handle, key)) => {
+            noted.push_reserved(Addressee::new(s, handle, key));
             Room {
                 rows: 1,
                 bytes: MD_PAYLOAD_MAX,

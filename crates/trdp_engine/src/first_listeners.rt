@@ -10,10 +10,10 @@ ghost use Rattle.trdp_store.specs.Indexed.{rows_from};
 ghost use Rattle.trdp_engine.specs.Sought.{hit, earlier, first_handle, hit_in, first_in};
 ghost use Rattle.trdp_engine.specs.Sought.{rows_heard};
 
-use crate::addressee::{Addressee, is_for};
 use std::marker::Model;
 use trdp_filter::{Globals, Telegram};
 use trdp_index::ComRow;
+use trdp_pd::Object;
 use trdp_store::{Counts, Store};
 
 /// The lesser of two handles that there may be.
@@ -46,7 +46,8 @@ fn handle_hit(
     match store.get(row.key) {
         None => None,
         Some(object) => {
-            if is_for(object, telegram, globals, counts) {
+            counts.tested();
+            if object.addressed(telegram, globals) {
                 Some(row.handle)
             } else {
                 None
@@ -98,14 +99,13 @@ impl Heard {
         self.handles[slot] = first;
     }
 
-    /// What is noted for a slot.
-    pub fn first(&self, slot: u16) -> Option<Addressee>
-        ensures { result ≡ option_map (λ handle. record { slot = slot; handle = handle })
-            (slice_index_or self.now slot None) }
+    /// The handle that is noted for a slot, if one is, and its key as it was found.
+    pub fn first(&self, slot: u16) -> Option<(u32, usize)>
+        ensures { option_map (λ found. found.0) result ≡ slice_index_or self.now slot None }
     {
-        let index = usize::from(slot);
-        let handle = (*self.handles.get(index)?)?;
-        Some(Addressee::new(slot, handle, self.keys[index]))
+        let slot = usize::from(slot);
+        let handle = (*self.handles.get(slot)?)?;
+        Some((handle, self.keys[slot]))
     }
 }
 

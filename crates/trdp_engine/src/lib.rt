@@ -31,7 +31,6 @@
 //! with ample memory every event is taken and every item shown.
 #![tactic(auto)]
 
-mod addressee;
 mod addressees;
 mod asked;
 mod callers;

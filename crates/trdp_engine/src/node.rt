@@ -10,7 +10,7 @@ ghost use Rattle.trdp_marshal.specs.Items.{model_of};
 ghost use Rattle.trdp_model.specs.Values.{valued_at};
 ghost use Rattle.trdp_model.specs.Configs.{setup_of};
 
-use crate::addressee::Addressee;
+use crate::addressees::Addressee;
 use crate::calls::{put_value, serve};
 use crate::moment::fire_all;
 use crate::setting::Setting;

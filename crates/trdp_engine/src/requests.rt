@@ -14,7 +14,7 @@ ghost use Rattle.trdp_outbox.specs.Rooms.{HasRoom, entries_room};
 ghost use Rattle.trdp_store.specs.Acting.{slot_at, Becomes};
 ghost use Rattle.trdp_engine.specs.Noted.{noted_from};
 
-use crate::addressee::Addressee;
+use crate::addressees::Addressee;
 use trdp_filter::{Globals, Telegram};
 use trdp_md::Replier;
 use trdp_model::{AnyObject, Kind, Message};

@@ -22,8 +22,7 @@ ghost use Rattle.trdp_engine.specs.Noted.{noted_from};
 ghost use Rattle.trdp_engine.specs.Costs.{quota_total, datagram_bounds, CostsAtMost, IsBounded};
 ghost use Rattle.trdp_engine.specs.NodeStates.{uncounted};
 
-use crate::addressee::Addressee;
-use crate::addressees::note_all;
+use crate::addressees::{Addressee, note_all};
 use crate::callers::push_replied;
 use crate::node::Node;
 use crate::notices::push_heard;

@@ -53,8 +53,8 @@ returns-in_default-get-clause-room c =
     ∙ object_found c.args.store.now c.args.s c.in-Some.handle c.in-Some.key
     c.sound.ensures.found c.in-Some.ensures.key)))
 
-pub returns-then-not-is_for-clause-noted : goal.returns-then-not-is_for-clause-noted
-returns-then-not-is_for-clause-noted c =
+pub returns-then-not-addressed-clause-noted : goal.returns-then-not-addressed-clause-noted
+returns-then-not-addressed-clause-noted c =
     sym (append-nil c.args.noted.now.items)
     ∙ ap (λ (es : List Entry). c.args.noted.now.items ++ noted_as c.args.s es)
     (sym (acts_not c.args.store.now c.args.s c.in-Some.handle
@@ -64,11 +64,11 @@ returns-then-not-is_for-clause-noted c =
     (c.in-Some-get.ensures
     ∙ object_found c.args.store.now c.args.s c.in-Some.handle c.in-Some.key
     c.sound.ensures.found c.in-Some.ensures.key)
-    (sym c.is_for.ensures.answer ∙ c.if-not-is_for.true)))
+    (sym c.addressed.ensures ∙ c.if-not-addressed.true)))
 
-pub returns-then-not-is_for-clause-room : goal.returns-then-not-is_for-clause-room
-returns-then-not-is_for-clause-room c =
-    c.none-then-not-is_for.ensures
+pub returns-then-not-addressed-clause-room : goal.returns-then-not-addressed-clause-room
+returns-then-not-addressed-clause-room c =
+    c.none-then-not-addressed.ensures
     ∙ ap entries_room (sym (acts_not c.args.store.now c.args.s c.in-Some.handle
     (telegram_model c.args.awaited.now.telegram.now) c.args.awaited.now.globals.now
     (c.args.awaited.now.session, c.args.awaited.now.role)
@@ -76,7 +76,7 @@ returns-then-not-is_for-clause-room c =
     (c.in-Some-get.ensures
     ∙ object_found c.args.store.now c.args.s c.in-Some.handle c.in-Some.key
     c.sound.ensures.found c.in-Some.ensures.key)
-    (sym c.is_for.ensures.answer ∙ c.if-not-is_for.true)))
+    (sym c.addressed.ensures ∙ c.if-not-addressed.true)))
 
 pub returns-clause-noted : goal.returns-clause-noted
 returns-clause-noted c =
@@ -89,7 +89,7 @@ returns-clause-noted c =
     (c.in-Some-get.ensures
     ∙ object_found c.args.store.now c.args.s c.in-Some.handle c.in-Some.key
     c.sound.ensures.found c.in-Some.ensures.key)
-    (sym c.is_for.ensures.answer ∙ c.if-not-is_for.false)).noted)
+    (sym c.addressed.ensures ∙ c.if-not-addressed.false)).noted)
 
 pub returns-clause-room : goal.returns-clause-room
 returns-clause-room c =
@@ -101,15 +101,15 @@ returns-clause-room c =
     (c.in-Some-get.ensures
     ∙ object_found c.args.store.now c.args.s c.in-Some.handle c.in-Some.key
     c.sound.ensures.found c.in-Some.ensures.key)
-    (sym c.is_for.ensures.answer ∙ c.if-not-is_for.false)).room
+    (sym c.addressed.ensures ∙ c.if-not-addressed.false)).room
 
-pub returns-then-not-is_for-clause-tests : goal.returns-then-not-is_for-clause-tests
-returns-then-not-is_for-clause-tests c =
+pub returns-then-not-addressed-clause-tests : goal.returns-then-not-addressed-clause-tests
+returns-then-not-addressed-clause-tests c =
     let one =
     part_counted c.args.store.now c.args.s c.in-Some.handle
     (telegram_model c.args.awaited.now.telegram.now)
     (c.args.awaited.now.session, c.args.awaited.now.role) c.requires.part c.in-Some.ensures.found in
-    omega (arith, one, c.is_for.ensures.tests, c.looked_up.ensures.tests)
+    omega (arith, one, c.tested.ensures.tests, c.looked_up.ensures.tests)
 
 pub returns-clause-tests : goal.returns-clause-tests
 returns-clause-tests c =
@@ -117,7 +117,7 @@ returns-clause-tests c =
     part_counted c.args.store.now c.args.s c.in-Some.handle
     (telegram_model c.args.awaited.now.telegram.now)
     (c.args.awaited.now.session, c.args.awaited.now.role) c.requires.part c.in-Some.ensures.found in
-    omega (arith, one, c.is_for.ensures.tests, c.looked_up.ensures.tests)
+    omega (arith, one, c.tested.ensures.tests, c.looked_up.ensures.tests)
 
 pub returns-clause-few : goal.returns-clause-few
 returns-clause-few c =

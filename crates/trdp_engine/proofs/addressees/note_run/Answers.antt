@@ -8,8 +8,8 @@ use Rattle.trdp_store.proofs.OrderLemmas.Rooms.{kind_rows, kind_bytes}
 use Rattle.trdp_engine.proofs.NoteLemmas.ByCom.{hit_gone, hit_not, hit_one}
 use Rattle.trdp_engine.proofs.NoteLemmas.ByCom.{run_next, run_past, run_end_items, run_end_room}
 use Rattle.trdp_engine.proofs.addressees.note_run.Goals as goal
-use Rattle.trdp_engine.proofs.addressees.note_run.Goals.{in-Some+then-is_for}
-use Rattle.trdp_engine.proofs.addressees.note_run.Goals.{in-Some+else-is_for, in_default}
+use Rattle.trdp_engine.proofs.addressees.note_run.Goals.{in-Some+then-addressed}
+use Rattle.trdp_engine.proofs.addressees.note_run.Goals.{in-Some+else-addressed, in_default}
 
 pub loop-row-preserved : goal.loop-row-preserved
 loop-row-preserved c =
@@ -20,10 +20,10 @@ loop-row-preserved c =
     let row : ComRow = get_or rows i first in
     let there : slice_get rows i ≡ Some row = slice_get-get_or {X = ComRow} rows i first lt in
     elim c.match-get.branch [
-      | in-Some+then-is_for w ↦
+      | in-Some+then-addressed w ↦
           let one = hit_one (telegram_model c.args.telegram.now) c.args.globals.now
           c.args.store.now row w.in-Some.object.now w.in-Some.ensures
-          (sym w.is_for.ensures.answer ∙ w.if-is_for.true) in
+          (sym w.addressed.ensures ∙ w.if-addressed.true) in
           let noted = rw (w.new.ensures, ← one.noted) at w.push_reserved.ensures.items in
           let own_rows = kind_rows (kind_of w.in-Some.object.now) in
           let own_bytes = kind_bytes (kind_of w.in-Some.object.now) in
@@ -39,14 +39,14 @@ loop-row-preserved c =
                 (omega (arith, c.loop-row.invariant.bytes, own_bytes));
             capacity = w.push_reserved.ensures.capacity ∙ c.loop-row.invariant.capacity;
             length = omega (arith, w.push_reserved.ensures.len, c.loop-row.invariant.length);
-            comparisons = w.is_for.ensures.comparisons ∙ c.loop-row.invariant.comparisons;
-            tests = omega (arith, w.is_for.ensures.tests, c.loop-row.invariant.tests);
-            look_ups = w.is_for.ensures.look_ups ∙ c.loop-row.invariant.look_ups;
+            comparisons = w.tested.ensures.comparisons ∙ c.loop-row.invariant.comparisons;
+            tests = omega (arith, w.tested.ensures.tests, c.loop-row.invariant.tests);
+            look_ups = w.tested.ensures.look_ups ∙ c.loop-row.invariant.look_ups;
           })
-      | in-Some+else-is_for w ↦
+      | in-Some+else-addressed w ↦
           let none = hit_not (telegram_model c.args.telegram.now) c.args.globals.now
           c.args.store.now row w.in-Some.object.now w.in-Some.ensures
-          (sym w.is_for.ensures.answer ∙ w.if-is_for.false) in
+          (sym w.addressed.ensures ∙ w.if-addressed.false) in
           rw (w.noted-is, w.counts-is, w.room-is) (record {
             notes = run_past (telegram_model c.args.telegram.now) c.args.globals.now
                 c.args.store.now rows row c.args.noted.now.items c.loop-row.noted.items
@@ -56,9 +56,9 @@ loop-row-preserved c =
             bytes = omega (arith, c.loop-row.invariant.bytes);
             capacity = c.loop-row.invariant.capacity;
             length = omega (arith, c.loop-row.invariant.length);
-            comparisons = w.is_for.ensures.comparisons ∙ c.loop-row.invariant.comparisons;
-            tests = omega (arith, w.is_for.ensures.tests, c.loop-row.invariant.tests);
-            look_ups = w.is_for.ensures.look_ups ∙ c.loop-row.invariant.look_ups;
+            comparisons = w.tested.ensures.comparisons ∙ c.loop-row.invariant.comparisons;
+            tests = omega (arith, w.tested.ensures.tests, c.loop-row.invariant.tests);
+            look_ups = w.tested.ensures.look_ups ∙ c.loop-row.invariant.look_ups;
           })
       | in_default w ↦
           let none = hit_gone (telegram_model c.args.telegram.now) c.args.globals.now
