@@ -16,7 +16,7 @@ ghost use Rattle.trdp_engine.specs.Noted.{noted_as, noted_from};
 ghost use Rattle.trdp_store.specs.Indexed.{rows_from};
 ghost use Rattle.trdp_base.specs.declared.session.SessionId.{SessionId};
 ghost use Rattle.trdp_index.specs.declared.session_row.Role.{Role};
-ghost use Rattle.trdp_engine.specs.Sought.{sought_by, hits, noted_rows, part_of};
+ghost use Rattle.trdp_engine.specs.Sought.{hits, noted_rows, part_of};
 ghost use Rattle.trdp_engine.specs.Sought.{comes_unasked, noted_listener, listener_room};
 ghost use Rattle.trdp_engine.specs.Sought.{rows_heard};
 ghost use Rattle.trdp_engine.specs.Costs.{meant_in, meant_of};
@@ -25,7 +25,7 @@ use crate::first_listeners::{Heard, hearers};
 use std::marker::Model;
 use trdp_base::SessionId;
 use trdp_filter::{Globals, Telegram};
-use trdp_head::{MD_PAYLOAD_MAX, MdKind, PdHead, PdKind};
+use trdp_head::{MD_PAYLOAD_MAX, MdKind, PdKind};
 use trdp_index::Role;
 use trdp_outbox::Room;
 use trdp_pd::Object;
@@ -152,24 +152,6 @@ fn note_part(
     }
     noted.push_reserved(Addressee::new(s, handle, key));
     Room::of(object)
-}
-
-/// The comId of the objects that process data may be for: a pull request is for the publishers of
-/// the comId that it asks for, all else for the subscriptions of its own.
-#[tactic(auto, unfolding(trdp_pd::specs::Publishers::asked_com_id))]
-fn sought_by(head: &PdHead) -> u32
-    ensures { result ≡ sought_by head.now }
-{
-    match head.kind {
-        PdKind::PullRequest => {
-            if head.reply_com_id == 0 {
-                head.com_id
-            } else {
-                head.reply_com_id
-            }
-        }
-        _ => head.com_id,
-    }
 }
 
 /// Notes those of the objects that telegrams look for under a comId that the telegram is for, and
@@ -310,7 +292,7 @@ fn note_hearers(
 
 /// Notes the objects that act at the telegram, by slot and handle, and answers the room for what
 /// they may give. Those of process data, and listeners, are found by the comId, callers and
-/// repliers by the session.
+/// repliers by the session. A pull request is for the publishers of the comId that it asks for.
 pub fn note_all(
     store: &Store,
     telegram: &Telegram<'_>,
@@ -339,7 +321,11 @@ pub fn note_all(
     match telegram {
         Telegram::Pd { view, .. } => {
             noted.clear();
-            let com_id = sought_by(&view.head);
+            let head = &view.head;
+            let com_id = match head.kind {
+                PdKind::PullRequest if head.reply_com_id != 0 => head.reply_com_id,
+                _ => head.com_id,
+            };
             note_run(store, com_id, telegram, globals, noted, counts)
         }
         Telegram::Md { .. } => match part_of(telegram) {

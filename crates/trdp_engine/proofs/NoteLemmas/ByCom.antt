@@ -3,7 +3,7 @@
 -- By induction on the rows: those that are hit are those that act, and no object outside is.
 use Rattle.trdp_store.proofs.StoreLemmas.Keys.{KeysTell}
 use Rattle.trdp_model.proofs.Tests.{and_right}
-use Rattle.std.proofs.Common.{◌≡◌, ℕ, suc, ◌+◌, ◌<◌, ◌≤◌, List, [], ◌∷◌, ◌++◌, length}
+use Rattle.std.proofs.Common.{◌≡◌, ◌≢◌, ℕ, suc, ◌+◌, ◌<◌, ◌≤◌, List, [], ◌∷◌, ◌++◌, length}
 use Rattle.std.proofs.Common.{map, drop, filter, not, Some, Bool, true, false, refl}
 use Rattle.std.proofs.Common.{◌∙◌, sym, ap, subst, arith, append_assoc, append-nil, None, Option}
 use Rattle.std.specs.Prelude.{slice_get, ◌==◌, ◌&&◌, option_map}
@@ -50,6 +50,29 @@ use Rattle.trdp_engine.proofs.NoteLemmas.Noted.{rows_of-append, bytes_of-append}
 pub and_left : (a b : Bool) → (a && b) ≡ true → a ≡ true
 and_left true b both = refl
 and_left false b both = absurd (false≢true both)
+
+-- the comId that a pull request names for its answer
+pub sought_reply : (head : PdHead) → head.kind ≡ PullRequest → head.reply_com_id ≢ 0
+    → head.reply_com_id ≡ sought_by head
+unfolding asked_com_id
+sought_reply head is some =
+    let test : (head.reply_com_id == 0) ≡ false = grind (arith, nat_tests) in
+    rw is (rw test refl)
+
+-- its own of any other telegram
+pub sought_own : (head : PdHead) → (head.kind ≡ PullRequest → head.reply_com_id ≡ 0)
+    → head.com_id ≡ sought_by head
+unfolding asked_com_id
+sought_own head none = either head.kind refl
+  where
+    either : (k : PdKind) → head.kind ≡ k → head.com_id ≡ sought_as k head
+    either Data is = refl
+    either PullReply is = refl
+    either PdError is = refl
+    either PullRequest is =
+        let zero : head.reply_com_id ≡ 0 = none is in
+        let test : (head.reply_com_id == 0) ≡ true = grind (arith, nat_tests) in
+        rw test refl
 
 asked_first : (p : PublisherState) (head : PdHead)
     → is_asked p head ≡ true → asks_for_value head.kind ≡ true
