@@ -1,5 +1,5 @@
 -- What an event came to.
--- For `step`, `take_event` and `take_operator_event`, and for `lost_only_where_memory_is_taken`.
+-- For `take_event` and `take_operator`, and for `lost_only_where_memory_is_taken`.
 -- By cases: the node takes the event, refuses it, or has no memory for it.
 use Rattle.std.proofs.Common.{◌≡◌, ℕ, List, [], Option, refl, sym, ◌∙◌, ap, subst}
 use Rattle.std.proofs.Common.{Bool, true, false, if◌then◌else◌, length}
@@ -27,7 +27,7 @@ use Rattle.trdp_daemon.specs.Tellings.{Tells}
 use Rattle.trdp_daemon.specs.declared.port.Port.TheVariants.{Operator}
 use Rattle.trdp_daemon.specs.Visits.{operator_event, operator_taken, operator_text}
 use Rattle.trdp_daemon.proofs.Links.{carries_both}
-use Rattle.trdp_daemon.specs.Services.{Comes, ComesWith, service_state}
+use Rattle.trdp_daemon.specs.Services.{Comes, ComesTold, ComesWith, service_state}
 
 -- no records are of any slot
 pub no_records : (records : List RecordModel) → records ≡ [] → by_slot records ≡ []
@@ -35,41 +35,36 @@ unfolding by_slot
 no_records records none =
     ap (λ rs. slots_from 0 (slots_end rs) rs) none ∙ from_zero 0 []
 
--- an event was taken, or refused, and its records were told but for these texts
-pub comes_event : {W : Type 0} {takings_in : W → Option (List Taking)}
-    {gives_in : W → Option (List Give)} {a b : Link W} (old new : Service)
-    (event : EventModel) (places : List (Option Place)) (records : List RecordModel)
-    → uncounted new.node ≡ node_after (uncounted old.node) event
-    → new.places.items ≡ old.places.items
-    → places ≡ old.places.items → records ≡ event_records (uncounted old.node) event
-    → (told : Tells takings_in gives_in places a b records) → Comes takings_in
-    gives_in old new a b [] (event_effect (service_state old) event (TextsLost told.marks))
-unfolding event_effect
-comes_event {W} {takings_in} {gives_in} {a} {b} old
-    new event places records node kept same all told = record {
-      service_is = ap (λ n. let s : ServiceState = record { node = n; places = new.places.items } in
-          s) node ∙ ap (λ l. let s : ServiceState =
-          record { node = node_after (uncounted old.node) event; places = l } in s) kept;
-      carried = subst (λ (l : List RecordModel).
-          Carries takings_in gives_in a b [] (records_telling old.places.items told.marks l)) all
-          (subst (λ (l : List (Option Place)). Carries
-          takings_in gives_in a b [] (records_telling l told.marks records)) same told.carried);
-    }
-
 -- an event was taken, or refused, and its records were told
-pub comes_told : {W : Type 0} {takings_in : W → Option (List Taking)}
+pub records_told : {W : Type 0} {takings_in : W → Option (List Taking)}
     {gives_in : W → Option (List Give)} {a b : Link W} (old new : Service)
     (event : EventModel) (places : List (Option Place)) (records : List RecordModel)
     → uncounted new.node ≡ node_after (uncounted old.node) event
     → new.places.items ≡ old.places.items
     → places ≡ old.places.items → records ≡ event_records (uncounted old.node) event
     → Tells takings_in gives_in places a b records
-    → ComesWith takings_in gives_in old new a b (event_effect (service_state old) event)
-comes_told old new event places records node kept same all told =
-    record {
-      loss = TextsLost told.marks;
-      comes = comes_event old new event places records node kept same all told;
+    → ComesTold takings_in gives_in old new a b event
+unfolding event_effect
+records_told {W} {takings_in} {gives_in} {a} {b} old
+    new event places records node kept same all told = record {
+      marks = told.marks;
+      comes = record {
+        service_is = ap (λ n. let s : ServiceState =
+            record { node = n; places = new.places.items } in s) node
+            ∙ ap (λ l. let s : ServiceState =
+            record { node = node_after (uncounted old.node) event; places = l } in s) kept;
+        carried = subst (λ (l : List RecordModel).
+            Carries takings_in gives_in a b [] (records_telling old.places.items told.marks l)) all
+            (subst (λ (l : List (Option Place)). Carries
+            takings_in gives_in a b [] (records_telling l told.marks records)) same told.carried);
+      };
     }
+
+pub comes_told : {W : Type 0} {takings_in : W → Option (List Taking)}
+    {gives_in : W → Option (List Give)} {a b : Link W} {old new : Service} {event : EventModel}
+    → ComesTold takings_in gives_in old new a b event
+    → ComesWith takings_in gives_in old new a b (event_effect (service_state old) event)
+comes_told told = record { loss = TextsLost told.marks; comes = told.comes }
 
 -- memory may be wanting for an event
 pub wanting : (node : NodeModel) (event : EventModel)
@@ -121,7 +116,9 @@ pub operator_not_lost : (s : ServiceState) (from : Place) (event : EventModel)
 unfolding operator_event
 operator_not_lost s from event never = not_lost s event (operator_taken s from event []) never
 
-missed : {W : Type 0} {takings_in : W → Option (List Taking)} {gives_in : W → Option (List Give)}
+-- an event was lost
+pub missed :
+    {W : Type 0} {takings_in : W → Option (List Taking)} {gives_in : W → Option (List Give)}
     {a b : Link W} (old new : Service) → new.node ≡ old.node → new.places.items ≡ old.places.items
     → Carries takings_in gives_in a b [] missing
     → Comes takings_in gives_in old new a b [] (telling_only (service_state old) missing)
@@ -132,40 +129,33 @@ missed old new node kept carried = record {
   carried = carried;
 }
 
--- an event was lost
 pub comes_lost : {W : Type 0} {takings_in : W → Option (List Taking)}
     {gives_in : W → Option (List Give)} {a b : Link W} (old new : Service) (event : EventModel)
-    → new.node ≡ old.node → new.places.items ≡ old.places.items
-    → MayTakeMemory (uncounted old.node) event → Carries takings_in gives_in a b [] missing
+    → MayTakeMemory (uncounted old.node) event
+    → Comes takings_in gives_in old new a b [] (telling_only (service_state old) missing)
     → ComesWith takings_in gives_in old new a b (event_effect (service_state old) event)
 unfolding event_effect
-comes_lost {W} {takings_in} {gives_in} {a} {b} old new event node kept may carried = record {
+comes_lost {W} {takings_in} {gives_in} {a} {b} old new event may lost = record {
   loss = EventLost;
   comes = subst (λ (e : Effect). Comes takings_in gives_in old new a b [] e)
-      (lost_there (service_state old) event (event_taken (service_state old) event [])
-      may) (missed old new node kept carried);
+      (lost_there (service_state old) event (event_taken (service_state old) event []) may) lost;
 }
 
 -- an event of the operator was taken, or refused, its records were told and it was answered
 pub comes_answered : {W : Type 0} {takings_in : W → Option (List Taking)}
     {gives_in : W → Option (List Give)} {a b c : Link W} (old new : Service) (event : EventModel)
-    (from : Place) (places : List (Option Place)) (records : List RecordModel) (text : List ℕ)
-    → uncounted new.node ≡ node_after (uncounted old.node) event
-    → new.places.items ≡ old.places.items
-    → places ≡ old.places.items → records ≡ event_records (uncounted old.node) event
+    (from : Place) (text : List ℕ)
     → text ≡ operator_text (refused_as (length old.node.slots) old.node.globals event)
-    → Tells takings_in gives_in places a b records
+    → ComesTold takings_in gives_in old new a b event
     → Carries takings_in gives_in b c [] (offering Operator from text)
     → ComesWith takings_in gives_in old new a c (operator_event (service_state old) from event)
 unfolding operator_event
-comes_answered {W} {takings_in} {gives_in} {a} {b} {c} old
-    new event from places records text node kept same all said told answered =
-    let first = comes_event old new event places records node kept same all told in
+comes_answered {W} {takings_in} {gives_in} {a} {b} {c} old new event from text said told answered =
     record {
       loss = TextsLost told.marks;
       comes = record {
-        service_is = first.service_is;
-        carried = carries_both first.carried (subst (λ (l : List ℕ).
+        service_is = told.comes.service_is;
+        carried = carries_both told.comes.carried (subst (λ (l : List ℕ).
             Carries takings_in gives_in b c [] (offering Operator from l)) said answered);
       };
     }
@@ -174,14 +164,13 @@ comes_answered {W} {takings_in} {gives_in} {a} {b} {c} old
 pub comes_unanswered :
     {W : Type 0} {takings_in : W → Option (List Taking)} {gives_in : W → Option (List Give)}
     {a b : Link W} (old new : Service) (event : EventModel) (from : Place)
-    → new.node ≡ old.node → new.places.items ≡ old.places.items
-    → MayTakeMemory (uncounted old.node) event → Carries takings_in gives_in a b [] missing
+    → MayTakeMemory (uncounted old.node) event
+    → Comes takings_in gives_in old new a b [] (telling_only (service_state old) missing)
     → ComesWith takings_in gives_in old new a b (operator_event (service_state old) from event)
 unfolding operator_event
-comes_unanswered {W} {takings_in} {gives_in} {a} {b} old new event from node kept may carried =
-    record {
-      loss = EventLost;
-      comes = subst (λ (e : Effect). Comes takings_in gives_in old new a b [] e)
-          (lost_there (service_state old) event (operator_taken (service_state old) from event [])
-          may) (missed old new node kept carried);
-    }
+comes_unanswered {W} {takings_in} {gives_in} {a} {b} old new event from may lost = record {
+  loss = EventLost;
+  comes = subst (λ (e : Effect). Comes takings_in gives_in old new a b [] e)
+      (lost_there (service_state old) event (operator_taken (service_state old) from event []) may)
+      lost;
+}

@@ -1,5 +1,5 @@
 -- An event's way through a node, and its records slot by slot.
--- For `step`.
+-- For `take_event`.
 -- By induction on the slots: what each is given is its own records.
 use Rattle.std.proofs.Common.{◌≡◌, suc, ◌+◌, ℕ, List, [], ◌∷◌, ◌++◌, length, Some, None}
 use Rattle.std.proofs.Common.{Ok, Err, Option, refl, sym, ◌∙◌, ap, arith}
@@ -13,8 +13,7 @@ use Rattle.trdp_model.specs.Records.{RecordModel, labelled}
 use Rattle.trdp_model.specs.Slots.{SlotState}
 use Rattle.trdp_model.specs.Alone.{FaultIs, refused_as, records_after}
 use Rattle.trdp_model.specs.Alone.{told_opening}
-use Rattle.trdp_model.specs.NodeModels.{NodeModel}
-use Rattle.trdp_model.specs.NodeModels.{StepsAsAlone}
+use Rattle.trdp_model.specs.NodeModels.{NodeModel, StepsAsAlone, node_after, node_unless}
 use Rattle.trdp_outbox.specs.SlotOrder.{by_slot, slots_from, slots_own}
 use Rattle.trdp_outbox.proofs.SlotOrderLemmas.Slots.{from_suc, from_zero}
 use Rattle.trdp_script.proofs.PlayLemmas.Played.{each_after, no_fault, slots_after_event}
@@ -60,4 +59,18 @@ pub records_refused : (refused : NodeFault) (node : NodeModel) (event : EventMod
     → FaultIs (refused_as (length node.slots) node.globals event) (Err refused)
     → (refused ≡ OutOfMemory → ⊥) → event_records node event ≡ []
 records_refused refused node event is own = unless_refused
+    (refused_as (length node.slots) node.globals event) refused node event is own
+
+-- and leaves the node as it was
+unless_kept :
+    (fault : Option NodeFault) (refused : NodeFault) (node : NodeModel) (event : EventModel)
+    → FaultIs fault (Err refused) → (refused ≡ OutOfMemory → ⊥)
+    → node_unless fault node event ≡ node
+unless_kept None refused node event is own = absurd (own is)
+unless_kept (Some fault) refused node event is own = refl
+
+pub node_refused : (refused : NodeFault) (node : NodeModel) (event : EventModel)
+    → FaultIs (refused_as (length node.slots) node.globals event) (Err refused)
+    → (refused ≡ OutOfMemory → ⊥) → node_after node event ≡ node
+node_refused refused node event is own = unless_kept
     (refused_as (length node.slots) node.globals event) refused node event is own

@@ -1,13 +1,14 @@
 -- A service on its way.
-use Rattle.std.specs.Prelude.{◌≡◌, ℕ, List, Option, [], ◌∷◌, map}
+use Rattle.std.specs.Prelude.{◌≡◌, ℕ, Bool, List, Option, [], ◌∷◌, map}
 use Rattle.trdp_dataset.specs.Configs.{ConfigModel}
 use Rattle.trdp_engine.specs.NodeStates.{uncounted}
+use Rattle.trdp_model.specs.Events.{EventModel}
 use Rattle.trdp_daemon.specs.declared.port.Port.{Port}
 use Rattle.trdp_daemon.specs.declared.home.Home.{Home}
 use Rattle.trdp_daemon.specs.declared.link.Link.{Link}
 use Rattle.trdp_daemon.specs.declared.service.Service.{Service}
 use Rattle.trdp_daemon.specs.Told.{Taking, Give}
-use Rattle.trdp_daemon.specs.Effects.{ServiceState, Effect, Loss}
+use Rattle.trdp_daemon.specs.Effects.{ServiceState, Effect, Loss, TextsLost, event_effect}
 use Rattle.trdp_daemon.specs.Links.{Carries}
 use Rattle.trdp_daemon.specs.Turns.{Visit, visit_effect, visits_effect, Turn, takings_of}
 use Rattle.trdp_daemon.specs.Turns.{turn_effect, port_and_room, with_room, TakesAt, TurnTakesAt}
@@ -30,6 +31,14 @@ pub record ComesWith {W : Type 0} (takings_in : W → Option (List Taking))
     (effect : Loss → Effect) : Type 0 where
   pub loss : Loss
   pub comes : Comes takings_in gives_in old new link link_then [] (effect loss)
+
+-- an event was taken, or refused, and its records were told but for some texts
+pub record ComesTold {W : Type 0} (takings_in : W → Option (List Taking))
+    (gives_in : W → Option (List Give)) (old new : Service) (link link_then : Link W)
+    (event : EventModel) : Type 0 where
+  pub marks : List Bool
+  pub comes : Comes takings_in gives_in old new link link_then []
+      (event_effect (service_state old) event (TextsLost marks))
 
 -- one take was made at the port, with room for any datagram, and nothing else
 pub record TakesOnce {W : Type 0} (takings_in : W → Option (List Taking))

@@ -171,7 +171,7 @@ impl<W: Wire, C: Clock> Daemon<W, C> {
     {
         let reading = self.clock.now();
         let moment = Event::Moment(moment_of(&self.service.node, reading));
-        self.service.take_event(&moment, &mut self.link);
+        let _ = self.service.take_event(&moment, &mut self.link);
         for i in 0..self.ports.len() {
             self.service.visit(
                 &mut self.buffer,

@@ -1,6 +1,6 @@
 //! A node, and where its slots' applications are; what a take at one of the ports comes to.
 
-ghost use Rattle.std.specs.Prelude.{◌≡◌, ◌≢◌, ◌∷◌, [], length, slice_set, Some, IfSome, IfNone};
+ghost use Rattle.std.specs.Prelude.{◌≡◌, ◌∷◌, [], length, slice_set, Some};
 ghost use Rattle.std.specs.Prelude.{IfOk, IfErr, OnOk, OnErr};
 ghost use Rattle.trdp_model.specs.Alone.{refused_as};
 ghost use Rattle.trdp_model.specs.Events.{event_model};
@@ -9,12 +9,12 @@ ghost use Rattle.trdp_engine.specs.NodeStates.{uncounted};
 ghost use Rattle.trdp_model.specs.NodeModels.{node_after};
 ghost use Rattle.trdp_outbox.specs.SlotOrder.{by_slot};
 ghost use Rattle.trdp_script.specs.PortLines.{control_line_of, operator_line_of};
-ghost use Rattle.trdp_daemon.specs.Effects.{event_records, event_effect};
+ghost use Rattle.trdp_daemon.specs.Effects.{event_effect, event_records, missing, telling_only};
 ghost use Rattle.trdp_daemon.specs.Resting.{IsIdleTime};
-ghost use Rattle.trdp_daemon.specs.Services.{ComesWith, IsSoundService, TakesAtPorts};
-ghost use Rattle.trdp_daemon.specs.Services.{service_state};
+ghost use Rattle.trdp_daemon.specs.Services.{Comes, ComesTold, ComesWith, IsSoundService};
+ghost use Rattle.trdp_daemon.specs.Services.{TakesAtPorts, service_state};
 ghost use Rattle.trdp_daemon.specs.Turns.{is_there, no_places, opened_service, udp_room};
-ghost use Rattle.trdp_daemon.specs.Visits.{control_effect, operator_effect, operator_event};
+ghost use Rattle.trdp_daemon.specs.Visits.{control_effect, operator_effect};
 
 use crate::answer::{operator_text, refuse};
 use crate::home::{Home, home_of};
@@ -130,7 +130,7 @@ impl Service {
                     dst: self.home.pd,
                     bytes,
                 };
-                self.take_event(&event, link);
+                let _ = self.take_event(&event, link);
             }
             Port::Md => {
                 let event = Event::Datagram {
@@ -139,14 +139,15 @@ impl Service {
                     dst: self.home.md,
                     bytes,
                 };
-                self.take_event(&event, link);
+                let _ = self.take_event(&event, link);
             }
             Port::Operator => self.take_operator(from, bytes, link),
             Port::Control(slot) => self.take_control(buffer, slot, from, bytes, link),
         }
     }
 
-    /// Takes a datagram that came to the operator's port.
+    /// Takes a datagram that came to the operator's port. An event's answer goes back behind what
+    /// its records send; one that finds no memory is lost, and has no answer.
     fn take_operator<W: Wire>(&mut self, from: Place, bytes: &[u8], link: &mut Link<W>)
         requires sound { IsSoundService self.old }
         ensures sound { IsSoundService self.new }
@@ -155,7 +156,11 @@ impl Service {
             (operator_effect (service_state self.old) from (operator_line_of bytes.now)) }
     {
         match read_operator(bytes) {
-            Ok(Some(event)) => self.take_operator_event(&event, from, link),
+            Ok(Some(event)) => {
+                if let Ok(fault) = self.take_event(&event, link) {
+                    link.give(Port::Operator, from, operator_text(fault));
+                }
+            }
             Ok(None) => {}
             Err(fault) => refuse(Port::Operator, from, fault, link),
         }
@@ -179,43 +184,55 @@ impl Service {
         match read_control(buffer, slot, bytes) {
             Ok(Some(event)) => {
                 self.set_place(slot, from);
-                self.take_event(&event, link);
+                let _ = self.take_event(&event, link);
             }
             Ok(None) => self.set_place(slot, from),
             Err(fault) => refuse(Port::Control(slot), from, fault, link),
         }
     }
 
-    /// Gives the node an event, and offers what its records send. An event that finds no memory is
-    /// counted, and lost.
-    pub(crate) fn take_event<W: Wire>(&mut self, event: &Event<'_>, link: &mut Link<W>)
+    /// Gives the node an event, whose records are then the only ones of the outbox, and offers what
+    /// they send. Answers the event's fault, with which the node takes no notice of it, if it has
+    /// one.
+    ///
+    /// # Errors
+    /// `AllocError` for want of memory, where memory may be wanting: the event is counted, and
+    /// lost.
+    pub(crate) fn take_event<W: Wire>(
+        &mut self,
+        event: &Event<'_>,
+        link: &mut Link<W>,
+    ) -> Result<Option<NodeFault>, AllocError>
         requires sound { IsSoundService self.old }
         ensures sound { IsSoundService self.new }
         ensures config { self.new.node.config ≡ self.old.node.config }
         ensures comes { ComesWith W.takings W.gives self.old self.new link.old link.new
             (event_effect (service_state self.old) (event_model event.now)) }
+        ensures fault { IfOk result (λ fault. fault ≡ refused_as
+            (length self.old.node.slots) self.old.node.globals (event_model event.now)) }
+        ensures told { OnOk result (ComesTold W.takings W.gives self.old self.new link.old link.new
+            (event_model event.now)) }
+        ensures node { OnOk result (uncounted self.new.node
+            ≡ node_after (uncounted self.old.node) (event_model event.now)) }
+        ensures records { OnOk result (by_slot self.new.records.records
+            ≡ event_records (uncounted self.old.node) (event_model event.now)) }
+        ensures lost { OnErr result (Comes W.takings W.gives self.old self.new link.old link.new []
+            (telling_only (service_state self.old) missing)) }
+        ensures kept { OnErr result (self.new.node ≡ self.old.node) }
+        ensures memory { OnErr result
+            (MayTakeMemory (uncounted self.old.node) (event_model event.now)) }
     {
-        match step(&mut self.node, event, &mut self.records) {
-            Ok(_) => tell_records(&self.records, &self.places, &mut self.text, link),
-            Err(_) => link.miss(),
-        }
-    }
-
-    /// Gives the node an event of the operator, whose answer goes to that place behind what the
-    /// event's records send. An event that finds no memory is counted, and lost: it has no answer.
-    fn take_operator_event<W: Wire>(&mut self, event: &Event<'_>, from: Place, link: &mut Link<W>)
-        requires sound { IsSoundService self.old }
-        ensures sound { IsSoundService self.new }
-        ensures config { self.new.node.config ≡ self.old.node.config }
-        ensures comes { ComesWith W.takings W.gives self.old self.new link.old link.new
-            (operator_event (service_state self.old) from (event_model event.now)) }
-    {
-        match step(&mut self.node, event, &mut self.records) {
-            Ok(fault) => {
+        self.records.clear();
+        match self.node.step(event, &mut self.records) {
+            Ok(()) => {
                 tell_records(&self.records, &self.places, &mut self.text, link);
-                link.give(Port::Operator, from, operator_text(fault));
+                Ok(None)
             }
-            Err(_) => link.miss(),
+            Err(NodeFault::OutOfMemory) => {
+                link.miss();
+                Err(AllocError)
+            }
+            Err(fault) => Ok(Some(fault)),
         }
     }
 
@@ -248,50 +265,5 @@ fn put_place(places: &mut Vec<Option<Place>>, index: usize, from: Place)
 {
     if index < places.len() {
         places[index] = Some(from);
-    }
-}
-
-/// Gives the node an event, whose records are then the only ones of the outbox, and answers its
-/// fault, with which the node takes no notice of it, if it has one.
-///
-/// # Errors
-/// `AllocError` for want of memory, where memory may be wanting; the node is as before.
-fn step(
-    node: &mut Node,
-    event: &Event<'_>,
-    records: &mut Outbox,
-) -> Result<Option<NodeFault>, AllocError>
-    ensures fault { IfOk result (λ fault. fault
-        ≡ refused_as (length node.old.slots) node.old.globals (event_model event.now)) }
-    ensures node { OnOk result
-        (uncounted node.new ≡ node_after (uncounted node.old) (event_model event.now)) }
-    ensures records { OnOk result (by_slot records.new.records
-        ≡ event_records (uncounted node.old) (event_model event.now)) }
-    ensures kept { OnErr result (node.new ≡ node.old) }
-    ensures memory { OnErr result (MayTakeMemory (uncounted node.old) (event_model event.now)) }
-    ensures config { node.new.config ≡ node.old.config }
-{
-    records.clear();
-    match node.step(event, records) {
-        Ok(()) => Ok(None),
-        Err(fault) => match own_fault(fault) {
-            Some(fault) => Ok(Some(fault)),
-            None => Err(AllocError),
-        },
-    }
-}
-
-/// A fault of an event's own; None for want of memory.
-fn own_fault(fault: NodeFault) -> Option<NodeFault>
-    ensures own { IfSome result (λ own. (own ≡ fault) × (fault ≢ NodeFault.OutOfMemory)) }
-    ensures memory { IfNone result (fault ≡ NodeFault.OutOfMemory) }
-{
-    match fault {
-        NodeFault::OutOfMemory => None,
-        NodeFault::NoSlot => Some(fault),
-        NodeFault::Past => Some(fault),
-        NodeFault::TooLate => Some(fault),
-        NodeFault::NoGroup => Some(fault),
-        NodeFault::SlotsFull => Some(fault),
     }
 }

@@ -1,15 +1,29 @@
-use Rattle.std.proofs.Common.{Some, None}
+use Rattle.std.proofs.Common.{Some, None, ◌∙◌, ap}
 use Rattle.trdp_model.specs.Events.{event_model}
 use Rattle.trdp_script.specs.PortLines.{operator_line_of}
+use Rattle.trdp_daemon.specs.Visits.{operator_text}
+use Rattle.trdp_daemon.proofs.Services.{comes_answered, comes_unanswered}
 use Rattle.trdp_daemon.proofs.Visits.{reads_ok, operator_refused, operator_skipped, operator_took}
 use Rattle.trdp_daemon.proofs.service.Service.take_operator.Goals as goal
 
-pub returns-in-Ok-Some-clause-comes : goal.returns-in-Ok-Some-clause-comes
-returns-in-Ok-Some-clause-comes g c =
+pub returns-in-Ok-clause-comes : goal.returns-in-Ok-clause-comes
+returns-in-Ok-clause-comes g c =
     operator_took c.args.self.now _ c.args.from
     (operator_line_of c.args.bytes.now) (event_model c.in-Ok-Some.event)
     (reads_ok _ _ (Some c.in-Ok-Some.event) c.in-Ok-Some.ensures.meaning
-    c.in-Ok-Some.field-0-is) c.take_operator_event.ensures.comes
+    c.in-Ok-Some.field-0-is)
+    (comes_answered c.args.self.now _ (event_model c.in-Ok-Some.event) c.args.from
+    c.operator_text.result.now (c.operator_text.ensures ∙ ap operator_text c.in-Ok.ensures.fault)
+    c.in-Ok.ensures.told c.give.ensures)
+
+pub returns-in_default-clause-comes : goal.returns-in_default-clause-comes
+returns-in_default-clause-comes g c =
+    operator_took c.args.self.now _ c.args.from
+    (operator_line_of c.args.bytes.now) (event_model c.in-Ok-Some.event)
+    (reads_ok _ _ (Some c.in-Ok-Some.event) c.in-Ok-Some.ensures.meaning
+    c.in-Ok-Some.field-0-is)
+    (comes_unanswered c.args.self.now _ (event_model c.in-Ok-Some.event) c.args.from
+    c.in_default.ensures.memory c.in_default.ensures.lost)
 
 pub returns-in-Ok-None-clause-comes : goal.returns-in-Ok-None-clause-comes
 returns-in-Ok-None-clause-comes g c =
