@@ -1,5 +1,5 @@
 -- An event's way through a node with any number of slots.
--- For `play`, and for the daemon's `step` above.
+-- For `play`, and for the daemon's `take_event` above.
 -- By induction on the slots: each gets its own records, and one that is opened comes last.
 use Rattle.std.proofs.Common.{◌≡◌, zero, suc, ◌+◌, ◌≤◌, ℕ, true, false}
 use Rattle.std.proofs.Common.{List, [], ◌∷◌, ◌++◌, length, Some, None, Ok, Err, Option}
