@@ -2,11 +2,14 @@
 -- For `Service::visit` and `Daemon::timed_turn`, and for the daemon's turns.
 -- By induction on the visits: a turn is a moment and then the takes at each port.
 use Rattle.std.proofs.Common.{◌≡◌, ◌+◌, ℕ, Bool, true, false, List, [], ◌∷◌, ◌++◌, Option}
-use Rattle.std.proofs.Common.{refl, sym, ◌∙◌, ap, subst, map, take}
+use Rattle.std.proofs.Common.{refl, sym, ◌∙◌, ap, subst, map, take, length}
+use Rattle.std.specs.Prelude.{nat_lt}
 use Rattle.std.proofs.lemmas.List.{map-append}
 use Rattle.trdp_engine.specs.NodeStates.{uncounted}
 use Rattle.trdp_daemon.specs.declared.link.Link.{Link}
+use Rattle.trdp_model.specs.NodeModels.{NodeModel}
 use Rattle.trdp_daemon.specs.declared.port.Port.{Port}
+use Rattle.trdp_daemon.specs.declared.port.Port.TheVariants.{Pd, Md, Operator, Control}
 use Rattle.trdp_daemon.specs.declared.service.Service.{Service}
 use Rattle.trdp_daemon.specs.Told.{Taking, Give}
 use Rattle.trdp_daemon.specs.Effects.{ServiceState, Effect, Telling, both}
@@ -101,22 +104,60 @@ visits_none takings_in gives_in s a = record {
   comes = record { service_is = refl; carried = carries_none takings_in gives_in a };
 }
 
+-- what a test has said of whether a port is there, and that port behind it
+abbrev pub Asked : NodeModel → Port → Port → Bool → Type 0
+Asked node asked port is = (port ≡ asked) × (is_there node port ≡ is)
+
+pub asked_control : (node : NodeModel) (asked port : Port) (is : Bool) (slot from slots : ℕ)
+    → asked ≡ Control slot → port ≡ Control slot → from ≡ slot → slots ≡ length node.slots
+    → is ≡ nat_lt from slots → Asked node asked port is
+asked_control node asked port is slot from slots before after same count test = (
+  after ∙ sym before,
+  ap (is_there node) after
+      ∙ sym (test ∙ ap (λ n. nat_lt n slots) same ∙ ap (nat_lt slot) count),
+)
+
+there_else : (node : NodeModel) (port : Port) → ((slot : ℕ) → port ≡ Control slot → ⊥)
+    → is_there node port ≡ true
+there_else node Pd other = refl
+there_else node Md other = refl
+there_else node Operator other = refl
+there_else node (Control slot) other = absurd (other slot refl)
+
+pub asked_other : (node : NodeModel) (asked port : Port) (is : Bool)
+    → ((slot : ℕ) → asked ≡ Control slot → ⊥) → port ≡ asked → is ≡ true
+    → Asked node asked port is
+asked_other node asked port is other same test =
+    (same, ap (is_there node) same ∙ there_else node asked other ∙ sym test)
+
+-- a port that isn't there
+pub port_passed : {W : Type 0} (takings_in : W → Option (List Taking))
+    (gives_in : W → Option (List Give)) (s : Service) (a : Link W) {asked port : Port} {is : Bool}
+    → Asked (service_state s).node asked port is → is ≡ false
+    → TakesAtPorts takings_in gives_in s s a a (asked ∷ [])
+port_passed takings_in gives_in s a asks closed =
+    subst (λ (q : Port). TakesAtPorts takings_in gives_in s s a a (q ∷ [])) asks.0 (record {
+      visits = [];
+      takes_at = rw (asks.1 ∙ closed) refl;
+      comes = record { service_is = refl; carried = carries_none takings_in gives_in a };
+    })
+
 -- a port that is there
 pub port_taken : {W : Type 0} {takings_in : W → Option (List Taking)}
-    {gives_in : W → Option (List Give)} {s t : Service} {a b : Link W} (port : Port)
-    → is_there (service_state s).node port ≡ true
+    {gives_in : W → Option (List Give)} {s t : Service} {a b : Link W} {asked port : Port}
+    {is : Bool} → Asked (service_state s).node asked port is → is ≡ true
     → TakesOnce takings_in gives_in s t a b port
-    → TakesAtPorts takings_in gives_in s t a b (port ∷ [])
-port_taken {W} {takings_in} {gives_in} {s} {t} {a} {b} port there p =
+    → TakesAtPorts takings_in gives_in s t a b (asked ∷ [])
+port_taken {W} {takings_in} {gives_in} {s} {t} {a} {b} {asked} {port} {is} asks there p =
     let effect = visit_effect (service_state s) p.visit in
-    record {
+    subst (λ (q : Port). TakesAtPorts takings_in gives_in s t a b (q ∷ [])) asks.0 (record {
       visits = p.visit ∷ [];
-      takes_at = subst (λ (is : Bool).
-          TakesFirst is port (TakesAt []) (service_state s) (p.visit ∷ []))
-          (sym there) (p.port_is, refl);
+      takes_at = subst (λ (b : Bool).
+          TakesFirst b port (TakesAt []) (service_state s) (p.visit ∷ []))
+          (sym (asks.1 ∙ there)) (p.port_is, refl);
       comes = subst (λ (e : Effect). Comes takings_in gives_in s t a b (p.visit.taking ∷ []) e)
           (ap (effect_of effect.service) (sym (both_silence effect.telling))) p.comes;
-    }
+    })
 
 pub visits_both : {W : Type 0} {takings_in : W → Option (List Taking)}
     {gives_in : W → Option (List Give)} {r s t : Service} {a b c : Link W} {ps qs : List Port}

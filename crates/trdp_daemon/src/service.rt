@@ -13,7 +13,7 @@ ghost use Rattle.trdp_daemon.specs.Effects.{event_effect, event_records, missing
 ghost use Rattle.trdp_daemon.specs.Resting.{IsIdleTime};
 ghost use Rattle.trdp_daemon.specs.Services.{Comes, ComesTold, ComesWith, IsSoundService};
 ghost use Rattle.trdp_daemon.specs.Services.{TakesAtPorts, service_state};
-ghost use Rattle.trdp_daemon.specs.Turns.{is_there, no_places, opened_service, udp_room};
+ghost use Rattle.trdp_daemon.specs.Turns.{no_places, opened_service, udp_room};
 ghost use Rattle.trdp_daemon.specs.Visits.{control_effect, operator_effect};
 
 use crate::answer::{operator_text, refuse};
@@ -78,16 +78,6 @@ impl Service {
         }
     }
 
-    /// Whether the node has a port: a control port has to be that of an open slot.
-    fn is_there(&self, port: Port) -> bool
-        ensures { result ≡ is_there (service_state self.now).node port }
-    {
-        match port {
-            Port::Pd | Port::Md | Port::Operator => true,
-            Port::Control(slot) => usize::from(slot) < self.node.slots(),
-        }
-    }
-
     /// How many microseconds from a reading of the clock nothing is due, up to `until`; 0 where
     /// something is due already.
     pub(crate) fn idle_time(&self, reading: u64, until: u64) -> u64
@@ -115,7 +105,12 @@ impl Service {
         ensures takes { TakesAtPorts W.takings W.gives self.old self.new link.old link.new
             (port ∷ []) }
     {
-        if !self.is_there(port) {
+        // A control port has to be that of an open slot.
+        let is_there = match port {
+            Port::Control(slot) => usize::from(slot) < self.node.slots(),
+            _ => true,
+        };
+        if !is_there {
             return;
         }
         let Some((from, len)) = link.take(port, room) else {
