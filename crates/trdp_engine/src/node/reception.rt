@@ -54,12 +54,16 @@ fn is_valid_at(telegram: &Telegram<'_>, globals: &Globals) -> bool
 fn fits_object(config: &NodeConfig, telegram: &Telegram<'_>, object: &AnyObject) -> bool
     ensures { result ≡ fits_object (setup_of config.now) (telegram_model telegram.now) object.now }
 {
-    match object.dataset() {
-        None => true,
-        Some(dataset) => match telegram {
-            Telegram::Pd { view, .. } => fits(config.registry(), dataset, view.payload),
-            Telegram::Md { view, .. } => fits(config.registry(), dataset, view.payload),
-        },
+    let payload = match telegram {
+        Telegram::Pd { view, .. } => view.payload,
+        Telegram::Md { view, .. } => view.payload,
+    };
+    match object {
+        AnyObject::Publisher(publisher) => fits(config.registry(), publisher.dataset(), payload),
+        AnyObject::Subscription(subscription) => {
+            fits(config.registry(), subscription.dataset(), payload)
+        }
+        _ => true,
     }
 }
 
