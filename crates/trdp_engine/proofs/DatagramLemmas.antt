@@ -1,5 +1,6 @@
 -- Lemmas on what the objects that were noted make of a telegram.
 pub mod Taken
+pub mod Admitted
 pub mod Requests
 pub mod Handed
 pub mod HandedInTurn

@@ -109,9 +109,3 @@ IsBoundedBy b slots (AddSlotIs quotas) counts = IsWithin counts no_counts
 abbrev pub IsBounded : List SlotState → EventModel → Counts → Type 0
 IsBounded slots event counts =
     (b : ℕ) → quota_total slots < 2 ^ b → IsBoundedBy b slots event counts
-
--- no more was counted since than that
-pub record CostsAtMost (counts counts_then most : Counts) : Type 0 where
-  pub comparisons : counts_then.comparisons ≤ counts.comparisons + most.comparisons
-  pub tests : counts_then.tests ≤ counts.tests + most.tests
-  pub look_ups : counts_then.look_ups ≤ counts.look_ups + most.look_ups

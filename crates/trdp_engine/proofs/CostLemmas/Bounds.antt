@@ -1,8 +1,8 @@
 -- What is counted is within the bounds.
--- For `Node::step` and `step_call`, and for `receive`.
+-- For `Node::step`, `step_call` and `step_datagram`.
 -- By arithmetic.
 use Rattle.std.proofs.Common.{◌≡◌, ℕ, ◌+◌, ◌*◌, ◌≤◌, List, length}
-use Rattle.std.proofs.Common.{Some, ap, arith, Result, Ok, Err, OnOk}
+use Rattle.std.proofs.Common.{Option, Some, ap, arith, Result, Ok, Err, OnOk}
 use Rattle.std.proofs.lemmas.Nat.{mul-le}
 use Rattle.trdp_filter.specs.Telegrams.{TelegramModel}
 use Rattle.trdp_store.specs.declared.counts.Counts.{Counts}
@@ -11,14 +11,7 @@ use Rattle.trdp_model.specs.Slots.{SlotState}
 use Rattle.trdp_model.specs.Events.{EventModel, MomentIs, TopologyIs, RoleIs, DatagramIs, CallIs}
 use Rattle.trdp_model.specs.Events.{AddSlotIs}
 use Rattle.trdp_store.specs.Counting.{no_counts}
-use Rattle.trdp_engine.specs.Costs.{meant_of, datagram_bounds, IsWithin, IsBounded, CostsAtMost}
-
-more : (new old x r : ℕ) → new ≤ old + (x + r) → new ≤ old + (x + 8 + r)
-more new old x r le = omega (arith, le)
-
--- a reading that costs no more
-pub only_read : (new old x r : ℕ) → new ≤ old + x → new ≤ old + (x + r)
-only_read new old x r le = omega (arith, le)
+use Rattle.trdp_engine.specs.Costs.{meant_of, datagram_bounds, IsWithin, IsBounded}
 
 -- a reading, and then a part for each of those that the telegram is for
 pub read_and_taken : (new read old n m b : ℕ) → read ≤ old + 4 * b
@@ -27,25 +20,22 @@ read_and_taken new read old n m b one two few =
     let times = mul-le n (2 * b + 2) m (2 * b + 2) few (omega arith) in
     omega (arith, one, two, times)
 
+-- what a telegram cost that came, from nothing on
 pub costs :
-    (counts counts_then : Counts) (b : ℕ) (telegram : TelegramModel) (slots : List SlotState)
-    → counts_then.comparisons ≤ counts.comparisons + (8 * b + meant_of telegram slots * (2 * b + 2))
-    → counts_then.tests ≤ counts.tests + 2 * meant_of telegram slots
-    → counts_then.look_ups ≤ counts.look_ups + (2 * length slots + meant_of telegram slots)
-    → CostsAtMost counts counts_then (datagram_bounds b slots (Some telegram))
-costs counts counts_then b telegram slots comparisons tests look_ups = record {
-  comparisons = more counts_then.comparisons counts.comparisons
-      (8 * b) (meant_of telegram slots * (2 * b + 2)) comparisons;
-  tests = tests;
-  look_ups = look_ups;
-}
+    (none counts : Counts) (b : ℕ) (came : Option TelegramModel) (telegram : TelegramModel)
+    (slots : List SlotState) → none ≡ no_counts → came ≡ Some telegram
+    → counts.comparisons
+    ≤ none.comparisons + (8 * b + meant_of telegram slots * (2 * b + 2))
+    → counts.tests ≤ none.tests + 2 * meant_of telegram slots
+    → counts.look_ups ≤ none.look_ups + (2 * length slots + meant_of telegram slots)
+    → IsWithin counts (datagram_bounds b slots came)
+costs none counts b came telegram slots nothing is comparisons tests look_ups = rw is (record {
+  comparisons = omega (arith, comparisons, ap (λ (c : Counts). c.comparisons) nothing);
+  tests = omega (arith, tests, ap (λ (c : Counts). c.tests) nothing);
+  look_ups = omega (arith, look_ups, ap (λ (c : Counts). c.look_ups) nothing);
+})
 
--- nothing was counted since
-pub costs_nothing : (counts most : Counts) → CostsAtMost counts counts most
-costs_nothing counts most =
-    record { comparisons = omega arith; tests = omega arith; look_ups = omega arith }
-
-within_none : (counts most : Counts) → counts ≡ no_counts → IsWithin counts most
+pub within_none : (counts most : Counts) → counts ≡ no_counts → IsWithin counts most
 within_none counts most is = record {
   comparisons = omega (arith, ap (λ (c : Counts). c.comparisons) is);
   tests = omega (arith, ap (λ (c : Counts). c.tests) is);

@@ -1,8 +1,8 @@
 -- A telegram and the objects that act at it; one that concerns no object changes nothing.
--- For `receive` and `Handing`'s `on`.
+-- For `Handing`'s `on`, and for `DatagramLemmas.Admitted`.
 -- By cases on what an object did with it, which tells the object's kind and so its room.
 use Rattle.std.proofs.Common.{◌≡◌, ℕ, List, [], ◌∷◌, filter, Bool, true, false, Option, Some}
-use Rattle.std.proofs.Common.{None, Result, Ok, Err, OnErr, refl, ◌∙◌, ap, arith, inl, inr}
+use Rattle.std.proofs.Common.{None, refl, ◌∙◌, ap, arith, inl, inr}
 use Rattle.std.specs.Prelude.{◌&&◌, ◌||◌}
 use Rattle.std.specs.List.{flat_map, list_any}
 use Rattle.std.proofs.lemmas.List.Concat.{flat_map-cons}
@@ -45,11 +45,6 @@ use Rattle.trdp_model.specs.Datagrams.{concerns}
 use Rattle.trdp_model.specs.Datagrams.{is_for_entry, acting}
 use Rattle.trdp_outbox.specs.Outboxes.{OutboxState}
 use Rattle.trdp_outbox.specs.Rooms.{LacksRoom, entries_room}
-
--- what is true is true of an error
-pub of_an_error : {T E : Type 0} (result : Result T E) (P : Type 0) → P → OnErr result P
-of_an_error (Ok x) P holds = tt
-of_an_error (Err e) P holds = holds
 
 -- where a telegram of matching counts concerns no slot, no object acts at it
 unconcerned_all : (telegram : TelegramModel) (globals : Globals) (slots : List SlotState)

@@ -2,24 +2,21 @@
 //! is for.
 
 ghost use Rattle.std.specs.Prelude.{◌≡◌, ℕ, ◌+◌, ◌*◌, ◌^◌, ◌<◌, ◌≤◌, length, OnOk, OnErr};
-ghost use Rattle.std.specs.Prelude.{Err, Some, true, slice_get, vec_capacity};
-ghost use Rattle.std.specs.List.{flat_map, list_any};
+ghost use Rattle.std.specs.Prelude.{Err, Some, slice_get};
+ghost use Rattle.std.specs.List.{flat_map};
 ghost use Rattle.trdp_base.specs.Moments.{last_moment};
 ghost use Rattle.trdp_filter.specs.Telegrams.{telegram_model, IsWithinLimit};
-ghost use Rattle.trdp_table.specs.TableLaws.{object_limit};
 ghost use Rattle.trdp_table.specs.Tables.{room_of};
 ghost use Rattle.trdp_model.specs.Configs.{setup_of};
 ghost use Rattle.trdp_model.specs.Slots.{SlotState};
 ghost use Rattle.trdp_store.specs.TableSlots.{slots_of};
-ghost use Rattle.trdp_model.specs.Datagrams.{is_valid_at, fits_object, is_request};
-ghost use Rattle.trdp_model.specs.Datagrams.{acting, handed, received_if, concerns};
+ghost use Rattle.trdp_model.specs.Datagrams.{fits_object, acting, handed};
 ghost use Rattle.trdp_model.specs.Alone.{FaultIs, refused_as, globals_after, plain_effect};
 ghost use Rattle.trdp_model.specs.Events.{DatagramIs};
 ghost use Rattle.trdp_model.specs.NodeModels.{HasOutcome, GetsOutcome, Appends, MayTakeMemory};
-ghost use Rattle.trdp_outbox.specs.Rooms.{HasRoom, LacksRoom, MayLackMemory};
-ghost use Rattle.trdp_outbox.specs.Rooms.{entries_room, datagram_room};
+ghost use Rattle.trdp_outbox.specs.Rooms.{HasRoom, MayLackMemory, entries_room};
 ghost use Rattle.trdp_engine.specs.Noted.{noted_from};
-ghost use Rattle.trdp_engine.specs.Costs.{quota_total, datagram_bounds, CostsAtMost, IsBounded};
+ghost use Rattle.trdp_engine.specs.Costs.{IsBounded};
 ghost use Rattle.trdp_engine.specs.NodeStates.{uncounted};
 
 use crate::addressees::{Addressee, note_all};
@@ -29,26 +26,15 @@ use crate::notices::push_heard;
 use crate::pull::{answer_place, push_answer};
 use crate::requests::ask_all;
 use crate::setting::Setting;
-use std::alloc::AllocError;
 use trdp_base::Place;
 use trdp_dataset::NodeConfig;
-use trdp_filter::{Globals, Telegram, topo_valid};
+use trdp_filter::{Telegram, topo_valid};
 use trdp_head::{MdKind, read_md, read_pd};
 use trdp_marshal::fits;
 use trdp_model::{AnyObject, NodeFault, Protocol};
 use trdp_outbox::{Form, Outbox};
 use trdp_pd::{Object, Reason, Taken};
 use trdp_store::{Counts, Deed, Left, Store, count_act};
-
-/// Whether the telegram's topology counts match the node's.
-fn is_valid_at(telegram: &Telegram<'_>, globals: &Globals) -> bool
-    ensures { result ≡ is_valid_at globals.entry.now (telegram_model telegram.now) }
-{
-    match telegram {
-        Telegram::Pd { view, .. } => topo_valid(view.head.topo, globals.topo),
-        Telegram::Md { view, .. } => topo_valid(view.head.topo, globals.topo),
-    }
-}
 
 /// Whether the payload is a value of the object's dataset; where it has none, any will do.
 fn fits_object(config: &NodeConfig, telegram: &Telegram<'_>, object: &AnyObject) -> bool
@@ -173,70 +159,9 @@ fn take_all(
     }
 }
 
-/// Whether the telegram is a request.
-fn is_request(telegram: &Telegram<'_>) -> bool
-    ensures { result ≡ is_request (telegram_model telegram.now) }
-{
-    match telegram {
-        Telegram::Pd { .. } => false,
-        Telegram::Md { view, .. } => view.head.kind == MdKind::Request,
-    }
-}
-
-/// Takes a telegram. One whose topology counts don't match the node's changes nothing. Room for
-/// the records of all slots comes first.
-///
-/// # Errors
-/// Want of memory for the records, where the telegram concerns a slot; nothing has changed.
-fn receive(
-    store: &mut Store,
-    noted: &mut Vec<Addressee>,
-    telegram: &Telegram<'_>,
-    setting: &Setting<'_>,
-    out: &mut Outbox,
-    counts: &mut Counts,
-) -> Result<(), AllocError>
-    requires capacity { 16 * object_limit ≤ vec_capacity noted.old }
-    requires now { setting.now.globals.now.now ≤ last_moment }
-    requires limit { IsWithinLimit (telegram_model telegram.now) }
-    ensures count { length store.new ≡ length store.old }
-    ensures capacity { vec_capacity noted.new ≡ vec_capacity noted.old }
-    ensures parts { OnOk result ((s : ℕ) (slot : SlotState)
-        → slice_get (slots_of store.old) s ≡ Some slot
-        → HasOutcome (slots_of store.new) out.old.records out.new.records s
-        (received_if (setup_of setting.now.config.now) slot setting.now.globals.now
-        (Some (telegram_model telegram.now)))) }
-    ensures appends { Appends (slots_of store.old) out.old.records out.new.records }
-    ensures kept { OnErr result (store.new ≡ store.old) }
-    ensures unrecorded { OnErr result (out.new.records ≡ out.old.records) }
-    ensures memory { OnErr result
-        (list_any (concerns setting.now.globals.now (Some (telegram_model telegram.now)))
-        (slots_of store.old) ≡ true) }
-    ensures full { OnErr result (LacksRoom out.old
-        (datagram_room setting.now.globals.now (slots_of store.old)
-        (Some (telegram_model telegram.now)))) }
-    ensures still { OnErr result (LacksRoom out.new
-        (datagram_room setting.now.globals.now (slots_of store.old)
-        (Some (telegram_model telegram.now)))) }
-    ensures cost { (b : ℕ) → quota_total (slots_of store.old) < 2 ^ b
-        → CostsAtMost counts.old counts.new
-        (datagram_bounds b (slots_of store.old) (Some (telegram_model telegram.now))) }
-{
-    if !is_valid_at(telegram, setting.globals) {
-        return Ok(());
-    }
-    let room = note_all(store, telegram, setting.globals, noted, counts);
-    out.reserve(room.rows, room.bytes)?;
-    if is_request(telegram) {
-        ask_all(store, noted, telegram, setting.globals, out, counts);
-    } else {
-        take_all(store, noted, telegram, setting, out, counts);
-    }
-    Ok(())
-}
-
 impl Node {
-    /// Takes a datagram. One that is no telegram changes nothing.
+    /// Takes a datagram. One that is no telegram, or whose topology counts don't match the node's,
+    /// changes nothing.
     ///
     /// # Errors
     /// `OutOfMemory`, where it concerns a slot.
@@ -272,31 +197,38 @@ impl Node {
         ensures cost { OnOk result (IsBounded self.old.slots
             (DatagramIs protocol src dst bytes.now) self.new.counts) }
     {
-        let mut counts = Counts::none();
+        let globals = &self.globals;
         let telegram = match protocol {
             Protocol::Pd => match read_pd(bytes) {
-                Err(_) => None,
-                Ok(view) => Some(Telegram::Pd { src, dst, view }),
+                Ok(view) if topo_valid(view.head.topo, globals.topo) => {
+                    Some(Telegram::Pd { src, dst, view })
+                }
+                _ => None,
             },
             Protocol::Md => match read_md(bytes) {
-                Err(_) => None,
-                Ok(view) => Some(Telegram::Md { src, dst, view }),
+                Ok(view) if topo_valid(view.head.topo, globals.topo) => {
+                    Some(Telegram::Md { src, dst, view })
+                }
+                _ => None,
             },
         };
-        if let Some(telegram) = telegram {
+        let mut counts = Counts::none();
+        if let Some(telegram) = &telegram {
             let setting = Setting {
                 alloc: self.alloc,
                 config: &self.config,
-                globals: &self.globals,
+                globals,
             };
-            receive(
-                &mut self.store,
-                &mut self.noted,
-                &telegram,
-                &setting,
-                out,
-                &mut counts,
-            )?;
+            let store = &mut self.store;
+            let noted = &mut self.noted;
+            let room = note_all(store, telegram, globals, noted, &mut counts);
+            out.reserve(room.rows, room.bytes)?;
+            match telegram {
+                Telegram::Md { view, .. } if view.head.kind == MdKind::Request => {
+                    ask_all(store, noted, telegram, globals, out, &mut counts);
+                }
+                _ => take_all(store, noted, telegram, &setting, out, &mut counts),
+            }
         }
         self.counts = counts;
         Ok(())
