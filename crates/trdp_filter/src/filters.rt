@@ -1,10 +1,9 @@
 //! What a node lets in: the match of topology counts, the tests of addresses, and both receive
 //! filters, which stand on them.
 
-ghost use Rattle.std.specs.Prelude.{◌≡◌};
+ghost use Rattle.std.specs.Prelude.{◌≡◌, ◌&&◌};
 ghost use Rattle.trdp_filter.specs.Counts.{counts_valid, topo_valid as topo_match};
-ghost use Rattle.trdp_filter.specs.Addresses.{in_source_range as in_range};
-ghost use Rattle.trdp_filter.specs.Addresses.{is_destination as is_wanted};
+ghost use Rattle.trdp_filter.specs.Addresses.{in_source_range, is_destination};
 ghost use Rattle.trdp_filter.specs.PdFilters.{pd_passes};
 ghost use Rattle.trdp_filter.specs.MdFilters.{is_com_id, matches_uri, md_passes};
 
@@ -26,20 +25,14 @@ pub fn topo_valid(a: Topo, b: Topo) -> bool
     valid(a.etb, b.etb) && valid(a.op_trn, b.op_trn)
 }
 
-/// Whether the source address lies from `low` to `high`; both 0 stand for any (profile).
-#[tactic(auto, unfolding(crate::specs::Addresses::in_source_range))]
-fn in_source_range(low: Ip, high: Ip, source: Ip) -> bool
-    ensures { result ≡ in_range low high source }
+/// Whether a telegram passes by its addresses: its source lies from `low` to `high`, where both 0
+/// stand for any, and its destination is `dest`, where 0 stands for any (profile).
+#[tactic(auto, unfolding(crate::specs::Addresses::in_source_range, crate::specs::Addresses::is_destination))]
+fn addresses_pass(low: Ip, high: Ip, dest: Ip, src: Place, dst: Place) -> bool
+    ensures { result ≡ (in_source_range low high src.ip && is_destination dest dst.ip) }
 {
-    (low == Ip(0) && high == Ip(0)) || (low <= source && source <= high)
-}
-
-/// Whether the destination address is the wanted one; a wanted 0 stands for any (profile).
-#[tactic(auto, unfolding(crate::specs::Addresses::is_destination))]
-fn is_destination(wanted: Ip, destination: Ip) -> bool
-    ensures { result ≡ is_wanted wanted destination }
-{
-    wanted == Ip(0) || wanted == destination
+    let from_range = (low == Ip(0) && high == Ip(0)) || (low <= src.ip && src.ip <= high);
+    from_range && (dest == Ip(0) || dest == dst.ip)
 }
 
 /// A receive filter for process data (profile).
@@ -69,8 +62,7 @@ impl PdFilter {
         ensures { result ≡ pd_passes self.now src dst head.now node }
     {
         self.com_id == head.com_id
-            && in_source_range(self.low, self.high, src.ip)
-            && is_destination(self.dest, dst.ip)
+            && addresses_pass(self.low, self.high, self.dest, src, dst)
             && topo_valid(head.topo, self.topo)
             && topo_valid(head.topo, node)
     }
@@ -124,8 +116,7 @@ impl MdFilter {
         ensures { result ≡ md_passes self.now src dst head.now node }
     {
         is_com_id(self.com_id, head.com_id)
-            && in_source_range(self.low, self.high, src.ip)
-            && is_destination(self.dest, dst.ip)
+            && addresses_pass(self.low, self.high, self.dest, src, dst)
             && is_uri(&self.uri, &head.dest_uri)
             && topo_valid(head.topo, self.topo)
             && topo_valid(head.topo, node)
