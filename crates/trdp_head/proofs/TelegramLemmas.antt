@@ -1,15 +1,17 @@
 -- The faults of bytes, and what it takes to have none.
 -- For `read_pd` and `read_md`, and for the lemmas on telegrams of either kind.
 -- By: a chain of tests gives what the first of them that holds gives.
-use Rattle.std.proofs.Common.{◌≡◌, ℕ, ◌+◌, ◌-◌, ◌≤◌, Bool, true, false, cond, eqb, ltb}
+use Rattle.std.proofs.Common.{◌≡◌, ℕ, ◌+◌, ◌-◌, ◌<◌, ◌≤◌, Bool, true, false, cond, eqb, ltb}
 use Rattle.std.proofs.Common.{List, length, take, drop, slice_index, Option, Some, None, Ok}
 use Rattle.std.proofs.Common.{Err, refl, sym, ap, subst, ◌∙◌, arith, eq-eqb, ◌⊎◌, inl, inr}
 use Rattle.std.specs.Prelude.{not, Result}
+use Rattle.std.specs.List.{slice_range}
 use Rattle.std.specs.Result.{IsErrAnd, IfErr}
-use Rattle.std.proofs.lemmas.Bool.{le-ltb, ltb-false, eqb-true}
+use Rattle.std.proofs.lemmas.Bool.{le-ltb, lt-ltb, ltb-false, eqb-true}
+use Rattle.std.proofs.lemmas.List.{length-drop}
 use Rattle.trdp_head.specs.declared.prefix.Prefix.{Prefix}
 use Rattle.trdp_head.specs.declared.fault.HeadFault.{HeadFault}
-use Rattle.trdp_head.specs.declared.fault.HeadFault.TheVariants.{Kind}
+use Rattle.trdp_head.specs.declared.fault.HeadFault.TheVariants.{Kind, Length}
 use Rattle.trdp_head.specs.Fields.{field}
 use Rattle.trdp_head.specs.Checks.{is_checked}
 use Rattle.trdp_head.specs.IsTelegram.{IsTelegram}
@@ -89,6 +91,36 @@ pub telegram-no_fault : {size longest : ℕ} {bytes : List ℕ} {prefix : Prefix
     → (known : Bool) → known ≡ true → fault_of size longest known bytes ≡ None
 telegram-no_fault {size} {longest} {bytes} t known e =
     fault-payload size longest known bytes (prefix-no_fault t) e ∙ payload-no_fault t
+
+-- what stands behind the header is shorter than the payload
+pub payload_past : (size n : ℕ) (bytes rest : List ℕ) → rest ≡ drop size bytes
+    → n ≡ field 20 4 bytes → (n < 0) ⊎ (length rest < n)
+    → payload_fault_of size bytes ≡ Some Length
+unfolding payload_fault_of
+payload_past size n bytes rest behind is past =
+    let lt : length bytes - size < field 20 4 bytes = elim past [
+      | inl none ↦ absurd (omega (arith, none))
+      | inr lt ↦ omega (arith, lt, is, ap length behind, length-drop size bytes)
+    ] in
+    rw (lt-ltb (length bytes - size) (field 20 4 bytes) lt) refl
+
+-- the payload lies in what stands behind the header
+pub payload_within : (size n : ℕ) (bytes rest : List ℕ) → rest ≡ drop size bytes
+    → n ≡ field 20 4 bytes → n ≤ length rest → payload_fault_of size bytes ≡ None
+unfolding payload_fault_of
+payload_within size n bytes rest behind is within =
+    let le : field 20 4 bytes ≤ length bytes - size =
+    omega (arith, within, is, ap length behind, length-drop size bytes) in
+    rw (le-ltb (length bytes - size) (field 20 4 bytes) le) refl
+
+-- the payload is what stands there, as far as it goes
+pub payload_is : (size n : ℕ) (bytes rest payload : List ℕ) → rest ≡ drop size bytes
+    → n ≡ field 20 4 bytes → payload ≡ slice_range rest 0 n
+    → payload ≡ take (field 20 4 bytes) (drop size bytes)
+payload_is size n bytes rest payload behind is got =
+    got
+    ∙ ap (λ (k : ℕ). take k rest) (omega (arith, is))
+    ∙ ap (take (field 20 4 bytes)) behind
 
 -- the bytes begin with these fields
 pub record Begins (bytes : List ℕ) (prefix : Prefix) : Type 0 where

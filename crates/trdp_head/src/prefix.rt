@@ -1,5 +1,5 @@
 //! What the headers of all telegrams begin with, 24 bytes. The frame check with which a header
-//! ends and the payload behind it are read here, too.
+//! ends is read here, too.
 //!
 //! | Offset | Field | Type |
 //! |---|---|---|
@@ -11,11 +11,10 @@
 //! | 16 | opTrnTopoCnt | u32 |
 //! | 20 | datasetLength | u32 |
 
-ghost use Rattle.std.specs.Prelude.{ℕ, ◌≡◌, ◌≤◌, ◌+◌, length, take, drop};
+ghost use Rattle.std.specs.Prelude.{ℕ, ◌≡◌, ◌≤◌, length, take, drop};
 ghost use Rattle.std.specs.Prelude.{Some, None, IfOk, IfErr};
-ghost use Rattle.trdp_head.specs.Fields.{field};
 ghost use Rattle.trdp_head.specs.Prefixes.{prefix_in, prefix_bytes, IsPrefix};
-ghost use Rattle.trdp_head.specs.Faults.{prefix_fault_of, payload_fault_of};
+ghost use Rattle.trdp_head.specs.Faults.{prefix_fault_of};
 
 use crate::fault::HeadFault;
 use crate::fields::{little_u32_at, put_u16, put_u32, u16_at, u32_at};
@@ -41,7 +40,7 @@ const ETB_TOPO: usize = 12;
 const OP_TRN_TOPO: usize = 16;
 
 /// Where datasetLength stands, 4 bytes.
-const DATASET_LENGTH: usize = 20;
+pub(crate) const DATASET_LENGTH: usize = 20;
 
 /// The length in bytes of the frame check, with which a header ends.
 pub(crate) const CHECK_LENGTH: usize = 4;
@@ -98,25 +97,6 @@ pub(crate) fn read_prefix(bytes: &[u8], size: usize, longest: usize) -> Result<P
             op_trn: u32_at(bytes, OP_TRN_TOPO),
         },
     })
-}
-
-/// The payload behind a header of so many bytes, or its fault.
-#[tactic(auto, unfolding(crate::specs::Faults::payload_fault_of))]
-pub(crate) fn read_payload(bytes: &[u8], size: usize) -> Result<&[u8], HeadFault>
-    requires prefix { 24 ≤ size }
-    requires room { size ≤ length bytes.now }
-    ensures value { IfOk result (λ payload. payload.now
-        ≡ take (field 20 4 bytes.now) (drop size bytes.now)) }
-    ensures none { IfOk result (λ _. payload_fault_of size bytes.now ≡ None) }
-    ensures fault { IfErr result (λ fault. payload_fault_of size bytes.now ≡ Some fault) }
-{
-    let length = u32_at(bytes, DATASET_LENGTH) as usize;
-    if length > bytes.len() - size {
-        return Err(HeadFault::Length);
-    }
-    let (_, rest) = bytes.split_at(size);
-    let (payload, _) = rest.split_at(length);
-    Ok(payload)
 }
 
 /// Writes the first fields of a header, with the length of the payload and the version 1.0.

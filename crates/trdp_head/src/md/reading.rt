@@ -12,7 +12,7 @@ ghost use Rattle.trdp_head.specs.declared.md.MdHead.{MdHead};
 use crate::fault::HeadFault;
 use crate::fields::{i32_at, u32_at, u128_at};
 use crate::md::{MD_HEAD, MD_TELEGRAM_MAX, MdHead, MdKind, MdView, layout};
-use crate::prefix::{read_payload, read_prefix};
+use crate::prefix::{DATASET_LENGTH, read_prefix};
 use trdp_base::{SessionId, URI_LIMIT, Uri};
 
 /// The type of a code, if it is one of message data.
@@ -68,7 +68,10 @@ pub fn read_md(bytes: &[u8]) -> Result<MdView<'_>, HeadFault>
     let Some(kind) = kind_of_code(prefix.code) else {
         return Err(HeadFault::Kind);
     };
-    let payload = read_payload(bytes, MD_HEAD)?;
+    let (_, rest) = bytes.split_at(MD_HEAD);
+    let Some(payload) = rest.get(..u32_at(bytes, DATASET_LENGTH) as usize) else {
+        return Err(HeadFault::Length);
+    };
     let head = MdHead {
         counter: prefix.counter,
         kind,

@@ -10,7 +10,7 @@ ghost use Rattle.trdp_head.specs.declared.pd.PdHead.{PdHead};
 use crate::fault::HeadFault;
 use crate::fields::u32_at;
 use crate::pd::{PD_HEAD, PD_TELEGRAM_MAX, PdHead, PdKind, PdView, layout};
-use crate::prefix::{read_payload, read_prefix};
+use crate::prefix::{DATASET_LENGTH, read_prefix};
 use trdp_base::Ip;
 
 /// The type of a code, if it is one of process data.
@@ -53,7 +53,10 @@ pub fn read_pd(bytes: &[u8]) -> Result<PdView<'_>, HeadFault>
     let Some(kind) = kind_of_code(prefix.code) else {
         return Err(HeadFault::Kind);
     };
-    let payload = read_payload(bytes, PD_HEAD)?;
+    let (_, rest) = bytes.split_at(PD_HEAD);
+    let Some(payload) = rest.get(..u32_at(bytes, DATASET_LENGTH) as usize) else {
+        return Err(HeadFault::Length);
+    };
     let head = PdHead {
         counter: prefix.counter,
         kind,
