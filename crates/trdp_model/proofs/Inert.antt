@@ -70,7 +70,7 @@ asks_none p head told = rw told refl
 -- and carries a value to no subscription
 is_for_none : (s : SubscriptionState) (src dst : Place) (head : PdHead) (globals : Globals)
     → head.kind ≡ Error → is_for_subscription s src dst head globals ≡ false
-unfolding is_for_subscription carries_value
+unfolding is_for_subscription
 is_for_none s src dst head globals told = rw told refl
 
 -- so it is for no object

@@ -171,7 +171,6 @@ took_kept past m at setup src dst t u after taken (inr (inr is)) kept =
 takes_in : (u : SubscriptionState)
     → (taken_in u.state ≡ took.Nothing)
     ⊎ ((taken_in u.state ≡ took.Stored) ⊎ (taken_in u.state ≡ took.Alive))
-unfolding taken_in
 takes_in u = by_state u.state
   where
     by_state : (state : ValueState) → (taken_in state ≡ took.Nothing)

@@ -101,7 +101,6 @@ subscription_quiet : (places : List Place) (handle : ℕ) (setup : NodeSetup)
     (telegram : TelegramModel) (globals : Globals) (u : SubscriptionState)
     → QuietAct places (taking_act setup telegram globals
     (record { handle = handle; object = Subscription u }))
-unfolding taken_in
 subscription_quiet places handle setup (MdIs src dst t) globals u =
     record { covers = tt; quiet = λ h. refl }
 subscription_quiet places handle setup (PdIs src dst t) globals u =

@@ -203,7 +203,7 @@ pub takes_typed : (handle : ℕ) (setup : NodeSetup) (telegram : TelegramModel)
     (globals : Globals) (x : AnyObject) → IsTypedObject x
     → ActTyped (taking_act setup telegram globals
     (record { handle = handle; object = x }))
-unfolding taken_in answer_taken
+unfolding answer_taken
 takes_typed handle setup (MdIs src dst t) globals (Publisher p) fits =
     record { left = fits; sends = tt }
 takes_typed handle setup (PdIs src dst t) globals (Publisher p) fits =

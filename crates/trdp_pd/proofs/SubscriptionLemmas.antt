@@ -27,7 +27,6 @@ com_id-is_for s src dst head globals is = grind (arith, nat_tests)
 -- a message type that carries a value is that of data or of a pull reply
 kind-carries_value :
     (kind : PdKind) → carries_value kind ≡ true → (kind ≡ Data) ⊎ (kind ≡ PullReply)
-unfolding carries_value
 kind-carries_value Data is = inl refl
 kind-carries_value PullReply is = inr refl
 kind-carries_value PullRequest is = absurd (false-true is)

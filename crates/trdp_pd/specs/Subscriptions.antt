@@ -58,7 +58,7 @@ subscribed terms zero_size now = record {
 }
 
 -- the message types that carry a value
-unfoldable pub carries_value : PdKind → Bool
+abbrev pub carries_value : PdKind → Bool
 carries_value Data = true
 carries_value PullReply = true
 carries_value _ = false
@@ -108,7 +108,7 @@ storing s src telegram now = record s {
 }
 
 -- a subscription that was silent is alive again
-unfoldable pub taken_in : ValueState → Taken
+abbrev pub taken_in : ValueState → Taken
 taken_in SilentState = Alive
 taken_in _ = Stored
 

@@ -2,17 +2,16 @@
 
 ghost use Rattle.std.specs.Prelude.{◌≡◌, ℕ, ◌≤◌, length, IfOk};
 ghost use Rattle.trdp_base.specs.Moments.{last_moment};
-ghost use Rattle.trdp_pd.specs.Subscriptions.{first_size, deadline_from, carries_value, is_stale};
-ghost use Rattle.trdp_pd.specs.Subscriptions.{taken_in};
+ghost use Rattle.trdp_pd.specs.Subscriptions.{first_size, deadline_from, is_stale};
 ghost use Rattle.trdp_head.specs.Limits.{pd_payload_limit};
 
 use crate::object::{Fired, Object, Taken};
 use crate::terms::{Behaviour, Latest, Peek, SubscriptionTerms, ValueState};
 use std::alloc::{AllocError, Global};
 use std::marker::Model;
-use trdp_base::{Ip, Place};
+use trdp_base::Ip;
 use trdp_filter::{Globals, Telegram};
-use trdp_head::{PD_PAYLOAD_MAX, PdHead, PdKind, PdView};
+use trdp_head::{PD_PAYLOAD_MAX, PdHead, PdKind};
 
 /// A telegram less than this many counters behind the latest one is stale (profile).
 const STALE_WINDOW: u32 = 16;
@@ -85,17 +84,6 @@ fn deadline_from(supervision: u32, now: u64) -> Option<u64>
     }
 }
 
-/// Whether telegrams of this type carry a value.
-#[tactic(auto, unfolding(crate::specs::Subscriptions::carries_value))]
-fn carries_value(kind: PdKind) -> bool
-    ensures { result ≡ carries_value kind }
-{
-    match kind {
-        PdKind::Data | PdKind::PullReply => true,
-        PdKind::PullRequest | PdKind::Error => false,
-    }
-}
-
 /// Whether a telegram is stale against the latest one that was taken.
 #[tactic(auto, unfolding(crate::specs::Subscriptions::is_stale))]
 fn is_stale(latest: Option<Latest>, source: Ip, head: &PdHead) -> bool
@@ -111,21 +99,9 @@ fn is_stale(latest: Option<Latest>, source: Ip, head: &PdHead) -> bool
     }
 }
 
-/// What it is to take a telegram in this state.
-#[tactic(auto, unfolding(crate::specs::Subscriptions::taken_in))]
-fn taken_in(state: ValueState) -> Taken
-    ensures { result ≡ taken_in state }
-{
-    match state {
-        ValueState::Silent => Taken::Alive,
-        ValueState::Never | ValueState::Valid => Taken::Stored,
-    }
-}
-
 impl Subscription {
-    ghost use Rattle.trdp_head.specs.PdTelegrams.{PdTelegram};
     ghost use Rattle.trdp_pd.specs.Subscriptions.{SubscriptionState, subscribed};
-    ghost use Rattle.trdp_pd.specs.Subscriptions.{storing, value_after_time_out};
+    ghost use Rattle.trdp_pd.specs.Subscriptions.{value_after_time_out};
     ghost use Rattle.trdp_pd.specs.Peeks.{peek_model, shown};
     ghost use Rattle.trdp_head.specs.Limits.{pd_payload_limit};
 
@@ -185,25 +161,6 @@ impl Subscription {
             counter: self.counter,
             bytes: self.value.as_slice(),
         }
-    }
-
-    /// Stores a telegram that it takes.
-    fn store(&mut self, src: Place, view: &PdView<'_>, now: u64)
-        requires limit { length view.now.payload.now ≤ pd_payload_limit }
-        requires now { now ≤ last_moment }
-        ensures { self.new ≡ storing self.old src
-            (record { head = view.now.head; payload = view.now.payload.now }) now }
-    {
-        self.deadline = deadline_from(self.terms.supervision, now);
-        self.state = ValueState::Valid;
-        self.counter = view.head.counter;
-        self.latest = Some(Latest {
-            source: src.ip,
-            kind: view.head.kind,
-            counter: view.head.counter,
-        });
-        self.value.clear();
-        self.value.extend_from_slice(view.payload).unwrap();
     }
 
     /// What a time-out does to the value.
@@ -266,7 +223,7 @@ impl Object for Subscription {
     fn addressed(&self, telegram: &Telegram<'_>, globals: &Globals) -> bool {
         match *telegram {
             Telegram::Pd { src, dst, view } => {
-                carries_value(view.head.kind)
+                matches!(view.head.kind, PdKind::Data | PdKind::PullReply)
                     && self.terms.filter.passes(src, dst, &view.head, globals.topo)
             }
             Telegram::Md { .. } => false,
@@ -276,20 +233,31 @@ impl Object for Subscription {
     /// Stores a telegram that is for it, fits and isn't stale; changes nothing by any other.
     #[tactic(auto, unfolding(crate::specs::Subscriptions::is_accepted_value))]
     fn take(&mut self, telegram: &Telegram<'_>, globals: &Globals, fits: bool) -> Taken {
-        match *telegram {
-            Telegram::Pd { src, view, .. } => {
-                let accepts = self.addressed(telegram, globals)
-                    && fits
-                    && !is_stale(self.latest, src.ip, &view.head);
-                if !accepts {
-                    return Taken::Nothing;
-                }
-                let taken = taken_in(self.state);
-                self.store(src, &view, globals.now);
-                taken
-            }
-            Telegram::Md { .. } => Taken::Nothing,
+        let Telegram::Pd { src, view, .. } = *telegram else {
+            return Taken::Nothing;
+        };
+        let head = &view.head;
+        let accepts = self.addressed(telegram, globals)
+            && fits
+            && !is_stale(self.latest, src.ip, head);
+        if !accepts {
+            return Taken::Nothing;
         }
+        let taken = match self.state {
+            ValueState::Silent => Taken::Alive,
+            ValueState::Never | ValueState::Valid => Taken::Stored,
+        };
+        self.deadline = deadline_from(self.terms.supervision, globals.now);
+        self.state = ValueState::Valid;
+        self.counter = head.counter;
+        self.latest = Some(Latest {
+            source: src.ip,
+            kind: head.kind,
+            counter: head.counter,
+        });
+        self.value.clear();
+        self.value.extend_from_slice(view.payload).unwrap();
+        taken
     }
 
     /// Times out: it is silent until the next telegram that it accepts.

@@ -90,7 +90,6 @@ IsTakenBy kind RepliedLast = kind ≡ Calling
 IsTakenBy kind (Confirmed status) = kind ≡ Replying
 
 taken_in_by : (state : ValueState) → IsTakenBy Subscribing (taken_in state)
-unfolding taken_in
 taken_in_by Never = refl
 taken_in_by Valid = refl
 taken_in_by Silent = refl

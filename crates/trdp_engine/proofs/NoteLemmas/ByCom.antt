@@ -107,7 +107,7 @@ passed_is :
     (s : SubscriptionState) (src dst : Place) (head : PdHead) (globals : Globals) (k : PdKind)
     → head.kind ≡ k → is_for_subscription s src dst head globals ≡ true
     → sought_as k head ≡ s.terms.filter.com_id
-unfolding is_for_subscription carries_value pd_passes
+unfolding is_for_subscription pd_passes
 passed_is s src dst head globals PullRequest is for =
     absurd (false≢true (sym (ap carries_value is) ∙ and_left (carries_value head.kind) _ for))
 passed_is s src dst head globals PdError is for =

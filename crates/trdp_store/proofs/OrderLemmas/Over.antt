@@ -78,7 +78,6 @@ replied_over c src head now = either (is_complete (answering c src head now)) re
 -- Each object.
 
 taken_in_over : (before due : Option ℕ) (state : ValueState) → IsOverBy before due (taken_in state)
-unfolding taken_in
 taken_in_over before due Never = tt
 taken_in_over before due Valid = tt
 taken_in_over before due Silent = tt
