@@ -1,11 +1,9 @@
 -- What is counted of an act, and of what counts nothing.
-use Rattle.std.specs.Prelude.{◌≡◌, ℕ, ◌<◌, ◌++◌, List, length, filter, slice_get, Some, None}
-use Rattle.std.specs.Prelude.{true, map, Option}
-use Rattle.std.specs.List.{sum_by, list_any}
+use Rattle.std.specs.Prelude.{ℕ, Some, None}
+use Rattle.std.specs.Prelude.{Option}
 use Rattle.trdp_store.specs.declared.counts.Counts.{Counts}
-use Rattle.std.specs.Prelude.{ℕ, ◌+◌, ◌*◌, ◌^◌, ◌<◌, ◌≤◌, ◌==◌, ◌||◌, List, length}
-use Rattle.std.specs.Prelude.{count_by, sum_by, Option, Some, None, Bool, true, false}
-use Rattle.trdp_head.specs.declared.md.MdKind.TheVariants as message
+use Rattle.std.specs.Prelude.{ℕ}
+use Rattle.std.specs.Prelude.{Option, Some, None}
 use Rattle.trdp_store.specs.declared.counts.Counts.{Counts}
 use Rattle.trdp_store.specs.declared.deed.Left.{Left}
 use Rattle.trdp_store.specs.declared.deed.Left.TheVariants.{Stays, Ended}

@@ -1,9 +1,8 @@
 -- What becomes of an object to which something is done.
-use Rattle.std.specs.Prelude.{◌≡◌, ℕ, Option, Some, None, Bool, true, false}
+use Rattle.std.specs.Prelude.{Option, Some, None}
 use Rattle.trdp_model.specs.declared.any_object.AnyObject.{AnyObject}
 use Rattle.trdp_store.specs.declared.deed.Left.{Left}
 use Rattle.trdp_store.specs.declared.deed.Left.TheVariants.{Stays, Ended}
-use Rattle.std.specs.Prelude.{length}
 
 -- what is left of an object that stays or ended
 abbrev pub left_of : Left → AnyObject → Option AnyObject

@@ -1,5 +1,5 @@
 -- The slots of the table, without keys.
-use Rattle.std.specs.Prelude.{ℕ, ◌+◌, List, [], ◌∷◌, ◌++◌, map, find, count_by, Option, ◌==◌}
+use Rattle.std.specs.Prelude.{List, map}
 use Rattle.trdp_table.specs.Tables.{Keyed, SlotTable, TableState}
 use Rattle.trdp_model.specs.Slots.{Entry, SlotState}
 

@@ -1,6 +1,6 @@
 -- The timer heap is the image of the slots' objects, and knows the room that each may need.
-use Rattle.std.specs.Prelude.{◌≡◌, ℕ, ◌*◌, ◌≤◌, ◌⊎◌, ◌==◌, List, [], ◌∷◌, length, replicate}
-use Rattle.std.specs.Prelude.{Bool, true, false}
+use Rattle.std.specs.Prelude.{◌≡◌, ℕ, ◌*◌, ◌≤◌, ◌⊎◌, List, [], ◌∷◌, length, replicate}
+use Rattle.std.specs.Prelude.{false}
 use Rattle.std.specs.Prelude.{slice_index, slice_index_or, Option, Some, None}
 use Rattle.trdp_timers.specs.declared.order.Order.{Order}
 use Rattle.trdp_timers.specs.Orders.{is_due_by}
@@ -63,13 +63,6 @@ due_order s handle (Some due) = Some (record { due = due; slot = s; handle = han
 -- when an object of slot s acts
 abbrev pub order_of : ℕ → Keyed → Option Order
 order_of s keyed = due_order s keyed.handle (due_of keyed.object)
-
--- the same moment, or both never
-abbrev pub is_same_due : Option ℕ → Option ℕ → Bool
-is_same_due None None = true
-is_same_due None (Some due) = false
-is_same_due (Some due) None = false
-is_same_due (Some before) (Some due) = before == due
 
 -- the due moment of an object that is over is as it was, or it has none
 abbrev pub IsOver : Option ℕ → Option ℕ → Type 0

@@ -7,7 +7,7 @@ ghost use Rattle.std.specs.Prelude.{count_by, is_some};
 ghost use Rattle.trdp_table.specs.TableLaws.{object_limit};
 ghost use Rattle.trdp_timers.specs.Orders.{is_due_by};
 ghost use Rattle.trdp_timers.specs.Contents.{due_sizes, IsUnset};
-ghost use Rattle.trdp_store.specs.Timed.{empty_schedule, due_order, is_same_due};
+ghost use Rattle.trdp_store.specs.Timed.{empty_schedule, due_order};
 ghost use Rattle.trdp_store.specs.Timed.{IsKeptSchedule, IsNoneDue, IsFirstDue, IsSoonest};
 ghost use Rattle.trdp_outbox.specs.Rooms.{room_rows_limit, room_bytes_limit};
 
@@ -67,17 +67,6 @@ fn lengthen(sizes: &mut Vec<usize>, room: usize) -> Result<(), AllocError>
         return Ok(());
     }
     sizes.resize(room, 0)
-}
-
-/// Whether two due moments are the same, or both never.
-fn is_same_due(before: Option<u64>, due: Option<u64>) -> bool
-    ensures { result ≡ is_same_due before due }
-{
-    match (before, due) {
-        (None, None) => true,
-        (Some(before), Some(due)) => before == due,
-        _ => false,
-    }
 }
 
 impl Schedule {
@@ -151,7 +140,7 @@ impl Schedule {
             → count_by is_some self.new.orders < 2 ^ b → result ≤ 2 * b + 2 }
         ensures still { due ≡ before → result ≡ 0 }
     {
-        if is_same_due(before, due) {
+        if before == due {
             return 0;
         }
         match due {

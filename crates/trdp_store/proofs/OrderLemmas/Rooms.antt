@@ -2,11 +2,9 @@
 -- For `Schedule::with_room`, `admit`, `change`, `due_room`, and the calls of `Store` on them.
 -- By: an object's room is within the limits of one, and there are so many objects at most.
 use Rattle.std.proofs.Common.{◌≡◌, ℕ, zero, suc, ◌*◌, ◌<◌, ◌≤◌, ◌^◌, List, []}
-use Rattle.std.proofs.Common.{◌∷◌, length, set, sum, Option, ◌∙◌, ap, sym}
-use Rattle.std.proofs.Common.{arith, Some, None, true, inl, inr, ◌+◌, refl}
-use Rattle.std.specs.Prelude.{replicate, slice_index_or}
-use Rattle.std.proofs.lemmas.Bool.{false≢true}
-use Rattle.std.proofs.lemmas.Bool.Decides.{nat_tests}
+use Rattle.std.proofs.Common.{◌∷◌, length, set, sum, Option, ap}
+use Rattle.std.proofs.Common.{arith, None, inl, inr, ◌+◌}
+use Rattle.std.specs.Prelude.{replicate}
 use Rattle.std.proofs.lemmas.List.{length-set, length-replicate}
 use Rattle.std.proofs.lemmas.List.Sums.{sum_by-cons}
 use Rattle.trdp_model.specs.declared.kind.Kind.{Kind}
@@ -16,7 +14,7 @@ use Rattle.trdp_table.specs.Tables.{TableState, all_quotas, room_of, slot_in}
 use Rattle.trdp_table.specs.TableLaws.{AreLimited, IsSlotTable, IsTable}
 use Rattle.trdp_timers.specs.declared.order.Order.{Order}
 use Rattle.trdp_outbox.specs.Rooms.{kind_room, room_rows_limit, room_bytes_limit}
-use Rattle.trdp_store.specs.Timed.{AllAtMost, IsSchedule, is_same_due, IsOver}
+use Rattle.trdp_store.specs.Timed.{AllAtMost, IsSchedule, IsOver}
 
 zeros_few : (most n : ℕ) → AllAtMost most (replicate n 0)
 zeros_few most zero = tt
@@ -112,31 +110,6 @@ slots_room (x ∷ xs) slots =
 
 pub room_limited : (table : TableState) → IsTable table → room_of table ≤ 24576
 room_limited table sound = omega (arith, slots_room table sound.slots, sound.few)
-
--- Due moments that are the same.
-
-pub same_due : (before due : Option ℕ) → is_same_due before due ≡ true → before ≡ due
-same_due None None is = refl
-same_due None (Some due) is = absurd (false≢true is)
-same_due (Some before) None is = absurd (false≢true is)
-same_due (Some before) (Some due) is =
-    let same : before ≡ due = grind (arith, nat_tests) in
-    ap (λ (n : ℕ). let some : Option ℕ = Some n in some) same
-
-self_due : (due : Option ℕ) → is_same_due due due ≡ true
-self_due None = refl
-self_due (Some due) = grind (arith, nat_tests)
-
-pub due_same : (before due : Option ℕ) → due ≡ before → is_same_due before due ≡ true
-due_same before due same = ap (is_same_due before) same ∙ self_due before
-
--- an order that is set again
-pub set_again : (orders : List (Option Order)) (key : ℕ) (order : Option Order)
-    → slice_index_or orders key None ≡ order → set orders key order ≡ orders
-set_again [] key order is = refl
-set_again (o ∷ os) zero order is = ap (λ (x : Option Order). x ∷ os) (sym is)
-set_again (o ∷ os) (suc key) order is =
-    ap (λ (xs : List (Option Order)). o ∷ xs) (set_again os key order is)
 
 -- Of an object that is over either its change or its going costs nothing.
 

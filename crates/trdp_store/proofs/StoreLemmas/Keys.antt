@@ -1,17 +1,9 @@
 -- What a store's law says of its keys.
 -- For `DueLemmas`, and for what the node above finds by rows and by sessions.
 -- By definition alone.
-use Rattle.std.proofs.Common.{◌≡◌, ℕ, suc, ◌+◌, ◌<◌, ◌≤◌, List, [], ◌∷◌, ◌++◌, length}
-use Rattle.std.proofs.Common.{map, drop, filter, not, Some, Bool, true, false, refl}
-use Rattle.std.proofs.Common.{◌∙◌, sym, ap, arith, append_assoc, append-nil, None}
-use Rattle.std.specs.Prelude.{slice_get, ◌==◌, ◌&&◌}
-use Rattle.std.proofs.lemmas.Bool.{false≢true}
-use Rattle.std.proofs.lemmas.Bool.Decides.{nat_tests}
-use Rattle.std.proofs.lemmas.List.{map-append, drop_all}
-use Rattle.std.proofs.lemmas.List.Concat.{flat_map-cons}
-use Rattle.std.proofs.lemmas.Grind.{flat_map-append}
-use Rattle.std.proofs.lemmas.List.Sums.{sum_by-append}
-use Rattle.std.proofs.lemmas.Option.{same_Some}
+use Rattle.std.proofs.Common.{◌≡◌, ℕ}
+use Rattle.std.proofs.Common.{Some}
+use Rattle.std.specs.Prelude.{slice_get}
 use Rattle.trdp_table.specs.Tables.{Keyed, TableState, slot_in, all_objects, by_handle, by_key}
 
 -- what a store's law says of its keys

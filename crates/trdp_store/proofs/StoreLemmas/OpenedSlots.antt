@@ -1,13 +1,8 @@
 -- A slot that the table opens, without keys.
 -- For `Node::step_add_slot` above.
 -- By definition: an empty slot behind the others.
-use Rattle.std.proofs.Common.{zero, suc, ◌≡◌, ℕ, ◌<◌, ◌+◌, List, [], ◌∷◌, ◌++◌, length, refl, ◌∙◌}
-use Rattle.std.proofs.Common.{ap, sym, arith, Some, None, Option, Bool, true, false, ◌≤◌}
-use Rattle.std.proofs.Common.{Result, Ok, Err, OnOk, OnErr}
-use Rattle.std.specs.Prelude.{slice_get, ◌==◌, nat_lt, nat_le, if◌then◌else◌}
-use Rattle.std.proofs.lemmas.Option.{slice_get_within}
-use Rattle.std.proofs.lemmas.Bool.Decides.{nat_tests}
-use Rattle.std.proofs.lemmas.List.{append-nil, map-append}
+use Rattle.std.proofs.Common.{◌≡◌, ℕ, List, [], ◌∷◌, ◌++◌}
+use Rattle.std.proofs.lemmas.List.{map-append}
 use Rattle.trdp_table.specs.Tables.{TableState, opened_slot as opened_entry}
 use Rattle.trdp_model.specs.Slots.{empty_slot}
 use Rattle.trdp_store.specs.TableSlots.{slot_of, slots_of}
