@@ -2,16 +2,11 @@
 use Rattle.std.specs.Prelude.{ℕ, Option}
 use Rattle.std.specs.Borrow.{Lends, LendsIf, MutBor, Fml}
 use Rattle.trdp_model.specs.declared.any_object.AnyObject.{AnyObject}
-use Rattle.trdp_table.specs.declared.held.Held.{Held}
 use Rattle.trdp_model.specs.contracts.any_object.AnyObject.{the_row as object_row}
-use Rattle.trdp_table.specs.contracts.held.Held.{the_row as held_row}
 use Rattle.trdp_table.specs.contracts.pool.Pool.{the_row as pool_row}
 use Rattle.trdp_table.specs.contracts.table.Table.{the_row as table_row}
 use Rattle.trdp_table.specs.Tables.{TableState, exchanged}
-use Rattle.trdp_table.specs.Pools.{PoolState, with_other_held, pool_with}
-
-abbrev pub LendsOfHeld : MutBor Held → MutBor AnyObject → Fml
-LendsOfHeld held r = Lends held_row object_row held r (with_other_held held.now)
+use Rattle.trdp_table.specs.Pools.{PoolState, pool_with}
 
 abbrev pub LendsOfPool : MutBor PoolState → ℕ → MutBor AnyObject → Fml
 LendsOfPool pool key r = Lends pool_row object_row pool r (pool_with key pool.now)

@@ -1,6 +1,4 @@
 -- Why a call is refused whose new object the table refuses.
-use Rattle.std.specs.Prelude.{List, [], ◌∷◌, Option, Some, None, slice_index, nat_lt, nat_le}
-use Rattle.std.specs.Prelude.{if◌then◌else◌}
 use Rattle.trdp_table.specs.declared.fault.TableFault.{TableFault}
 use Rattle.trdp_table.specs.declared.fault.TableFault.TheVariants.{Quota as UsedUp}
 use Rattle.trdp_model.specs.declared.fault.Refusal.{Refusal}

@@ -1,8 +1,5 @@
 //! An object as the pool holds it.
 
-ghost use Rattle.std.specs.Prelude.{◌≡◌};
-ghost use Rattle.std.specs.Borrow.{sem};
-
 use trdp_model::AnyObject;
 
 /// An object, and whose it is.
@@ -14,16 +11,4 @@ pub struct Held {
     pub handle: u32,
     /// The object itself.
     pub object: AnyObject,
-}
-
-impl Held {
-    ghost use Rattle.trdp_table.specs.Lending.{LendsOfHeld};
-
-    /// Lends the object alone.
-    pub fn object_mut(&mut self) -> &mut AnyObject
-        ensures* writes_back { sem 𝓛 (LendsOfHeld self.entry result) }
-        ensures value { result.now ≡ self.old.object }
-    {
-        &mut self.object
-    }
 }

@@ -160,6 +160,6 @@ impl Pool {
     {
         let place = place_of(&self.places, key);
         let held = &mut self.slab[place];
-        held.object_mut()
+        &mut held.object
     }
 }

@@ -34,6 +34,6 @@ returns c =
       ),
       record {
         writes_back = tt;
-        value = rw (← c.self.view_is, at, c.object_mut.ensures.value) refl;
+        value = rw (← c.self.view_is, at) refl;
       },
     )
