@@ -42,12 +42,12 @@ pub fn script_status(end: Result<(), ScriptFault>) -> u8
 }
 
 /// The exit status of a service that comes to no good end (profile).
-pub const SERVE_FAULT_STATUS: u8 = 4;
+pub(crate) const SERVE_FAULT_STATUS: u8 = 4;
 
 /// Why a service comes to no good end. As the program prints it (profile) it is `bind fault`,
 /// `write fault` or `memory fault`; to show it takes no memory.
 #[derive(Clone, Copy, Debug, PartialEq, Eq)]
-pub enum ServeFault {
+pub(crate) enum ServeFault {
     /// The system refuses one of the ports.
     Bind,
     /// The output can't be written.

@@ -54,7 +54,7 @@ pub fn run_program<H: AllocGlobal, R: Read, W: Write, E: Write>(
 ///
 /// # Errors
 /// The fault of the configuration, or want of memory in its place.
-pub fn read_config<E: Write>(
+pub(crate) fn read_config<E: Write>(
     alloc: Global,
     config: &[u8],
     errors: &mut E,

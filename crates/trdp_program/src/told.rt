@@ -13,7 +13,7 @@ const FAULT_ROOM: usize = 128;
 
 /// Tells a fault in one line, which takes no memory. One that can't be told, or only in part, is a
 /// fault all the same.
-pub fn tell_fault<F: Display + Drop, E: Write>(fault: F, errors: &mut E)
+pub(crate) fn tell_fault<F: Display + Drop, E: Write>(fault: F, errors: &mut E)
     ensures { IfSome (F.output fault) (λ text.
         TellsFault text (E.contents errors.old) (E.contents errors.new)) }
 {
