@@ -13,7 +13,7 @@ use Rattle.trdp_head.specs.PdTelegrams.{PdTelegram, pd_telegram_of}
 use Rattle.trdp_filter.specs.declared.globals.Globals.{Globals}
 use Rattle.trdp_filter.specs.Telegrams.{PdIs}
 use Rattle.trdp_pd.specs.Publishers.{PublisherState, asks_for_value, is_asked}
-use Rattle.trdp_pd.specs.Subscriptions.{SubscriptionState, carries_value, is_for_subscription}
+use Rattle.trdp_pd.specs.Subscriptions.{SubscriptionState, is_for_subscription}
 use Rattle.trdp_model.specs.declared.any_object.AnyObject.{AnyObject}
 use Rattle.trdp_model.specs.declared.any_object.AnyObject.TheVariants.{Publisher, Subscription}
 use Rattle.trdp_model.specs.declared.any_object.AnyObject.TheVariants.{Requester, Listener}

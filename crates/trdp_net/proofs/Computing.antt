@@ -18,8 +18,7 @@ use Rattle.trdp_filter.specs.Globals.{no_groups, leads}
 use Rattle.trdp_filter.specs.MdFilters.{is_com_id, matches_uri, md_passes}
 use Rattle.trdp_filter.specs.PdFilters.{pd_passes}
 use Rattle.trdp_pd.specs.Publishers.{asks_for_value, asked_com_id, is_asked, is_answered}
-use Rattle.trdp_pd.specs.Subscriptions.{deadline_from, first_size, carries_value, is_stale}
-use Rattle.trdp_pd.specs.Subscriptions.{taken_in}
+use Rattle.trdp_pd.specs.Subscriptions.{deadline_from, first_size, is_stale}
 use Rattle.trdp_pd.specs.Subscriptions.{is_for_subscription}
 use Rattle.trdp_pd.specs.Subscriptions.{is_accepted_value}
 use Rattle.trdp_md.specs.Answers.{has_answered, awaits, awaits_any, confirmed}
@@ -39,7 +38,7 @@ unfolding uri_field frame_check_of field little_field be_bytes le_bytes is_check
     prefix_fault_of payload_fault_of fault_of telegram_bytes pd_head_bytes pd_bytes pd_fault_of
     pd_telegram_of md_head_bytes md_bytes md_fault_of md_telegram_of in_source_range
     is_destination no_groups leads is_com_id matches_uri md_passes pd_passes asks_for_value
-    asked_com_id is_asked is_answered deadline_from first_size carries_value is_stale taken_in
+    asked_com_id is_asked is_answered deadline_from first_size is_stale
     is_for_subscription is_accepted_value has_answered awaits awaits_any confirmed request_of
     confirm_of is_answer is_query is_for_caller has_place is_accepted_answer deadline_after
     is_complete
