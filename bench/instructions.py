@@ -4,14 +4,16 @@
     bench/instructions.py [PROGRAM]               default: crates/trdpd/out/trdpd (./run prove builds it)
 
 A script of so many equal lines is played, and one of twice as many: the cost of a line is the difference. Reading and printing are in it.
-Four kinds of lines: a call that puts two bytes, a telegram of process data that one of 4,096 subscriptions takes, a moment by which 256
-publishers are due (counted for each telegram that it sends), and a moment by which nothing is due.
+Five kinds of lines: a call that puts two bytes, a telegram of process data that one of 4,096 subscriptions takes, a moment by which 256
+publishers are due (counted for each telegram that it sends), a moment by which nothing is due, and a request that one of 4,096 listeners
+hears with the call that replies to it.
 """
 import re
 import subprocess
 import sys
 import tempfile
 
+from alone.telegrams import Message, write_md
 from many_objects import LATE, TAKEN, TOP, config, moments, publishers, subscriptions, telegrams
 
 LINES = 500
@@ -20,6 +22,21 @@ OBJECTS, SLOTS = 256, 16                          # of the telegram that is take
 
 def puts(count):
     return ("call 0 put 1 0a0b" for _ in range(count))
+
+
+def listeners(objects, slots):
+    """One listener hears the comId that is asked for, and no other one does."""
+    for slot in range(slots):
+        for i in range(objects):
+            com_id = TAKEN if slot == 0 and i == 0 else 1000 + slot * 256 + i
+            yield f"call {slot} listen {com_id} 0.0.0.0 0.0.0.0 0.0.0.0 - 0 0"
+
+
+def answered(count):
+    """So many requests, each with its reply: the repliers' handles come after those of the listeners."""
+    for i in range(count):
+        asked = write_md(Message("Mr", TAKEN, bytes(8), session=i + 1, time=1_000_000)).hex()
+        yield f"md 10.0.0.2:17225 10.0.0.1:17225 {asked}\ncall 0 reply {OBJECTS + 1 + i} 301 0 0c"
 
 
 def instructions(program, settings, lines):
@@ -43,15 +60,20 @@ def cost(program, slots, opening, lines, count, acts=1):
         return (twice - once) / count / acts
 
 
-def main(words):
-    program = words[0] if words else f"{TOP}/crates/trdpd/out/trdpd"
-    rows = [
+def measured(program):
+    """The rows, each with its name."""
+    return [
         ("put", cost(program, 1, publishers(1, 1, LATE, LATE), puts, LINES)),
         ("telegram taken", cost(program, SLOTS, subscriptions(OBJECTS, SLOTS), lambda n: telegrams(TAKEN, n), LINES)),
         ("telegram sent", cost(program, 1, publishers(OBJECTS, 1, 1000, 1000), lambda n: moments(1000, n), 20, OBJECTS)),
         ("nothing due", cost(program, 1, publishers(OBJECTS, 1, LATE, LATE), lambda n: moments(0, n), LINES)),
+        ("request, reply", cost(program, SLOTS, listeners(OBJECTS, SLOTS), answered, LINES)),
     ]
-    for name, count in rows:
+
+
+def main(words):
+    program = words[0] if words else f"{TOP}/crates/trdpd/out/trdpd"
+    for name, count in measured(program):
         print(f"{name:16}{count:8.0f}")
 
 

@@ -67,38 +67,55 @@ def seconds(program, settings, lines):
         ran = subprocess.Popen([program, "run", settings], stdin=script, stdout=out)
         _, status, usage = os.wait4(ran.pid, 0)
         if status != 0:
-            sys.exit(f"trdpd ended with {status}")
+            sys.exit(f"{program} ended with {status}")
         return usage.ru_utime + usage.ru_stime
 
 
-def cost(program, settings, opening, lines, count, per):
-    """Nanoseconds for each of `per` acts of a line, of those behind the first half."""
-    opened = list(opening)
-    half = min(seconds(program, settings, opened + list(lines(count // 2))) for _ in range(RUNS))
-    whole = min(seconds(program, settings, opened + list(lines(count))) for _ in range(RUNS))
-    return (whole - half) / (count - count // 2) / per * 1e9
+def least(programs, settings, lines):
+    """The least processor time of each program over these lines; they run in turns."""
+    rounds = [[seconds(program, settings, lines) for program in programs] for _ in range(RUNS)]
+    return [min(times) for times in zip(*rounds)]
+
+
+class Row:
+    """So many equal lines behind those that open the objects, with the acts of each line."""
+
+    def __init__(self, name, opening, lines, count, acts=1):
+        self.name, self.opening, self.lines, self.count, self.acts = name, list(opening), lines, count, acts
+
+    def costs(self, programs, settings):
+        """Nanoseconds for each act of a line behind the first half, by each program."""
+        first = self.count // 2
+        half, whole = (least(programs, settings, self.opening + list(self.lines(it))) for it in (first, self.count))
+        return [(long - short) / (self.count - first) / self.acts * 1e9 for short, long in zip(half, whole)]
+
+
+def rows(objects, slots, count):
+    """The rows of so many objects in each of so many slots, of so many lines."""
+    all_of = objects * slots
+    yield Row("taken", subscriptions(objects, slots), lambda n: telegrams(TAKEN, n), count)
+    yield Row("nobody's", subscriptions(objects, slots), lambda n: telegrams(UNKNOWN, n), count)
+    yield Row("nothing due", publishers(objects, slots, LATE, LATE), lambda n: moments(0, n), count)
+    yield Row("one due", publishers(objects, slots, LATE, 1000), lambda n: moments(1000, n), count)
+    yield Row("each of all due", publishers(objects, slots, 1000, 1000), lambda n: moments(1000, n), max(count // all_of, 20), all_of)
+
+
+def measured(programs, count):
+    """For each number of objects and slots that, and the costs of its rows by their names."""
+    for objects, slots in COUNTS:
+        with tempfile.NamedTemporaryFile("w", suffix=".toml") as settings:
+            settings.write(config(slots))
+            settings.flush()
+            yield objects, slots, {it.name: it.costs(programs, settings.name) for it in rows(objects, slots, count)}
 
 
 def main():
     count = int(sys.argv[1]) if len(sys.argv) > 1 else 400_000
     program = sys.argv[2] if len(sys.argv) > 2 else f"{TOP}/crates/trdpd/out/trdpd"
-    print("objects a slot  slots   taken  unknown   idle  one due  each of all due")
-    for objects, slots in COUNTS:
-        with tempfile.NamedTemporaryFile("w", suffix=".toml") as settings:
-            settings.write(config(slots))
-            settings.flush()
-
-            def row(opening, lines, many=count, per=1):
-                return cost(program, settings.name, opening, lines, many, per)
-
-            all_of = objects * slots
-            taken = row(subscriptions(objects, slots), lambda n: telegrams(TAKEN, n))
-            unknown = row(subscriptions(objects, slots), lambda n: telegrams(UNKNOWN, n))
-            idle = row(publishers(objects, slots, LATE, LATE), lambda n: moments(0, n))
-            one = row(publishers(objects, slots, LATE, 1000), lambda n: moments(1000, n))
-            moments_of_all = max(count // all_of, 20)
-            each = row(publishers(objects, slots, 1000, 1000), lambda n: moments(1000, n), moments_of_all, all_of)
-        print(f"{objects:14}{slots:7}{taken:8.0f}{unknown:9.0f}{idle:7.0f}{one:9.0f}{each:17.0f}", flush=True)
+    print("objects a slot  slots   taken nobody's nothing due  one due  each of all due")
+    for objects, slots, costs in measured([program], count):
+        taken, unknown, idle, one, each = (it[0] for it in costs.values())
+        print(f"{objects:14}{slots:7}{taken:8.0f}{unknown:9.0f}{idle:12.0f}{one:9.0f}{each:17.0f}", flush=True)
 
 
 if __name__ == "__main__":
