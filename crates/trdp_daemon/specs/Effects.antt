@@ -110,8 +110,8 @@ abbrev pub event_records : NodeModel → EventModel → List RecordModel
 event_records node event =
     records_unless (refused_as (length node.slots) node.globals event) node event
 
--- a node, and the control place of each of the 16 slots that it has at most: where the latest
--- datagram came from that read as a line of the slot; none before the first
+-- a node, and the control place of each of the slots that it may have: where the latest datagram
+-- came from that read as a line of the slot; none before the first
 pub record ServiceState : Type 0 where
   pub node : NodeModel
   pub places : List (Option Place)

@@ -6,6 +6,7 @@ use Rattle.trdp_base.specs.Moments.{last_moment}
 use Rattle.trdp_dataset.specs.Configs.{ConfigModel}
 use Rattle.trdp_model.specs.Events.{EventModel, MomentIs}
 use Rattle.trdp_model.specs.NodeModels.{NodeModel, opened_model}
+use Rattle.trdp_model.specs.Slots.{slot_limit}
 use Rattle.trdp_daemon.specs.declared.port.Port.{Port}
 use Rattle.trdp_daemon.specs.declared.port.Port.TheVariants.{Pd, Md, Operator, Control}
 use Rattle.trdp_daemon.specs.Told.{Taking, Offer}
@@ -104,9 +105,9 @@ AllTakeAt ports service (turn ∷ turns) =
 abbrev pub TakesAtEach : List Port → Turn → Type 0
 TakesAtEach ports turn = map port_and_room turn.visits ≡ map with_room ports
 
--- none of the 16 slots that a node has at most has a control place
+-- none of the slots that a node may have has a control place
 abbrev pub no_places : List (Option Place)
-no_places = replicate 16 None
+no_places = replicate slot_limit None
 
 -- a node that was just opened, no slot of which has a control place
 abbrev pub opened_service : ConfigModel → ServiceState

@@ -25,7 +25,7 @@ use crate::wire::Wire;
 use std::alloc::{AllocError, Global};
 use trdp_base::Place;
 use trdp_dataset::NodeConfig;
-use trdp_engine::{Event, Node, NodeFault, Outbox, Protocol};
+use trdp_engine::{Event, Node, NodeFault, Outbox, Protocol, SLOTS_MAX};
 use trdp_script::{read_control, read_operator};
 
 /// A node, with the control places of its slots and the lists that are used again from event to
@@ -46,9 +46,6 @@ pub(crate) struct Service {
 
 /// Room for a record's line, in bytes: more than the longest of a node.
 const TEXT_ROOM: usize = 140_000;
-
-/// The number of slots that a node has at most (profile).
-const SLOTS_MAX: usize = 16;
 
 impl Service {
     /// The service of a configuration before its first event.

@@ -16,6 +16,7 @@ use Rattle.trdp_dataset.specs.declared.fault.ConfigFault.TheVariants.{TooBig, To
 use Rattle.trdp_dataset.specs.Elements.{form_of, nested_id}
 use Rattle.trdp_dataset.specs.Datasets.{DatasetModel, is_known, all_counted}
 use Rattle.trdp_dataset.specs.Depths.{is_within}
+use Rattle.trdp_dataset.specs.Limits.{value_limit}
 use Rattle.trdp_dataset.specs.ZeroSizes.{zero_size}
 use Rattle.trdp_dataset.specs.Keys.{wanted_by, is_required}
 use Rattle.trdp_dataset.specs.Values.{items_in, natural_in, natural_within}
@@ -146,7 +147,9 @@ too_deep_in datasets =
 
 unfoldable pub too_big_in : List DatasetModel → Option ConfigFault
 too_big_in datasets =
-    if list_all (λ d. nat_le (zero_size datasets d.id) 65388) datasets then None else Some TooBig
+    if list_all (λ d. nat_le (zero_size datasets d.id) value_limit) datasets
+    then None
+    else Some TooBig
 
 -- the first fault that there is
 abbrev pub first_fault : List (Option ConfigFault) → Option ConfigFault

@@ -1,3 +1,4 @@
+pub mod Limits
 pub mod Elements
 pub mod Datasets
 pub mod Depths

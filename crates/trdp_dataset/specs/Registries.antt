@@ -4,6 +4,7 @@ use Rattle.std.specs.Prelude.{List, Some, option_map, slice_get}
 use Rattle.trdp_dataset.specs.declared.element.Element.{Element}
 use Rattle.trdp_dataset.specs.Datasets.{DatasetModel, elements_of, is_known, all_pass, all_counted}
 use Rattle.trdp_dataset.specs.Depths.{is_within}
+use Rattle.trdp_dataset.specs.Limits.{value_limit}
 use Rattle.trdp_dataset.specs.ZeroSizes.{zero_size}
 
 -- identifiers are 31 and above and no two are one, there are at most 256 datasets, a dataset has 1
@@ -21,4 +22,4 @@ pub record IsRegistry (registry : List DatasetModel) : Type 0 where
   pub counted : (id : ℕ) (es : List Element) → elements_of registry id ≡ Some es
       → all_counted false es ≡ true
   pub deep : (id : ℕ) → is_known registry id ≡ true → is_within registry 5 id ≡ true
-  pub sized : (id : ℕ) → zero_size registry id ≤ 65388
+  pub sized : (id : ℕ) → zero_size registry id ≤ value_limit

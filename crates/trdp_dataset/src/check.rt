@@ -4,6 +4,7 @@ ghost use Rattle.std.specs.Prelude.{◌≡◌, false, not, nat_le, find, IfOk};
 ghost use Rattle.std.specs.List.{list_all};
 ghost use Rattle.trdp_dataset.specs.Stored.{zero_sizes_of};
 ghost use Rattle.trdp_dataset.specs.Datasets.{is_known, all_counted};
+ghost use Rattle.trdp_dataset.specs.Limits.{value_limit};
 ghost use Rattle.trdp_dataset.specs.Faults.{nested_ids, no_dataset_in, no_count_in};
 ghost use Rattle.trdp_dataset.specs.Faults.{too_big_in, fit_fault, RefusedAs};
 
@@ -13,6 +14,9 @@ use crate::element::Element;
 use crate::fault::ConfigFault;
 use crate::size::zero_sizes;
 use std::alloc::Global;
+
+/// The most bytes of a dataset's zero value: what a message carries (IEC 61375-2-3:2015, Annex A).
+const VALUE_MAX: u32 = 65_388;
 
 /// The first dataset that the elements are of and that isn't there.
 fn unknown_in(datasets: &Datasets, elements: &[Element]) -> Option<u32>
@@ -68,9 +72,9 @@ pub(crate) fn no_count(datasets: &Datasets) -> Option<ConfigFault>
 
 /// Whether each size is small enough.
 fn all_small(sizes: &[u32]) -> bool
-    ensures { result ≡ list_all (λ size. nat_le size 65388) sizes.now }
+    ensures { result ≡ list_all (λ size. nat_le size value_limit) sizes.now }
 {
-    sizes.iter().all(|size| *size <= 65388)
+    sizes.iter().all(|size| *size <= VALUE_MAX)
 }
 
 /// The zero sizes of datasets in order, if each is small enough.

@@ -41,6 +41,7 @@ impl Registry {
     ghost use Rattle.std.specs.Prelude.{◌≡◌, ◌==◌, ◌≤◌, length, option_map, option_and_then};
     ghost use Rattle.std.specs.Prelude.{is_some, slice_get, if◌then◌else◌, IfSome};
     ghost use Rattle.trdp_dataset.specs.Datasets.{elements_of, is_known};
+    ghost use Rattle.trdp_dataset.specs.Limits.{value_limit};
     ghost use Rattle.trdp_dataset.specs.ZeroSizes.{zero_size};
     ghost use Rattle.trdp_dataset.specs.Registries.{IsRegistry};
     ghost use Rattle.trdp_dataset.specs.Stored.{zero_sizes_of};
@@ -129,7 +130,7 @@ impl Registry {
     pub fn zero_size(&self, id: u32) -> Option<usize>
         ensures value { result
             ≡ (if is_known self.now id then Some (zero_size self.now id) else None) }
-        ensures bound { IfSome result (λ n. n ≤ 65388) }
+        ensures bound { IfSome result (λ n. n ≤ value_limit) }
     {
         match self.datasets.index_of(id) {
             Some(i) => Some(self.zero_sizes[i] as usize),
@@ -142,7 +143,7 @@ impl Registry {
     /// other dataset, and where no dataset has that identifier.
     pub fn fixed_size(&self, id: u32) -> Option<usize>
         ensures value { result ≡ fixed_size self.now id }
-        ensures bound { IfSome result (λ n. n ≤ 65388) }
+        ensures bound { IfSome result (λ n. n ≤ value_limit) }
     {
         match self.datasets.index_of(id) {
             Some(i) => {

@@ -4,6 +4,7 @@ use Rattle.std.specs.Prelude.{ℕ, min, List, [], ◌∷◌, Option, Some, None,
 use Rattle.std.specs.Prelude.{◌+◌, length, if◌then◌else◌}
 use Rattle.std.specs.List.{flat_map}
 use Rattle.trdp_base.specs.declared.session.SessionId.{SessionId}
+use Rattle.trdp_head.specs.Limits.{md_payload_limit}
 use Rattle.trdp_head.specs.declared.md.MdKind.{MdKind}
 use Rattle.trdp_head.specs.declared.md.MdKind.TheVariants as message
 use Rattle.trdp_head.specs.declared.pd.PdHead.{PdHead}
@@ -91,7 +92,7 @@ noted_listener s (Some handle) = record { slot = s; handle = handle } ∷ []
 -- room for what it may give
 abbrev pub listener_room : Option ℕ → Room
 listener_room None = record { rows = 0; bytes = 0 }
-listener_room (Some handle) = record { rows = 1; bytes = 65388 }
+listener_room (Some handle) = record { rows = 1; bytes = md_payload_limit }
 
 -- the session of a message of this type, and what an object that it is for is there; those that
 -- come unasked are for listeners

@@ -5,6 +5,7 @@ ghost use Rattle.std.specs.Prelude.{◌≡◌, ◌+◌, ◌*◌, ◌<◌, ◌≤
 ghost use Rattle.std.specs.Prelude.{vec_len, vec_capacity, Some, None, true, slice_index_or};
 ghost use Rattle.std.specs.Prelude.{ℕ, ◌^◌};
 ghost use Rattle.std.specs.List.{flat_map};
+ghost use Rattle.trdp_head.specs.Limits.{md_payload_limit};
 ghost use Rattle.trdp_filter.specs.Telegrams.{telegram_model};
 ghost use Rattle.trdp_table.specs.TableLaws.{object_limit};
 ghost use Rattle.trdp_table.specs.Tables.{room_of};
@@ -239,7 +240,7 @@ fn note_listener(heard: &Heard, s: u16, noted: &mut Vec<Addressee>) -> Room
         ≡ noted.old.items ++ noted_listener s (slice_index_or heard.now s None) }
     ensures room { result ≡ listener_room (slice_index_or heard.now s None) }
     ensures rows { result.rows ≤ 1 }
-    ensures bytes { result.bytes ≤ 65388 }
+    ensures bytes { result.bytes ≤ md_payload_limit }
     ensures capacity { vec_capacity noted.new ≡ vec_capacity noted.old }
     ensures length { vec_len noted.new ≤ vec_len noted.old + 1 }
 {

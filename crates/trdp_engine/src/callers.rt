@@ -3,6 +3,7 @@
 ghost use Rattle.std.specs.Prelude.{◌≡◌, ◌+◌, ◌<◌, ◌≤◌, ◌++◌, ◌∷◌, [], length, OnOk, OnErr, true};
 ghost use Rattle.std.specs.Prelude.{IfNone};
 ghost use Rattle.trdp_base.specs.Moments.{last_moment};
+ghost use Rattle.trdp_head.specs.Limits.{md_payload_limit};
 ghost use Rattle.trdp_filter.specs.Telegrams.{telegram_model, IsWithinLimit};
 ghost use Rattle.trdp_md.specs.Callers.{new_caller};
 ghost use Rattle.trdp_model.specs.declared.any_object.AnyObject.TheVariants.{Caller as Asking};
@@ -50,7 +51,7 @@ fn request_refusal(
     requires { s < length store.now }
     ensures value { result
         ≡ request_refusal (slot_at s store.now) globals.entry.now terms.now payload.now }
-    ensures within { IfNone result (length payload.now ≤ 65388) }
+    ensures within { IfNone result (length payload.now ≤ md_payload_limit) }
 {
     if !topo_valid(terms.topo, globals.topo) {
         return Some(Refusal::State);
@@ -192,11 +193,11 @@ pub fn confirm(
 pub fn push_replied(telegram: &Telegram<'_>, handle: u32, s: u16, out: &mut Outbox)
     requires limit { IsWithinLimit (telegram_model telegram.now) }
     requires row { 1 ≤ out.old.row_room }
-    requires bytes { 65388 ≤ out.old.byte_room }
+    requires bytes { md_payload_limit ≤ out.old.byte_room }
     ensures records { out.new.records
         ≡ out.old.records ++ labelled s (replied handle (telegram_model telegram.now)) }
     ensures row_room { out.old.row_room ≤ out.new.row_room + 1 }
-    ensures byte_room { out.old.byte_room ≤ out.new.byte_room + 65388 }
+    ensures byte_room { out.old.byte_room ≤ out.new.byte_room + md_payload_limit }
 {
     if let Telegram::Md { src, view, .. } = telegram {
         out.push_replied(s, handle, &Reply::of(*src, view));

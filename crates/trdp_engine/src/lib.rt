@@ -62,7 +62,7 @@ pub use node::Node;
 // alone.
 pub use trdp_model::{
     Answer, Call, Event, Indication, Message, NodeFault, PeekFault, Protocol, Record, Refusal,
-    Reply, ValueFault, What, error_telegrams_are_inert, malformed_datagrams_are_inert,
+    Reply, SLOTS_MAX, ValueFault, What, error_telegrams_are_inert, malformed_datagrams_are_inert,
     requests_are_for_listeners, same_view, view_drops_nothing,
 };
 pub use trdp_outbox::Outbox;

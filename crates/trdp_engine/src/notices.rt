@@ -1,6 +1,7 @@
 //! Notifications: how one is sent, and what is told of one that is heard.
 
 ghost use Rattle.std.specs.Prelude.{◌≡◌, ◌≤◌, ◌+◌, ◌++◌, ◌∷◌, [], length};
+ghost use Rattle.trdp_head.specs.Limits.{md_payload_limit};
 ghost use Rattle.trdp_filter.specs.Telegrams.{telegram_model, IsWithinLimit};
 ghost use Rattle.trdp_model.specs.Records.{labelled};
 ghost use Rattle.trdp_model.specs.Slots.{SlotState};
@@ -47,11 +48,11 @@ pub fn notify(terms: &NotifyTerms, payload: &[u8], globals: &Globals, s: u16, ou
 pub fn push_heard(telegram: &Telegram<'_>, handle: u32, s: u16, out: &mut Outbox)
     requires limit { IsWithinLimit (telegram_model telegram.now) }
     requires row { 1 ≤ out.old.row_room }
-    requires bytes { 65388 ≤ out.old.byte_room }
+    requires bytes { md_payload_limit ≤ out.old.byte_room }
     ensures records { out.new.records
         ≡ out.old.records ++ labelled s (heard handle (telegram_model telegram.now)) }
     ensures row_room { out.old.row_room ≤ out.new.row_room + 1 }
-    ensures byte_room { out.old.byte_room ≤ out.new.byte_room + 65388 }
+    ensures byte_room { out.old.byte_room ≤ out.new.byte_room + md_payload_limit }
 {
     if let Telegram::Md { src, view, .. } = telegram {
         if view.head.kind == MdKind::Notify {

@@ -2,6 +2,7 @@
 
 ghost use Rattle.std.specs.Prelude.{◌≡◌, ◌<◌, ◌≤◌, ◌+◌, ◌*◌, ◌^◌, ℕ, length, slice_set, Option};
 ghost use Rattle.std.specs.Prelude.{IfOk, IfErr, Some};
+ghost use Rattle.trdp_head.specs.Limits.{pd_payload_limit};
 ghost use Rattle.trdp_model.specs.Kinds.{kind_of};
 ghost use Rattle.trdp_table.specs.Tables.{room_of};
 ghost use Rattle.trdp_model.specs.declared.fault.Refusal.{Refusal};
@@ -72,7 +73,7 @@ pub fn value_size(config: &NodeConfig, dataset: u32) -> Result<usize, Refusal>
     ensures accepted { IfOk result (λ size. (later : Option Refusal)
         → dataset_refusal (setup_of config.now) dataset later ≡ later) }
     ensures size { IfOk result (λ size. size ≡ zero_size_of (setup_of config.now) dataset) }
-    ensures within { IfOk result (λ size. size ≤ 1432) }
+    ensures within { IfOk result (λ size. size ≤ pd_payload_limit) }
 {
     if dataset == 0 {
         return Ok(0);

@@ -2,6 +2,7 @@
 
 ghost use Rattle.std.specs.Prelude.{◌≡◌, ◌≤◌, ◌++◌, ◌∷◌, [], Some, length};
 ghost use Rattle.trdp_base.specs.Moments.{last_moment};
+ghost use Rattle.trdp_head.specs.Limits.{md_payload_limit};
 ghost use Rattle.trdp_head.specs.MdBytes.{md_bytes};
 ghost use Rattle.trdp_model.specs.Kinds.{kind_of};
 ghost use Rattle.trdp_model.specs.declared.record.Protocol.TheVariants.{Md};
@@ -78,7 +79,7 @@ fn error_refusal(replier: &Replier, status: i32) -> Option<Refusal>
 
 /// Records an answer of a replier that isn't refused.
 fn push_reply(replier: &Replier, head: &MdHead, payload: &[u8], s: u16, out: &mut Outbox)
-    requires payload { length payload.now ≤ 65388 }
+    requires payload { length payload.now ≤ md_payload_limit }
     requires room { HasRoom out.old (message_room (length payload.now)) }
     ensures { out.new.records
         ≡ out.old.records

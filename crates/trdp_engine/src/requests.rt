@@ -4,6 +4,7 @@ ghost use Rattle.std.specs.Prelude.{◌≡◌, ℕ, ◌≤◌, ◌<◌, ◌+◌,
 ghost use Rattle.std.specs.Prelude.{◌*◌, ◌^◌, true};
 ghost use Rattle.std.specs.List.{flat_map};
 ghost use Rattle.trdp_base.specs.Moments.{last_moment};
+ghost use Rattle.trdp_head.specs.Limits.{md_payload_limit};
 ghost use Rattle.trdp_filter.specs.Telegrams.{telegram_model, IsWithinLimit};
 ghost use Rattle.trdp_table.specs.Tables.{room_of};
 ghost use Rattle.trdp_model.specs.Slots.{SlotState};
@@ -37,12 +38,12 @@ fn ask(
     requires now { globals.now.now ≤ last_moment }
     requires limit { IsWithinLimit (telegram_model telegram.now) }
     requires row { 1 ≤ out.old.row_room }
-    requires bytes { 65388 ≤ out.old.byte_room }
+    requires bytes { md_payload_limit ≤ out.old.byte_room }
     ensures becomes { Becomes listener.slot
         (requested (slot_at listener.slot store.old) globals.entry.now
         (telegram_model telegram.now)) store.old store.new out.old out.new }
     ensures row_room { out.old.row_room ≤ out.new.row_room + 1 }
-    ensures byte_room { out.old.byte_room ≤ out.new.byte_room + 65388 }
+    ensures byte_room { out.old.byte_room ≤ out.new.byte_room + md_payload_limit }
     ensures room { room_of store.new ≡ room_of store.old }
     ensures comparisons { (b : ℕ) → room_of store.old < 2 ^ b
         → counts.new.comparisons ≤ counts.old.comparisons + (2 * b + 2) }

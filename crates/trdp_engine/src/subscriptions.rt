@@ -3,6 +3,7 @@
 ghost use Rattle.std.specs.Prelude.{◌≡◌, ◌<◌, ◌≤◌, ◌++◌, length, slice_set, OnErr, IfOk, IfErr};
 ghost use Rattle.std.specs.Prelude.{None, Some};
 ghost use Rattle.trdp_base.specs.Moments.{last_moment};
+ghost use Rattle.trdp_head.specs.Limits.{pd_payload_limit};
 ghost use Rattle.trdp_model.specs.declared.kind.Kind.TheVariants.{Subscription as Subscribing};
 ghost use Rattle.trdp_model.specs.Configs.{setup_of, zero_size_of};
 ghost use Rattle.trdp_model.specs.Events.{SubscribeCall};
@@ -44,7 +45,7 @@ fn subscribed_size(
         ≡ None) }
     ensures size { IfOk result
         (λ size. size ≡ zero_size_of (setup_of config.now) terms.now.dataset) }
-    ensures within { IfOk result (λ size. size ≤ 1432) }
+    ensures within { IfOk result (λ size. size ≤ pd_payload_limit) }
 {
     if !is_span(terms.supervision) {
         return Err(Refusal::Timeout);

@@ -2,6 +2,7 @@
 use Rattle.std.specs.Prelude.{◌≡◌, ◌==◌, ◌&&◌, not, Bool, ℕ, List, Option, Some, None}
 use Rattle.std.specs.Prelude.{Result, Ok, Err, is_some, if◌then◌else◌, nat_lt, length}
 use Rattle.trdp_dataset.specs.Datasets.{DatasetModel, is_known}
+use Rattle.trdp_dataset.specs.Limits.{value_limit}
 use Rattle.trdp_marshal.specs.declared.fault.MarshalFault.{MarshalFault}
 use Rattle.trdp_marshal.specs.declared.fault.MarshalFault.TheVariants.{NoDataset, Shape}
 use Rattle.trdp_marshal.specs.declared.fault.MarshalFault.TheVariants.{TooLong, OutOfMemory}
@@ -21,10 +22,10 @@ decode_fault registry id bytes =
     then (if is_some (reading registry id bytes) then None else Some Shape)
     else Some NoDataset
 
--- why bytes are not sent: there are none, or more than 65388
+-- why bytes are not sent: there are none, or more than a message carries
 abbrev pub length_fault : Option (List ℕ) → Option MarshalFault
 length_fault None = Some Shape
-length_fault (Some bytes) = if nat_lt 65388 (length bytes) then Some TooLong else None
+length_fault (Some bytes) = if nat_lt value_limit (length bytes) then Some TooLong else None
 
 -- why an item is not sent: the dataset has no items, or the item has no bytes or too many
 unfoldable pub encode_fault : List DatasetModel → ℕ → ItemModel → Option MarshalFault

@@ -7,6 +7,7 @@ use Rattle.trdp_dataset.specs.declared.element.Form.TheVariants.{Time48, Time64,
 use Rattle.trdp_dataset.specs.declared.element.Element.{Element}
 use Rattle.trdp_dataset.specs.Elements.{width_len, form_of}
 use Rattle.trdp_dataset.specs.Datasets.{DatasetModel, elements_of}
+use Rattle.trdp_dataset.specs.Limits.{value_limit}
 use Rattle.trdp_marshal.specs.Items.{ItemModel, ItemModels, unsigned, signed, time48}
 use Rattle.trdp_marshal.specs.Items.{time64, list, none, more, told_count, array_length}
 use Rattle.trdp_marshal.specs.Numbers.{IsNumber, signed_number}
@@ -106,4 +107,4 @@ HasBytes registry id item = (bytes : List ℕ) × Spells registry id item bytes
 -- the item has more bytes than one message carries
 abbrev pub IsTooLong : List DatasetModel → ℕ → ItemModel → Type 0
 IsTooLong registry id item =
-    (bytes : List ℕ) × Spells registry id item bytes × (65388 < length bytes)
+    (bytes : List ℕ) × Spells registry id item bytes × (value_limit < length bytes)

@@ -6,6 +6,9 @@ use trdp_filter::MdFilter;
 use trdp_md::{CallerTerms, NotifyTerms};
 use trdp_pd::{PublisherTerms, RequesterTerms, SubscriptionTerms};
 
+/// The most slots of a node (profile).
+pub const SLOTS_MAX: usize = 16;
+
 /// A call of the application in a slot.
 #[derive(Clone, Copy, Debug)]
 pub enum Call<'a> {
@@ -222,6 +225,6 @@ pub enum Event<'a> {
     /// quotas, and is told so. No other slot is told anything.
     ///
     /// # Errors
-    /// `SlotsFull` where there are 16 slots.
+    /// `SlotsFull` where there are [`SLOTS_MAX`] slots.
     AddSlot(Quotas),
 }

@@ -27,7 +27,7 @@ mod look;
 mod record;
 
 pub use any_object::AnyObject;
-pub use event::{Call, Event};
+pub use event::{Call, Event, SLOTS_MAX};
 pub use fault::{NodeFault, Refusal, is_out_of_memory};
 pub use kind::Kind;
 pub use laws::{

@@ -2,6 +2,8 @@
 use Rattle.std.specs.Prelude.{◌≡◌, ℕ, ◌<◌, ◌≤◌, ◌⊎◌, List, length, filter, nat_lt, Option, Some}
 use Rattle.std.specs.Prelude.{None, Bool, true, false, if◌then◌else◌}
 use Rattle.std.specs.List.{flat_map, sum_by}
+use Rattle.trdp_head.specs.Limits.{pd_payload_limit, pd_telegram_limit, md_payload_limit}
+use Rattle.trdp_head.specs.Limits.{md_telegram_limit}
 use Rattle.trdp_head.specs.MdBytes.{md_length_of}
 use Rattle.trdp_filter.specs.declared.globals.Globals.{Globals}
 use Rattle.trdp_filter.specs.Telegrams.{TelegramModel}
@@ -34,15 +36,15 @@ pub record HasRoom (out : OutboxState) (room : Room) : Type 0 where
 abbrev pub no_room : Room
 no_room = record { rows = 0; bytes = 0 }
 
--- the most that an object of a kind gives at a moment or a telegram: a publisher one telegram of
--- at most 1472 bytes, a subscription or replier one indication, a listener one with at most 65388
--- bytes, a caller one like that and that it is over, or its request of at most 65504 bytes again
+-- the most that an object of a kind gives at a moment or a telegram: a publisher the longest
+-- telegram, a subscription or replier one indication, a listener one with the longest payload, a
+-- caller one like that and that it is over, or the longest request again
 abbrev pub kind_room : Kind → Room
-kind_room Publisher = record { rows = 1; bytes = 1472 }
+kind_room Publisher = record { rows = 1; bytes = pd_telegram_limit }
 kind_room Subscription = record { rows = 1; bytes = 0 }
 kind_room Requester = no_room
-kind_room Listener = record { rows = 1; bytes = 65388 }
-kind_room Caller = record { rows = 2; bytes = 65504 }
+kind_room Listener = record { rows = 1; bytes = md_payload_limit }
+kind_room Caller = record { rows = 2; bytes = md_telegram_limit }
 kind_room Replier = record { rows = 1; bytes = 0 }
 
 -- an object of whichever kind gives no more records than this
@@ -51,7 +53,7 @@ room_rows_limit = 2
 
 -- and no more bytes
 abbrev pub room_bytes_limit : ℕ
-room_bytes_limit = 65504
+room_bytes_limit = md_telegram_limit
 
 -- room for what all these objects may give
 abbrev pub entries_room : List Entry → Room
@@ -72,14 +74,17 @@ datagram_room globals slots (Some telegram) =
     then entries_room (flat_map (λ slot. acting telegram globals slot.objects) slots)
     else no_room
 
--- room for the records of a call at an object: a pull has two, and a value is at most 1432 bytes
--- long
+-- room for the records of a call at an object: a pull has two, and a value is at most as long as a
+-- payload
 abbrev pub answer_room : Room
-answer_room = record { rows = 2; bytes = 1432 }
+answer_room = record { rows = 2; bytes = pd_payload_limit }
 
 -- room for the records of a call that sends a message of so many bytes: the answer and its telegram
 abbrev pub message_room : ℕ → Room
-message_room n = record { rows = 2; bytes = if nat_lt 65388 n then 0 else md_length_of n }
+message_room n = record {
+  rows = 2;
+  bytes = if nat_lt md_payload_limit n then 0 else md_length_of n;
+}
 
 -- room for the records of a confirmation: the answer, its telegram without payload, and that the
 -- caller is over

@@ -3,6 +3,7 @@
 ghost use Rattle.std.specs.Prelude.{◌≡◌, ℕ, ◌+◌, ◌<◌, ◌≤◌, ◌↔◌, ◌++◌, ◌∷◌, length, []};
 ghost use Rattle.std.specs.Prelude.{OnOk, OnErr, IsTrue, ◌⊎◌, slice_get, option_map};
 ghost use Rattle.std.specs.Prelude.{option_copied, take, drop, vec_len, vec_capacity};
+ghost use Rattle.trdp_head.specs.Limits.{pd_payload_limit, md_payload_limit};
 ghost use Rattle.trdp_head.specs.PdBytes.{pd_bytes, pd_length_of};
 ghost use Rattle.trdp_head.specs.MdBytes.{md_bytes, md_length_of};
 ghost use Rattle.trdp_model.specs.declared.record.Protocol.TheVariants.{Pd, Md};
@@ -252,7 +253,7 @@ impl Outbox {
     /// Adds a process data telegram, which it writes into its own bytes.
     pub fn push_pd(&mut self, slot: u16, to: Place, head: &PdHead, payload: &[u8])
         requires row { 0 < self.old.row_room }
-        requires payload { length payload.now ≤ 1432 }
+        requires payload { length payload.now ≤ pd_payload_limit }
         requires bytes { pd_length_of (length payload.now) ≤ self.old.byte_room }
         ensures records { self.new.records
             ≡ self.old.records
@@ -270,7 +271,7 @@ impl Outbox {
     /// Adds a message data telegram, which it writes into its own bytes.
     pub fn push_md(&mut self, slot: u16, to: Place, head: &MdHead, payload: &[u8])
         requires row { 0 < self.old.row_room }
-        requires payload { length payload.now ≤ 65388 }
+        requires payload { length payload.now ≤ md_payload_limit }
         requires bytes { md_length_of (length payload.now) ≤ self.old.byte_room }
         ensures records { self.new.records
             ≡ self.old.records

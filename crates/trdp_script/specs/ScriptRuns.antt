@@ -21,8 +21,8 @@ pub record PlaysLines (config : ConfigModel) (input : List ℕ) (count : ℕ)
   pub written : Appends old new
       (events_text (opened_model config) (events_of (take count (lines input))))
 
--- a front of the input was read, behind which the reader gave no more or wasn't asked, and the lines
--- that had their end in it were played
+-- a front of the input was read, behind which the reader gave no more or wasn't asked, and the
+-- lines that had their end in it were played
 pub record StopsReading (config : ConfigModel) (input : List ℕ) (left old new : Option (List ℕ))
     : Type 0 where
   pub read : List ℕ

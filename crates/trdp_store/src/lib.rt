@@ -37,4 +37,4 @@ pub use deed::{Deed, Left};
 pub use objects::object_of;
 pub use sessions::has_session;
 pub use sought::Sought;
-pub use store::{SLOTS_MAX, Store, count_act};
+pub use store::{Store, count_act};

@@ -47,8 +47,6 @@ use trdp_table::{Table, TableFault};
 mod added;
 mod reads;
 
-pub use added::SLOTS_MAX;
-
 /// The objects of all slots of a node, as its table has them, an index of those that telegrams of
 /// a comId may be for, one of those that are in a session, and when each is due.
 #[derive(Drop)]

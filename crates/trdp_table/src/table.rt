@@ -24,10 +24,7 @@ use crate::slot::{Slot, room_of};
 use std::alloc::{AllocError, Global};
 use std::marker::Model;
 use trdp_base::Quotas;
-use trdp_model::{AnyObject, Kind};
-
-/// The most slots of a table (profile).
-const SLOTS_MAX: usize = 16;
+use trdp_model::{AnyObject, Kind, SLOTS_MAX};
 
 /// The objects of all slots of a node, at most 16, each object under a handle of its slot and a key
 /// of the table.

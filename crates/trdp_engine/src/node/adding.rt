@@ -9,9 +9,9 @@ ghost use Rattle.trdp_model.specs.Slots.{empty_slot};
 
 use crate::node::Node;
 use trdp_base::Quotas;
-use trdp_model::NodeFault;
+use trdp_model::{NodeFault, SLOTS_MAX};
 use trdp_outbox::{Outbox, PlainAnswer};
-use trdp_store::{Counts, SLOTS_MAX};
+use trdp_store::Counts;
 
 impl Node {
     /// Opens the next slot, empty, with these quotas, and tells it so: room for its objects and

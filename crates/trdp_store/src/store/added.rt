@@ -10,9 +10,6 @@ use trdp_base::Quotas;
 use trdp_outbox::Outbox;
 use trdp_table::{Table, room_of};
 
-/// The most slots of a node (profile).
-pub const SLOTS_MAX: usize = 16;
-
 /// Opens one more slot of a table that has fewer than 16, and answers its number.
 fn add_slot(table: &mut Table, quotas: Quotas) -> Result<u16, AllocError>
     ensures slot { IfOk result (λ slot. slot ≡ length table.old) }

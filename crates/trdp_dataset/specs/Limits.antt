@@ -1,0 +1,7 @@
+-- How many bytes values of datasets may have.
+use Rattle.std.specs.Prelude.{ℕ}
+
+-- the most bytes of a dataset's zero value, and of a value that is sent: what a message carries
+-- (IEC 61375-2-3:2015, Annex A)
+abbrev pub value_limit : ℕ
+value_limit = 65388
