@@ -1,4 +1,6 @@
--- Facts on the written forms of addresses and places.
+-- Written addresses and places are read as what they were written from.
+-- For `read_ip`, `read_place` and `read_negative`.
+-- By: std reads an address of its written form alone, and no digit or dot of it is a colon.
 use Rattle.std.proofs.Common.{◌≡◌, ◌≢◌, ℕ, ◌+◌, ◌*◌, ◌/◌, ◌%◌, ◌^◌, ◌<◌}
 use Rattle.std.proofs.Common.{List, [], ◌∷◌, ◌++◌, get_or, drop, Result, Ok}
 use Rattle.std.proofs.Common.{Err, refl, sym, ap, ◌∙◌, arith, append_assoc}

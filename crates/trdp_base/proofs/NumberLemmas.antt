@@ -1,4 +1,6 @@
--- Facts on the written form of numbers.
+-- A text of digits with no needless zero is the written form of one number.
+-- For `number_of`, `push_number`, and the numbers of addresses and places.
+-- By: one digit more makes the number ten times as much and adds the digit, read or written.
 use Rattle.std.proofs.Common.{◌≡◌, ℕ, ◌+◌, ◌-◌, ◌*◌, ◌/◌, ◌%◌, ◌^◌, ◌<◌, ◌≤◌, List, [], ◌∷◌}
 use Rattle.std.proofs.Common.{◌++◌, length, length-append, take, get_or, sym}
 use Rattle.std.proofs.Common.{ap, ◌∙◌, subst, inl, inr, arith}

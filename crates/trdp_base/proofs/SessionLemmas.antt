@@ -1,4 +1,6 @@
--- Facts on the written forms of session identifiers.
+-- A written session identifier is read back, and has 36 bytes.
+-- For `read_session` and `put_text`.
+-- By: what is read are sixteen bytes, whose number is the identifier.
 use Rattle.std.proofs.Common.{◌≡◌, ℕ, ◌<◌, ◌^◌, List, length, Option}
 use Rattle.std.proofs.Common.{Some, None, refl, sym, ap, ◌∙◌}
 use Rattle.std.specs.Prelude.{option_map}

@@ -1,4 +1,6 @@
--- Facts on URIs and their fields.
+-- A URI is what stands before the first zero byte of its field.
+-- For `Uri::new`, `from_field`, `bytes` and `front`, and for `read_uri`.
+-- By induction on the bytes: none of a URI's is zero, and only zeros fill up its field.
 use Rattle.std.proofs.Common.{◌≡◌, ◌≢◌, ℕ, zero, suc, ◌-◌, ◌<◌, ◌≤◌, List, []}
 use Rattle.std.proofs.Common.{◌∷◌, ◌++◌, length, get_or, take, drop, refl, sym}
 use Rattle.std.proofs.Common.{ap, ◌∙◌, subst, Option, Some, None, inl, inr, arith}

@@ -11,9 +11,9 @@ use Rattle.trdp_dataset.specs.Faults.{least_fault, first_fault, twice_id_in}
 use Rattle.trdp_dataset.specs.Faults.{no_dataset_in, no_count_in, too_deep_in}
 use Rattle.trdp_dataset.specs.Faults.{too_big_in, dataset_fault, fit_fault, fault_in}
 use Rattle.trdp_dataset.proofs.FaultLemmas.{fault_comes, fault_moves, first_here, first_later}
-use Rattle.trdp_dataset.proofs.Least.{least_alone}
-use Rattle.trdp_dataset.proofs.Singles.{IsOfPosition, IsLate, least_single, dataset_own}
-use Rattle.trdp_dataset.proofs.Singles.{early, early_first, before_first, late_last}
+use Rattle.trdp_dataset.proofs.LeastLemmas.{least_alone}
+use Rattle.trdp_dataset.proofs.SingleFaultLemmas.{IsOfPosition, IsLate, least_single, dataset_own}
+use Rattle.trdp_dataset.proofs.SingleFaultLemmas.{early, early_first, before_first, late_last}
 
 alone : (o : Option ConfigFault) → first_fault (o ∷ []) ≡ o
 alone None = refl

@@ -1,5 +1,5 @@
 -- One turn of a loop over datasets.
--- For `no_count` and `no_dataset`, and for `Sound`.
+-- For `no_count` and `no_dataset`, and for `SoundLemmas`.
 -- By: the dataset at an index stands before those that come after it.
 use Rattle.std.proofs.Common.{◌≡◌, ◌&&◌, ℕ, ◌+◌, Bool, true, false, cond, List, [], ◌∷◌}
 use Rattle.std.proofs.Common.{◌++◌, drop, Option, Some, None, option_map, refl, sym, ap, ◌∙◌}

@@ -1,6 +1,6 @@
 -- What is read from a file is what the file means.
 -- For `NodeConfig::from_toml` and `Registry::from_toml`.
--- By: a file that is a table has no such fault as to be none (`Singles`).
+-- By: a file that is a table has no such fault as to be none (`SingleFaultLemmas`).
 use Rattle.std.proofs.Common.{◌≡◌, List, map, Some, Result, Ok, Err, IfOk, sym, ap, ◌∙◌}
 use Rattle.std.specs.Str.{IsUtf8}
 use Rattle.std.proofs.Common.{ℕ}
@@ -11,7 +11,7 @@ use Rattle.trdp_dataset.specs.declared.fault.ConfigFault.TheVariants.{Toml, OutO
 use Rattle.trdp_dataset.specs.Datasets.{DatasetModel}
 use Rattle.trdp_dataset.specs.Positions.{PositionModel}
 use Rattle.trdp_dataset.specs.Faults.{fault_at, least_fault, dataset_fault, fault_in, RefusedAs}
-use Rattle.trdp_dataset.proofs.Singles.{least_single, dataset_own, never_toml_of}
+use Rattle.trdp_dataset.proofs.SingleFaultLemmas.{least_single, dataset_own, never_toml_of}
 use Rattle.trdp_dataset.specs.Configs.{ReadsToml, unless}
 
 -- a file that is a table isn't none

@@ -1,6 +1,6 @@
-pub mod Division
-pub mod FrameCheck
-pub mod Pieces
-pub mod LookUp
-pub mod Zeros
-pub mod Damage
+pub mod DivisionLemmas
+pub mod FrameCheckLemmas
+pub mod PieceLemmas
+pub mod LookUpLemmas
+pub mod ZeroLemmas
+pub mod DamageLemmas

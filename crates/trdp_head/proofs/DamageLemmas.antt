@@ -14,7 +14,7 @@ use Rattle.std.proofs.Math.Seq.{take-append-add, drop-append-add}
 use Rattle.trdp_base.specs.Numbers.{be, le}
 use Rattle.trdp_fcs.specs.FrameCheck.{frame_check_of}
 use Rattle.trdp_fcs.specs.Damage.{DifferInOneByte}
-use Rattle.trdp_fcs.proofs.Damage.{one_byte_changes_check}
+use Rattle.trdp_fcs.proofs.DamageLemmas.{one_byte_changes_check}
 use Rattle.std.specs.Prelude.{is_some, not}
 use Rattle.trdp_head.specs.declared.fault.HeadFault.TheVariants.{Short, TooLong, Fcs}
 use Rattle.std.specs.Option.{option_or}

@@ -1,6 +1,6 @@
-pub mod FieldBytes
-pub mod FieldNumbers
-pub mod PartWrites
+pub mod FieldByteLemmas
+pub mod FieldNumberLemmas
+pub mod PartWriteLemmas
 pub mod TelegramBytesLemmas
 pub mod TelegramLemmas
 pub mod PdBytesLemmas

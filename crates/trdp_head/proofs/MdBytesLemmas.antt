@@ -14,7 +14,7 @@ use Rattle.trdp_head.specs.Fields.{field, be_bytes}
 use Rattle.trdp_head.specs.MdHeads.{IsMdHead, md_prefix}
 use Rattle.trdp_head.specs.IsMdTelegram.{IsMdTelegram}
 use Rattle.trdp_head.specs.MdBytes.{md_head_bytes, md_bytes}
-use Rattle.trdp_head.proofs.FieldBytes.{be-be_bytes}
+use Rattle.trdp_head.proofs.FieldByteLemmas.{be-be_bytes}
 use Rattle.trdp_head.proofs.TelegramBytesLemmas.{part-telegram, field-telegram}
 use Rattle.trdp_head.proofs.TelegramBytesLemmas.{IsTelegram-telegram_bytes}
 

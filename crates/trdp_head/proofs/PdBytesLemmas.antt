@@ -7,7 +7,7 @@ use Rattle.trdp_head.specs.Fields.{field, be_bytes}
 use Rattle.trdp_head.specs.PdHeads.{IsPdHead, pd_prefix}
 use Rattle.trdp_head.specs.IsPdTelegram.{IsPdTelegram}
 use Rattle.trdp_head.specs.PdBytes.{pd_head_bytes, pd_bytes}
-use Rattle.trdp_head.proofs.FieldBytes.{be-be_bytes}
+use Rattle.trdp_head.proofs.FieldByteLemmas.{be-be_bytes}
 use Rattle.trdp_head.proofs.TelegramBytesLemmas.{field-telegram, IsTelegram-telegram_bytes}
 
 length-head : (head : PdHead) (n : ℕ) → length (pd_head_bytes head n) ≡ 36

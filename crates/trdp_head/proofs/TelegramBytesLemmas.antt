@@ -8,14 +8,14 @@ use Rattle.std.proofs.lemmas.List.{length-replicate, take_at, drop_at}
 use Rattle.std.proofs.lemmas.List.{take-append-le, drop-append-le, length-drop}
 use Rattle.trdp_base.specs.Numbers.{be, le}
 use Rattle.trdp_fcs.specs.FrameCheck.{frame_check_of}
-use Rattle.trdp_fcs.proofs.FrameCheck.{frame_check_of-lt}
+use Rattle.trdp_fcs.proofs.FrameCheckLemmas.{frame_check_of-lt}
 use Rattle.trdp_head.specs.declared.prefix.Prefix.{Prefix}
 use Rattle.trdp_head.specs.Fields.{field, little_field, be_bytes, le_bytes}
 use Rattle.trdp_head.specs.Checks.{is_checked, with_check}
 use Rattle.trdp_head.specs.Prefixes.{prefix_bytes, IsPrefix}
 use Rattle.trdp_head.specs.IsTelegram.{IsTelegram}
 use Rattle.trdp_head.specs.TelegramBytes.{rounded_of, padding_of, telegram_bytes}
-use Rattle.trdp_head.proofs.FieldBytes.{be-be_bytes, le-le_bytes}
+use Rattle.trdp_head.proofs.FieldByteLemmas.{be-be_bytes, le-le_bytes}
 
 check_of : List ℕ → List ℕ
 check_of header = le_bytes 4 (frame_check_of header)

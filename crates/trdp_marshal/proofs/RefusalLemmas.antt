@@ -18,7 +18,7 @@ use Rattle.trdp_marshal.specs.Reading.{reading}
 use Rattle.trdp_marshal.specs.Spelling.{spelling}
 use Rattle.trdp_marshal.specs.Faults.{has_items, length_fault, FailsAs}
 use Rattle.trdp_marshal.specs.Faults.{IsMarshalFault, decode_fault, encode_fault}
-use Rattle.trdp_marshal.proofs.Spellings.{spelled, spells, reading_if_spelled}
+use Rattle.trdp_marshal.proofs.SpellingLemmas.{spelled, spells, reading_if_spelled}
 
 fault_expected : (fault : MarshalFault) (expected : Option MarshalFault)
     → (fault ≡ OutOfMemory → ⊥) → IsMarshalFault fault expected

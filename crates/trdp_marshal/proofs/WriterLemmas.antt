@@ -19,7 +19,7 @@ use Rattle.trdp_marshal.specs.Spelling.{Speller, joined, repeated_spelling}
 use Rattle.trdp_marshal.specs.Spelling.{dataset_spelling, spelling}
 use Rattle.trdp_marshal.specs.Lengths.{measured, AppendsSpelling}
 use Rattle.trdp_marshal.specs.Faults.{has_items, FailsAs, length_fault, encode_fault}
-use Rattle.trdp_marshal.proofs.Codecs.{joined_some}
+use Rattle.trdp_marshal.proofs.CodecLemmas.{joined_some}
 
 -- what is still to be written once part of a whole spelling stands behind the start
 abbrev pub Continues : Option (List ℕ) → List ℕ → Option (List ℕ) → List ℕ → Type 0

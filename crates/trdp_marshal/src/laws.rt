@@ -7,47 +7,47 @@ ghost use Rattle.trdp_marshal.specs.Laws.{SpelledIsRead, ReadIsSpelled, FittingI
 ghost use Rattle.trdp_marshal.specs.Laws.{FixedIsLength, ZeroIsSpelled};
 
 /// One item of a dataset is spelled by at most one list of bytes.
-#[tactic(auto, using(crate::proofs::Spellings::one_spelling))]
+#[tactic(auto, using(crate::proofs::SpellingLemmas::one_spelling))]
 pub fn one_spelling()
     ensures { OneSpelling }
 {}
 
 /// One list of bytes is spelled by at most one item of a dataset.
-#[tactic(auto, using(crate::proofs::Spellings::one_item))]
+#[tactic(auto, using(crate::proofs::SpellingLemmas::one_item))]
 pub fn one_item()
     ensures { OneItem }
 {}
 
 /// What `encode` computes is what an item is spelled by.
-#[tactic(auto, using(crate::proofs::Spellings::spelled, crate::proofs::Spellings::spells))]
+#[tactic(auto, using(crate::proofs::SpellingLemmas::spelled, crate::proofs::SpellingLemmas::spells))]
 pub fn spelling_is_spelled()
     ensures computed { SpelledIsComputed }
     ensures spelled { ComputedIsSpelled }
 {}
 
 /// What `decode` computes is the item that spells the bytes.
-#[tactic(auto, using(crate::proofs::Spellings::spelled_reads, crate::proofs::Spellings::read_spells))]
+#[tactic(auto, using(crate::proofs::SpellingLemmas::spelled_reads, crate::proofs::SpellingLemmas::read_spells))]
 pub fn reading_is_spelled()
     ensures computed { SpelledIsRead }
     ensures spelled { ReadIsSpelled }
 {}
 
 /// What `fits` computes is whether the bytes are a payload of the dataset.
-#[tactic(auto, using(crate::proofs::Spellings::fitting))]
+#[tactic(auto, using(crate::proofs::SpellingLemmas::fitting))]
 pub fn fitting_is_fit()
     ensures { FittingIsFit }
 {}
 
 /// Where a registry says how many bytes each value of a dataset takes, its values are spelled by
 /// the lists of so many bytes, and by no others.
-#[tactic(auto, using(crate::proofs::Fixed::fixed_is_length))]
+#[tactic(auto, using(crate::proofs::FixedLemmas::fixed_is_length))]
 pub fn fixed_size_is_length()
     ensures { FixedIsLength }
 {}
 
 /// The zero value of a dataset, whose numbers are all 0 and whose counted arrays are empty, is
 /// spelled by so many zero bytes.
-#[tactic(auto, using(crate::proofs::Zeros::zero_spelled))]
+#[tactic(auto, using(crate::proofs::ZeroLemmas::zero_spelled))]
 pub fn zero_is_spelled()
     ensures { ZeroIsSpelled }
 {}

@@ -13,7 +13,7 @@ pub(crate) const DEPTH: u8 = 5;
 
 /// The big-endian number in the first `len` bytes, and the bytes after them; None where there
 /// are fewer.
-#[tactic(auto, unfolding(crate::specs::Reading::number_at), using(crate::proofs::Numbers::number_fits))]
+#[tactic(auto, unfolding(crate::specs::Reading::number_at), using(crate::proofs::NumberLemmas::number_fits))]
 pub(crate) fn number(len: usize, bytes: &[u8]) -> Option<(u64, &[u8])>
     requires low { 1 ≤ len }
     requires high { len ≤ 8 }

@@ -1,6 +1,6 @@
 -- What keeps an object fit: the value of a subscription is one of its dataset at first, at a
 -- time-out, and as it is taken, and a caller is sound.
--- For `FitActs` and `FitEvents`, and for a node's step to a moment.
+-- For `FitActLemmas` and `FitEventLemmas`, and for a node's step to a moment.
 -- By cases on the kind of the object: the values of all but a subscription's count for nothing.
 use Rattle.std.proofs.Common.{◌≡◌, ℕ, List, length}
 use Rattle.std.proofs.Common.{Some, Option, Bool, true, false, refl}
@@ -10,8 +10,8 @@ use Rattle.trdp_dataset.specs.Registries.{IsRegistry}
 use Rattle.trdp_dataset.specs.ZeroSizes.{zero_size as registry_zero_size}
 use Rattle.trdp_marshal.specs.Reading.{reading}
 use Rattle.trdp_marshal.specs.Zero.{zero_of}
-use Rattle.trdp_marshal.proofs.Spellings.{spelled_reads}
-use Rattle.trdp_marshal.proofs.Zeros.{zero_spelled}
+use Rattle.trdp_marshal.proofs.SpellingLemmas.{spelled_reads}
+use Rattle.trdp_marshal.proofs.ZeroLemmas.{zero_spelled}
 use Rattle.trdp_base.specs.declared.place.Place.{Place}
 use Rattle.trdp_head.specs.PdTelegrams.{PdTelegram}
 use Rattle.trdp_filter.specs.declared.globals.Globals.{Globals}
@@ -40,7 +40,7 @@ use Rattle.trdp_model.specs.Slots.{Entry, SlotState}
 use Rattle.trdp_model.specs.Datagrams.{fits_object, is_acting, left_taking, after_telegram}
 use Rattle.trdp_model.specs.Moments.{is_due, left_firing, after_moment}
 use Rattle.trdp_model.specs.Fitting.{ShowsFitting, IsFit, AllFit, EachFits, EachSound}
-use Rattle.trdp_model.proofs.AllObjects.{IsLeft, AllObjects-left, AllObjects-so}
+use Rattle.trdp_model.proofs.AllObjectLemmas.{IsLeft, AllObjects-left, AllObjects-so}
 
 -- the zero value of a dataset is a value of it
 read_zero : (setup : NodeSetup) (dataset : ℕ)

@@ -1,5 +1,5 @@
 -- A step of a node: what each slot sees of it, and what it adds to the outbox.
--- For the steps and the run of a node in the crate above, and for `AddedSlots`.
+-- For the steps and the run of a node in the crate above, and for `AddedSlotLemmas`.
 -- By: a step that has its effect on each open slot, and none elsewhere, is as each slot sees it.
 use Rattle.std.proofs.Common.{zero, suc, ◌≡◌, ℕ, ◌+◌, take, ◌≤◌, List}
 use Rattle.std.proofs.Common.{[], ◌∷◌, ◌++◌, length, map, refl, ◌∙◌, ap, sym}

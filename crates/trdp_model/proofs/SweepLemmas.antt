@@ -1,5 +1,5 @@
 -- A change of each slot of a node, and a change of one slot after the other.
--- For the acts of a node on its slots in the crate above, and for `AddedSlots`.
+-- For the acts of a node on its slots in the crate above, and for `AddedSlotLemmas`.
 -- By induction on the slots: the records of one slot are told apart by its number.
 use Rattle.std.proofs.Common.{zero, suc, ◌≡◌, ℕ, ◌+◌, ◌<◌, List, [], ◌∷◌}
 use Rattle.std.proofs.Common.{◌++◌, map, refl, ◌∙◌, ap, sym, arith}

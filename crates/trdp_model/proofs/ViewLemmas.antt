@@ -17,7 +17,7 @@ use Rattle.trdp_model.specs.Slots.{slot_limit}
 use Rattle.trdp_model.specs.Slots.{SlotState, unchanged}
 use Rattle.trdp_model.specs.Calls.{called}
 use Rattle.trdp_model.specs.Datagrams.{telegram_of, received_if, concerns}
-use Rattle.trdp_model.proofs.UnconcernedSlots.{unconcerned}
+use Rattle.trdp_model.proofs.UnconcernedSlotLemmas.{unconcerned}
 use Rattle.trdp_model.specs.Alone.{refused_as, globals_after, is_in_view, plain_effect}
 use Rattle.trdp_model.specs.Alone.{Run, prepend, alone_in_view, slot_after, records_after}
 use Rattle.trdp_model.specs.Alone.{is_seen, standing_after, none_there, opened_by, slots_then}

@@ -1,5 +1,5 @@
 -- What a run computes with.
--- For `the_promises_are_not_empty`, by ExampleRun.
+-- For `the_promises_are_not_empty`, by `ExampleRunLemmas`.
 -- One word that opens all definitions that a run meets, so that `refl` computes it to its end.
 use Rattle.trdp_base.specs.Uris.{uri_field}
 use Rattle.trdp_fcs.specs.FrameCheck.{frame_check_of}

@@ -1,5 +1,5 @@
 -- By what each record of a move is explained: the invariant of a history.
--- For all modules from Kept to Runs, which show that each move keeps it.
+-- For all modules from `Kept` to `RunLemmas`, which show that each move keeps it.
 -- A definition for each kind of record: the earlier move that it needs, as the promises name it.
 use Rattle.std.specs.Prelude.{◌≡◌, ℕ, List, ◌∷◌, Some}
 use Rattle.std.specs.Prelude.{slice_get}

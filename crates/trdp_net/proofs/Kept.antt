@@ -1,5 +1,5 @@
 -- What is known of each object, from the moves before.
--- For all modules that show what one move keeps, up to Runs.
+-- For all modules that show what one move keeps, up to `RunLemmas`.
 -- A record for each kind of object; all of it speaks of earlier moves, so it stays known later.
 use Rattle.std.proofs.Common.{◌≡◌, ℕ, ◌≤◌, List, [], ◌∷◌, length, Option, Some, None, true, false}
 use Rattle.std.proofs.Common.{inr}
@@ -30,7 +30,7 @@ use Rattle.trdp_model.specs.Acts.{Act}
 use Rattle.trdp_net.specs.Networks.{Move, place_of}
 use Rattle.trdp_net.specs.Provenance.{Ever, Spot, IsPut, IsRequested, IsAsked, IsReplied}
 use Rattle.trdp_net.specs.Provenance.{IsConfirmedAs, IsQueried}
-use Rattle.trdp_net.proofs.Parts.{each_map}
+use Rattle.trdp_net.proofs.PartLemmas.{each_map}
 use Rattle.trdp_md.specs.Sessions.{AreApart}
 use Rattle.trdp_net.proofs.Explained.{spot, DataBy, MessageBy, SentBy, ToldBy}
 use Rattle.trdp_net.specs.Provenance.{Each}

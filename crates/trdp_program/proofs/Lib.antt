@@ -1,3 +1,3 @@
-pub mod FaultLines
-pub mod Attending
-pub mod Serving
+pub mod FaultLineLemmas
+pub mod AttendLemmas
+pub mod ServeLemmas

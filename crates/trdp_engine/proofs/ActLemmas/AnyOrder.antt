@@ -1,7 +1,7 @@
 -- Objects of a slot act one after the other, by their handles, in any order.
 -- For `MomentLemmas`.
 -- By induction on those that act: no two have one handle, so that no act touches another's object.
-use Rattle.trdp_model.proofs.Tests.{same_number}
+use Rattle.trdp_model.proofs.TestLemmas.{same_number}
 use Rattle.std.proofs.Common.{◌≡◌, ℕ, ◌<◌, List, [], ◌∷◌, ◌++◌, length, filter, Option, Some}
 use Rattle.std.proofs.Common.{None, Bool, true, false, refl, ◌∙◌, ap, sym, subst, arith}
 use Rattle.std.specs.Prelude.{◌==◌, ◌||◌, slice_get, slice_set}
@@ -20,7 +20,7 @@ use Rattle.trdp_outbox.specs.Outboxes.{OutboxState}
 use Rattle.trdp_outbox.specs.Rooms.{kind_room}
 use Rattle.trdp_store.proofs.StoreLemmas.Slots.{slots_length, slot_there, slot_within, slot_is}
 use Rattle.trdp_model.proofs.SweepLemmas.{get-set}
-use Rattle.trdp_model.proofs.Handles.{AllAbove, IsRising}
+use Rattle.trdp_model.proofs.HandleLemmas.{AllAbove, IsRising}
 use Rattle.trdp_model.specs.Slots.{Entry, SlotState, Outcome, entry_under}
 use Rattle.trdp_store.specs.TableSlots.{slots_of}
 

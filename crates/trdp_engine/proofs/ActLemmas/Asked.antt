@@ -20,7 +20,7 @@ use Rattle.trdp_model.specs.Acts.{Act, left_at, acted}
 use Rattle.trdp_model.specs.Calls.{at_object, at_entry, told_unless}
 use Rattle.trdp_model.specs.Openings.{refused}
 use Rattle.trdp_model.specs.Configs.{NodeSetup}
-use Rattle.trdp_model.proofs.Handles.{AllAbove, IsRising}
+use Rattle.trdp_model.proofs.HandleLemmas.{AllAbove, IsRising}
 use Rattle.trdp_model.specs.Values.{item_refusal, takes_item, valued}
 use Rattle.trdp_outbox.specs.Outboxes.{OutboxState}
 use Rattle.trdp_store.specs.Acting.{slot_at, Becomes}

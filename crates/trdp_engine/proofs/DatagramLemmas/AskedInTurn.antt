@@ -24,7 +24,7 @@ use Rattle.trdp_store.specs.Acting.{slot_at, Becomes}
 use Rattle.trdp_model.specs.Datagrams.{acting, hearing, requested}
 use Rattle.trdp_engine.specs.Noted.{noted_as, noted_from}
 use Rattle.trdp_engine.specs.Sought.{comes_unasked, noted_listener, listener_room}
-use Rattle.trdp_model.proofs.Handles.{IsRising}
+use Rattle.trdp_model.proofs.HandleLemmas.{IsRising}
 use Rattle.trdp_outbox.proofs.RoomLemmas.{entry_rows, entry_bytes}
 use Rattle.trdp_store.proofs.StoreLemmas.Slots.{slot_within, slot_is, rising as table_rising}
 use Rattle.trdp_engine.proofs.NoteLemmas.ListenersAlone.{noted_heard, room_heard}

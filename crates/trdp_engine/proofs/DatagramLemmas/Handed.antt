@@ -20,7 +20,7 @@ use Rattle.trdp_outbox.specs.declared.room.Room.{Room}
 use Rattle.trdp_model.specs.Records.{Content, RecordModel, labelled}
 use Rattle.trdp_model.specs.Slots.{Entry, SlotState, Outcome, entry_under}
 use Rattle.trdp_model.specs.Acts.{Act, entry_left, left_at, acted}
-use Rattle.trdp_model.proofs.Handles.{AllAbove, IsRising}
+use Rattle.trdp_model.proofs.HandleLemmas.{AllAbove, IsRising}
 use Rattle.trdp_outbox.specs.Rooms.{kind_room, entries_room}
 use Rattle.trdp_store.specs.Acting.{act_of}
 use Rattle.trdp_model.specs.Datagrams.{is_for_entry, is_acting, taking_act}

@@ -18,7 +18,7 @@ use Rattle.trdp_outbox.specs.declared.room.Room.{Room}
 use Rattle.trdp_model.specs.Records.{RecordModel}
 use Rattle.trdp_model.specs.Slots.{SlotState, Outcome, entry_under}
 use Rattle.trdp_store.specs.TableSlots.{slots_of}
-use Rattle.trdp_model.proofs.Handles.{IsRising}
+use Rattle.trdp_model.proofs.HandleLemmas.{IsRising}
 use Rattle.trdp_outbox.specs.Outboxes.{OutboxState}
 use Rattle.trdp_outbox.specs.Rooms.{HasRoom, entries_room}
 use Rattle.trdp_store.specs.Acting.{slot_at, MayAct, ActsAt, act_of}

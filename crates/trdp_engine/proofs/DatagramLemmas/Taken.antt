@@ -6,8 +6,8 @@ use Rattle.std.proofs.Common.{None, refl, ◌∙◌, ap, arith, inl, inr}
 use Rattle.std.specs.Prelude.{◌&&◌, ◌||◌}
 use Rattle.std.specs.List.{flat_map, list_any}
 use Rattle.std.proofs.lemmas.List.Concat.{flat_map-cons}
-use Rattle.trdp_model.proofs.Tests.{or_left, or_right}
-use Rattle.trdp_model.proofs.UnconcernedSlots.{none_acts}
+use Rattle.trdp_model.proofs.TestLemmas.{or_left, or_right}
+use Rattle.trdp_model.proofs.UnconcernedSlotLemmas.{none_acts}
 use Rattle.trdp_filter.specs.declared.globals.Globals.{Globals}
 use Rattle.trdp_filter.specs.Telegrams.{TelegramModel, PdIs, MdIs}
 use Rattle.trdp_head.specs.PdTelegrams.{PdTelegram}

@@ -24,7 +24,7 @@ use Rattle.trdp_store.specs.Firing.{ComesNext}
 use Rattle.trdp_model.specs.Fitting.{AllSound, EachSound}
 use Rattle.trdp_outbox.specs.Outboxes.{OutboxState}
 use Rattle.trdp_outbox.specs.Rooms.{HasRoom, entries_room, moment_room}
-use Rattle.trdp_model.proofs.Handles.{IsRising}
+use Rattle.trdp_model.proofs.HandleLemmas.{IsRising}
 use Rattle.trdp_outbox.proofs.RoomLemmas.{entry_rows, entry_bytes}
 use Rattle.trdp_store.proofs.StoreLemmas.Slots.{slots_length, slot_there, slot_within, slot_is}
 use Rattle.trdp_store.proofs.StoreLemmas.Slots.{rising}

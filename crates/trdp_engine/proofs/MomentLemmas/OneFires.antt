@@ -20,17 +20,17 @@ use Rattle.trdp_model.specs.ObjectLaws.{due-firing, is_sound-firing}
 use Rattle.trdp_model.specs.Slots.{Entry, SlotState, entry_under}
 use Rattle.trdp_model.specs.Acts.{entry_left, left_at, acted}
 use Rattle.trdp_store.specs.Acting.{act_of}
-use Rattle.trdp_model.proofs.Handles.{IsRising}
+use Rattle.trdp_model.proofs.HandleLemmas.{IsRising}
 use Rattle.trdp_model.specs.Moments.{is_due, fires_before, inserted, in_order, left_firing}
 use Rattle.trdp_model.specs.Moments.{firing_act, after_moment, moved_to}
 use Rattle.trdp_store.specs.Firing.{IsNext}
 use Rattle.trdp_model.specs.Fitting.{AllSound}
-use Rattle.trdp_model.proofs.AllObjects.{AllObjects-found, IsLeft, AllObjects-acted}
+use Rattle.trdp_model.proofs.AllObjectLemmas.{AllObjects-found, IsLeft, AllObjects-acted}
 use Rattle.trdp_store.proofs.DueLemmas.First.{in_order-filter, sum-in_order}
 use Rattle.trdp_engine.proofs.ActLemmas.AnyOrder.{followed_by, has_handle, AllFound, AreApart}
 use Rattle.trdp_engine.proofs.ActLemmas.AnyOrder.{AllOnly, AllSame, AreThose, those-filter}
 use Rattle.trdp_engine.proofs.ActLemmas.AnyOrder.{only_found, flat_map-same, flat_map-flat_map}
-use Rattle.trdp_model.proofs.Tests.{same_number, differ_either_way, or_left, or_right}
+use Rattle.trdp_model.proofs.TestLemmas.{same_number, differ_either_way, or_left, or_right}
 
 -- What fired isn't due by now.
 

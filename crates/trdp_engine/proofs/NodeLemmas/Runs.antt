@@ -7,7 +7,7 @@ use Rattle.std.proofs.Common.{IfSome, Some, None, Result, Ok, Err, OnOk, OnErr, 
 use Rattle.std.specs.Prelude.{slice_get, ◌≤◌}
 use Rattle.std.proofs.Common.{arith}
 use Rattle.trdp_engine.specs.NodeStates.{uncounted}
-use Rattle.trdp_model.proofs.AddedSlots.{slots_grow}
+use Rattle.trdp_model.proofs.AddedSlotLemmas.{slots_grow}
 use Rattle.std.proofs.lemmas.List.{append-nil, map-append, take_more}
 use Rattle.std.proofs.lemmas.Option.{slice_get_within}
 use Rattle.trdp_model.specs.declared.event.Event.{Event}

@@ -2,7 +2,7 @@
 -- For `note_run`, `note_all` and `hearers`.
 -- By induction on the rows: those that are hit are those that act, and no object outside is.
 use Rattle.trdp_store.proofs.StoreLemmas.Keys.{KeysTell}
-use Rattle.trdp_model.proofs.Tests.{and_right}
+use Rattle.trdp_model.proofs.TestLemmas.{and_right}
 use Rattle.std.proofs.Common.{◌≡◌, ◌≢◌, ℕ, suc, ◌+◌, ◌<◌, ◌≤◌, List, [], ◌∷◌, ◌++◌, length}
 use Rattle.std.proofs.Common.{map, drop, filter, not, Some, Bool, true, false, refl}
 use Rattle.std.proofs.Common.{◌∙◌, sym, ap, subst, arith, append_assoc, append-nil, None, Option}
@@ -40,7 +40,7 @@ use Rattle.trdp_model.specs.Datagrams.{is_for_entry, is_listening, acting, heari
 use Rattle.trdp_engine.specs.Noted.{noted_as, noted_from}
 use Rattle.trdp_store.specs.Indexed.{com_of, is_com, is_listed, listed_as, rows_in, rows_from}
 use Rattle.trdp_engine.specs.Sought.{sought_as, sought_by, hit_by, hit, hits, noted_rows}
-use Rattle.trdp_model.proofs.UnheardTelegrams.{acting_all}
+use Rattle.trdp_model.proofs.UnheardTelegramLemmas.{acting_all}
 use Rattle.trdp_engine.proofs.NoteLemmas.BySession.{IsOne, one_entry}
 use Rattle.trdp_engine.proofs.NoteLemmas.Noted.{split, Notes, both_rooms, same_room, acting_in}
 use Rattle.trdp_engine.proofs.NoteLemmas.Noted.{rows_of-append, bytes_of-append}

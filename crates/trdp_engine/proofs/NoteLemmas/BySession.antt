@@ -44,7 +44,7 @@ use Rattle.trdp_engine.specs.Sought.{part_as, part_of}
 use Rattle.trdp_store.proofs.SessionLemmas.Keys.{same_session}
 use Rattle.trdp_engine.proofs.NoteLemmas.Noted.{same_room}
 use Rattle.trdp_outbox.proofs.RoomLemmas.{entry_rows, entry_bytes}
-use Rattle.trdp_model.proofs.UnheardTelegrams.{acting_all}
+use Rattle.trdp_model.proofs.UnheardTelegramLemmas.{acting_all}
 
 -- Which object a message of a session is for.
 

@@ -30,7 +30,7 @@ use Rattle.trdp_model.specs.Datagrams.{is_listening}
 use Rattle.trdp_store.specs.Indexed.{com_of, is_com, is_listed, rows_in, rows_from}
 use Rattle.trdp_engine.specs.Sought.{earlier, hit_in, first_in}
 use Rattle.trdp_engine.proofs.NoteLemmas.ByCom.{AllKeyed, and_left}
-use Rattle.trdp_model.proofs.Tests.{and_right}
+use Rattle.trdp_model.proofs.TestLemmas.{and_right}
 
 -- The lesser of two handles.
 

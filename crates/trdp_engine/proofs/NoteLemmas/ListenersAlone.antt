@@ -28,9 +28,10 @@ use Rattle.trdp_outbox.specs.Rooms.{kind_room, entries_room}
 use Rattle.trdp_model.specs.Datagrams.{is_for_entry, is_listening, hearing, acts_where, acting}
 use Rattle.trdp_engine.specs.Sought.{comes_unasked, part_as, part_of, noted_listener}
 use Rattle.trdp_engine.specs.Sought.{listener_room}
-use Rattle.trdp_model.proofs.Handles.{AllAbove as AllEntriesAbove, IsRising as AreEntriesRising}
+use Rattle.trdp_model.proofs.HandleLemmas.{AllAbove as AllEntriesAbove}
+use Rattle.trdp_model.proofs.HandleLemmas.{IsRising as AreEntriesRising}
 use Rattle.trdp_engine.proofs.NoteLemmas.ByCom.{and_left}
-use Rattle.trdp_model.proofs.Tests.{and_right}
+use Rattle.trdp_model.proofs.TestLemmas.{and_right}
 use Rattle.trdp_engine.proofs.NoteLemmas.BySession.{caller_answer, replier_confirm}
 
 -- it is in no session that an object awaits

@@ -20,7 +20,7 @@ use Rattle.trdp_model.specs.Alone.{FaultIs, refused_as, globals_after, records_a
 use Rattle.trdp_model.specs.Alone.{Standing, opened_by, standing_after, told_opening}
 use Rattle.trdp_model.specs.NodeModels.{NodeModel}
 use Rattle.trdp_model.specs.NodeModels.{StepsAsAlone}
-use Rattle.trdp_model.proofs.AddedSlots.{lists_same, opened_at, told_opened}
+use Rattle.trdp_model.proofs.AddedSlotLemmas.{lists_same, opened_at, told_opened}
 use Rattle.trdp_model.proofs.StepLemmas.{open_outcome}
 use Rattle.trdp_model.proofs.ViewLemmas.{standing_open}
 use Rattle.trdp_script.specs.RecordText.{text_of_fault, text_of_record}

@@ -10,7 +10,7 @@ use Rattle.std.proofs.lemmas.Bool.Decides.{nat_tests}
 use Rattle.std.proofs.lemmas.Option.{same_Some, none-some}
 use Rattle.std.proofs.lemmas.List.Elements.{filter-append}
 use Rattle.trdp_model.specs.Slots.{Entry, entry_under}
-use Rattle.trdp_model.proofs.Handles.{AllAbove, IsRising}
+use Rattle.trdp_model.proofs.HandleLemmas.{AllAbove, IsRising}
 use Rattle.trdp_model.specs.Moments.{is_due, fires_before, inserted, in_order}
 use Rattle.trdp_store.specs.Firing.{FiresBeforeAll, FiresFirst, IsNext}
 

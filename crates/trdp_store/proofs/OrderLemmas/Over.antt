@@ -34,8 +34,8 @@ use Rattle.trdp_md.specs.Callers.{answering, deadline_after, answer_taken as rep
 use Rattle.trdp_md.specs.Callers.{caller_taking}
 use Rattle.trdp_md.specs.Repliers.{is_for_replier, replier_taking}
 use Rattle.trdp_store.specs.Timed.{IsOver}
-use Rattle.trdp_model.proofs.Tests.{and_right}
-use Rattle.trdp_model.proofs.Tests.{or_left, or_right}
+use Rattle.trdp_model.proofs.TestLemmas.{and_right}
+use Rattle.trdp_model.proofs.TestLemmas.{or_left, or_right}
 
 -- the due moment then, by what an object did with a telegram
 abbrev pub IsOverBy : Option ℕ → Option ℕ → Taken → Type 0

@@ -8,7 +8,7 @@ use Rattle.std.specs.List.{IsDistinct, AllByRecursion}
 use Rattle.std.proofs.lemmas.Option.{same_Some, none-some}
 use Rattle.trdp_table.specs.Tables.{Keyed, TableState, slot_in, all_objects, by_handle, by_key}
 use Rattle.trdp_table.specs.TableLaws.{IsTable}
-use Rattle.trdp_model.proofs.Tests.{same_number, differ_either_way}
+use Rattle.trdp_model.proofs.TestLemmas.{same_number, differ_either_way}
 
 -- none of these has the key of one before it
 abbrev pub HaveOwnKeys : List Keyed → Type 0

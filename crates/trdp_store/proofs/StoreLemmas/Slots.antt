@@ -22,7 +22,7 @@ use Rattle.trdp_model.specs.Slots.{Entry, SlotState, entry_under}
 use Rattle.trdp_store.specs.TableSlots.{entry_of_keyed, slot_of, slots_of}
 use Rattle.trdp_model.specs.Slots.{with_new_object}
 use Rattle.trdp_model.specs.Acts.{left_at, acted}
-use Rattle.trdp_model.proofs.Handles.{AllAbove, IsRising}
+use Rattle.trdp_model.proofs.HandleLemmas.{AllAbove, IsRising}
 use Rattle.trdp_store.specs.Acting.{slot_at}
 
 -- How a slot is read.

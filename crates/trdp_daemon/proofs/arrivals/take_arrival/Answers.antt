@@ -1,7 +1,7 @@
 use Rattle.std.proofs.Common.{sym, ◌∙◌, ap, take, length}
 use Rattle.trdp_daemon.specs.MemoryWires.{ArrivalModel, arrives_at, cut_to, room_after}
 use Rattle.trdp_daemon.specs.Told.{Came}
-use Rattle.trdp_daemon.proofs.TakeRows.{arrives_not, arrives, element_found}
+use Rattle.trdp_daemon.proofs.TakeRowLemmas.{arrives_not, arrives, element_found}
 use Rattle.trdp_daemon.proofs.arrivals.take_arrival.Goals as goal
 
 pub returns-in-None-clause-arrived : goal.returns-in-None-clause-arrived

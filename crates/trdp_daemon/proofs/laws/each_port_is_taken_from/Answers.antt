@@ -1,4 +1,4 @@
-use Rattle.trdp_daemon.proofs.EachPort.{turns_take_each, all_open}
+use Rattle.trdp_daemon.proofs.EachPortLemmas.{turns_take_each, all_open}
 use Rattle.trdp_daemon.specs.Turns.{opened_service}
 use Rattle.trdp_daemon.proofs.laws.each_port_is_taken_from.Goals as goal
 

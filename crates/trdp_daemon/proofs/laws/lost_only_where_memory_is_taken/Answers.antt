@@ -1,5 +1,6 @@
-use Rattle.trdp_daemon.proofs.Services.{wanting, is_wanting, event_not_lost, operator_not_lost}
-use Rattle.trdp_daemon.proofs.LineLosses.{control_line_sure, operator_line_read, operator_line_sure}
+use Rattle.trdp_daemon.proofs.ServiceLemmas.{wanting, is_wanting, event_not_lost, operator_not_lost}
+use Rattle.trdp_daemon.proofs.LineLossLemmas.{control_line_sure, operator_line_read}
+use Rattle.trdp_daemon.proofs.LineLossLemmas.{operator_line_sure}
 use Rattle.trdp_daemon.proofs.laws.lost_only_where_memory_is_taken.Goals as goal
 
 pub returns-clause-tested : goal.returns-clause-tested

@@ -1,4 +1,4 @@
-use Rattle.trdp_daemon.proofs.Losses.{turns_kept}
+use Rattle.trdp_daemon.proofs.LossLemmas.{turns_kept}
 use Rattle.trdp_daemon.proofs.laws.nothing_missed.Goals as goal
 
 pub returns : goal.returns

@@ -1,6 +1,6 @@
 use Rattle.std.proofs.Common.{◌++◌, length, sym, ◌∙◌, ap}
 use Rattle.trdp_daemon.specs.Rows.{gives_of, bytes_in}
-use Rattle.trdp_daemon.proofs.GiveRows.{gives_append, bytes_append}
+use Rattle.trdp_daemon.proofs.GiveRowLemmas.{gives_append, bytes_append}
 use Rattle.trdp_daemon.proofs.memory_wire.push_give.Goals as goal
 
 pub returns-clause-gives : goal.returns-clause-gives

@@ -1,5 +1,5 @@
 use Rattle.std.proofs.Common.{sym, ◌∙◌, arith}
-use Rattle.trdp_daemon.proofs.ControlPorts.{number_among, number_behind}
+use Rattle.trdp_daemon.proofs.ControlPortLemmas.{number_among, number_behind}
 use Rattle.trdp_daemon.proofs.ports.control_number.Goals as goal
 
 pub returns-then-slot-slots : goal.returns-then-slot-slots

@@ -1,7 +1,7 @@
 use Rattle.std.proofs.Common.{◌≡◌, length, arith, ◌++◌, ap, ◌∙◌}
 use Rattle.trdp_daemon.specs.declared.port.Port.TheVariants.{Operator}
 use Rattle.trdp_daemon.specs.Ports.{control_numbers, port_unless_0}
-use Rattle.trdp_daemon.proofs.ControlPorts.{numbers_count, ports_start, ports_end}
+use Rattle.trdp_daemon.proofs.ControlPortLemmas.{numbers_count, ports_start, ports_end}
 use Rattle.trdp_daemon.proofs.ports.ports_of.Goals as goal
 
 pub loop-slot-init : goal.loop-slot-init

@@ -2,7 +2,7 @@ use Rattle.std.proofs.Common.{◌++◌, ap, sym, ◌∙◌}
 use Rattle.std.specs.Prelude.{OnOk, Result, Ok, Err}
 use Rattle.trdp_daemon.specs.declared.port.Port.TheVariants.{Control}
 use Rattle.trdp_daemon.specs.Ports.{control_numbers, port_unless_0}
-use Rattle.trdp_daemon.proofs.ControlPorts.{ports_next, no_slot}
+use Rattle.trdp_daemon.proofs.ControlPortLemmas.{ports_next, no_slot}
 use Rattle.trdp_daemon.proofs.ports.push_control.Goals as goal
 
 on_ok : {A E : Type 0} {P Q : Type 0} (r : Result A E) → (P → Q) → OnOk r P → OnOk r Q

@@ -6,7 +6,7 @@ use Rattle.trdp_daemon.specs.declared.port.Port.{Port}
 use Rattle.trdp_daemon.specs.Effects.{offering}
 use Rattle.trdp_daemon.specs.Links.{Carries}
 use Rattle.trdp_daemon.specs.Tellings.{TellsText}
-use Rattle.trdp_daemon.proofs.Tellings.{record_sent, record_answered, record_indicated}
+use Rattle.trdp_daemon.proofs.TellingLemmas.{record_sent, record_answered, record_indicated}
 use Rattle.trdp_daemon.proofs.telling.tell_record.Goals as goal
 
 pub returns-in-Send : goal.returns-in-Send

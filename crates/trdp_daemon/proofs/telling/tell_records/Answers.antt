@@ -2,7 +2,7 @@ use Rattle.std.proofs.Common.{List, [], ◌∷◌, ◌++◌, ◌∙◌, ap, rule
 use Rattle.trdp_model.specs.Records.{RecordModel, record_model}
 use Rattle.trdp_outbox.proofs.SlotOrderLemmas.Walk.{walked_all, walked_one}
 use Rattle.trdp_daemon.specs.Tellings.{Tells}
-use Rattle.trdp_daemon.proofs.Tellings.{tells_more, tells_none}
+use Rattle.trdp_daemon.proofs.TellingLemmas.{tells_more, tells_none}
 use Rattle.trdp_daemon.proofs.telling.tell_records.Goals as goal
 
 pub loop-record-init : goal.loop-record-init

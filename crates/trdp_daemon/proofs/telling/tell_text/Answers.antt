@@ -4,7 +4,7 @@ use Rattle.trdp_script.specs.RecordText.{text_of_record}
 use Rattle.trdp_daemon.specs.declared.port.Port.TheVariants.{Control}
 use Rattle.trdp_daemon.specs.Effects.{offering}
 use Rattle.trdp_daemon.specs.Links.{Carries}
-use Rattle.trdp_daemon.proofs.Tellings.{text_dropped, text_given, text_lost}
+use Rattle.trdp_daemon.proofs.TellingLemmas.{text_dropped, text_given, text_lost}
 use Rattle.trdp_daemon.proofs.telling.tell_text.Goals as goal
 
 pub returns-in_default : goal.returns-in_default

@@ -1,7 +1,7 @@
 use Rattle.std.proofs.Common.{Bool, Some, None, if◌then◌else◌, nat_le, ap, ◌∙◌}
 use Rattle.std.specs.List.{list_all}
 use Rattle.trdp_dataset.specs.declared.fault.ConfigFault.TheVariants.{TooBig}
-use Rattle.trdp_dataset.proofs.Sizes.{exact_sizes, big_shown}
+use Rattle.trdp_dataset.proofs.SizeLemmas.{exact_sizes, big_shown}
 use Rattle.trdp_dataset.proofs.check.small_sizes.Goals as goal
 
 pub returns-then-all_small-clause-sizes : goal.returns-then-all_small-clause-sizes

@@ -1,6 +1,6 @@
 use Rattle.std.proofs.Common.{suc, rules}
 use Rattle.trdp_dataset.specs.Depths.{is_within}
-use Rattle.trdp_dataset.proofs.Rows.{row_turn}
+use Rattle.trdp_dataset.proofs.RowLemmas.{row_turn}
 use Rattle.trdp_dataset.proofs.depth.one_deeper.Goals as goal
 
 pub loop-i-preserved : goal.loop-i-preserved

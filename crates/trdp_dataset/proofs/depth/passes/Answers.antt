@@ -1,7 +1,7 @@
 use Rattle.std.proofs.Common.{sym, ap, ◌∙◌}
 use Rattle.trdp_dataset.specs.Datasets.{passes}
 use Rattle.trdp_dataset.specs.Depths.{is_within}
-use Rattle.trdp_dataset.proofs.Rows.{unknown_within}
+use Rattle.trdp_dataset.proofs.RowLemmas.{unknown_within}
 use Rattle.trdp_dataset.proofs.depth.passes.Goals as goal
 
 pub returns-in-None : goal.returns-in-None

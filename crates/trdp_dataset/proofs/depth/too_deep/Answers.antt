@@ -4,7 +4,7 @@ use Rattle.std.proofs.lemmas.List.{length-replicate}
 use Rattle.std.specs.List.{list_all}
 use Rattle.trdp_dataset.specs.Depths.{is_within}
 use Rattle.trdp_dataset.specs.Stored.{within_row}
-use Rattle.trdp_dataset.proofs.Rows.{none_within, all_of_row, deep_shown}
+use Rattle.trdp_dataset.proofs.RowLemmas.{none_within, all_of_row, deep_shown}
 use Rattle.trdp_dataset.proofs.depth.too_deep.Goals as goal
 
 pub loop-init : goal.loop-init

@@ -1,6 +1,6 @@
 use Rattle.std.proofs.Common.{length, ap, ◌∙◌}
 use Rattle.std.proofs.lemmas.List.{length-replicate}
-use Rattle.trdp_dataset.proofs.FixedRows.{none_fixed}
+use Rattle.trdp_dataset.proofs.FixedRowLemmas.{none_fixed}
 use Rattle.trdp_dataset.proofs.fixed.fixed_datasets.Goals as goal
 
 pub loop-init : goal.loop-init

@@ -1,7 +1,7 @@
 use Rattle.std.proofs.Common.{sym, ap, ◌∙◌}
 use Rattle.trdp_dataset.specs.Datasets.{passes}
 use Rattle.trdp_dataset.specs.FixedSizes.{is_fixed}
-use Rattle.trdp_dataset.proofs.FixedRows.{unknown_fixed}
+use Rattle.trdp_dataset.proofs.FixedRowLemmas.{unknown_fixed}
 use Rattle.trdp_dataset.proofs.fixed.form_fixed.Goals as goal
 
 pub returns-in-None : goal.returns-in-None

@@ -7,11 +7,11 @@ use Rattle.trdp_dataset.specs.Seen.{positions_seen}
 use Rattle.trdp_dataset.specs.Faults.{IsFaultOf, before_datasets, fit_fault, twice_id_in}
 use Rattle.trdp_dataset.specs.Configs.{datasets_in}
 use Rattle.trdp_dataset.proofs.FaultLemmas.{err_answers, fault_comes}
-use Rattle.trdp_dataset.proofs.Least.{none_least}
+use Rattle.trdp_dataset.proofs.LeastLemmas.{none_least}
 use Rattle.trdp_dataset.proofs.LoadLemmas.{position_stops, twice_stops, fit_stops, least_left}
-use Rattle.trdp_dataset.proofs.Sound.{sound}
-use Rattle.trdp_dataset.proofs.Filled.{AreGood, good_back, is_filled}
-use Rattle.trdp_dataset.proofs.Filled.{all_above, all_filled, all_few}
+use Rattle.trdp_dataset.proofs.SoundLemmas.{sound}
+use Rattle.trdp_dataset.proofs.FilledLemmas.{AreGood, good_back, is_filled}
+use Rattle.trdp_dataset.proofs.FilledLemmas.{all_above, all_filled, all_few}
 use Rattle.trdp_dataset.proofs.load.load.Goals as goal
 
 pub returns-in-Some-clause-answers : goal.returns-in-Some-clause-answers

@@ -1,6 +1,6 @@
 use Rattle.toml.specs.View.{view, table_view}
 use Rattle.trdp_dataset.specs.Positions.{value_at, tables_at}
-use Rattle.trdp_dataset.proofs.Arrays.{members_seen}
+use Rattle.trdp_dataset.proofs.ArrayLemmas.{members_seen}
 use Rattle.trdp_dataset.proofs.position.members_at.Goals as goal
 
 pub returns-in-Some : goal.returns-in-Some

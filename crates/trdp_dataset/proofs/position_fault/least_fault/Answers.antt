@@ -1,4 +1,4 @@
-use Rattle.trdp_dataset.proofs.Least.{walk_turn}
+use Rattle.trdp_dataset.proofs.LeastLemmas.{walk_turn}
 use Rattle.trdp_dataset.proofs.position_fault.least_fault.Goals as goal
 
 pub loop-position-preserved : goal.loop-position-preserved

@@ -6,7 +6,7 @@ use Rattle.std.specs.Prelude.{option_and_then}
 use Rattle.trdp_dataset.specs.Seen.{tables_seen}
 use Rattle.trdp_dataset.specs.Configs.{dataset_in, datasets_in}
 use Rattle.trdp_dataset.proofs.FaultLemmas.{err_passes}
-use Rattle.trdp_dataset.proofs.Twice.{next_dataset, taken_up, taken_twice}
+use Rattle.trdp_dataset.proofs.TwiceLemmas.{next_dataset, taken_up, taken_twice}
 use Rattle.trdp_dataset.proofs.read.datasets_in.Goals as goal
 
 pub returns-in_err-push_dataset-clause-fault : goal.returns-in_err-push_dataset-clause-fault

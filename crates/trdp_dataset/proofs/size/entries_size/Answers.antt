@@ -2,7 +2,7 @@ use Rattle.std.proofs.Common.{arith, ap, ◌∙◌}
 use Rattle.std.specs.Prelude.{min}
 use Rattle.trdp_dataset.specs.declared.element.ElementKind.TheVariants.{Bool8}
 use Rattle.trdp_dataset.specs.ZeroSizes.{form_size, dataset_size}
-use Rattle.trdp_dataset.proofs.Sizes.{size_turn, size_end}
+use Rattle.trdp_dataset.proofs.SizeLemmas.{size_turn, size_end}
 use Rattle.trdp_dataset.proofs.size.entries_size.Goals as goal
 
 pub loop-element-preserved : goal.loop-element-preserved

@@ -1,7 +1,7 @@
 use Rattle.std.proofs.Common.{sym, ap, ◌∙◌}
 use Rattle.std.specs.Prelude.{min}
 use Rattle.trdp_dataset.specs.ZeroSizes.{form_size, dataset_size}
-use Rattle.trdp_dataset.proofs.Sizes.{unknown_size}
+use Rattle.trdp_dataset.proofs.SizeLemmas.{unknown_size}
 use Rattle.trdp_dataset.proofs.size.form_size.Goals as goal
 
 pub returns-in-None : goal.returns-in-None

@@ -1,7 +1,7 @@
 use Rattle.std.proofs.Common.{suc, rules}
 use Rattle.std.specs.Prelude.{min}
 use Rattle.trdp_dataset.specs.ZeroSizes.{dataset_size}
-use Rattle.trdp_dataset.proofs.Rows.{row_turn}
+use Rattle.trdp_dataset.proofs.RowLemmas.{row_turn}
 use Rattle.trdp_dataset.proofs.size.one_deeper.Goals as goal
 
 pub loop-i-preserved : goal.loop-i-preserved

@@ -1,6 +1,6 @@
 use Rattle.std.proofs.Common.{Ok, Err, refl, ap, ◌∙◌}
 use Rattle.trdp_dataset.specs.Values.{address_of}
-use Rattle.trdp_dataset.proofs.Addresses.{address_read, address_unread}
+use Rattle.trdp_dataset.proofs.AddressLemmas.{address_read, address_unread}
 use Rattle.trdp_dataset.proofs.value.address_of.Goals as goal
 
 pub returns-in-Ok : goal.returns-in-Ok

@@ -1,7 +1,7 @@
 use Rattle.std.proofs.Common.{sym, ◌∙◌}
 use Rattle.toml.specs.View.{view}
 use Rattle.trdp_dataset.specs.Values.{is_number}
-use Rattle.trdp_dataset.proofs.Arrays.{members_tested}
+use Rattle.trdp_dataset.proofs.ArrayLemmas.{members_tested}
 use Rattle.trdp_dataset.proofs.value.is_numbers.Goals as goal
 
 pub returns-then-is_array : goal.returns-then-is_array

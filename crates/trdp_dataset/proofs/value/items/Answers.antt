@@ -1,7 +1,7 @@
 use Rattle.std.proofs.Common.{map, ap, ◌∙◌, List}
 use Rattle.toml.specs.View.{view}
 use Rattle.toml.specs.declared.value.Value.{Value}
-use Rattle.trdp_dataset.proofs.Arrays.{items_seen}
+use Rattle.trdp_dataset.proofs.ArrayLemmas.{items_seen}
 use Rattle.trdp_dataset.proofs.value.items.Goals as goal
 
 pub returns-in-Some : goal.returns-in-Some

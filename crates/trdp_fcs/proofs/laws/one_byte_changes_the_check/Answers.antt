@@ -1,4 +1,4 @@
-use Rattle.trdp_fcs.proofs.Damage.{one_byte_changes_check}
+use Rattle.trdp_fcs.proofs.DamageLemmas.{one_byte_changes_check}
 use Rattle.trdp_fcs.proofs.laws.one_byte_changes_the_check.Goals as goal
 
 pub returns : goal.returns

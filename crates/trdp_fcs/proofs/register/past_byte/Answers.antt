@@ -1,5 +1,5 @@
 use Rattle.std.proofs.Common.{bit_xor}
-use Rattle.trdp_fcs.proofs.LookUp.{past_one}
+use Rattle.trdp_fcs.proofs.LookUpLemmas.{past_one}
 use Rattle.trdp_fcs.proofs.register.past_byte.Goals as goal
 
 pub returns : goal.returns

@@ -1,4 +1,4 @@
-use Rattle.trdp_fcs.proofs.LookUp.{past_eight_of}
+use Rattle.trdp_fcs.proofs.LookUpLemmas.{past_eight_of}
 use Rattle.trdp_fcs.proofs.register.past_eight.Goals as goal
 
 pub returns : goal.returns

@@ -1,6 +1,6 @@
 use Rattle.std.proofs.Common.{ap, ◌∙◌, ℕ, bit_xor}
 use Rattle.trdp_fcs.specs.Register.{past_zeros}
-use Rattle.trdp_fcs.proofs.LookUp.{past_four_of}
+use Rattle.trdp_fcs.proofs.LookUpLemmas.{past_four_of}
 use Rattle.trdp_fcs.proofs.register.past_four.Goals as goal
 
 pub returns : goal.returns

@@ -1,5 +1,5 @@
 use Rattle.std.proofs.Common.{arith}
-use Rattle.trdp_fcs.proofs.LookUp.{past_word}
+use Rattle.trdp_fcs.proofs.LookUpLemmas.{past_word}
 use Rattle.trdp_fcs.proofs.register.past_four_zeros.Goals as goal
 
 pub returns : goal.returns

@@ -1,7 +1,7 @@
 use Rattle.std.proofs.Common.{ap, ◌∙◌, arith, take, List, ℕ}
 use Rattle.trdp_base.specs.Numbers.{le}
 use Rattle.trdp_head.specs.Fields.{little_field}
-use Rattle.trdp_head.proofs.FieldNumbers.{little_number-le}
+use Rattle.trdp_head.proofs.FieldNumberLemmas.{little_number-le}
 use Rattle.trdp_head.proofs.fields.little_u32_at.Goals as goal
 
 pub returns : goal.returns

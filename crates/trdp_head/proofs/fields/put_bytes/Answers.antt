@@ -1,5 +1,5 @@
 use Rattle.std.proofs.Common.{arith, length, ◌+◌, ◌-◌, ◌≡◌}
-use Rattle.trdp_head.proofs.PartWrites.{part_rest}
+use Rattle.trdp_head.proofs.PartWriteLemmas.{part_rest}
 use Rattle.trdp_head.proofs.fields.put_bytes.Goals as goal
 
 pub returns-clause-rest : goal.returns-clause-rest

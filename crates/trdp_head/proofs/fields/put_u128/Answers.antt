@@ -1,7 +1,7 @@
 use Rattle.std.proofs.Common.{take, ◌++◌, ◌∙◌, sym, ap, List, ℕ, refl}
 use Rattle.std.specs.Int.{bytes_high_first}
-use Rattle.trdp_head.proofs.FieldNumbers.{be_bytes-is}
-use Rattle.trdp_head.proofs.PartWrites.{front_written, rest_kept}
+use Rattle.trdp_head.proofs.FieldNumberLemmas.{be_bytes-is}
+use Rattle.trdp_head.proofs.PartWriteLemmas.{front_written, rest_kept}
 use Rattle.trdp_head.proofs.fields.put_u128.Goals as goal
 
 pub returns-clause-front : goal.returns-clause-front

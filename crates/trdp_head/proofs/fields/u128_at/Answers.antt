@@ -1,7 +1,7 @@
 use Rattle.std.proofs.Common.{ap, ◌∙◌, arith, take, List, ℕ}
 use Rattle.trdp_base.specs.Numbers.{be}
 use Rattle.trdp_head.specs.Fields.{field}
-use Rattle.trdp_head.proofs.FieldNumbers.{big_number-be}
+use Rattle.trdp_head.proofs.FieldNumberLemmas.{big_number-be}
 use Rattle.trdp_head.proofs.fields.u128_at.Goals as goal
 
 pub returns : goal.returns

@@ -2,7 +2,7 @@ use Rattle.std.proofs.Common.{arith, ℕ, List, length, take, ◌++◌, ◌+◌,
 use Rattle.trdp_fcs.specs.FrameCheck.{frame_check_of}
 use Rattle.trdp_head.specs.Fields.{le_bytes}
 use Rattle.trdp_head.specs.Checks.{with_check}
-use Rattle.trdp_head.proofs.FieldNumbers.{le_bytes-is}
+use Rattle.trdp_head.proofs.FieldNumberLemmas.{le_bytes-is}
 use Rattle.trdp_head.proofs.payload.put_check.Goals as goal
 
 pub returns-clause-front : goal.returns-clause-front

@@ -1,4 +1,4 @@
-use Rattle.trdp_head.proofs.PartWrites.{more}
+use Rattle.trdp_head.proofs.PartWriteLemmas.{more}
 use Rattle.trdp_head.proofs.prefix.put_prefix.Goals as goal
 
 pub returns-clause-front : goal.returns-clause-front

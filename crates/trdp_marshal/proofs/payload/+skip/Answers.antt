@@ -8,8 +8,8 @@ use Rattle.trdp_marshal.proofs.SkipLemmas.{entries_counted, entries_turn, entrie
 use Rattle.trdp_marshal.proofs.SkipLemmas.{entries_done, entry_skipped, pass_at, counts_at}
 use Rattle.trdp_marshal.proofs.SkipLemmas.{dataset_skipped, within_some, within_known}
 use Rattle.trdp_marshal.proofs.SkipLemmas.{within_below, skipped_none, nested_repeated, some_seen}
-use Rattle.trdp_marshal.proofs.Fixed.{basic_size, basic_repeated}
-use Rattle.trdp_marshal.proofs.Fixed.{repeated_skips, dataset_skipped_whole}
+use Rattle.trdp_marshal.proofs.FixedLemmas.{basic_size, basic_repeated}
+use Rattle.trdp_marshal.proofs.FixedLemmas.{repeated_skips, dataset_skipped_whole}
 use Rattle.trdp_marshal.proofs.payload.+skip.Goals as goal
 use Rattle.trdp_marshal.proofs.payload.+skip.Goals.{skip_elements-then-is_counted+in_ok-number}
 use Rattle.trdp_marshal.proofs.payload.+skip.Goals.{skip_elements-else-is_counted+in_ok-rest}

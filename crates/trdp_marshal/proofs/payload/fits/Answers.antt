@@ -1,5 +1,5 @@
 use Rattle.std.proofs.Common.{arith}
-use Rattle.trdp_marshal.proofs.Spellings.{fits_other}
+use Rattle.trdp_marshal.proofs.SpellingLemmas.{fits_other}
 use Rattle.trdp_marshal.proofs.payload.fits.Goals as goal
 
 pub returns-else-id-eq0-clause-meaning : goal.returns-else-id-eq0-clause-meaning

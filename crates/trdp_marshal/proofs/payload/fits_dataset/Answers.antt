@@ -3,7 +3,7 @@ use Rattle.std.specs.Prelude.{is_some}
 use Rattle.trdp_marshal.specs.Reading.{dataset_at, reading}
 use Rattle.trdp_marshal.proofs.SkipLemmas.{dataset_skipped, within_below}
 use Rattle.trdp_marshal.proofs.SkipLemmas.{read_unknown, whole_taken, whole_nowhere}
-use Rattle.trdp_marshal.proofs.Fixed.{whole_fixed}
+use Rattle.trdp_marshal.proofs.FixedLemmas.{whole_fixed}
 use Rattle.trdp_marshal.proofs.payload.fits_dataset.Goals as goal
 
 pub returns-in-Some : goal.returns-in-Some

@@ -1,5 +1,5 @@
 use Rattle.std.proofs.Common.{sym, arith}
-use Rattle.trdp_marshal.proofs.Spellings.{read_spells}
+use Rattle.trdp_marshal.proofs.SpellingLemmas.{read_spells}
 use Rattle.trdp_marshal.proofs.DecodeLemmas.{unknown, misfit, faultless, memory_alone, decoded}
 use Rattle.trdp_marshal.proofs.reader.decoded.Goals as goal
 

@@ -1,6 +1,6 @@
 use Rattle.std.proofs.Common.{sym}
 use Rattle.trdp_marshal.specs.Items.{model_of}
-use Rattle.trdp_marshal.proofs.Spellings.{spells}
+use Rattle.trdp_marshal.proofs.SpellingLemmas.{spells}
 use Rattle.trdp_marshal.proofs.WriterLemmas.{no_dataset, wrong_shape, too_long}
 use Rattle.trdp_marshal.proofs.WriterLemmas.{sendable, encoded, memory_only}
 use Rattle.trdp_marshal.proofs.writer.encoded.Goals as goal

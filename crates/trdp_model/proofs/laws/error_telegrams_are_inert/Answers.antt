@@ -1,4 +1,4 @@
-use Rattle.trdp_model.proofs.Inert.{error}
+use Rattle.trdp_model.proofs.InertLemmas.{error}
 use Rattle.trdp_model.proofs.laws.error_telegrams_are_inert.Goals as goal
 
 pub returns : goal.returns

@@ -1,4 +1,4 @@
-use Rattle.trdp_model.proofs.Objects.{kind-taking, kind-firing}
+use Rattle.trdp_model.proofs.ObjectLemmas.{kind-taking, kind-firing}
 use Rattle.trdp_model.proofs.laws.kind_stays.Goals as goal
 
 pub returns-clause-taken : goal.returns-clause-taken

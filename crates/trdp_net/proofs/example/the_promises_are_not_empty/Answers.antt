@@ -4,8 +4,9 @@ use Rattle.trdp_pd.specs.declared.object.Reason.TheVariants.{Done}
 use Rattle.trdp_model.specs.Records.{Indicates, NotifiedIs, AskedIs, RepliedIs, ConfirmedIs}
 use Rattle.trdp_model.specs.Records.{ClosedIs}
 use Rattle.trdp_net.specs.ExampleTerms.{example_session, notice_told, request_told, query_told}
-use Rattle.trdp_net.proofs.ExamplePremises.{single, typed_steps, own_places}
-use Rattle.trdp_net.proofs.ExampleRun.{turns_are, told_at, sent_is, history_fresh, shows_valid}
+use Rattle.trdp_net.proofs.ExamplePremiseLemmas.{single, typed_steps, own_places}
+use Rattle.trdp_net.proofs.ExampleRunLemmas.{turns_are, told_at, sent_is, history_fresh}
+use Rattle.trdp_net.proofs.ExampleRunLemmas.{shows_valid}
 use Rattle.trdp_net.proofs.example.the_promises_are_not_empty.Goals as goal
 
 pub returns-clause-premises : goal.returns-clause-premises

@@ -1,4 +1,4 @@
-use Rattle.trdp_net.proofs.Ties.{history_is_run, nodes_stay, one_node}
+use Rattle.trdp_net.proofs.TieLemmas.{history_is_run, nodes_stay, one_node}
 use Rattle.trdp_net.proofs.laws.history_is_the_run.Goals as goal
 
 pub returns-clause-steps : goal.returns-clause-steps

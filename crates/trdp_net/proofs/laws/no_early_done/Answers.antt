@@ -1,5 +1,5 @@
-use Rattle.trdp_net.proofs.Promises.{done_due}
-use Rattle.trdp_net.proofs.TypedRuns.{history_typed}
+use Rattle.trdp_net.proofs.PromiseLemmas.{done_due}
+use Rattle.trdp_net.proofs.TypedRunLemmas.{history_typed}
 use Rattle.trdp_net.proofs.laws.no_early_done.Goals as goal
 
 pub returns : goal.returns

@@ -1,5 +1,5 @@
-use Rattle.trdp_net.proofs.Promises.{confirms_made}
-use Rattle.trdp_net.proofs.TypedRuns.{history_typed}
+use Rattle.trdp_net.proofs.PromiseLemmas.{confirms_made}
+use Rattle.trdp_net.proofs.TypedRunLemmas.{history_typed}
 use Rattle.trdp_net.proofs.laws.no_invented_confirm.Goals as goal
 
 pub returns : goal.returns

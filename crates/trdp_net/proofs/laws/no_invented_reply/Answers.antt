@@ -1,6 +1,6 @@
-use Rattle.trdp_net.proofs.Promises.{replies_made}
-use Rattle.trdp_net.proofs.HeardRuns.{all_distinct}
-use Rattle.trdp_net.proofs.TypedRuns.{history_typed}
+use Rattle.trdp_net.proofs.PromiseLemmas.{replies_made}
+use Rattle.trdp_net.proofs.HeardRunLemmas.{all_distinct}
+use Rattle.trdp_net.proofs.TypedRunLemmas.{history_typed}
 use Rattle.trdp_net.proofs.laws.no_invented_reply.Goals as goal
 
 pub returns-clause-made : goal.returns-clause-made

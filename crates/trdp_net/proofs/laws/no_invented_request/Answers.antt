@@ -1,5 +1,5 @@
-use Rattle.trdp_net.proofs.Promises.{notices_made, requests_made}
-use Rattle.trdp_net.proofs.TypedRuns.{history_typed}
+use Rattle.trdp_net.proofs.PromiseLemmas.{notices_made, requests_made}
+use Rattle.trdp_net.proofs.TypedRunLemmas.{history_typed}
 use Rattle.trdp_net.proofs.laws.no_invented_request.Goals as goal
 
 pub returns-clause-notified : goal.returns-clause-notified

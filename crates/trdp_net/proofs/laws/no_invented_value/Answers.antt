@@ -1,5 +1,5 @@
-use Rattle.trdp_net.proofs.Promises.{values_put}
-use Rattle.trdp_net.proofs.TypedRuns.{history_typed}
+use Rattle.trdp_net.proofs.PromiseLemmas.{values_put}
+use Rattle.trdp_net.proofs.TypedRunLemmas.{history_typed}
 use Rattle.trdp_net.proofs.laws.no_invented_value.Goals as goal
 
 pub returns : goal.returns

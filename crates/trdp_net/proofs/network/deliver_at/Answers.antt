@@ -2,7 +2,7 @@ use Rattle.std.proofs.Common.{◌≡◌, ◌<◌, length, List, Some, true, ap, 
 use Rattle.std.proofs.lemmas.Option.{slice_get-get_or}
 use Rattle.trdp_net.specs.Networks.{NetNode, Sent, place_of, reaches}
 use Rattle.trdp_net.specs.Tellings.{sent_model}
-use Rattle.trdp_net.proofs.Running.{delivers_so}
+use Rattle.trdp_net.proofs.RunningLemmas.{delivers_so}
 use Rattle.trdp_net.proofs.network.deliver_at.Goals as goal
 
 pub returns-else-not-is_reached-clause-taken : goal.returns-else-not-is_reached-clause-taken

@@ -4,7 +4,7 @@ use Rattle.trdp_model.specs.Events.{event_model}
 use Rattle.trdp_model.specs.Alone.{refused_as, globals_after}
 use Rattle.trdp_model.specs.NodeModels.{StepsAsAlone}
 use Rattle.trdp_net.specs.Ties.{MovesSo}
-use Rattle.trdp_net.proofs.Ties.{admits, moves_so}
+use Rattle.trdp_net.proofs.TieLemmas.{admits, moves_so}
 use Rattle.trdp_net.proofs.node.step.Goals as goal
 
 pub returns-clause-moves : goal.returns-clause-moves

@@ -5,7 +5,7 @@ use Rattle.trdp_net.specs.Networks.{Sent}
 use Rattle.trdp_net.specs.Tellings.{sent_in, all_sent}
 use Rattle.trdp_net.specs.declared.told.Sought.TheVariants.{Found}
 use Rattle.trdp_net.specs.declared.told.Told.{Told}
-use Rattle.trdp_net.proofs.Tellings.{went, events_step, none_left}
+use Rattle.trdp_net.proofs.TellingLemmas.{went, events_step, none_left}
 use Rattle.trdp_net.proofs.told.find.Goals as goal
 
 pub returns-in-Found : goal.returns-in-Found

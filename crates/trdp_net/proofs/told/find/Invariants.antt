@@ -1,6 +1,6 @@
 use Rattle.std.proofs.Common.{drop}
 use Rattle.trdp_net.specs.Tellings.{all_sent}
-use Rattle.trdp_net.proofs.Tellings.{Remains}
+use Rattle.trdp_net.proofs.TellingLemmas.{Remains}
 use Rattle.trdp_net.proofs.told.find.Given as goal
 
 abbrev pub invariant-loop-told : goal.invariant-loop-told

@@ -1,6 +1,6 @@
 use Rattle.std.proofs.Common.{List, slice_get, ap, sym, ◌∙◌}
 use Rattle.trdp_model.specs.Records.{RecordModel}
-use Rattle.trdp_net.proofs.Tellings.{latest_at}
+use Rattle.trdp_net.proofs.TellingLemmas.{latest_at}
 use Rattle.trdp_net.proofs.told.latest.Goals as goal
 
 pub returns-in-Some : goal.returns-in-Some

@@ -2,7 +2,8 @@ use Rattle.std.proofs.Common.{◌+◌, sym, subst}
 use Rattle.trdp_daemon.specs.declared.totals.Totals.{Totals}
 use Rattle.trdp_program.specs.Attending.{WritesUpTo}
 use Rattle.trdp_program.specs.Serving.{CountsTurns}
-use Rattle.trdp_program.proofs.Attending.{counts_served, front_more, line_more, no_lines, when_err}
+use Rattle.trdp_program.proofs.AttendLemmas.{counts_served, front_more, line_more, no_lines}
+use Rattle.trdp_program.proofs.AttendLemmas.{when_err}
 use Rattle.trdp_program.proofs.attend.attend_lines.Goals as goal
 
 pub loop-line-init : goal.loop-line-init

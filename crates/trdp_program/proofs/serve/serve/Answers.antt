@@ -1,5 +1,5 @@
 use Rattle.std.proofs.Common.{rules}
-use Rattle.trdp_program.proofs.Serving.{early_fault, memory_fault}
+use Rattle.trdp_program.proofs.ServeLemmas.{early_fault, memory_fault}
 use Rattle.trdp_program.proofs.serve.serve.Goals as goal
 
 pub returns-in_err-wire-clause-err : goal.returns-in_err-wire-clause-err

@@ -1,5 +1,5 @@
 use Rattle.std.proofs.Common.{sym, ◌∙◌}
-use Rattle.trdp_program.proofs.FaultLines.{told}
+use Rattle.trdp_program.proofs.FaultLineLemmas.{told}
 use Rattle.trdp_program.proofs.told.tell_fault.Goals as goal
 
 pub returns-then-is_ok : goal.returns-then-is_ok

@@ -1,6 +1,6 @@
 use Rattle.std.proofs.Common.{◌≡◌, ◌≤◌, ◌^◌, ◌-◌, arith, inl, inr, refl, false, nat_le}
 use Rattle.std.proofs.lemmas.Bool.Decides.{nat_tests}
-use Rattle.trdp_daemon.proofs.Resting.{early_none, early_more, early_rest, served_until}
+use Rattle.trdp_daemon.proofs.RestLemmas.{early_none, early_more, early_rest, served_until}
 use Rattle.trdp_daemon.proofs.daemon.Daemon.attend.Goals as goal
 
 pub loop-turn-init : goal.loop-turn-init

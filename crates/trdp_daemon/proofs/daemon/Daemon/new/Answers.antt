@@ -1,4 +1,4 @@
-use Rattle.trdp_daemon.proofs.Daemons.{served_none}
+use Rattle.trdp_daemon.proofs.DaemonLemmas.{served_none}
 use Rattle.trdp_daemon.proofs.daemon.Daemon.new.Goals as goal
 
 pub returns-in-Ok-new-clause-served : goal.returns-in-Ok-new-clause-served

@@ -1,6 +1,6 @@
 use Rattle.std.proofs.Common.{◌≡◌, arith, subst, ℕ}
 use Rattle.trdp_daemon.specs.Daemons.{TakesTurns}
-use Rattle.trdp_daemon.proofs.Daemons.{no_turns, turns_both, served_on}
+use Rattle.trdp_daemon.proofs.DaemonLemmas.{no_turns, turns_both, served_on}
 use Rattle.trdp_daemon.proofs.daemon.Daemon.run.Goals as goal
 
 pub loop-turn-init : goal.loop-turn-init

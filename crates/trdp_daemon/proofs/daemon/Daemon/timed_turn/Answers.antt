@@ -9,9 +9,9 @@ use Rattle.trdp_daemon.specs.Effects.{event_effect}
 use Rattle.trdp_daemon.specs.Resting.{TakesTurnAt}
 use Rattle.trdp_daemon.specs.Services.{ComesWith, TakesAtPorts, service_state}
 use Rattle.trdp_daemon.specs.Told.{TellsMore}
-use Rattle.trdp_daemon.proofs.Daemons.{daemon_of}
-use Rattle.trdp_daemon.proofs.Resting.{turn_at}
-use Rattle.trdp_daemon.proofs.Turns.{turn_taken, visits_none, visits_next}
+use Rattle.trdp_daemon.proofs.DaemonLemmas.{daemon_of}
+use Rattle.trdp_daemon.proofs.RestLemmas.{turn_at}
+use Rattle.trdp_daemon.proofs.TurnLemmas.{turn_taken, visits_none, visits_next}
 use Rattle.trdp_daemon.proofs.daemon.Daemon.timed_turn.Goals as goal
 
 pub loop-i-init : goal.loop-i-init

@@ -1,4 +1,4 @@
-use Rattle.trdp_daemon.proofs.Daemons.{served_on}
+use Rattle.trdp_daemon.proofs.DaemonLemmas.{served_on}
 use Rattle.trdp_daemon.proofs.daemon.Daemon.turn.Goals as goal
 
 pub returns-clause-turn : goal.returns-clause-turn

@@ -2,8 +2,8 @@ use Rattle.std.proofs.Common.{◌≡◌, [], ◌∷◌, ◌++◌, ◌∙◌, ap,
 use Rattle.trdp_daemon.specs.Rows.{row_taking}
 use Rattle.trdp_daemon.specs.contracts.memory_wire.MemoryWire.{the_view}
 use Rattle.trdp_daemon.specs.MemoryWires.{ArrivalModel, with_arrival}
-use Rattle.trdp_daemon.proofs.MemoryWires.{arrival_laid}
-use Rattle.trdp_daemon.proofs.TakeRows.{takings_more, within_more}
+use Rattle.trdp_daemon.proofs.MemoryWireLemmas.{arrival_laid}
+use Rattle.trdp_daemon.proofs.TakeRowLemmas.{takings_more, within_more}
 use Rattle.trdp_daemon.proofs.memory_wire.MemoryWire.arrive.Goals as goal
 
 pub invariant_of-self-2 : goal.invariant_of-self-2

@@ -1,6 +1,6 @@
 use Rattle.std.proofs.Common.{◌∙◌, ap}
 use Rattle.std.specs.List.{flat_map}
-use Rattle.trdp_daemon.proofs.GiveRows.{gives_bytes}
+use Rattle.trdp_daemon.proofs.GiveRowLemmas.{gives_bytes}
 use Rattle.trdp_daemon.proofs.memory_wire.MemoryWire.bytes.Goals as goal
 
 pub returns : goal.returns

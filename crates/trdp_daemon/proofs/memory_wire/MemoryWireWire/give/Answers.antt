@@ -4,8 +4,9 @@ use Rattle.trdp_daemon.specs.contracts.memory_wire.MemoryWire.{the_view}
 use Rattle.trdp_daemon.specs.MemoryWires.{after_give, is_failing, is_give_beyond, next_give_fails}
 use Rattle.trdp_daemon.specs.Rows.{gives_of}
 use Rattle.trdp_daemon.specs.Told.{Give, give_of, offer_to}
-use Rattle.trdp_daemon.proofs.GiveRows.{gives_many}
-use Rattle.trdp_daemon.proofs.MemoryWires.{fails_beyond, fails_within, give_beyond, give_within}
+use Rattle.trdp_daemon.proofs.GiveRowLemmas.{gives_many}
+use Rattle.trdp_daemon.proofs.MemoryWireLemmas.{fails_beyond, fails_within, give_beyond}
+use Rattle.trdp_daemon.proofs.MemoryWireLemmas.{give_within}
 use Rattle.trdp_daemon.proofs.memory_wire.MemoryWireWire.give.Goals as goal
 
 pub returns-then-is_give_beyond-clause-fails : goal.returns-then-is_give_beyond-clause-fails

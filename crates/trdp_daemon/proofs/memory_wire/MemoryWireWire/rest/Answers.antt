@@ -2,8 +2,8 @@ use Rattle.std.proofs.Common.{◌≡◌, ◌<◌, ◌∙◌, [], ◌∷◌, ◌+
 use Rattle.trdp_daemon.specs.contracts.memory_wire.MemoryWire.{the_view}
 use Rattle.trdp_daemon.specs.declared.rows.Rest.{Rest}
 use Rattle.trdp_daemon.specs.MemoryWires.{MemoryWireState, after_rest, rest_of}
-use Rattle.trdp_daemon.proofs.MemoryWires.{rest_beyond, rest_within}
-use Rattle.trdp_daemon.proofs.TakeRows.{many_takings}
+use Rattle.trdp_daemon.proofs.MemoryWireLemmas.{rest_beyond, rest_within}
+use Rattle.trdp_daemon.proofs.TakeRowLemmas.{many_takings}
 use Rattle.trdp_daemon.proofs.memory_wire.MemoryWireWire.rest.Goals as goal
 
 pub returns-then-len-capacity-clause-after : goal.returns-then-len-capacity-clause-after

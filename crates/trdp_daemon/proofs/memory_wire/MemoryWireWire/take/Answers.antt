@@ -7,8 +7,9 @@ use Rattle.trdp_daemon.specs.declared.rows.TakeRow.{TakeRow}
 use Rattle.trdp_daemon.specs.Ports.{is_port}
 use Rattle.trdp_daemon.specs.Rows.{IsLaidDown, arrived_of}
 use Rattle.trdp_daemon.specs.Told.{arrived_in, taking_of}
-use Rattle.trdp_daemon.proofs.MemoryWires.{arrival_beyond, arrival_within, take_beyond, take_within}
-use Rattle.trdp_daemon.proofs.TakeRows.{takes_rows, takings_push, within_row, many_takings}
+use Rattle.trdp_daemon.proofs.MemoryWireLemmas.{arrival_beyond, arrival_within, take_beyond}
+use Rattle.trdp_daemon.proofs.MemoryWireLemmas.{take_within}
+use Rattle.trdp_daemon.proofs.TakeRowLemmas.{takes_rows, takings_push, within_row, many_takings}
 use Rattle.trdp_daemon.proofs.memory_wire.MemoryWireWire.take.Goals as goal
 
 pub returns-then-len-capacity-clause-arrived : goal.returns-then-len-capacity-clause-arrived

@@ -2,9 +2,10 @@ use Rattle.std.proofs.Common.{[], refl, sym, ◌∙◌, ap, rules, Err}
 use Rattle.trdp_engine.specs.NodeStates.{uncounted}
 use Rattle.trdp_model.specs.Events.{event_model}
 use Rattle.trdp_script.proofs.PlayLemmas.Played.{node_played}
-use Rattle.trdp_daemon.proofs.Steps.{node_refused, records_played, records_refused}
-use Rattle.trdp_daemon.proofs.Services.{comes_lost, comes_told, missed, no_records, records_told}
-use Rattle.trdp_daemon.proofs.Tellings.{tells_none}
+use Rattle.trdp_daemon.proofs.StepLemmas.{node_refused, records_played, records_refused}
+use Rattle.trdp_daemon.proofs.ServiceLemmas.{comes_lost, comes_told, missed, no_records}
+use Rattle.trdp_daemon.proofs.ServiceLemmas.{records_told}
+use Rattle.trdp_daemon.proofs.TellingLemmas.{tells_none}
 use Rattle.trdp_daemon.proofs.service.Service.take_event.Goals as goal
 
 pub returns-in-Ok-clause-node : goal.returns-in-Ok-clause-node

@@ -2,8 +2,9 @@ use Rattle.std.proofs.Common.{Some, None, ◌∙◌, ap}
 use Rattle.trdp_model.specs.Events.{event_model}
 use Rattle.trdp_script.specs.PortLines.{operator_line_of}
 use Rattle.trdp_daemon.specs.Visits.{operator_text}
-use Rattle.trdp_daemon.proofs.Services.{comes_answered, comes_unanswered}
-use Rattle.trdp_daemon.proofs.Visits.{reads_ok, operator_refused, operator_skipped, operator_took}
+use Rattle.trdp_daemon.proofs.ServiceLemmas.{comes_answered, comes_unanswered}
+use Rattle.trdp_daemon.proofs.VisitLemmas.{reads_ok, operator_refused, operator_skipped}
+use Rattle.trdp_daemon.proofs.VisitLemmas.{operator_took}
 use Rattle.trdp_daemon.proofs.service.Service.take_operator.Goals as goal
 
 pub returns-in-Ok-clause-comes : goal.returns-in-Ok-clause-comes

@@ -1,9 +1,10 @@
 use Rattle.std.proofs.Common.{rules}
 use Rattle.trdp_engine.specs.NodeStates.{uncounted}
 use Rattle.trdp_daemon.specs.Services.{service_state}
-use Rattle.trdp_daemon.proofs.Turns.{Asked, asked_control, asked_other, port_passed, port_taken}
-use Rattle.trdp_daemon.proofs.Visits.{visited_nothing, visited_datagram}
-use Rattle.trdp_daemon.proofs.Visits.{at_pd, at_md, at_operator, at_control}
+use Rattle.trdp_daemon.proofs.TurnLemmas.{Asked, asked_control, asked_other, port_passed}
+use Rattle.trdp_daemon.proofs.TurnLemmas.{port_taken}
+use Rattle.trdp_daemon.proofs.VisitLemmas.{visited_nothing, visited_datagram}
+use Rattle.trdp_daemon.proofs.VisitLemmas.{at_pd, at_md, at_operator, at_control}
 use Rattle.trdp_daemon.proofs.service.Service.visit.Goals.{in-Control, in_default}
 use Rattle.trdp_daemon.proofs.service.Service.visit.Goals as goal
 

@@ -8,7 +8,7 @@ use Rattle.trdp_dataset.specs.Faults.{IsFaultOf, RefusedAs, fault_in}
 use Rattle.trdp_dataset.specs.Configs.{datasets_in, config_in, config_fault_of, config_of}
 use Rattle.trdp_dataset.proofs.FaultLemmas.{err_answers, err_alone}
 use Rattle.std.proofs.Common.{List, None}
-use Rattle.trdp_dataset.proofs.SlotNumbers.{slots_counted, spare_counted}
+use Rattle.trdp_dataset.proofs.SlotNumberLemmas.{slots_counted, spare_counted}
 use Rattle.trdp_dataset.proofs.MeaningLemmas.{reads}
 use Rattle.trdp_dataset.proofs.config.NodeConfig.from_toml.Goals as goal
 

@@ -1,7 +1,7 @@
 use Rattle.std.proofs.Common.{List, Some, Option, option_map, Vec, Global, ap, ◌∙◌}
 use Rattle.trdp_dataset.specs.declared.element.Element.{Element}
 use Rattle.trdp_dataset.specs.Datasets.{DatasetModel, elements_of}
-use Rattle.trdp_dataset.proofs.Lookups.{elements_stored}
+use Rattle.trdp_dataset.proofs.LookupLemmas.{elements_stored}
 use Rattle.trdp_dataset.proofs.datasets.Datasets.elements.Goals as goal
 
 pub returns-in-Some : goal.returns-in-Some

@@ -1,5 +1,5 @@
 use Rattle.std.proofs.Common.{◌∙◌}
-use Rattle.trdp_dataset.proofs.Lookups.{known_stored, id_found_if}
+use Rattle.trdp_dataset.proofs.LookupLemmas.{known_stored, id_found_if}
 use Rattle.trdp_dataset.proofs.datasets.Datasets.index_of.Goals as goal
 
 pub returns-clause-found : goal.returns-clause-found

@@ -1,5 +1,5 @@
 use Rattle.std.proofs.Common.{refl, sym, ◌∙◌}
-use Rattle.trdp_dataset.proofs.Lookups.{known_stored, pushed}
+use Rattle.trdp_dataset.proofs.LookupLemmas.{known_stored, pushed}
 use Rattle.trdp_dataset.proofs.datasets.Datasets.push.Goals as goal
 
 pub returns-then-contains_key-clause-twice : goal.returns-then-contains_key-clause-twice

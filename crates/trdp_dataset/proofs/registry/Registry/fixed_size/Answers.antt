@@ -1,6 +1,6 @@
 use Rattle.std.proofs.Common.{◌≤◌, ℕ, Some, sym, ap, ◌∙◌, subst}
-use Rattle.trdp_dataset.proofs.Lookups.{size_found}
-use Rattle.trdp_dataset.proofs.FixedRows.{unknown_fixed, fixed_found, fixed_when, fixed_unless}
+use Rattle.trdp_dataset.proofs.LookupLemmas.{size_found}
+use Rattle.trdp_dataset.proofs.FixedRowLemmas.{unknown_fixed, fixed_found, fixed_when, fixed_unless}
 use Rattle.trdp_dataset.proofs.registry.Registry.fixed_size.Goals as goal
 
 pub returns-then-index-clause-value : goal.returns-then-index-clause-value

@@ -3,7 +3,7 @@ use Rattle.trdp_marshal.specs.Items.{model_of}
 use Rattle.trdp_model.specs.Configs.{setup_of}
 use Rattle.trdp_store.specs.TableSlots.{slots_of}
 use Rattle.trdp_model.specs.Values.{valued, valued_at}
-use Rattle.trdp_model.proofs.FitEvents.{valued_at_fits}
+use Rattle.trdp_model.proofs.FitEventLemmas.{valued_at_fits}
 use Rattle.trdp_engine.proofs.ActLemmas.OneSlot.{became_parts, became_appends, became_count}
 use Rattle.trdp_model.proofs.StepLemmas.{outcomes_fit}
 use Rattle.trdp_engine.proofs.node.Node.put_value.Goals as goal

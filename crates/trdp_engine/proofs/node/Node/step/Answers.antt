@@ -2,7 +2,7 @@ use Rattle.std.proofs.Common.{length, refl, ap, sym, ◌∙◌, arith}
 use Rattle.trdp_engine.specs.NodeStates.{uncounted}
 use Rattle.trdp_model.specs.Events.{event_model}
 use Rattle.trdp_engine.proofs.CostLemmas.Bounds.{bounded_none, bounded_if}
-use Rattle.trdp_model.proofs.AddedSlots.{added_alone, added_appends, added_count}
+use Rattle.trdp_model.proofs.AddedSlotLemmas.{added_alone, added_appends, added_count}
 use Rattle.trdp_model.proofs.StepLemmas.{steps_alone, taken_alone, appends_at, appends_none}
 use Rattle.trdp_model.proofs.StepLemmas.{always, unchanged_each}
 use Rattle.trdp_model.proofs.ViewLemmas.{slots_stay}

@@ -1,4 +1,4 @@
-use Rattle.trdp_model.proofs.AddedSlots.{opening_fits}
+use Rattle.trdp_model.proofs.AddedSlotLemmas.{opening_fits}
 use Rattle.trdp_store.proofs.StoreLemmas.OpenedSlots.{slots_opened}
 use Rattle.trdp_engine.proofs.node.Node.step_add_slot.Goals as goal
 

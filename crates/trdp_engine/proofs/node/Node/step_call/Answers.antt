@@ -4,7 +4,7 @@ use Rattle.trdp_model.specs.Events.{CallIs, call_model}
 use Rattle.trdp_store.specs.TableSlots.{slots_of}
 use Rattle.trdp_model.specs.Calls.{called}
 use Rattle.trdp_model.specs.Alone.{plain_effect}
-use Rattle.trdp_model.proofs.FitEvents.{plain_call_fits}
+use Rattle.trdp_model.proofs.FitEventLemmas.{plain_call_fits}
 use Rattle.trdp_engine.proofs.CostLemmas.Bounds.{bounded_none}
 use Rattle.trdp_engine.proofs.ActLemmas.OneSlot.{became_parts, became_appends, became_count}
 use Rattle.trdp_model.proofs.StepLemmas.{outcomes_fit}

@@ -10,7 +10,7 @@ use Rattle.trdp_store.specs.TableSlots.{slots_of}
 use Rattle.trdp_store.proofs.StoreLemmas.Slots.{slots_length}
 use Rattle.trdp_model.specs.Configs.{setup_of}
 use Rattle.trdp_model.specs.Datagrams.{telegram_of, is_request, received_if, requested, handed}
-use Rattle.trdp_model.proofs.FitEvents.{received_fits}
+use Rattle.trdp_model.proofs.FitEventLemmas.{received_fits}
 use Rattle.trdp_model.proofs.StepLemmas.{has_outcome, outcomes_fit, unchanged_each, appends_none}
 use Rattle.trdp_engine.specs.Costs.{meant_of}
 use Rattle.trdp_engine.proofs.ActLemmas.OneSlot.{same_count}

@@ -9,7 +9,7 @@ use Rattle.trdp_model.specs.Configs.{setup_of}
 use Rattle.trdp_store.specs.TableSlots.{slots_of}
 use Rattle.trdp_model.specs.Moments.{moved_to}
 use Rattle.trdp_model.proofs.FitLemmas.{each_sound}
-use Rattle.trdp_model.proofs.FitEvents.{moved_fits}
+use Rattle.trdp_model.proofs.FitEventLemmas.{moved_fits}
 use Rattle.trdp_engine.proofs.ActLemmas.OneSlot.{same_count, lacks_due}
 use Rattle.trdp_model.proofs.StepLemmas.{has_outcome, outcomes_fit}
 use Rattle.trdp_engine.proofs.node.Node.step_moment.Goals as goal

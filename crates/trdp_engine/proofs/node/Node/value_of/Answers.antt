@@ -1,7 +1,7 @@
 use Rattle.std.proofs.Common.{◌<◌, length, arith}
 use Rattle.trdp_model.specs.Configs.{setup_of}
 use Rattle.trdp_store.specs.Acting.{slot_at}
-use Rattle.trdp_model.proofs.FitEvents.{subscription_fits}
+use Rattle.trdp_model.proofs.FitEventLemmas.{subscription_fits}
 use Rattle.trdp_store.proofs.StoreLemmas.Slots.{slot_there}
 use Rattle.trdp_engine.proofs.node.Node.value_of.Goals as goal
 

@@ -1,5 +1,5 @@
 use Rattle.std.proofs.Common.{arith, ◌∙◌}
-use Rattle.trdp_fcs.proofs.Pieces.{check_goes_on}
+use Rattle.trdp_fcs.proofs.PieceLemmas.{check_goes_on}
 use Rattle.trdp_fcs.proofs.running.Running.feed.Goals as goal
 
 pub returns : goal.returns

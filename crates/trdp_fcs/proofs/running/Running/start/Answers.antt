@@ -1,4 +1,4 @@
-use Rattle.trdp_fcs.proofs.Pieces.{check_of_none}
+use Rattle.trdp_fcs.proofs.PieceLemmas.{check_of_none}
 use Rattle.trdp_fcs.proofs.running.Running.start.Goals as goal
 
 pub returns : goal.returns

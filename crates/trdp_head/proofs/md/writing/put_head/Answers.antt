@@ -8,7 +8,7 @@ use Rattle.trdp_head.specs.Fields.{be_bytes}
 use Rattle.trdp_head.specs.Prefixes.{prefix_bytes}
 use Rattle.trdp_head.specs.MdBytes.{md_head_bytes}
 use Rattle.trdp_head.proofs.MdBytesLemmas.{uri_held}
-use Rattle.trdp_head.proofs.PartWrites.{more}
+use Rattle.trdp_head.proofs.PartWriteLemmas.{more}
 use Rattle.trdp_head.proofs.md.writing.put_head.Goals as goal
 
 pub returns-clause-ranges : goal.returns-clause-ranges

@@ -2,7 +2,7 @@ use Rattle.std.proofs.Common.{ap, ◌∙◌, ℕ}
 use Rattle.trdp_head.specs.declared.prefix.Prefix.{Prefix}
 use Rattle.trdp_head.specs.Prefixes.{prefix_bytes}
 use Rattle.trdp_head.specs.PdBytes.{pd_head_bytes}
-use Rattle.trdp_head.proofs.PartWrites.{more}
+use Rattle.trdp_head.proofs.PartWriteLemmas.{more}
 use Rattle.trdp_head.proofs.pd.writing.put_head.Goals as goal
 
 pub returns-clause-front : goal.returns-clause-front

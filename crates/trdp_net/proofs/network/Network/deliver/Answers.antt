@@ -3,7 +3,7 @@ use Rattle.trdp_net.specs.Networks.{Sent, delivered}
 use Rattle.trdp_net.specs.Running.{NetworkState, Shows, DeliversAt}
 use Rattle.trdp_net.specs.Tellings.{all_sent, latest}
 use Rattle.trdp_net.specs.declared.told.Told.{Told}
-use Rattle.trdp_net.proofs.Running.{shows_delivery, pushed}
+use Rattle.trdp_net.proofs.RunningLemmas.{shows_delivery, pushed}
 use Rattle.trdp_net.proofs.network.Network.deliver.Goals as goal
 
 pub returns-clause-follows : goal.returns-clause-follows

@@ -4,7 +4,7 @@ use Rattle.trdp_net.specs.Networks.{moves_at}
 use Rattle.trdp_net.specs.Running.{NetworkState, Shows}
 use Rattle.trdp_net.specs.Tellings.{all_sent, latest}
 use Rattle.trdp_net.specs.declared.told.Told.{Told}
-use Rattle.trdp_net.proofs.Running.{shows_move, pushed}
+use Rattle.trdp_net.proofs.RunningLemmas.{shows_move, pushed}
 use Rattle.std.proofs.Common.{slice_get}
 use Rattle.trdp_net.proofs.network.Network.take_any.Goals as goal
 

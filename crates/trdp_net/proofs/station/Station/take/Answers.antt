@@ -3,7 +3,7 @@ use Rattle.trdp_engine.specs.NodeStates.{uncounted}
 use Rattle.trdp_model.specs.Events.{event_model}
 use Rattle.trdp_model.specs.Alone.{refused_as}
 use Rattle.trdp_net.specs.declared.told.Told.{Told}
-use Rattle.trdp_net.proofs.Running.{admitted_by, takes}
+use Rattle.trdp_net.proofs.RunningLemmas.{admitted_by, takes}
 use Rattle.trdp_net.proofs.station.Station.take.Goals as goal
 
 pub returns-clause-taken : goal.returns-clause-taken

@@ -1,6 +1,6 @@
 use Rattle.std.proofs.Common.{◌-◌}
 use Rattle.trdp_net.specs.Tellings.{sent_in, sent_in_slots}
-use Rattle.trdp_net.proofs.Tellings.{Remains}
+use Rattle.trdp_net.proofs.TellingLemmas.{Remains}
 use Rattle.trdp_net.proofs.told.Told.seek.Given as goal
 
 abbrev pub invariant-loop-slot : goal.invariant-loop-slot

@@ -1,6 +1,6 @@
 use Rattle.std.proofs.Common.{drop}
 use Rattle.trdp_net.specs.Tellings.{sent_in_slot}
-use Rattle.trdp_net.proofs.Tellings.{Remains}
+use Rattle.trdp_net.proofs.TellingLemmas.{Remains}
 use Rattle.trdp_net.proofs.told.Told.seek_in_slot.Given as goal
 
 abbrev pub invariant-loop-i : goal.invariant-loop-i

@@ -1,0 +1,79 @@
+-- The control ports of slots, one after another.
+-- For `ports_of`, `push_control` and `control_number`, and for `EachPortLemmas`.
+-- By a loop's invariant: the ports so far, and one for each number of those left.
+use Rattle.std.proofs.Common.{◌≡◌, suc, ◌+◌, ◌<◌, ℕ, List, [], ◌∷◌, ◌++◌, Some, None}
+use Rattle.std.proofs.Common.{refl, sym, ◌∙◌, ap, arith, append_assoc, append-nil, length, drop}
+use Rattle.std.proofs.Common.{zero, map}
+use Rattle.std.specs.Prelude.{slice_get}
+use Rattle.std.specs.Option.{option_map}
+use Rattle.std.proofs.lemmas.List.{drop_all}
+use Rattle.std.proofs.lemmas.Option.{slice_get-get_or}
+use Rattle.trdp_dataset.specs.Configs.{SlotModel, ConfigModel}
+use Rattle.trdp_outbox.proofs.SlotOrderLemmas.Rising.{drop_get}
+use Rattle.trdp_daemon.specs.declared.port.Port.{Port}
+use Rattle.trdp_daemon.specs.declared.port.Port.TheVariants.{Control, Pd, Md, Operator}
+use Rattle.trdp_daemon.specs.Ports.{port_unless_0, control_numbers, control_ports, ports_of}
+
+ports_cons : (i number : ℕ) (numbers : List ℕ) → control_ports i (number ∷ numbers)
+    ≡ port_unless_0 number (Control i) ++ control_ports (i + 1) numbers
+unfolding control_ports
+ports_cons i number numbers = let next : suc i ≡ i + 1 = omega arith in
+    ap (λ n. port_unless_0 number (Control i) ++ control_ports n numbers) next
+
+pub ports_end : (i : ℕ) (numbers : List ℕ) (ports all : List Port)
+    → length numbers ≡ i → ports ++ control_ports i (drop i numbers) ≡ all → ports ≡ all
+unfolding control_ports
+ports_end i numbers ports all end whole =
+    let none : drop i numbers ≡ [] = drop_all i numbers (omega (arith, end)) in
+    sym (append-nil ports) ∙ ap (λ l. ports ++ control_ports i l) (sym none) ∙ whole
+
+-- one more slot
+pub ports_next : (numbers : List ℕ) (i number : ℕ) (before after : List Port)
+    → slice_get numbers i ≡ Some number
+    → after ≡ before ++ port_unless_0 number (Control i)
+    → after ++ control_ports (i + 1) (drop (i + 1) numbers)
+    ≡ before ++ control_ports i (drop i numbers)
+ports_next numbers i number before after here more =
+    let rest = control_ports (i + 1) (drop (i + 1) numbers) in
+    ap (λ l. l ++ rest) more ∙ append_assoc before (port_unless_0 number (Control i)) rest
+    ∙ ap (λ l. before ++ l) (sym (ap (control_ports i) (drop_get numbers i number here)
+    ∙ ports_cons i number (drop (i + 1) numbers)))
+
+-- below how many there are there is one
+pub no_slot : (numbers : List ℕ) (i : ℕ)
+    → i < length numbers → slice_get numbers i ≡ None → ⊥
+no_slot [] i below none = omega (arith, below)
+no_slot (number ∷ numbers) i below none =
+    let some = slice_get-get_or (number ∷ numbers) i number below in
+    cc
+
+-- the number of a control port stands among those of the slots, or behind them
+pub number_among : (slots : List SlotModel) (spare : List ℕ) (i : ℕ) → i < length slots
+    → slice_get (map (λ slot. slot.control_port) slots ++ spare) i
+    ≡ option_map (λ slot. slot.control_port) (slice_get slots i)
+number_among [] spare i below = absurd (omega (arith, below))
+number_among (slot ∷ slots) spare zero below = refl
+number_among (slot ∷ slots) spare (suc i) below =
+    number_among slots spare i (omega (arith, below))
+
+pub number_behind : (slots : List SlotModel) (spare : List ℕ) (i k : ℕ) → i ≡ length slots + k
+    → slice_get (map (λ slot. slot.control_port) slots ++ spare) i ≡ slice_get spare k
+number_behind [] spare i k is = let same : i ≡ k = omega (arith, is) in ap (slice_get spare) same
+number_behind (slot ∷ slots) spare zero k is = absurd (omega (arith, is))
+number_behind (slot ∷ slots) spare (suc i) k is =
+    number_behind slots spare i k (omega (arith, is))
+
+-- how many there are
+pub numbers_count : (slots : List SlotModel) (spare : List ℕ)
+    → length (map (λ slot. slot.control_port) slots ++ spare) ≡ length slots + length spare
+numbers_count [] spare = omega arith
+numbers_count (slot ∷ slots) spare = omega (arith, numbers_count slots spare)
+
+-- before the first slot
+pub ports_start : (config : ConfigModel) (items : List Port) (number : ℕ)
+    → number ≡ config.operator_port → items ≡ Pd ∷ Md ∷ port_unless_0 number Operator
+    → items ++ control_ports 0 (drop 0 (control_numbers config)) ≡ ports_of config
+unfolding ports_of
+ports_start config items number is start =
+    ap (λ l. l ++ control_ports 0 (control_numbers config)) start
+    ∙ ap (λ n. Pd ∷ Md ∷ (port_unless_0 n Operator ++ control_ports 0 (control_numbers config))) is

@@ -1,0 +1,135 @@
+-- A caller's answers: who made them, which await a confirmation, and when all have come.
+-- For `CallerMoveLemmas` and `CallerConfirmLemmas`, which it spares inductions on the answers.
+-- Each answer is kept with the move that told of it, by induction on the list.
+use Rattle.std.proofs.Common.{◌≡◌, ◌≤◌, List, [], ◌∷◌, length, map}
+use Rattle.std.proofs.Common.{Bool, true, false, refl, sym, subst, inl}
+use Rattle.std.proofs.Common.{inr}
+use Rattle.std.specs.Prelude.{◌&&◌, ◌||◌, if◌then◌else◌}
+use Rattle.std.specs.List.{list_any}
+use Rattle.trdp_base.specs.declared.place.Place.{Place}
+use Rattle.trdp_base.specs.declared.session.SessionId.{SessionId}
+use Rattle.trdp_head.specs.declared.md.MdKind.{MdKind}
+use Rattle.trdp_head.specs.declared.md.MdKind.TheVariants as message
+use Rattle.trdp_head.specs.MdTelegrams.{MdTelegram}
+use Rattle.trdp_md.specs.declared.answers.Answer.{Answer}
+use Rattle.trdp_md.specs.declared.caller.Caller.{Caller as AnyCaller}
+use Rattle.trdp_md.specs.declared.terms.CallerTerms.{CallerTerms}
+use Rattle.trdp_md.specs.Answers.{is_place, awaits, awaits_any}
+use Rattle.trdp_md.specs.Answers.{confirmed_if}
+use Rattle.trdp_md.specs.Callers.{is_answer, is_query}
+use Rattle.trdp_md.specs.Sessions.{IsDone}
+use Rattle.trdp_model.specs.declared.any_object.AnyObject.TheVariants.{Caller}
+use Rattle.trdp_model.specs.declared.record.Protocol.TheVariants.{Md}
+use Rattle.trdp_model.specs.Replies.{reply_of}
+use Rattle.trdp_net.specs.Networks.{Move, place_of}
+use Rattle.trdp_net.specs.Provenance.{Ever, Spot, Held}
+use Rattle.trdp_net.specs.Provenance.{IsAnsweredBySome, IsReplied, IsConfirmedAs}
+use Rattle.trdp_net.proofs.PartLemmas.{and_left, and_right}
+use Rattle.trdp_net.proofs.Kept.{AnswerKept, CallerKept, answer_later}
+use Rattle.trdp_net.proofs.Explained.{MessageBy}
+use Rattle.trdp_net.specs.Promises.{IsSettled, IsDoneDue}
+use Rattle.trdp_net.specs.Provenance.{Each}
+use Rattle.trdp_md.proofs.AnswerLemmas.{or_left, or_right}
+use Rattle.trdp_md.proofs.ConfirmLemmas.{place-is_place}
+
+-- the answer that came was made
+pub answer_origin : (kind : MdKind) (past : List Move) (from to : Place) (t : MdTelegram)
+    → is_answer kind ≡ true → MessageBy kind past from to t
+    → Ever (IsAnsweredBySome t.head.session (reply_of from t)) past
+unfolding is_answer
+answer_origin message.Notify past from to t is origin = absurd (cc)
+answer_origin message.Request past from to t is origin = absurd (cc)
+answer_origin message.Reply past from to t is origin = origin
+answer_origin message.Query past from to t is origin = origin
+answer_origin message.Error past from to t is origin = origin
+answer_origin message.Confirm past from to t is origin = absurd (cc)
+
+-- a query does await a confirmation when it comes
+pub query_owes : (kind : MdKind) → kind ≡ message.Query → is_query kind ≡ false → ⊥
+unfolding is_query
+query_owes kind is none =
+    let owed : is_query message.Query ≡ false = subst (λ (k : MdKind). is_query k ≡ false) is none
+    in absurd (cc)
+
+-- where none awaits a confirmation, all are settled
+settled : (past : List Move) (at : Spot) (session : SessionId) (home : Place)
+    (answers : List Answer) → awaits_any answers ≡ false
+    → Each (AnswerKept past at session home) answers
+    → Each (IsSettled past at session home) answers
+unfolding awaits_any
+settled past at session home [] none kept = tt
+settled past at session home (a ∷ answers) none kept = (
+  record {
+    replied = kept.0.replied;
+    confirmed = λ query. kept.0.confirmed query (or_left a.confirm_owed _ none);
+  },
+  settled past at session home answers (or_right a.confirm_owed _ none) kept.1,
+)
+
+-- the answer that awaits a confirmation is a query
+pub asked_there : (past : List Move) (at : Spot) (session : SessionId) (home place : Place)
+    (answers : List Answer) → Each (AnswerKept past at session home) answers
+    → awaits answers place ≡ true → Ever (IsReplied at session place message.Query) past
+unfolding awaits
+asked_there past at session home place [] kept is = absurd (cc)
+asked_there past at session home place (a ∷ answers) kept is =
+    here (is_place a.place place && a.confirm_owed) refl is
+    (λ later. asked_there past at session home place answers kept.1 later)
+  where
+    rest : Bool
+    rest = list_any (λ answer. is_place answer.place place && answer.confirm_owed) answers
+
+    here : (b : Bool) → (is_place a.place place && a.confirm_owed) ≡ b → (b || rest) ≡ true
+        → (rest ≡ true → Ever (IsReplied at session place message.Query) past)
+        → Ever (IsReplied at session place message.Query) past
+    here true both found later =
+        let query : a.kind ≡ message.Query =
+        kept.0.owes (and_right (is_place a.place place) a.confirm_owed both) in
+        let there : a.place ≡ place =
+        place-is_place a.place place (and_left (is_place a.place place) a.confirm_owed both) in
+        subst (λ (k : MdKind). Ever (IsReplied at session place k) past) query
+        (subst (λ (p : Place). Ever (IsReplied at session p a.kind) past) there kept.0.replied)
+    here false both found later = later found
+
+-- the answers of the place that this move confirms
+pub answers_confirmed : (past : List Move) (m : Move) (at : Spot) (session : SessionId)
+    (home place : Place) (answers : List Answer) → IsConfirmedAs at session home place m past
+    → Each (AnswerKept past at session home) answers
+    → Each (AnswerKept (m ∷ past) at session home) (map (confirmed_if place) answers)
+answers_confirmed past m at session home place [] made kept = tt
+answers_confirmed past m at session home place (a ∷ answers) made kept = (
+  one (is_place a.place place) refl,
+  answers_confirmed past m at session home place answers made kept.1,
+)
+  where
+    one : (b : Bool) → is_place a.place place ≡ b → AnswerKept (m ∷ past) at session home
+        (if b then record a { confirm_owed = false } else a)
+    one true is =
+        let there : place ≡ a.place = sym (place-is_place a.place place is) in
+        record {
+          replied = inr kept.0.replied;
+          owes = λ owed. absurd (cc owed);
+          confirmed = λ query none.
+              inl (subst (λ (p : Place). IsConfirmedAs at session home p m past) there made);
+        }
+    one false is = answer_later past m at session home a kept.0
+
+-- a caller that is done
+pub done_by : (past : List Move) (m : Move) (at : Spot) (c : AnyCaller) (after : AnyCaller)
+    → Held at (Caller c) m → after.terms ≡ c.terms → IsDone after
+    → CallerKept (m ∷ past) m.before.setup at after → IsDoneDue m past at
+done_by past m at c after held terms done kept = record {
+  c = c;
+  held = held;
+  answers = after.answers;
+  enough = subst (λ (t : CallerTerms). t.expected ≤ length after.answers) terms done.enough;
+  some = done.some;
+  apart = kept.apart;
+  settled =
+      subst
+      (λ (t : CallerTerms).
+      Each (IsSettled (m ∷ past) at t.session (place_of Md m.before.setup)) after.answers)
+      terms
+      (settled (m ∷ past) at after.terms.session (place_of Md m.before.setup) after.answers
+      done.none_owed kept.answers);
+}
