@@ -104,12 +104,17 @@ fn put_each(rt: &(impl Abort + AllocGlobal), bench: &mut NodeBench) -> Result<()
     bench.tells(rt, "")
 }
 
+/// Puts each item, and asserts what a pull request is answered with then.
+fn put_and_pull(rt: &(impl Abort + AllocGlobal), bench: &mut NodeBench) -> Result<(), Fail> {
+    put_each(rt, bench)?;
+    bench.take(rt.alloc(), PULL)?;
+    bench.tells(rt, PULLED)
+}
+
 #[test]
 fn items_are_put_as_their_bytes(rt: HostRuntime) -> Result<(), Fail> {
     let mut bench = NodeBench::after(rt.alloc(), CONFIG, &OBJECTS)?;
-    put_each(&rt, &mut bench)?;
-    bench.take(rt.alloc(), PULL)?;
-    bench.tells(&rt, PULLED)
+    put_and_pull(&rt, &mut bench)
 }
 
 /// The data of comId 100 with counter 7, which carries the same.
@@ -157,12 +162,17 @@ fn shows(rt: &(impl Abort + AllocGlobal), node: &Node, count: u16) -> Result<(),
     Ok(())
 }
 
+/// Asserts what a node shows before the data has come, and then.
+fn show_data(rt: &(impl Abort + AllocGlobal), bench: &mut NodeBench) -> Result<(), Fail> {
+    unseen(rt, &bench.node);
+    shows(rt, &bench.node, 0)?;
+    bench.take(rt.alloc(), DATA)?;
+    same(rt, "its bytes", is_data(bench.node.peek(0, 4)), true);
+    shows(rt, &bench.node, 2)
+}
+
 #[test]
 fn a_subscription_shows_its_bytes_and_their_item(rt: HostRuntime) -> Result<(), Fail> {
     let mut bench = NodeBench::after(rt.alloc(), CONFIG, &OBJECTS)?;
-    unseen(&rt, &bench.node);
-    shows(&rt, &bench.node, 0)?;
-    bench.take(rt.alloc(), DATA)?;
-    same(&rt, "its bytes", is_data(bench.node.peek(0, 4)), true);
-    shows(&rt, &bench.node, 2)
+    show_data(&rt, &mut bench)
 }
