@@ -4,7 +4,7 @@
 //! half before it or behind it. The rows of a comId are found by two searches, for the first of
 //! them, and for the first behind them among the rows from there on.
 
-use crate::node_bench::NodeBench;
+use crate::node_bench::{NodeBench, lend};
 use crate::same::same;
 use crate::two_slots::CONFIG;
 use std::alloc::Global;
@@ -102,8 +102,8 @@ fn cost(bench: &mut NodeBench, alloc: Global, line: &str) -> Result<[u64; 3], Fa
 
 /// What the datagram of the row costs the node.
 fn counts_of(alloc: Global, row: &Costing) -> Result<[u64; 3], Fail> {
-    let mut bench = NodeBench::after(alloc, CONFIG, row.before)?;
-    cost(&mut bench, alloc, row.datagram)
+    let bench = NodeBench::after(alloc, CONFIG, row.before);
+    lend(bench, |bench| cost(bench, alloc, row.datagram))
 }
 
 #[test]

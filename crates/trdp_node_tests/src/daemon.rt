@@ -49,6 +49,20 @@ impl MemoryDaemon {
     }
 }
 
+/// Lends a daemon to a call, and answers whether there was one. What owns a daemon has it to drop,
+/// which takes long to prove: this is the one function that does.
+pub fn lend<F: Fn(&mut MemoryDaemon)>(daemon: Option<MemoryDaemon>, call: F) -> bool
+    requires { F.IsAlwaysCallable call }
+{
+    match daemon {
+        Some(mut daemon) => {
+            call(&mut daemon);
+            true
+        }
+        None => false,
+    }
+}
+
 /// Totals without want of memory.
 pub const fn totals(taken: u64, offered: u64, lost: u64, unread: u64) -> Totals {
     Totals {

@@ -1,6 +1,6 @@
 //! Values that are handed over and shown as items, and the look at a subscription from outside.
 
-use crate::node_bench::NodeBench;
+use crate::node_bench::{NodeBench, lend};
 use crate::same::same;
 use std::alloc::{AllocError, Global};
 use std::process::Abort;
@@ -113,8 +113,8 @@ fn put_and_pull(rt: &(impl Abort + AllocGlobal), bench: &mut NodeBench) -> Resul
 
 #[test]
 fn items_are_put_as_their_bytes(rt: HostRuntime) -> Result<(), Fail> {
-    let mut bench = NodeBench::after(rt.alloc(), CONFIG, &OBJECTS)?;
-    put_and_pull(&rt, &mut bench)
+    let bench = NodeBench::after(rt.alloc(), CONFIG, &OBJECTS);
+    lend(bench, |bench| put_and_pull(&rt, bench))
 }
 
 /// The data of comId 100 with counter 7, which carries the same.
@@ -173,6 +173,6 @@ fn show_data(rt: &(impl Abort + AllocGlobal), bench: &mut NodeBench) -> Result<(
 
 #[test]
 fn a_subscription_shows_its_bytes_and_their_item(rt: HostRuntime) -> Result<(), Fail> {
-    let mut bench = NodeBench::after(rt.alloc(), CONFIG, &OBJECTS)?;
-    show_data(&rt, &mut bench)
+    let bench = NodeBench::after(rt.alloc(), CONFIG, &OBJECTS);
+    lend(bench, |bench| show_data(&rt, bench))
 }

@@ -1,6 +1,6 @@
 //! The node's calls that no line makes.
 
-use crate::node_bench::NodeBench;
+use crate::node_bench::{NodeBench, lend};
 use crate::same::same;
 use crate::two_slots::CONFIG;
 use std::process::Abort;
@@ -132,6 +132,6 @@ fn run_beside(rt: &(impl Abort + AllocGlobal), first: &mut NodeBench) -> Result<
 
 #[test]
 fn two_nodes_run_alike(rt: HostRuntime) -> Result<(), Fail> {
-    let mut first = NodeBench::new(rt.alloc(), CONFIG)?;
-    run_beside(&rt, &mut first)
+    let first = NodeBench::new(rt.alloc(), CONFIG);
+    lend(first, |first| run_beside(&rt, first))
 }

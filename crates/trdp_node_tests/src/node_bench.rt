@@ -40,13 +40,19 @@ impl NodeBench {
         }
     }
 
+    /// Hands the events of the lines to the node, and drops its records.
+    fn take_all(&mut self, alloc: Global, lines: &[&str]) -> Result<(), Fail> {
+        for line in lines {
+            self.take(alloc, line)?;
+        }
+        self.out.clear();
+        Ok(())
+    }
+
     /// A new node of that configuration that has taken the lines, and whose outbox is empty.
     pub fn after(alloc: Global, config: &[u8], lines: &[&str]) -> Result<NodeBench, Fail> {
         let mut bench = NodeBench::new(alloc, config)?;
-        for line in lines {
-            bench.take(alloc, line)?;
-        }
-        bench.out.clear();
+        bench.take_all(alloc, lines)?;
         Ok(bench)
     }
 
@@ -71,5 +77,19 @@ impl NodeBench {
         same(rt, "the records", str::from_utf8(&text)?, lines);
         self.out.clear();
         Ok(())
+    }
+}
+
+/// Lends a node to a call, and gives what that answers. What owns a node has it to drop, which
+/// takes long to prove: so tests hand it on to this one function.
+pub fn lend<T, F: Fn(&mut NodeBench) -> Result<T, Fail>>(
+    bench: Result<NodeBench, Fail>,
+    call: F,
+) -> Result<T, Fail>
+    requires { F.IsAlwaysCallable call }
+{
+    match bench {
+        Ok(mut bench) => call(&mut bench),
+        Err(fault) => Err(fault),
     }
 }

@@ -150,17 +150,26 @@ fn take(alloc: Global, node: &mut Node, line: &str, out: &mut Outbox) -> bool {
     }
 }
 
+/// Hands the events of lines to a node, and answers whether memory was there.
+fn take_all(alloc: Global, node: &mut Node, lines: &[&str]) -> bool {
+    let mut out = Outbox::new(alloc);
+    for line in lines {
+        if !take(alloc, node, line, &mut out) {
+            return false;
+        }
+    }
+    true
+}
+
 /// A node that has taken these lines; None for want of memory.
 fn node_after(alloc: Global, lines: &[&str]) -> Option<Node> {
     let config = NodeConfig::from_toml(alloc, CONFIG).ok()?;
     let mut node = Node::new(alloc, config).ok()?;
-    let mut out = Outbox::new(alloc);
-    for line in lines {
-        if !take(alloc, &mut node, line, &mut out) {
-            return None;
-        }
+    if take_all(alloc, &mut node, lines) {
+        Some(node)
+    } else {
+        None
     }
-    Some(node)
 }
 
 /// The node's moment, and how many records there are.

@@ -1,6 +1,6 @@
 //! A daemon that rests between its turns, over a wire that remembers each rest.
 
-use crate::daemon::{MemoryDaemon, totals};
+use crate::daemon::{MemoryDaemon, lend, totals};
 use crate::same::same;
 use std::alloc::Global;
 use std::process::Abort;
@@ -68,8 +68,6 @@ fn attends(rt: &(impl Abort + AllocGlobal), daemon: &mut MemoryDaemon) {
 
 #[test]
 fn rests_until_something_is_due(rt: HostRuntime) {
-    match publishing(rt.alloc()) {
-        Some(mut daemon) => attends(&rt, &mut daemon),
-        None => assert!(rt; false, "no memory"),
-    }
+    let is_there = lend(publishing(rt.alloc()), |daemon| attends(&rt, daemon));
+    assert!(rt; is_there, "no memory");
 }

@@ -1,6 +1,6 @@
 //! A daemon over a wire and a clock in memory, whose takes, gives and memory fail in turn.
 
-use crate::daemon::{MemoryDaemon, offers_are, totals, turns_give};
+use crate::daemon::{MemoryDaemon, lend, offers_are, totals, turns_give};
 use std::alloc::{AllocError, Global};
 use std::process::Abort;
 use trdp_base::{Ip, Place};
@@ -85,10 +85,9 @@ fn failing(
     turns: u32,
     wanted: (&[u8], Totals),
 ) {
-    match daemon(rt.alloc(), take, give) {
-        Some(mut daemon) => turns_give(rt, take, &mut daemon, turns, wanted),
-        None => assert!(rt; false, "no memory"),
-    }
+    let daemon = daemon(rt.alloc(), take, give);
+    let is_there = lend(daemon, |daemon| turns_give(rt, take, daemon, turns, wanted));
+    assert!(rt; is_there, "no memory");
 }
 
 #[test]
@@ -125,9 +124,10 @@ fn counts_its_loss(rt: &(impl Abort + AllocGlobal), daemon: &mut MemoryDaemon) {
 /// Passes whichever request for memory is refused: bench/refused_memory.py refuses each in turn.
 #[test]
 fn refused_memory_is_counted(rt: HostRuntime) {
-    if let Some(mut daemon) = daemon(rt.alloc(), 0, 0) {
-        counts_its_loss(&rt, &mut daemon);
-    }
+    lend(
+        daemon(rt.alloc(), 0, 0),
+        |daemon| counts_its_loss(&rt, daemon),
+    );
 }
 
 /// Asserts from where to where the offers of three turns went.
@@ -155,8 +155,6 @@ fn three_turns(rt: &(impl Abort + AllocGlobal), daemon: &mut MemoryDaemon) {
 
 #[test]
 fn offers_leave_from_their_ports(rt: HostRuntime) {
-    match daemon(rt.alloc(), 0, 0) {
-        Some(mut daemon) => three_turns(&rt, &mut daemon),
-        None => assert!(rt; false, "no memory"),
-    }
+    let is_there = lend(daemon(rt.alloc(), 0, 0), |daemon| three_turns(&rt, daemon));
+    assert!(rt; is_there, "no memory");
 }
