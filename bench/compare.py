@@ -1,10 +1,11 @@
 #!/usr/bin/env python3
-"""Whether one program is slower than another: the rows of script_lines.py, many_objects.py, serve.py and instructions.py for both.
+"""Whether one program needs more than another: the rows of instructions.py, many_objects.py and script_lines.py by instructions, which
+any machine counts the same, and those of serve.py by time.
 
-    bench/compare.py OTHER [PROGRAM]              some fifteen minutes; default: crates/trdpd/out/trdpd (./run prove builds it)
+    bench/compare.py OTHER [PROGRAM]              some ten minutes; default: crates/trdpd/out/trdpd (./run prove builds it)
 
-The two programs run in turns, so that an hour in which the machine is slow is slow for both, and of each the least time counts. A row has
-what OTHER and PROGRAM need, in the unit of its script, and how many times as much PROGRAM needs. rustc and valgrind must be on PATH.
+A row has what OTHER and PROGRAM need, instructions or microseconds, and how many times as much PROGRAM needs. Of times the least of seven
+runs counts, and the two run in turns, so that a while in which the machine is slow is slow for both. rustc and valgrind must be on PATH.
 """
 import sys
 import tempfile
@@ -15,63 +16,63 @@ import script_lines
 import serve
 
 ROUNDS = 7
-LINES = 1_000_000                                 # of a script of script_lines.py
-EQUAL_LINES = 400_000                             # of one of many_objects.py
 TURNS = 200_000                                   # of a program that serves
+LINES = 400                                       # of a script whose instructions are counted
 
 
-def tell(name, unit, costs):
+def tell(name, costs):
     other, program = costs
-    print(f"{name:46}{other:11.3f}{program:11.3f} {unit:13}{program / other:6.2f}", flush=True)
+    print(f"{name:50}{other:11.2f}{program:11.2f}{program / other:8.3f}", flush=True)
 
 
-def compare_scripts(programs):
-    """Nanoseconds a line of a long script."""
-    for name, lines in (("puts", script_lines.puts), ("mixed", script_lines.mixed)):
-        rounds = [[script_lines.play(it, lines(LINES))[0] for it in programs] for _ in range(ROUNDS)]
-        tell(f"script: {name}", "ns", [min(times) / LINES * 1e9 for times in zip(*rounds)])
+def count_lines(programs):
+    """Instructions of a line of each kind."""
+    for rows in zip(*map(instructions.measured, programs)):
+        tell(rows[0][0], [count for _, count in rows])
 
 
-def compare_objects(programs):
-    """Nanoseconds a line where slots have many objects."""
-    for objects, slots, rows in many_objects.measured(programs, EQUAL_LINES):
-        for name, costs in rows.items():
-            tell(f"{objects} objects in {slots} slots: {name}", "ns", costs)
+def count_objects(programs):
+    """Instructions of a line where slots have many objects."""
+    for objects, slots in many_objects.COUNTS:
+        for row in many_objects.rows(objects, slots, LINES):
+            costs = [instructions.cost(it, slots, row.opening, row.lines, row.count, row.acts) for it in programs]
+            tell(f"{row.name}, {objects} objects in {slots} slots", costs)
 
 
-def served(bench, row, idle):
+def count_scripts(programs):
+    """Instructions of a line of a mixed script."""
+    opening = script_lines.OPEN
+    costs = [instructions.cost(it, 1, opening, lambda n: list(script_lines.mixed(n + 2))[2:], LINES) for it in programs]
+    tell("moment, put, telegram, get", costs)
+
+
+def served(bench, idle, row):
     """Microseconds for one of what the row measures, by one run."""
     turns = int(TURNS * row.scale)
     while True:
         seconds, totals = bench.serve(row, turns)
         if serve.counted(row, totals, turns) >= serve.FEW:
-            return serve.share(row, seconds, totals, turns, idle) * 1e6
+            return serve.share(row, seconds, totals, turns, idle / 1e6) * 1e6
         turns *= 2                                # the calls before took too many of them
 
 
-def compare_served(programs):
-    """Microseconds a turn, or a datagram, over sockets."""
+def time_served(programs):
+    """Microseconds of a turn, or a datagram, over sockets."""
     with tempfile.TemporaryDirectory() as folder:
         benches = [serve.Bench(it, folder) for it in programs]
         idle = [0, 0]
         for row in serve.ROWS:
-            rounds = [[served(bench, row, of / 1e6) for bench, of in zip(benches, idle)] for _ in range(ROUNDS)]
+            rounds = [[served(*it, row=row) for it in zip(benches, idle)] for _ in range(ROUNDS)]
             costs = [min(times) for times in zip(*rounds)]
             if row is serve.IDLE:
                 idle = costs
-            tell(f"served: {row.name}", "us", costs)
-
-
-def compare_instructions(programs):
-    """Instructions a line."""
-    for rows in zip(*map(instructions.measured, programs)):
-        tell(f"instructions: {rows[0][0]}", "instructions", [count for _, count in rows])
+            tell(f"served: {row.name}", costs)
 
 
 def main(words):
     programs = [words[0], words[1] if len(words) > 1 else f"{many_objects.TOP}/crates/trdpd/out/trdpd"]
-    print(f"{'row':46}{'other':>11}{'program':>11}{'':14}{'ratio':>6}")
-    for compare in (compare_scripts, compare_objects, compare_served, compare_instructions):
+    print(f"{'instructions, and served microseconds':50}{'other':>11}{'program':>11}{'ratio':>8}")
+    for compare in (count_lines, count_objects, count_scripts, time_served):
         compare(programs)
 
 

@@ -71,23 +71,21 @@ def seconds(program, settings, lines):
         return usage.ru_utime + usage.ru_stime
 
 
-def least(programs, settings, lines):
-    """The least processor time of each program over these lines; they run in turns."""
-    rounds = [[seconds(program, settings, lines) for program in programs] for _ in range(RUNS)]
-    return [min(times) for times in zip(*rounds)]
-
-
 class Row:
     """So many equal lines behind those that open the objects, with the acts of each line."""
 
     def __init__(self, name, opening, lines, count, acts=1):
         self.name, self.opening, self.lines, self.count, self.acts = name, list(opening), lines, count, acts
 
-    def costs(self, programs, settings):
-        """Nanoseconds for each act of a line behind the first half, by each program."""
+    def cost(self, program, settings):
+        """Nanoseconds for each act of a line, of those behind the first half."""
         first = self.count // 2
-        half, whole = (least(programs, settings, self.opening + list(self.lines(it))) for it in (first, self.count))
-        return [(long - short) / (self.count - first) / self.acts * 1e9 for short, long in zip(half, whole)]
+        half, whole = (self.seconds(program, settings, it) for it in (first, self.count))
+        return (whole - half) / (self.count - first) / self.acts * 1e9
+
+    def seconds(self, program, settings, count):
+        """The least processor time of some runs over so many lines."""
+        return min(seconds(program, settings, self.opening + list(self.lines(count))) for _ in range(RUNS))
 
 
 def rows(objects, slots, count):
@@ -100,21 +98,15 @@ def rows(objects, slots, count):
     yield Row("each of all due", publishers(objects, slots, 1000, 1000), lambda n: moments(1000, n), max(count // all_of, 20), all_of)
 
 
-def measured(programs, count):
-    """For each number of objects and slots that, and the costs of its rows by their names."""
-    for objects, slots in COUNTS:
-        with tempfile.NamedTemporaryFile("w", suffix=".toml") as settings:
-            settings.write(config(slots))
-            settings.flush()
-            yield objects, slots, {it.name: it.costs(programs, settings.name) for it in rows(objects, slots, count)}
-
-
 def main():
     count = int(sys.argv[1]) if len(sys.argv) > 1 else 400_000
     program = sys.argv[2] if len(sys.argv) > 2 else f"{TOP}/crates/trdpd/out/trdpd"
     print("objects a slot  slots   taken nobody's nothing due  one due  each of all due")
-    for objects, slots, costs in measured([program], count):
-        taken, unknown, idle, one, each = (it[0] for it in costs.values())
+    for objects, slots in COUNTS:
+        with tempfile.NamedTemporaryFile("w", suffix=".toml") as settings:
+            settings.write(config(slots))
+            settings.flush()
+            taken, unknown, idle, one, each = (it.cost(program, settings.name) for it in rows(objects, slots, count))
         print(f"{objects:14}{slots:7}{taken:8.0f}{unknown:9.0f}{idle:12.0f}{one:9.0f}{each:17.0f}", flush=True)
 
 
