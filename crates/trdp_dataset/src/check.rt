@@ -70,11 +70,18 @@ pub(crate) fn no_count(datasets: &Datasets) -> Option<ConfigFault>
     None
 }
 
+/// Whether a zero value of so many bytes is small enough.
+fn is_small(size: u32) -> bool
+    ensures { result ≡ nat_le size value_limit }
+{
+    size <= VALUE_MAX
+}
+
 /// Whether each size is small enough.
 fn all_small(sizes: &[u32]) -> bool
     ensures { result ≡ list_all (λ size. nat_le size value_limit) sizes.now }
 {
-    sizes.iter().all(|size| *size <= VALUE_MAX)
+    sizes.iter().all(|size| is_small(*size))
 }
 
 /// The zero sizes of datasets in order, if each is small enough.

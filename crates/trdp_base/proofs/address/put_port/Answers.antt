@@ -1,4 +1,4 @@
-use Rattle.std.proofs.Common.{arith}
+use Rattle.std.proofs.Common.{arith, rules}
 use Rattle.trdp_base.proofs.NumberLemmas.{length-text_of_port}
 use Rattle.trdp_base.proofs.address.put_port.Goals as goal
 
@@ -16,3 +16,6 @@ returns-clause-length c = omega (
   c.put_number.ensures.len,
   length-text_of_port c.from.result (omega (arith, c.from.ensures, c.ranges.port.fits)),
 )
+
+pub returns-clause-items : goal.returns-clause-items
+returns-clause-items c = search rules

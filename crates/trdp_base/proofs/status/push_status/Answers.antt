@@ -1,7 +1,8 @@
 use Rattle.std.proofs.Common.{ap, arith, vec_len, vec_capacity}
+use Rattle.std.proofs.lemmas.Grind.{common_steps}
 use Rattle.trdp_base.proofs.StatusLemmas.{length-text_of_magnitude}
-use Rattle.trdp_base.proofs.status.push_status.Goals as goal
 use Rattle.trdp_base.proofs.status.push_status.Goals.{then-status-lt0, else-status-lt0}
+use Rattle.trdp_base.proofs.status.push_status.Goals as goal
 
 pub put_number-requires : goal.put_number-requires
 put_number-requires c =
@@ -51,3 +52,6 @@ returns-clause-length c =
         c.in_ok-reserve.ensures.len,
       )
     ]
+
+pub returns-clause-ok : goal.returns-clause-ok
+returns-clause-ok c = grind (arith, common_steps)

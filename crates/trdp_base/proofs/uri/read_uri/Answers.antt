@@ -1,10 +1,10 @@
-use Rattle.std.proofs.Common.{refl}
+use Rattle.std.proofs.Common.{refl, rules}
 use Rattle.std.proofs.lemmas.Bool.{false≢true}
 use Rattle.trdp_base.proofs.HexLemmas.{no_text}
 use Rattle.trdp_base.proofs.UriLemmas.{too_long, uri_alone}
-use Rattle.trdp_base.proofs.uri.read_uri.Goals as goal
 use Rattle.trdp_base.proofs.uri.read_uri.Goals.{then-text-via-then-text}
 use Rattle.trdp_base.proofs.uri.read_uri.Goals.{then-text-via-else-text+then-not-is_in_pairs}
+use Rattle.trdp_base.proofs.uri.read_uri.Goals as goal
 
 pub returns-then-text-clause-bad : goal.returns-then-text-clause-bad
 returns-then-text-clause-bad c =
@@ -29,3 +29,9 @@ returns-clause-found c = λ uri good fits e.
     let found = uri_alone c.args.text.now uri c.uri_of_pairs.result
     (c.if-not-is_in_pairs.ensures.0 refl) read.value read.bytes read.none good fits e in
     rw found at c.ok_or.ensures.value
+
+pub returns-then-is_dash-clause-value : goal.returns-then-is_dash-clause-value
+returns-then-is_dash-clause-value c = search rules
+
+pub returns-then-is_dash-clause-found : goal.returns-then-is_dash-clause-found
+returns-then-is_dash-clause-found c = search rules

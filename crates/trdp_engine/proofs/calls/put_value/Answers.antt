@@ -1,3 +1,4 @@
+use Rattle.std.proofs.Common.{rules}
 use Rattle.trdp_marshal.specs.Items.{model_of}
 use Rattle.trdp_model.specs.Configs.{setup_of}
 use Rattle.trdp_store.proofs.StoreLemmas.Slots.{rising}
@@ -12,3 +13,12 @@ returns-in-Err-Refused-clause-becomes c =
     (rising c.args.store.now c.args.s c.sound.ensures.sound)
     (rw c.in-Err-Refused.field-0-is at c.in-Err-Refused.ensures.refused)
     (rw c.in_ok-reserve.ensures.records at c.push_plain_answer.ensures.records)
+
+pub ask-requires-clause-room : goal.ask-requires-clause-room
+ask-requires-clause-room c = search rules
+
+pub returns-in-Err-NoMemory-clause-unrecorded : goal.returns-in-Err-NoMemory-clause-unrecorded
+returns-in-Err-NoMemory-clause-unrecorded c = search rules
+
+pub returns-in-Ok-clause-becomes : goal.returns-in-Ok-clause-becomes
+returns-in-Ok-clause-becomes c = search rules

@@ -1,4 +1,4 @@
-use Rattle.std.proofs.Common.{◌∙◌, sym, ap}
+use Rattle.std.proofs.Common.{◌∙◌, sym, ap, rules}
 use Rattle.trdp_filter.specs.Telegrams.{telegram_model}
 use Rattle.trdp_head.specs.MdTelegrams.{MdTelegram}
 use Rattle.trdp_store.specs.Acting.{slot_at}
@@ -56,3 +56,6 @@ pub returns-clause-room : goal.returns-clause-room
 returns-clause-room c =
     room_added c.args.store.now c.add.new.self c.args.listener.slot _ c.add.result
     c.requires.slot c.add.ensures.added c.add.ensures.kept
+
+pub add-requires-clause-fresh : goal.add-requires-clause-fresh
+add-requires-clause-fresh c = search rules

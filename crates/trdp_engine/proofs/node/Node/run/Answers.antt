@@ -1,4 +1,4 @@
-use Rattle.std.proofs.Common.{arith, refl, ◌∙◌, map, take}
+use Rattle.std.proofs.Common.{arith, refl, ◌∙◌, map, take, rules}
 use Rattle.std.proofs.lemmas.Option.{slice_get-get_or, slice_get_past}
 use Rattle.trdp_model.specs.Events.{event_model}
 use Rattle.trdp_engine.specs.NodeRuns.{NoneTaken}
@@ -144,3 +144,6 @@ returns-then-is_out_of_memory-clause-count c =
 
 pub returns-clause-count : goal.returns-clause-count
 returns-clause-count c = rw c.loop-event.invariant.taken c.loop-event.invariant.count
+
+pub returns-then-is_out_of_memory-clause-appends : goal.returns-then-is_out_of_memory-clause-appends
+returns-then-is_out_of_memory-clause-appends c = search rules

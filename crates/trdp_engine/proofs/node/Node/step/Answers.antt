@@ -1,4 +1,4 @@
-use Rattle.std.proofs.Common.{length, refl, ap, sym, ◌∙◌, arith}
+use Rattle.std.proofs.Common.{length, refl, ap, sym, ◌∙◌, arith, rules}
 use Rattle.trdp_engine.specs.NodeStates.{uncounted}
 use Rattle.trdp_model.specs.Events.{event_model}
 use Rattle.trdp_engine.proofs.CostLemmas.Bounds.{bounded_none, bounded_if}
@@ -141,3 +141,6 @@ returns-in-AddSlot-clause-appends c =
 pub returns-in-AddSlot-clause-cost : goal.returns-in-AddSlot-clause-cost
 returns-in-AddSlot-clause-cost c = bounded_if c.step_add_slot.result c.args.self.now.slots
     (event_model c.args.event.now) c.step_add_slot.new.self.counts c.step_add_slot.ensures.counts
+
+pub returns-in-Call-clause-cost : goal.returns-in-Call-clause-cost
+returns-in-Call-clause-cost c = search rules

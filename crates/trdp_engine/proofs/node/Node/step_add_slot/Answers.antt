@@ -1,3 +1,5 @@
+use Rattle.std.proofs.Common.{rules, arith}
+use Rattle.std.proofs.lemmas.Grind.{common_steps}
 use Rattle.trdp_model.proofs.AddedSlotLemmas.{opening_fits}
 use Rattle.trdp_store.proofs.StoreLemmas.OpenedSlots.{slots_opened}
 use Rattle.trdp_engine.proofs.node.Node.step_add_slot.Goals as goal
@@ -10,3 +12,12 @@ invariant_of-self-2 c = (
       (opening_fits _ _ c.args.quotas c.self.invariant.2),
   c.self.invariant.3,
 )
+
+pub push_plain_answer-requires : goal.push_plain_answer-requires
+push_plain_answer-requires c = search rules
+
+pub returns-clause-globals : goal.returns-clause-globals
+returns-clause-globals c = search rules
+
+pub returns-clause-told : goal.returns-clause-told
+returns-clause-told c = grind (arith, common_steps)

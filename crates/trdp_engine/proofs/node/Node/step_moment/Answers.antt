@@ -1,4 +1,4 @@
-use Rattle.std.proofs.Common.{ℕ, ◌<◌, ◌^◌, ◌∙◌, ap, subst, arith}
+use Rattle.std.proofs.Common.{ℕ, ◌<◌, ◌^◌, ◌∙◌, ap, subst, arith, rules}
 use Rattle.trdp_table.specs.Tables.{room_of}
 use Rattle.trdp_store.specs.declared.counts.Counts.{Counts}
 use Rattle.trdp_model.specs.NodeModels.{due_in}
@@ -78,3 +78,6 @@ returns-clause-cost c = λ b lt.
     (comparisons b within)
     c.fire_all.ensures.tests
     look_ups)
+
+pub returns-in_err-reserve-clause-kept : goal.returns-in_err-reserve-clause-kept
+returns-in_err-reserve-clause-kept c = search rules

@@ -1,4 +1,5 @@
-use Rattle.std.proofs.Common.{rules, ◌<◌, ◌∙◌, length, ap}
+use Rattle.std.proofs.Common.{rules, ◌<◌, ◌∙◌, length, ap, arith}
+use Rattle.std.proofs.lemmas.Grind.{common_steps}
 use Rattle.trdp_model.specs.Slots.{slot_limit}
 use Rattle.trdp_table.specs.Tables.{room_of}
 use Rattle.trdp_table.specs.TableKept.{table_seen}
@@ -43,3 +44,15 @@ returns-clause-room c =
     )
     (ap room_of (slot_opened c.self.inside.slots.items c.self.inside.pool c.args.quotas)
     ∙ room_opened (table_seen c.self.inside.pool c.self.inside.slots.items) c.args.quotas)
+
+pub returns-in_err-reserve_exact-clause-full : goal.returns-in_err-reserve_exact-clause-full
+returns-in_err-reserve_exact-clause-full c = grind (arith, common_steps)
+
+pub returns-in_err-slot-clause-full : goal.returns-in_err-slot-clause-full
+returns-in_err-slot-clause-full c = grind (arith, common_steps)
+
+pub returns-in_err-grow-clause-full : goal.returns-in_err-grow-clause-full
+returns-in_err-grow-clause-full c = grind (arith, common_steps)
+
+pub returns-clause-full : goal.returns-clause-full
+returns-clause-full c = grind (arith, common_steps)

@@ -1,3 +1,5 @@
+use Rattle.std.proofs.Common.{arith}
+use Rattle.std.proofs.lemmas.Grind.{common_steps}
 use Rattle.trdp_model.specs.Kinds.{kind_of}
 use Rattle.trdp_table.proofs.TableLemmas.Known.{within_slots, granted}
 use Rattle.trdp_table.proofs.TableLemmas.Found.{slot_read}
@@ -60,3 +62,6 @@ returns-clause-added c =
     )
     (adds slots pool c.args.slot c.insert-key.result
     c.args.object c.self.invariant c.insert-key.ensures.within c.insert-key.ensures.vacant)
+
+pub returns-clause-handle : goal.returns-clause-handle
+returns-clause-handle c = grind (arith, common_steps)
