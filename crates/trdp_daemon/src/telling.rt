@@ -24,6 +24,9 @@ pub(crate) fn tell_records<W: Wire>(
     ensures { Tells W.takings W.gives places.now link.old link.new
         (by_slot records.now.records) }
 {
+    if records.is_empty() {
+        return; // most turns of a node at rest: an order of nothing isn't looked for
+    }
     for record in records.by_slot() {
         tell_record(&record, places, text, link);
     }

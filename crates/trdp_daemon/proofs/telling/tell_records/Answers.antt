@@ -1,9 +1,21 @@
-use Rattle.std.proofs.Common.{List, [], ◌∷◌, ◌++◌, ◌∙◌, ap, rules, subst, sym}
+use Rattle.std.proofs.Common.{◌≡◌, List, [], ◌∷◌, ◌++◌, ◌∙◌, ap, refl, rules, subst, sym}
 use Rattle.trdp_model.specs.Records.{RecordModel, record_model}
+use Rattle.trdp_outbox.specs.SlotOrder.{by_slot, slots_from}
 use Rattle.trdp_outbox.proofs.SlotOrderLemmas.Walk.{walked_all, walked_one}
 use Rattle.trdp_daemon.specs.Tellings.{Tells}
 use Rattle.trdp_daemon.proofs.TellingLemmas.{tells_more, tells_none}
 use Rattle.trdp_daemon.proofs.telling.tell_records.Goals as goal
+
+by_slot_none : by_slot [] ≡ []
+unfolding by_slot slots_from
+by_slot_none = refl
+
+pub returns-then-is_empty : goal.returns-then-is_empty
+returns-then-is_empty g c =
+    let none = c.is_empty.ensures.0 c.if-is_empty.true in
+    subst (λ (rs : List RecordModel). Tells g.W.Wire.takings g.W.Wire.gives
+    c.args.places.now c.args.link.now c.args.link.now rs)
+    (sym (ap by_slot none ∙ by_slot_none)) (tells_none _ _ c.args.places.now c.args.link.now)
 
 pub loop-record-init : goal.loop-record-init
 loop-record-init g c = record {
