@@ -1,9 +1,7 @@
-//! What a node lets in: the match of topology counts, the tests of addresses, and both receive
-//! filters, which stand on them.
+//! What a node lets in: the match of topology counts, and both receive filters, which stand on it.
 
-ghost use Rattle.std.specs.Prelude.{◌≡◌, ◌&&◌};
+ghost use Rattle.std.specs.Prelude.{◌≡◌};
 ghost use Rattle.trdp_filter.specs.Counts.{counts_valid, topo_valid as topo_match};
-ghost use Rattle.trdp_filter.specs.Addresses.{in_source_range, is_destination};
 ghost use Rattle.trdp_filter.specs.PdFilters.{pd_passes};
 ghost use Rattle.trdp_filter.specs.MdFilters.{is_com_id, matches_uri, md_passes};
 
@@ -23,16 +21,6 @@ pub fn topo_valid(a: Topo, b: Topo) -> bool
     ensures { result ≡ topo_match a b }
 {
     valid(a.etb, b.etb) && valid(a.op_trn, b.op_trn)
-}
-
-/// Whether a telegram passes by its addresses: its source lies from `low` to `high`, where both 0
-/// stand for any, and its destination is `dest`, where 0 stands for any (profile).
-#[tactic(auto, unfolding(crate::specs::Addresses::in_source_range, crate::specs::Addresses::is_destination))]
-fn addresses_pass(low: Ip, high: Ip, dest: Ip, src: Place, dst: Place) -> bool
-    ensures { result ≡ (in_source_range low high src.ip && is_destination dest dst.ip) }
-{
-    let from_range = (low == Ip(0) && high == Ip(0)) || (low <= src.ip && src.ip <= high);
-    from_range && (dest == Ip(0) || dest == dst.ip)
 }
 
 /// A receive filter for process data (profile).
@@ -57,12 +45,14 @@ impl PdFilter {
     /// It passes by the comId, the source address, the destination address, and its topology
     /// counts, which must match the filter's and the node's. Ports, the message type and the reply
     /// fields are not looked at.
-    #[tactic(auto, unfolding(crate::specs::PdFilters::pd_passes))]
+    #[tactic(auto, unfolding(crate::specs::PdFilters::pd_passes, crate::specs::Addresses::in_source_range, crate::specs::Addresses::is_destination))]
     pub fn passes(&self, src: Place, dst: Place, head: &PdHead, node: Topo) -> bool
         ensures { result ≡ pd_passes self.now src dst head.now node }
     {
+        let any_source = self.low == Ip(0) && self.high == Ip(0);
         self.com_id == head.com_id
-            && addresses_pass(self.low, self.high, self.dest, src, dst)
+            && (any_source || (self.low <= src.ip && src.ip <= self.high))
+            && (self.dest == Ip(0) || self.dest == dst.ip)
             && topo_valid(head.topo, self.topo)
             && topo_valid(head.topo, node)
     }
@@ -111,12 +101,14 @@ impl MdFilter {
     /// It passes by the comId, the source address, the destination address, the destination URI,
     /// and its topology counts, which must match the filter's and the node's. Ports, the source
     /// URI, the message type and the other fields are not looked at.
-    #[tactic(auto, unfolding(crate::specs::MdFilters::md_passes))]
+    #[tactic(auto, unfolding(crate::specs::MdFilters::md_passes, crate::specs::Addresses::in_source_range, crate::specs::Addresses::is_destination))]
     pub fn passes(&self, src: Place, dst: Place, head: &MdHead, node: Topo) -> bool
         ensures { result ≡ md_passes self.now src dst head.now node }
     {
+        let any_source = self.low == Ip(0) && self.high == Ip(0);
         is_com_id(self.com_id, head.com_id)
-            && addresses_pass(self.low, self.high, self.dest, src, dst)
+            && (any_source || (self.low <= src.ip && src.ip <= self.high))
+            && (self.dest == Ip(0) || self.dest == dst.ip)
             && is_uri(&self.uri, &head.dest_uri)
             && topo_valid(head.topo, self.topo)
             && topo_valid(head.topo, node)
