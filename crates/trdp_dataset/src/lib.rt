@@ -12,11 +12,13 @@
 //! ```
 //!
 //! What a file means, and which fault it has, are functions of the table that its text is; the
-//! table is `toml`'s to read.
+//! table is `toml`'s to read. Where in the file the fault is [`fault_place`] tells, and what of it
+//! means nothing [`unknown_keys`].
 //!
 //! What no contract can say is that memory is there: a reader that always answers `OutOfMemory`
 //! meets its contract, and the tests show that a good file is taken and a broken one gets its
-//! fault. The sentence of a fault is covered by tests alone.
+//! fault. The sentence of a fault is covered by tests alone, and so are the words of `fault_place`
+//! and `unknown_keys`, which have no clauses.
 #![tactic(auto)]
 
 mod check;
@@ -25,21 +27,25 @@ mod datasets;
 mod depth;
 mod element;
 mod fault;
+mod find;
 mod fixed;
 mod key;
 mod load;
+mod misfit;
 mod parse;
+mod place;
 mod position;
 mod position_fault;
 mod read;
 mod registry;
 mod size;
+mod unknown;
 mod value;
+mod words;
 
 pub use config::NodeConfig;
 pub use element::{Element, ElementKind, Form, Width};
 pub use fault::ConfigFault;
 pub use key::Key;
-pub use position::{DATASET_KEYS, ELEMENT_KEYS, NODE_KEYS, SLOT_KEYS};
-pub use read::{element_in, identifier_of};
 pub use registry::Registry;
+pub use words::{fault_place, unknown_keys};

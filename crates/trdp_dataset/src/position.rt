@@ -15,7 +15,7 @@ use std::alloc::{AllocError, Global};
 use toml::{Table, Value};
 
 /// The keys of the table of the node, in the order in which faults are looked for.
-pub const NODE_KEYS: [Key; 6] = [
+pub(crate) const NODE_KEYS: [Key; 6] = [
     Key::Address,
     Key::PdPort,
     Key::MdPort,
@@ -25,7 +25,7 @@ pub const NODE_KEYS: [Key; 6] = [
 ];
 
 /// The keys of the table of a slot, in that order.
-pub const SLOT_KEYS: [Key; 7] = [
+pub(crate) const SLOT_KEYS: [Key; 7] = [
     Key::Publishers,
     Key::Subscriptions,
     Key::Requesters,
@@ -36,10 +36,10 @@ pub const SLOT_KEYS: [Key; 7] = [
 ];
 
 /// The keys of the table of a dataset, in that order.
-pub const DATASET_KEYS: [Key; 2] = [Key::DatasetId, Key::Elements];
+pub(crate) const DATASET_KEYS: [Key; 2] = [Key::DatasetId, Key::Elements];
 
 /// The keys of the table of an element, in that order.
-pub const ELEMENT_KEYS: [Key; 2] = [Key::ElementType, Key::ElementSize];
+pub(crate) const ELEMENT_KEYS: [Key; 2] = [Key::ElementType, Key::ElementSize];
 
 /// A key, and what the file has there.
 #[derive(Clone, Copy)]

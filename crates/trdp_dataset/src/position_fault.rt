@@ -136,7 +136,7 @@ fn value_fault(key: Key, value: &Value) -> Option<ConfigFault>
 impl Key {
     /// The fault of what a table has at the key: of a value that isn't what the key wants, or of a
     /// required key that isn't there.
-    pub fn fault(self, found: Option<&Value>) -> Option<ConfigFault>
+    pub(crate) fn fault(self, found: Option<&Value>) -> Option<ConfigFault>
         ensures value { result ≡ found_fault self (option_map (λ v. view v.now) found.entry) }
     {
         match found {

@@ -81,7 +81,7 @@ pub(crate) fn number_at(table: &Table, key: Key) -> u16
 /// The element of a dataset that a table is; None where its type isn't known. A size that is no
 /// number in range counts as 1.
 #[tactic(auto, unfolding(crate::specs::Configs::element_in))]
-pub fn element_in(table: &Table) -> Option<Element>
+pub(crate) fn element_in(table: &Table) -> Option<Element>
     ensures value { result ≡ element_in (table_view table.now) }
 {
     match value_at(table, Key::ElementType) {
@@ -122,7 +122,7 @@ fn elements_in(alloc: Global, dataset: &Table) -> Result<Vec<Element>, AllocErro
 }
 
 /// The identifier of the dataset that a table is; None where it has none that is in range.
-pub fn identifier_of(dataset: &Table) -> Option<u32>
+pub(crate) fn identifier_of(dataset: &Table) -> Option<u32>
     ensures value { result
         ≡ option_and_then identifier_in (value_at Key.DatasetId (table_view dataset.now)) }
 {

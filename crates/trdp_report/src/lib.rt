@@ -12,14 +12,13 @@
 //! which place, is shown by tests.
 #![tactic(auto)]
 
-mod datasets;
-mod find;
 mod meaning;
-mod place;
 mod refused;
-mod unknown;
 mod warnings;
 mod words;
 
 pub use refused::refused_ports;
-pub use words::{fault_place, report};
+pub use words::report;
+
+// Where its fault is, so that a program names this crate alone.
+pub use trdp_dataset::fault_place;

@@ -1,25 +1,18 @@
 //! What the author of a configuration may not have meant.
 
 use crate::meaning::shown;
-use crate::unknown::push_unknown;
 use std::alloc::AllocError;
 use std::fmt::Write;
 use std::net::Ipv4Addr;
-use toml::Table;
 use trdp_base::Quotas;
 use trdp_dataset::NodeConfig;
 use trdp_head::PD_PAYLOAD_MAX;
 
-/// Adds a warning, a line, for each thing of a file that its author may not have meant.
+/// Adds a warning, a line, for each thing of a configuration that its author may not have meant.
 ///
 /// # Errors
 /// Want of memory.
-pub(crate) fn push_warnings(
-    text: &mut String,
-    top: &Table,
-    config: &NodeConfig,
-) -> Result<(), AllocError> {
-    push_unknown(text, top)?;
+pub(crate) fn push_warnings(text: &mut String, config: &NodeConfig) -> Result<(), AllocError> {
     push_address(text, "address", shown(config.address()))?;
     if has_control_port(config) {
         push_control_address(text, config)?;

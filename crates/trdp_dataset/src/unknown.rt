@@ -1,10 +1,11 @@
 //! Keys of a file that mean nothing.
 
-use crate::place::{DatasetName, Place, members_at, node_in};
+use crate::key::Key;
+use crate::place::{DatasetName, Place, node_in};
+use crate::position::{DATASET_KEYS, ELEMENT_KEYS, NODE_KEYS, SLOT_KEYS, members_at};
 use std::alloc::AllocError;
 use std::fmt::Write;
 use toml::Table;
-use trdp_dataset::{DATASET_KEYS, ELEMENT_KEYS, Key, NODE_KEYS, SLOT_KEYS};
 
 /// The keys of the root.
 const ROOT_KEYS: [Key; 3] = [Key::Node, Key::Slot, Key::Dataset];

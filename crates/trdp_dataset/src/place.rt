@@ -1,8 +1,10 @@
 //! The tables of a configuration file, as they are named to its author.
 
+use crate::key::Key;
+use crate::position::value_at;
+use crate::read::identifier_of;
 use std::fmt;
-use toml::{Table, Value};
-use trdp_dataset::{Key, identifier_of};
+use toml::Table;
 
 /// A dataset of a file, by its name.
 #[derive(Clone, Copy)]
@@ -59,21 +61,7 @@ impl fmt::Display for Place {
     }
 }
 
-/// The members of the array at a key of a table; there are none where no array is.
-pub(crate) fn members_at(table: &Table, key: Key) -> &[Value] {
-    match table.get(key.text()) {
-        Some(value) => match value.as_array() {
-            Some(members) => members.as_slice(),
-            None => &[],
-        },
-        None => &[],
-    }
-}
-
 /// The table of the node, if there is one.
 pub(crate) fn node_in(top: &Table) -> Option<&Table> {
-    match top.get(Key::Node.text()) {
-        Some(value) => value.as_table(),
-        None => None,
-    }
+    value_at(top, Key::Node)?.as_table()
 }

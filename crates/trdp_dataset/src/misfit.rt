@@ -1,10 +1,14 @@
 //! Where the datasets of a file don't fit together.
 
+use crate::element::{Element, Form};
+use crate::fault::ConfigFault;
 use crate::find::Spot;
-use crate::place::{DatasetName, Place, members_at};
+use crate::key::Key;
+use crate::place::{DatasetName, Place};
+use crate::position::members_at;
+use crate::read::{element_in, identifier_of};
 use std::alloc::{AllocError, Global};
 use toml::Table;
-use trdp_dataset::{ConfigFault, Element, Form, Key, element_in, identifier_of};
 
 /// How deep datasets may nest, the outermost included (profile).
 const DEPTH_MAX: u8 = 5;

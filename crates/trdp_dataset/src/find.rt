@@ -1,11 +1,13 @@
 //! Where in a file a fault is.
 
-use crate::datasets::find_in_datasets;
-use crate::place::{DatasetName, Place, members_at, node_in};
+use crate::fault::ConfigFault;
+use crate::key::Key;
+use crate::misfit::find_in_datasets;
+use crate::place::{DatasetName, Place, node_in};
+use crate::position::{DATASET_KEYS, ELEMENT_KEYS, NODE_KEYS, SLOT_KEYS, members_at, value_at};
 use std::alloc::{AllocError, Global};
 use std::fmt;
 use toml::Table;
-use trdp_dataset::{ConfigFault, DATASET_KEYS, ELEMENT_KEYS, Key, NODE_KEYS, SLOT_KEYS};
 
 /// A place of a file that has a fault.
 #[derive(Clone, Copy)]
@@ -53,7 +55,7 @@ fn find_at_keys(top: &Table, fault: ConfigFault) -> Option<Spot> {
 /// The first of some keys of a table that has the fault.
 fn find_in_table(table: &Table, place: Place, keys: &[Key], fault: ConfigFault) -> Option<Spot> {
     for key in keys {
-        if key.fault(table.get(key.text())) == Some(fault) {
+        if key.fault(value_at(table, *key)) == Some(fault) {
             return Some(Spot {
                 place,
                 key: Some(*key),
