@@ -1,4 +1,3 @@
--- Lemmas on the whole node: its runs, its counts, and what it shows.
+-- Lemmas on the whole node: its runs and its counts.
 pub mod Latest
 pub mod Runs
-pub mod Shown

@@ -1,9 +1,8 @@
 -- A node, with what its latest event cost.
 use Rattle.trdp_model.specs.NodeModels.{NodeModel}
 use Rattle.trdp_store.specs.Counting.{no_counts}
-use Rattle.std.specs.Prelude.{◌≡◌, ℕ, ◌<◌, ◌++◌, List, length, filter, slice_get, Some, None}
-use Rattle.std.specs.Prelude.{true, map, Option}
-use Rattle.std.specs.List.{sum_by, list_any}
+use Rattle.std.specs.Prelude.{List}
+use Rattle.std.specs.Prelude.{map}
 use Rattle.trdp_filter.specs.declared.globals.Globals.{Globals}
 use Rattle.trdp_dataset.specs.Configs.{ConfigModel}
 use Rattle.trdp_filter.specs.Globals.{first_globals}

@@ -1,6 +1,6 @@
 -- The objects that telegrams are for: of process data, and listeners, by the comId, callers and
 -- repliers by their session.
-use Rattle.std.specs.Prelude.{ℕ, min, List, [], ◌∷◌, Option, Some, None, Bool, true, false, ◌==◌}
+use Rattle.std.specs.Prelude.{ℕ, min, List, [], ◌∷◌, Option, Some, None, Bool, false, ◌==◌}
 use Rattle.std.specs.Prelude.{◌+◌, length, if◌then◌else◌}
 use Rattle.std.specs.List.{flat_map}
 use Rattle.trdp_base.specs.declared.session.SessionId.{SessionId}

@@ -32,28 +32,15 @@
 #![tactic(auto)]
 
 mod addressees;
-mod asked;
-mod callers;
-mod calls;
 mod first_listeners;
 mod laws;
-mod listeners;
-mod look;
+mod messages;
 mod moment;
 mod node;
-mod notices;
-mod opening;
-mod publishers;
 mod pull;
-mod repliers;
-mod requesters;
 mod requests;
 mod run;
-mod setting;
-mod shown;
 mod start;
-mod subscriptions;
-mod value;
 
 pub use laws::run_both;
 pub use node::Node;

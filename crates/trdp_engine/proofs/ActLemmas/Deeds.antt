@@ -1,20 +1,16 @@
 -- What a deed of an object of the store comes to for those that have it done.
--- For `ask`, `take_all` and `fire_all`.
+-- For `take_all` and `fire_all`.
 -- By: the store's contract names the one object that acted, and what became of it.
-use Rattle.std.proofs.Common.{◌≡◌, ℕ, ◌<◌, [], ◌∷◌, ◌++◌, length, Option, Some, None}
-use Rattle.std.proofs.Common.{false, refl, sym, subst, is_some, IfSome, IfNone}
-use Rattle.trdp_model.specs.declared.any_object.AnyObject.{AnyObject}
+use Rattle.std.proofs.Common.{◌≡◌, ℕ, Option, Some, None}
+use Rattle.std.proofs.Common.{sym, subst, is_some, IfSome}
 use Rattle.trdp_model.specs.Kinds.{kind_of}
 use Rattle.trdp_table.specs.Tables.{TableState}
-use Rattle.trdp_model.specs.declared.fault.Refusal.TheVariants.{NoHandle}
 use Rattle.trdp_model.specs.Acts.{Act, acted}
 use Rattle.trdp_store.specs.Acting.{slot_at, MayAct, TookWithin, Becomes, ActsAt}
 use Rattle.trdp_model.specs.Calls.{at_object}
 use Rattle.trdp_outbox.specs.Outboxes.{OutboxState}
-use Rattle.trdp_model.specs.Records.{RefusedIs, Answers, labelled}
 use Rattle.trdp_outbox.specs.Rooms.{kind_room}
 use Rattle.trdp_model.specs.Slots.{Entry, entry_at, entry_under}
-use Rattle.trdp_engine.proofs.ActLemmas.Asked.{asked_nobody}
 use Rattle.trdp_engine.proofs.NoteLemmas.BySession.{handle_is}
 
 -- the object of the handle, which may act, has acted
@@ -43,22 +39,3 @@ deed_acts s h act table table_then out out_then (Some did) may found done spends
       }) table table_then out out_then) (sym same) (rw may.found at done);
       within = rw may.found at spends;
     }
-
-no_entry : (o : Option Entry) → false ≡ is_some o → o ≡ None
-no_entry None is = refl
-no_entry (Some e) is = absurd (cc)
-
--- there is no object of the handle: nothing was done, and the call is refused
-pub deed_refused : {A : Type 0} (s h : ℕ) (act : AnyObject → Act) (table table_then : TableState)
-    (out out_then out_last : OutboxState) (did : Option A) → s < length table
-    → is_some did ≡ false → is_some did ≡ is_some (entry_under h (slot_at s table).objects)
-    → IfNone did (table_then ≡ table) → IfNone did (out_then ≡ out)
-    → out_last.records ≡ out_then.records ++ labelled s (Answers (RefusedIs NoHandle) ∷ [])
-    → Becomes s (at_object (slot_at s table) h act) table table_then out out_last
-deed_refused s h act table table_then out out_then out_last (Some did) lt none found kept still
-    records = absurd (cc)
-deed_refused s h act table table_then out out_then out_last None lt none found kept still records =
-    subst (λ (t : TableState). Becomes s (at_object (slot_at s table) h act) table t out out_last)
-    (sym kept)
-    (asked_nobody table s h act out out_last lt
-    (no_entry (entry_under h (slot_at s table).objects) found) (rw still at records))

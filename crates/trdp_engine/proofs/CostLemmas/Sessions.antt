@@ -2,7 +2,7 @@
 -- For `note_all` and `note_part`.
 -- By cases on the kind of message: that object is one of those that it may be for.
 use Rattle.std.proofs.Common.{◌≡◌, ℕ, ◌≤◌, Option}
-use Rattle.std.proofs.Common.{Some, None, true, false, refl, ◌∙◌, sym, ap, subst, arith}
+use Rattle.std.proofs.Common.{Some, None, true, refl, ◌∙◌, sym, ap, subst, arith}
 use Rattle.std.specs.Prelude.{◌==◌}
 use Rattle.std.proofs.lemmas.Bool.{false≢true}
 use Rattle.std.proofs.lemmas.Bool.Decides.{nat_tests}
@@ -28,7 +28,7 @@ use Rattle.trdp_engine.specs.Sought.{part_as, part_of}
 use Rattle.trdp_engine.specs.Sought.{comes_unasked}
 use Rattle.trdp_engine.specs.Costs.{is_meant_as}
 use Rattle.trdp_engine.specs.Costs.{is_meant, meant_in}
-use Rattle.trdp_engine.proofs.CostLemmas.Sums.{one_if, total}
+use Rattle.trdp_engine.proofs.CostLemmas.Sums.{one_if}
 use Rattle.trdp_engine.proofs.CostLemmas.Sums.{found_total}
 use Rattle.trdp_engine.proofs.CostLemmas.Telegrams.{meant_one, meant_in-total}
 

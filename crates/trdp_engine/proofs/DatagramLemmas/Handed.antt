@@ -29,7 +29,7 @@ use Rattle.trdp_engine.specs.Noted.{noted_as, noted_from}
 use Rattle.trdp_engine.proofs.NoteLemmas.Noted.{same_room}
 use Rattle.trdp_model.proofs.SweepLemmas.{all_records}
 use Rattle.trdp_engine.proofs.NoteLemmas.ByCom.{and_left}
-use Rattle.trdp_engine.proofs.ActLemmas.Asked.{acted-above}
+use Rattle.trdp_calls.proofs.CallLemmas.Acts.{acted-above}
 
 -- The object of a handle among others whose handles rise.
 

@@ -1,9 +1,9 @@
 -- A telegram and the objects that act at it; one that concerns no object changes nothing.
 -- For `Handing`'s `on`, and for `DatagramLemmas.Admitted`.
 -- By cases on what an object did with it, which tells the object's kind and so its room.
-use Rattle.std.proofs.Common.{◌≡◌, ℕ, List, [], ◌∷◌, filter, Bool, true, false, Option, Some}
-use Rattle.std.proofs.Common.{None, refl, ◌∙◌, ap, arith, inl, inr}
-use Rattle.std.specs.Prelude.{◌&&◌, ◌||◌}
+use Rattle.std.proofs.Common.{◌≡◌, List, [], ◌∷◌, Bool, true, false, Some}
+use Rattle.std.proofs.Common.{None, refl, ◌∙◌, arith, inl, inr}
+use Rattle.std.specs.Prelude.{◌&&◌}
 use Rattle.std.specs.List.{flat_map, list_any}
 use Rattle.std.proofs.lemmas.List.Concat.{flat_map-cons}
 use Rattle.trdp_model.proofs.TestLemmas.{or_left, or_right}

@@ -7,10 +7,9 @@ ghost use Rattle.trdp_model.specs.NodeModels.{IsNextDue};
 ghost use Rattle.trdp_model.specs.Peeks.{peeked, peek_in};
 ghost use Rattle.trdp_model.specs.ShownItems.{showing_in, ShowsItem};
 
-use crate::look::subscription_at;
 use crate::node::Node;
-use crate::shown::item_shown;
 use std::alloc::Global;
+use trdp_calls::{item_shown, subscription_at};
 use trdp_marshal::Item;
 use trdp_model::{PeekFault, ValueFault};
 use trdp_pd::Peek;

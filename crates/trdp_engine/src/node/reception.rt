@@ -20,13 +20,12 @@ ghost use Rattle.trdp_engine.specs.Costs.{IsBounded};
 ghost use Rattle.trdp_engine.specs.NodeStates.{uncounted};
 
 use crate::addressees::{Addressee, note_all};
-use crate::callers::push_replied;
+use crate::messages::{push_heard, push_replied};
 use crate::node::Node;
-use crate::notices::push_heard;
 use crate::pull::{answer_place, push_answer};
 use crate::requests::ask_all;
-use crate::setting::Setting;
 use trdp_base::Place;
+use trdp_calls::Setting;
 use trdp_dataset::NodeConfig;
 use trdp_filter::{Telegram, topo_valid};
 use trdp_head::{MdKind, read_md, read_pd};

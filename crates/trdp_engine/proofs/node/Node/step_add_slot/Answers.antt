@@ -21,3 +21,6 @@ returns-clause-globals c = search rules
 
 pub returns-clause-told : goal.returns-clause-told
 returns-clause-told c = grind (arith, common_steps)
+
+pub returns-then-slots-ge-SLOTS_MAX-clause-fault : goal.returns-then-slots-ge-SLOTS_MAX-clause-fault
+returns-then-slots-ge-SLOTS_MAX-clause-fault c = grind (arith, common_steps)
