@@ -10,8 +10,9 @@
 //! ```
 //!
 //! The rules are those of `trdp_model`. What no contract can say is that memory is there: a
-//! `serve` or a `put_value` that is always refused it meets its contract, and the worked examples
-//! (`trdp_node_tests`) show that it isn't.
+//! `serve`, a `put_value` or an `item_shown` that is refused it wherever it may be meets its
+//! contract, and the worked examples (`trdp_node_tests`) show that with ample memory each does its
+//! work.
 #![tactic(auto)]
 
 mod asked;
