@@ -1,4 +1,3 @@
--- Lemmas on acts of objects: of one, of several of a slot, and of one slot of all.
-pub mod Deeds
+-- Lemmas on acts of objects: of several of a slot, and of one slot of all.
 pub mod AnyOrder
 pub mod OneSlot

@@ -31,14 +31,9 @@
 //! with ample memory every event is taken and every item shown.
 #![tactic(auto)]
 
-mod addressees;
-mod first_listeners;
 mod laws;
-mod messages;
 mod moment;
 mod node;
-mod pull;
-mod requests;
 mod run;
 mod start;
 

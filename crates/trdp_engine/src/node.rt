@@ -10,13 +10,13 @@ ghost use Rattle.trdp_marshal.specs.Items.{model_of};
 ghost use Rattle.trdp_model.specs.Values.{valued_at};
 ghost use Rattle.trdp_model.specs.Configs.{setup_of};
 
-use crate::addressees::Addressee;
 use crate::moment::fire_all;
 use crate::start::parts;
 use std::alloc::Global;
 use std::marker::Model;
 use trdp_base::{MOMENT_MAX, Topo};
 use trdp_calls::{Setting, put_value, serve};
+use trdp_datagrams::Addressee;
 use trdp_dataset::NodeConfig;
 use trdp_filter::{Globals, Groups};
 use trdp_marshal::Item;

@@ -5,9 +5,9 @@ ghost use Rattle.trdp_table.specs.TableLaws.{object_limit};
 ghost use Rattle.trdp_model.specs.Slots.{empty_slot};
 ghost use Rattle.trdp_store.specs.TableSlots.{slots_of};
 
-use crate::addressees::Addressee;
 use std::alloc::{AllocError, Global};
 use trdp_base::Quotas;
+use trdp_datagrams::Addressee;
 use trdp_dataset::NodeConfig;
 use trdp_store::Store;
 

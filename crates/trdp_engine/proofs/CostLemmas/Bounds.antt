@@ -11,7 +11,8 @@ use Rattle.trdp_model.specs.Slots.{SlotState}
 use Rattle.trdp_model.specs.Events.{EventModel, MomentIs, TopologyIs, RoleIs, DatagramIs, CallIs}
 use Rattle.trdp_model.specs.Events.{AddSlotIs}
 use Rattle.trdp_store.specs.Counting.{no_counts}
-use Rattle.trdp_engine.specs.Costs.{meant_of, datagram_bounds, IsWithin, IsBounded}
+use Rattle.trdp_datagrams.specs.Meant.{meant_of}
+use Rattle.trdp_engine.specs.Costs.{datagram_bounds, IsWithin, IsBounded}
 
 -- a reading, and then a part for each of those that the telegram is for
 pub read_and_taken : (new read old n m b : ℕ) → read ≤ old + 4 * b

@@ -8,7 +8,7 @@ use Rattle.std.specs.Prelude.{◌==◌, slice_get, slice_set, IfSome}
 use Rattle.std.specs.List.{flat_map, sum_by}
 use Rattle.std.proofs.lemmas.Bool.Decides.{nat_tests}
 use Rattle.std.proofs.lemmas.List.{append-nil, length-set}
-use Rattle.std.proofs.lemmas.List.Sums.{sum_by-cons, sum_by-append}
+use Rattle.std.proofs.lemmas.List.Sums.{sum_by-append}
 use Rattle.std.proofs.lemmas.Option.{same_Some, none-some}
 use Rattle.trdp_filter.specs.declared.globals.Globals.{Globals}
 use Rattle.trdp_table.specs.Tables.{TableState}
@@ -31,6 +31,7 @@ use Rattle.trdp_store.proofs.StoreLemmas.Slots.{rising}
 use Rattle.trdp_store.proofs.StoreLemmas.Found.{at_each}
 use Rattle.trdp_model.proofs.SweepLemmas.{get-set_other, appends_next, records_of-append}
 use Rattle.trdp_model.proofs.SweepLemmas.{records_of-labelled, records_of-other}
+use Rattle.trdp_datagrams.proofs.CostLemmas.Acts.{count_set}
 use Rattle.trdp_engine.proofs.ActLemmas.AnyOrder.{IsRising-acted, is_acted}
 use Rattle.trdp_engine.proofs.MomentLemmas.OneFires.{HasNext, next_is, none_fires, rest_left}
 use Rattle.trdp_engine.proofs.MomentLemmas.OneFires.{sound_then}
@@ -159,20 +160,6 @@ weigh_set f g (z ∷ slots) (suc s) x y at =
 abbrev pub due_left : Globals → TableState → ℕ
 due_left globals table =
     sum_by (λ (slot : SlotState). length (in_order (due_of_slot globals slot))) (slots_of table)
-
-pub count_set : (f : SlotState → ℕ) (slots : List SlotState) (s : ℕ) (x y : SlotState)
-    → slice_get slots s ≡ Some x → sum_by f (slice_set slots s y) + f x ≡ sum_by f slots + f y
-count_set f [] s x y at = absurd (none-some x at)
-count_set f (z ∷ slots) zero x y at =
-    let own = ap f (same_Some z x at) in
-    omega (arith, own, sum_by-cons f y slots, sum_by-cons f z slots)
-count_set f (z ∷ slots) (suc s) x y at =
-    omega (
-      arith,
-      count_set f slots s x y at,
-      sum_by-cons f z (slice_set slots s y),
-      sum_by-cons f z slots,
-    )
 
 -- The moment of all slots.
 

@@ -4,9 +4,10 @@ use Rattle.trdp_engine.proofs.MomentLemmas.AllFire.{moving_may, moves_on, moment
 use Rattle.trdp_store.specs.Acting.{slot_at}
 use Rattle.trdp_model.specs.Moments.{firing_act}
 use Rattle.trdp_table.specs.Tables.{room_of}
-use Rattle.trdp_engine.proofs.ActLemmas.Deeds.{deed_acts}
-use Rattle.trdp_engine.proofs.CostLemmas.Moments.{compared, few_look_ups}
-use Rattle.trdp_engine.proofs.CostLemmas.Moments.{counting_first, counting_on, room_stays}
+use Rattle.trdp_datagrams.proofs.DatagramLemmas.Deeds.{deed_acts}
+use Rattle.trdp_datagrams.proofs.CostLemmas.Acts.{compared, few_look_ups}
+use Rattle.trdp_datagrams.proofs.CostLemmas.Acts.{room_stays}
+use Rattle.trdp_engine.proofs.CostLemmas.Moments.{counting_first, counting_on}
 use Rattle.trdp_engine.proofs.CostLemmas.Moments.{counted_comparisons, counted_look_ups}
 use Rattle.trdp_engine.proofs.moment.fire_all.Goals as goal
 

@@ -12,14 +12,14 @@ use Rattle.trdp_model.specs.Configs.{setup_of}
 use Rattle.trdp_model.specs.Datagrams.{telegram_of, is_request, received_if, requested, handed}
 use Rattle.trdp_model.proofs.FitEventLemmas.{received_fits}
 use Rattle.trdp_model.proofs.StepLemmas.{has_outcome, outcomes_fit, unchanged_each, appends_none}
-use Rattle.trdp_engine.specs.Costs.{meant_of}
+use Rattle.trdp_datagrams.specs.Meant.{meant_of}
 use Rattle.trdp_engine.proofs.ActLemmas.OneSlot.{same_count}
-use Rattle.trdp_engine.proofs.CostLemmas.Telegrams.{total_room, asks_unasked}
+use Rattle.trdp_datagrams.proofs.CostLemmas.Telegrams.{total_room, asks_unasked}
 use Rattle.trdp_engine.proofs.CostLemmas.Bounds.{costs, read_and_taken, within_none}
-use Rattle.trdp_engine.proofs.DatagramLemmas.Admitted.{Comes, IsAdmitted, carries, no_request}
-use Rattle.trdp_engine.proofs.DatagramLemmas.Admitted.{none_read, none_valid, none_admitted}
-use Rattle.trdp_engine.proofs.DatagramLemmas.Admitted.{some_admitted, lacks_room, lacks_concerns}
-use Rattle.trdp_engine.proofs.DatagramLemmas.Admitted.{asked_outcome, handed_outcome}
+use Rattle.trdp_engine.proofs.NodeLemmas.Admitted.{Comes, IsAdmitted, carries, no_request}
+use Rattle.trdp_engine.proofs.NodeLemmas.Admitted.{none_read, none_valid, none_admitted}
+use Rattle.trdp_engine.proofs.NodeLemmas.Admitted.{some_admitted, lacks_room, lacks_concerns}
+use Rattle.trdp_engine.proofs.NodeLemmas.Admitted.{asked_outcome, handed_outcome}
 use Rattle.trdp_engine.proofs.node.Node.step_datagram.Goals as goal
 use Rattle.trdp_engine.proofs.node.Node.step_datagram.Goals.{After-none-counts}
 use Rattle.trdp_engine.proofs.node.Node.step_datagram.Goals.{in-Some+in_ok-reserve+in-Md-telegram}

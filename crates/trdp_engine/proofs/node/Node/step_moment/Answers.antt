@@ -2,7 +2,7 @@ use Rattle.std.proofs.Common.{ℕ, ◌<◌, ◌^◌, ◌∙◌, ap, subst, arith
 use Rattle.trdp_table.specs.Tables.{room_of}
 use Rattle.trdp_store.specs.declared.counts.Counts.{Counts}
 use Rattle.trdp_model.specs.NodeModels.{due_in}
-use Rattle.trdp_engine.proofs.CostLemmas.Telegrams.{total_room}
+use Rattle.trdp_datagrams.proofs.CostLemmas.Telegrams.{total_room}
 use Rattle.trdp_engine.proofs.CostLemmas.Moments.{moment_within}
 use Rattle.trdp_filter.specs.declared.globals.Globals.{Globals}
 use Rattle.trdp_model.specs.Configs.{setup_of}

@@ -1,0 +1,7 @@
+-- Lemmas on what the objects that were noted make of a telegram.
+pub mod Deeds
+pub mod Taken
+pub mod Requests
+pub mod Handed
+pub mod HandedInTurn
+pub mod AskedInTurn

@@ -1,0 +1,3 @@
+pub mod CostLemmas
+pub mod DatagramLemmas
+pub mod NoteLemmas

@@ -1,0 +1,3 @@
+pub mod Noted
+pub mod Sought
+pub mod Meant

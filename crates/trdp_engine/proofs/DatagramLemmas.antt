@@ -1,7 +1,0 @@
--- Lemmas on what the objects that were noted make of a telegram.
-pub mod Taken
-pub mod Admitted
-pub mod Requests
-pub mod Handed
-pub mod HandedInTurn
-pub mod AskedInTurn
