@@ -3,30 +3,30 @@
 ghost use Rattle.trdp_engine.specs.NodeStates.{uncounted};
 ghost use Rattle.std.specs.Prelude.{nat_le, if◌then◌else◌, None, ◌≡◌, ◌≢◌, ℕ, ◌<◌, ◌≤◌};
 ghost use Rattle.std.specs.Prelude.{length, OnOk, OnErr, IfOk, IfErr, Err, Some, slice_get};
-ghost use Rattle.trdp_model.specs.Events.{MomentIs, TopologyIs, RoleIs, CallIs};
+ghost use Rattle.trdp_model.specs.Events.{DatagramIs, TopologyIs, RoleIs, CallIs};
 ghost use Rattle.trdp_model.specs.Events.{call_model, event_model};
 ghost use Rattle.trdp_model.specs.Slots.{SlotState};
 ghost use Rattle.trdp_marshal.specs.Items.{model_of};
 ghost use Rattle.trdp_model.specs.Values.{valued_at};
 ghost use Rattle.trdp_model.specs.Configs.{setup_of};
 
-use crate::moment::fire_all;
 use crate::start::parts;
 use std::alloc::Global;
 use std::marker::Model;
-use trdp_base::{MOMENT_MAX, Topo};
+use trdp_base::{Place, Topo};
 use trdp_calls::{Setting, put_value, serve};
-use trdp_datagrams::Addressee;
+use trdp_datagrams::{Addressee, ask_all, note_all, take_all};
 use trdp_dataset::NodeConfig;
-use trdp_filter::{Globals, Groups};
+use trdp_filter::{Globals, Groups, Telegram, topo_valid};
+use trdp_head::{MdKind, read_md, read_pd};
 use trdp_marshal::Item;
-use trdp_model::{Call, Event, NodeFault};
+use trdp_model::{Call, Event, NodeFault, Protocol};
 use trdp_outbox::Outbox;
 use trdp_store::{Counts, Store};
 
 mod adding;
 mod looks;
-mod reception;
+mod moments;
 
 /// The communication node of one end device. It serves each slot of its configuration, and those
 /// that are added.
@@ -121,49 +121,6 @@ impl Node {
         self.globals.now
     }
 
-    /// Takes the moment `t`, in microseconds: room for all records first, then each due object
-    /// fires.
-    ///
-    /// # Errors
-    /// The first that applies of `Past`, `TooLate` and `OutOfMemory`.
-    fn step_moment(&mut self, t: u64, out: &mut Outbox) -> Result<(), NodeFault>
-        ensures fault { FaultIs (refused_as (length self.old.slots) self.old.globals (MomentIs t))
-            result }
-        ensures kept { OnErr result (self.new ≡ self.old) }
-        ensures unrecorded { OnErr result (out.new.records ≡ out.old.records) }
-        ensures memory { result ≡ Err NodeFault.OutOfMemory
-            → MayTakeMemory (uncounted self.old) (MomentIs t) }
-        ensures full { result ≡ Err NodeFault.OutOfMemory
-            → MayLackMemory (uncounted self.old) out.old (MomentIs t) }
-        ensures still { result ≡ Err NodeFault.OutOfMemory
-            → MayLackMemory (uncounted self.old) out.new (MomentIs t) }
-        ensures config { self.new.config ≡ self.old.config }
-        ensures globals { OnOk result (self.new.globals
-            ≡ globals_after self.old.globals (MomentIs t)) }
-        ensures count { length self.new.slots ≡ length self.old.slots }
-        ensures outcomes { OnOk result ((s : ℕ) (slot : SlotState)
-            → slice_get self.old.slots s ≡ Some slot
-            → GetsOutcome (uncounted self.new) out.old.records out.new.records s
-            (plain_effect (setup_of self.old.config) s slot self.old.globals (MomentIs t))) }
-        ensures appends { Appends self.old.slots out.old.records out.new.records }
-        ensures cost { OnOk result (IsBounded self.old.slots (MomentIs t) self.new.counts) }
-    {
-        if t < self.globals.now {
-            return Err(NodeFault::Past);
-        }
-        if t > MOMENT_MAX {
-            return Err(NodeFault::TooLate);
-        }
-        let mut cost = Counts::none();
-        let (room, comparisons) = self.store.due_room(t);
-        cost.compared(comparisons);
-        out.reserve(room.rows, room.bytes)?;
-        self.globals.now = t;
-        fire_all(&mut self.store, &self.globals, out, &mut cost);
-        self.counts = cost;
-        Ok(())
-    }
-
     /// Takes new topology counts.
     fn step_topology(&mut self, topo: Topo)
         ensures globals { self.new.globals ≡ globals_after self.old.globals (TopologyIs topo) }
@@ -236,6 +193,80 @@ impl Node {
         };
         serve(&mut self.store, s, call, &setting, out)?;
         self.counts = Counts::none();
+        Ok(())
+    }
+
+    /// Takes a datagram. One that is no telegram, or whose topology counts don't match the node's,
+    /// changes nothing.
+    ///
+    /// # Errors
+    /// `OutOfMemory`, where it concerns a slot.
+    fn step_datagram(
+        &mut self,
+        protocol: Protocol,
+        src: Place,
+        dst: Place,
+        bytes: &[u8],
+        out: &mut Outbox,
+    ) -> Result<(), NodeFault>
+        ensures fault { FaultIs
+            (refused_as (length self.old.slots) self.old.globals
+            (DatagramIs protocol src dst bytes.now)) result }
+        ensures kept { OnErr result (self.new ≡ self.old) }
+        ensures unrecorded { OnErr result (out.new.records ≡ out.old.records) }
+        ensures memory { result ≡ Err NodeFault.OutOfMemory
+            → MayTakeMemory (uncounted self.old) (DatagramIs protocol src dst bytes.now) }
+        ensures full { result ≡ Err NodeFault.OutOfMemory
+            → MayLackMemory (uncounted self.old) out.old (DatagramIs protocol src dst bytes.now) }
+        ensures still { result ≡ Err NodeFault.OutOfMemory
+            → MayLackMemory (uncounted self.old) out.new (DatagramIs protocol src dst bytes.now) }
+        ensures config { self.new.config ≡ self.old.config }
+        ensures globals { OnOk result (self.new.globals
+            ≡ globals_after self.old.globals (DatagramIs protocol src dst bytes.now)) }
+        ensures count { length self.new.slots ≡ length self.old.slots }
+        ensures outcomes { OnOk result ((s : ℕ) (slot : SlotState)
+            → slice_get self.old.slots s ≡ Some slot
+            → GetsOutcome (uncounted self.new) out.old.records out.new.records s
+            (plain_effect (setup_of self.old.config) s slot self.old.globals
+            (DatagramIs protocol src dst bytes.now))) }
+        ensures appends { Appends self.old.slots out.old.records out.new.records }
+        ensures cost { OnOk result (IsBounded self.old.slots
+            (DatagramIs protocol src dst bytes.now) self.new.counts) }
+    {
+        let globals = &self.globals;
+        let telegram = match protocol {
+            Protocol::Pd => match read_pd(bytes) {
+                Ok(view) if topo_valid(view.head.topo, globals.topo) => {
+                    Some(Telegram::Pd { src, dst, view })
+                }
+                _ => None,
+            },
+            Protocol::Md => match read_md(bytes) {
+                Ok(view) if topo_valid(view.head.topo, globals.topo) => {
+                    Some(Telegram::Md { src, dst, view })
+                }
+                _ => None,
+            },
+        };
+        let mut counts = Counts::none();
+        if let Some(telegram) = &telegram {
+            let setting = Setting {
+                alloc: self.alloc,
+                config: &self.config,
+                globals,
+            };
+            let store = &mut self.store;
+            let noted = &mut self.noted;
+            let room = note_all(store, telegram, globals, noted, &mut counts);
+            out.reserve(room.rows, room.bytes)?;
+            match telegram {
+                Telegram::Md { view, .. } if view.head.kind == MdKind::Request => {
+                    ask_all(store, noted, telegram, globals, out, &mut counts);
+                }
+                _ => take_all(store, noted, telegram, &setting, out, &mut counts),
+            }
+        }
+        self.counts = counts;
         Ok(())
     }
 
