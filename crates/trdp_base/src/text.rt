@@ -8,10 +8,10 @@ use thiserror::Error;
 pub enum TextFault {
     /// The text is not the written form of a value in the range.
     #[error("the text is not the written form of a value in the range")]
-    BadText,
+    BadText = 1,
     /// The text is good, and there is no memory for its value.
     #[error("there is no memory for the text's value")]
-    OutOfMemory,
+    OutOfMemory = 2,
 }
 
 impl From<AllocError> for TextFault {

@@ -117,7 +117,7 @@ impl Service {
         match port {
             Port::Pd => {
                 let event = Event::Datagram {
-                    protocol: Protocol::Pd,
+                    kind: Protocol::Pd,
                     src: from,
                     dst: self.home.pd,
                     bytes,
@@ -126,7 +126,7 @@ impl Service {
             }
             Port::Md => {
                 let event = Event::Datagram {
-                    protocol: Protocol::Md,
+                    kind: Protocol::Md,
                     src: from,
                     dst: self.home.md,
                     bytes,

@@ -43,11 +43,7 @@ fn tell_record<W: Wire>(
         (record_model «record».now) }
 {
     match record.what {
-        What::Send {
-            protocol,
-            to,
-            telegram,
-        } => link.give(port_of(protocol), to, telegram),
+        What::Send { kind, to, telegram } => link.give(port_of(kind), to, telegram),
         What::Answer(_) => tell_text(record, place_of(places, record.slot), text, link),
         What::Indication(_) => tell_text(record, place_of(places, record.slot), text, link),
     }

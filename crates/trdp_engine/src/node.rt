@@ -309,11 +309,11 @@ impl Node {
             }
             Event::Role { group, leader } => self.step_role(*group, *leader),
             Event::Datagram {
-                protocol,
+                kind,
                 src,
                 dst,
                 bytes,
-            } => self.step_datagram(*protocol, *src, *dst, bytes, out),
+            } => self.step_datagram(*kind, *src, *dst, bytes, out),
             Event::Call { slot, call } => self.step_call(*slot, call, out),
             Event::AddSlot(quotas) => self.step_add_slot(*quotas, out),
         }

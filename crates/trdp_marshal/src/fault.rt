@@ -8,16 +8,16 @@ use thiserror::Error;
 pub enum MarshalFault {
     /// No dataset has that identifier, or it is 0, of which any bytes are a payload.
     #[error("no dataset with items has that identifier")]
-    NoDataset,
+    NoDataset = 1,
     /// The item is no value of the dataset, or the bytes are those of none.
     #[error("the item is no value of the dataset, or the bytes are those of none")]
-    Shape,
+    Shape = 2,
     /// The item has more than 65,388 bytes, the most that one message carries.
     #[error("the item has more than 65,388 bytes")]
-    TooLong,
+    TooLong = 3,
     /// There is no memory for the answer.
     #[error("there is no memory for the answer")]
-    OutOfMemory,
+    OutOfMemory = 4,
 }
 
 impl From<AllocError> for MarshalFault {

@@ -203,7 +203,7 @@ pub enum Event<'a> {
     /// These bytes came in over the protocol's port, from one place to another.
     Datagram {
         /// Over which protocol's port.
-        protocol: Protocol,
+        kind: Protocol,
         /// The address and port that it came from.
         src: Place,
         /// The address and port that it went to.

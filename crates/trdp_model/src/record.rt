@@ -136,7 +136,7 @@ pub enum What<'a> {
     /// A telegram to send to that place.
     Send {
         /// Over which protocol's port.
-        protocol: Protocol,
+        kind: Protocol,
         /// The address and port that it goes to.
         to: Place,
         /// Every byte of it, the header first.

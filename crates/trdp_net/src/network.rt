@@ -96,7 +96,7 @@ fn arrive(
     // The checker drops an event only where it has seen a call: this one is never made.
     let _call = Call::Get { handle: 0 };
     let event = Event::Datagram {
-        protocol: sent.protocol,
+        kind: sent.protocol,
         src: sent.from,
         dst: sent.to,
         bytes: sent.bytes,

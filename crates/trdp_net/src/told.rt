@@ -86,13 +86,9 @@ fn telegram_of<'a>(entry: &Record<'a>, home: &Home) -> Option<Sent<'a>>
         ≡ sends_from home.now ((record_model entry.now).content ∷ []) }
 {
     match entry.what {
-        What::Send {
-            protocol,
-            to,
-            telegram,
-        } => Some(Sent {
-            protocol,
-            from: home.place(protocol),
+        What::Send { kind, to, telegram } => Some(Sent {
+            protocol: kind,
+            from: home.place(kind),
             to,
             bytes: telegram,
         }),

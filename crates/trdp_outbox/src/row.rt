@@ -160,7 +160,7 @@ fn content<'a>(form: &Form, bytes: &'a [u8]) -> What<'a>
         }
         Form::Closed(handle, reason) => What::Indication(Indication::Closed(*handle, *reason)),
         Form::Send(protocol, to) => What::Send {
-            protocol: *protocol,
+            kind: *protocol,
             to: *to,
             telegram: bytes,
         },

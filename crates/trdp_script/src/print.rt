@@ -103,10 +103,10 @@ fn put_content(text: &mut Vec<u8>, what: &What<'_>)
         What::Answer(answer) => put_answer(text, *answer),
         What::Indication(indication) => put_indication(text, indication),
         What::Send {
-            protocol,
+            kind,
             to,
             telegram,
-        } => put_send(text, *protocol, *to, telegram),
+        } => put_send(text, *kind, *to, telegram),
     }
 }
 

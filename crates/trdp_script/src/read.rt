@@ -287,7 +287,7 @@ pub(crate) fn read_datagram<'b>(
     let dst = words.next_place().ok_or(LineFault::BadWord)?;
     words.next_bytes(buffer)?;
     Ok(Event::Datagram {
-        protocol,
+        kind: protocol,
         src,
         dst,
         bytes: buffer,

@@ -12,7 +12,7 @@ use Rattle.trdp_daemon.proofs.telling.tell_record.Goals as goal
 pub returns-in-Send : goal.returns-in-Send
 returns-in-Send g c =
     record_sent _ (record_model c.args.record.now)
-    c.in-Send.protocol c.in-Send.to c.in-Send.telegram.now (ap content_model c.in-Send.is)
+    c.in-Send.kind c.in-Send.to c.in-Send.telegram.now (ap content_model c.in-Send.is)
     (subst (λ (p : Port). Carries g.W.Wire.takings g.W.Wire.gives c.args.link.now c.give.new.self
     [] (offering p c.in-Send.to c.in-Send.telegram.now)) c.port_of.ensures c.give.ensures)
 
