@@ -170,10 +170,6 @@ class Telegrams(Case):
         self.assertEqual(device.recv(65536), TELEGRAM)
 
 
-if __name__ == "__main__":
-    unittest.main()
-
-
 class Ends(unittest.TestCase):
     """How a service ends, and a script whose faults nobody can be told."""
 
@@ -212,3 +208,7 @@ class Ends(unittest.TestCase):
         with open("/dev/full", "w") as full:
             ends = self.ends(node(control(0)), "run", input="moment 5\nmoment 4\nmoment x\n", stderr=full)
             self.assertEqual(ends, (3, "fault Past\n", None))
+
+
+if __name__ == "__main__":
+    unittest.main()
