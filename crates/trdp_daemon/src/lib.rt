@@ -19,12 +19,12 @@
 //! nothing. So a [`UdpWire`] at which nothing ever comes, or that sends nothing, meets its
 //! contract, as a network may be so, and so does a [`RunClock`] that stands still; that they work
 //! is tested. For the same reason no contract says which sockets [`UdpWire::bind`] binds, and its
-//! must-fail edit turns all that it promises, a wire without failures: ports that are shifted or
-//! left out are for the tests over loopback to find. A [`RestingWire`] is such a wire that waits:
-//! of what it takes, gives and binds the same is said, and one that binds nothing answers `Bind`
-//! always as far as its contract tells. How long a rest is no contract of a wire says, nor that a
-//! daemon rests at all: one that never does offers the same. That it asks for rests, and for how
-//! long, is tested over a [`MemoryWire`]; that a datagram ends one is measured.
+//! must-fail edit turns all that it promises, a wire without failures: the tests over loopback try
+//! a port of each kind. A [`RestingWire`] is such a wire that waits: of what it takes, gives and
+//! binds the same is said, and one that binds nothing answers `Bind` always as far as its contract
+//! tells. How long a rest is no contract of a wire says, nor that a daemon rests at all: one that
+//! never does offers the same. That it asks for rests, and for how long, is tested over a
+//! [`MemoryWire`]; that a datagram ends one is tested over loopback.
 #![tactic(auto)]
 
 mod answer;
