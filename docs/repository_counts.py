@@ -18,7 +18,18 @@ class Look(NamedTuple):
     why: str
 
 
+class Group(NamedTuple):
+    """Crates of a picture that dots join: their row, the columns from the first to behind the last, and their names."""
+
+    row: int
+    start: int
+    end: int
+    crates: list[str]
+
+
 MAP = "docs/ARCHITECTURE.md"
+# Where a stroke of a picture goes on: so many rows down, and columns to the right. One to the side goes on to the right.
+STEPS = {"|": (1, 0), "/": (1, -1), "\\": (1, 1)}
 TREE_OF = "## The path of a datagram"
 ALL_KEYS = "A key that isn't named here is ignored"
 BUILD = re.compile(r"(\d+ to \d+) minutes on\s+four processors")
@@ -31,7 +42,7 @@ TOLD = (
     (r"(\d[\d,]*)\s+(?:short\s+)?scripts\b", "scripts"),
     (r"(\d[\d,]*)\s+configurations\s+that\s+aren't\s+taken", "configurations"),
     (r"(\d[\d,]*)\s+rows\b", "rows"),
-    (r"(\d[\d,]*)\s+examples\b", "examples"),
+    (r"(\d[\d,]*)\s+examples\b(?!/)", "examples"),
     (r"(\d[\d,]*)\s+crates\b", "crates"),
     (r"(\d[\d,]*)\s+tests\b", "tests"),
     (r"(\d[\d,]*)\s+(?:must-fail\s+edits|wrong\s+bodies)\b", "edits"),
@@ -90,13 +101,50 @@ def block(lines: list[str], after: str) -> list[tuple[int, str]]:
     return numbered
 
 
+def groups_of(lines: list[str]) -> list[Group]:
+    """The crates of a picture, those of a line together that dots join."""
+    return [Group(row, found.start(), found.end(), found[0].split(" · "))
+            for row, line in enumerate(lines) for found in re.finditer(r"\btrdp\w*(?: · trdp\w*)*", line)]
+
+
+def reached(lines: list[str], groups: list[Group], row: int, column: int) -> Group | None:
+    """Where the stroke at a place of a picture leads down to."""
+    while row < len(lines) and 0 <= column < len(lines[row]):
+        for group in groups:
+            if group.row == row and group.start <= column < group.end:
+                return group
+        down, right = STEPS.get(lines[row][column], (0, 1))
+        row, column = row + down, column + right
+    return None
+
+
+def drawn(lines: list[str], groups: list[Group]) -> Iterator[tuple[Group, Group]]:
+    """The strokes of a picture: the upper group and the lower one."""
+    for group in groups:
+        below = lines[group.row + 1] if group.row + 1 < len(lines) else ""
+        for column in range(group.start - 1, min(group.end + 1, len(below))):
+            right = {"|": 0, "/": -1, "\\": 1}.get(below[column])
+            if right is not None and group.start <= column - right < group.end:
+                lower = reached(lines, groups, group.row + 1, column)
+                if lower:
+                    yield group, lower
+
+
 def picture_looks(lines: list[str]) -> Iterator[Look]:
-    """The crates in the map's picture: whom one stands on is below it, or to its right."""
-    places = {found[0]: (number, found.start()) for number, line in block(lines, lines[0]) for found in re.finditer(r"\btrdp\w*", line)}
-    stands = crate_lines()
+    """The crates of the map's picture: whom one stands on is below it, or behind it in its group; who is joined stands on the other."""
+    numbered = block(lines, lines[0])
+    picture, first = [line for _, line in numbered], numbered[0][0]
+    groups, stands = groups_of(picture), crate_lines()
+    places = {crate: (group.row, group.start, at) for group in groups for at, crate in enumerate(group.crates)}
     for crate, place in places.items():
-        wrong = [below for below in stands.get(crate, []) if places.get(below, (place[0], place[1] + 1)) < place]
-        yield Look(MAP, place[0], crate, f"it stands on {wrong[0]}, which isn't below it" if wrong else "")
+        for below in [below for below in stands.get(crate, []) if below in places]:
+            other = places[below]
+            is_lower = other[0] > place[0] or (other[:2] == place[:2] and other[2] > place[2])
+            yield Look(MAP, first + place[0], crate, "" if is_lower else f"it stands on {below}, which isn't below it")
+    for upper, lower in drawn(picture, groups):
+        is_true = any(below in stands.get(crate, []) for crate in upper.crates for below in lower.crates)
+        why = "" if is_true else f"it is joined with {lower.crates[0]}, and doesn't stand on it"
+        yield Look(MAP, first + upper.row, upper.crates[0], why)
 
 
 def bodies(crate: str, file: str, name: str) -> str:
