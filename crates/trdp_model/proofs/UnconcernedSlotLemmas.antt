@@ -2,7 +2,7 @@
 -- For `ViewLemmas`, and for what a node hears.
 -- By induction on the objects: none of them acts, and no listener hears it.
 use Rattle.std.proofs.Common.{◌≡◌, ℕ, List, [], ◌∷◌, filter, Bool, true, false, Option, Some}
-use Rattle.std.proofs.Common.{None, Result, Ok, Err, OnErr, refl, ◌∙◌, ap, arith, inl, inr}
+use Rattle.std.proofs.Common.{None, refl, ◌∙◌, ap}
 use Rattle.std.specs.Prelude.{◌&&◌, ◌||◌}
 use Rattle.std.specs.List.{flat_map, list_any}
 use Rattle.std.proofs.lemmas.List.Concat.{flat_map-cons}

@@ -8,6 +8,7 @@ pub mod Acts
 pub mod Openings
 pub mod Looks
 pub mod Events
+pub mod CarriedBytes
 pub mod Pulls
 pub mod Notices
 pub mod Requests

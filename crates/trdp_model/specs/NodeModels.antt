@@ -14,9 +14,7 @@ use Rattle.trdp_model.specs.Datagrams.{telegram_of, concerns}
 use Rattle.trdp_model.specs.Moments.{is_due}
 use Rattle.trdp_model.specs.Alone.{standing_after, alone_in_view}
 use Rattle.std.specs.Prelude.{ℕ, suc, List, [], ◌∷◌, ◌++◌, length}
-use Rattle.std.specs.Prelude.{Option, Some, None, Result, Ok, Err}
-use Rattle.std.specs.List.{flat_map}
-use Rattle.std.specs.Str.Lines.{lines}
+use Rattle.std.specs.Prelude.{Option, Some, None}
 use Rattle.trdp_dataset.specs.Configs.{ConfigModel}
 use Rattle.trdp_filter.specs.declared.globals.Globals.{Globals}
 use Rattle.trdp_model.specs.declared.fault.NodeFault.{NodeFault}

@@ -1,5 +1,5 @@
 -- An application slot.
-use Rattle.std.specs.Prelude.{ℕ, ◌+◌, List, [], ◌∷◌, ◌++◌, map, find, count_by, Option, ◌==◌}
+use Rattle.std.specs.Prelude.{ℕ, ◌+◌, List, [], ◌∷◌, ◌++◌, find, count_by, Option, ◌==◌}
 use Rattle.trdp_model.specs.declared.any_object.AnyObject.{AnyObject}
 use Rattle.trdp_model.specs.declared.kind.Kind.{Kind}
 use Rattle.trdp_model.specs.Kinds.{kind_of, is_same_kind}

@@ -1,5 +1,5 @@
 -- A value that is handed over as an item.
-use Rattle.std.specs.Prelude.{◌≡◌, ℕ, List, [], Option, Some, None, unwrap_or, ◌==◌, if◌then◌else◌}
+use Rattle.std.specs.Prelude.{ℕ, List, [], Option, Some, None, unwrap_or, ◌==◌, if◌then◌else◌}
 use Rattle.trdp_model.specs.Configs.{NodeSetup}
 use Rattle.trdp_marshal.specs.declared.fault.MarshalFault.{MarshalFault}
 use Rattle.trdp_marshal.specs.declared.fault.MarshalFault.TheVariants.{NoDataset as UnknownDataset}

@@ -19,6 +19,7 @@
 #![tactic(auto)]
 
 mod any_object;
+mod carried;
 mod event;
 mod fault;
 mod kind;
