@@ -10,7 +10,7 @@ ghost use Rattle.trdp_model.specs.Objects.{due_of};
 ghost use Rattle.trdp_table.specs.Tables.{Keyed, opened_slot, slot_in};
 ghost use Rattle.trdp_model.specs.Slots.{slot_limit};
 ghost use Rattle.trdp_table.specs.Tables.{by_handle, Adds, changed_at, without_handle};
-ghost use Rattle.trdp_table.specs.Tables.{all_objects, by_key, room_of};
+ghost use Rattle.trdp_table.specs.Tables.{all_objects, by_key, refusal, room_of};
 ghost use Rattle.trdp_table.specs.TableLaws.{object_limit};
 ghost use Rattle.trdp_model.specs.Slots.{entry_under};
 ghost use Rattle.trdp_model.specs.Openings.{opening_refusal};
@@ -168,6 +168,8 @@ impl Store {
         ensures fault { IfErr result
             (λ refused. opening_refusal (slot_at slot self.old) (kind_of object)
             ≡ Some (table_refusal refused.1)) }
+        ensures table_fault { IfErr result
+            (λ refused. refusal (slot_in slot self.old) (kind_of object) ≡ Some refused.1) }
         ensures kept { OnErr result (self.new ≡ self.old) }
         ensures comparisons { (b : ℕ) → room_of self.old < 2 ^ b
             → counts.new.comparisons ≤ counts.old.comparisons + (2 * b + 2) }

@@ -3,7 +3,7 @@
 ghost use Rattle.std.specs.Prelude.{◌≡◌, ℕ, ◌<◌, ◌≤◌, length, Some};
 ghost use Rattle.std.specs.Prelude.{slice_get, option_map};
 ghost use Rattle.trdp_model.specs.declared.any_object.AnyObject.{AnyObject};
-ghost use Rattle.trdp_table.specs.Tables.{Keyed, slot_in, all_objects};
+ghost use Rattle.trdp_table.specs.Tables.{Keyed, refusal, slot_in, all_objects};
 ghost use Rattle.trdp_model.specs.Slots.{slot_limit};
 ghost use Rattle.trdp_table.specs.Tables.{by_handle, by_key, changed_at};
 ghost use Rattle.trdp_table.specs.Tables.{exchanged, with_other_by_handle};
@@ -49,9 +49,12 @@ impl Store {
 
     /// Why a slot takes no further object of a kind: the first that applies of its quota and its
     /// handles, as [`Store::add`] answers it.
+    #[tactic(auto, using(crate::proofs::StoreLemmas::Kinds::refused_alike))]
     pub fn refuses(&self, slot: u16, kind: Kind) -> Option<TableFault>
         requires { slot < length self.now }
-        ensures { option_map table_refusal result ≡ opening_refusal (slot_at slot self.now) kind }
+        ensures table_fault { result ≡ refusal (slot_in slot self.now) kind }
+        ensures refusal { option_map table_refusal result
+            ≡ opening_refusal (slot_at slot self.now) kind }
     {
         self.table.refuses(slot, kind)
     }
