@@ -1,11 +1,10 @@
-"""What comes in and goes out at each port of a daemon, datagram by datagram, and in which time."""
+"""What comes in and goes out at each port of a daemon, datagram by datagram, and how a service ends."""
 from __future__ import annotations
 
 import socket
 import struct
 import subprocess
 import tempfile
-import time
 import unittest
 import zlib
 
@@ -128,7 +127,7 @@ class Ports(Case):
 
 
 class Telegrams(Case):
-    """Telegrams come in whole and go out in their time."""
+    """Telegrams come in whole, and what comes early waits."""
 
     def test_60_000_bytes_come_in_whole(self) -> None:
         # One is told byte by byte; the other one is heard, since what is cut would be no telegram, but its text is
@@ -145,19 +144,6 @@ class Telegrams(Case):
         wait_until(lambda: daemon.totals().get("taken") == 3)
         self.assertEqual(daemon.totals(), wanted)
         self.is_quiet(client)
-
-    def test_a_publisher_keeps_its_cycle_by_the_clock(self) -> None:
-        self.daemon(node(control(0, "publishers = 1")))
-        device, client = self.socket(DEVICE, PD), self.client(CONTROL)
-        start = time.monotonic()
-        self.answers(client, f"publish 100 0 100000 0 0 0 {DEVICE}:{PD}".encode(), b"0 handle 1\n")
-        self.answers(client, b"put 1 0a0b", b"0 done\n")
-        counters: list[int] = []
-        while time.monotonic() - start < 1:
-            counters.append(int.from_bytes(device.recv(65536)[:4], "big"))
-        self.assertEqual(counters, list(range(len(counters))))
-        # This test's own clock is the bound; a machine that is busy may send less often.
-        self.assertLessEqual(len(counters), int((time.monotonic() - start) * 10) + 1)
 
     def test_what_comes_to_a_spare_port_waits_for_its_slot(self) -> None:
         self.daemon(node(control(0), more=f"spare_control_ports = [{CONTROL + 1}]\n"))
