@@ -10,7 +10,7 @@ use Rattle.trdp_base.specs.declared.place.Place.{Place}
 use Rattle.trdp_head.specs.MdBytes.{md_bytes}
 use Rattle.trdp_pd.specs.declared.object.Reason.{Reason}
 use Rattle.trdp_md.specs.declared.caller.Caller.{Caller as AnyCaller}
-use Rattle.trdp_md.specs.Answers.{awaits, confirmed}
+use Rattle.trdp_md.specs.Answers.{has_answered, awaits, confirmed}
 use Rattle.trdp_md.specs.Callers.{confirming, closed_of}
 use Rattle.trdp_md.specs.Callers.{confirm_of}
 use Rattle.trdp_md.proofs.ConfirmLemmas.{closed-done, terms-confirming}
@@ -22,7 +22,7 @@ use Rattle.trdp_model.specs.Records.{Content, DoneIs, Answers}
 use Rattle.trdp_model.specs.Records.{Sends}
 use Rattle.trdp_model.specs.Replies.{closing, concluded, confirms_unless}
 use Rattle.trdp_model.specs.Replies.{confirm_refusal}
-use Rattle.trdp_model.specs.Events.{ConfirmCall, CallIs}
+use Rattle.trdp_model.specs.Events.{EventModel, ConfirmCall, CallIs}
 use Rattle.trdp_net.specs.Networks.{Move, place_of}
 use Rattle.trdp_net.specs.Provenance.{In, Spot, Gives, Held}
 use Rattle.trdp_net.specs.Provenance.{IsConfirmed, IsConfirmedAs}
@@ -31,8 +31,8 @@ use Rattle.trdp_net.proofs.Kept.{CallerKept}
 use Rattle.trdp_net.proofs.Kept.{object_later, ActKept}
 use Rattle.trdp_net.proofs.HeadLemmas.{confirm_head}
 use Rattle.trdp_net.proofs.SendingLemmas.{sends_md}
-use Rattle.trdp_net.proofs.CallerLemmas.{asked_there, answers_confirmed, done_by}
-use Rattle.trdp_net.proofs.Explained.{MessageBy, ClosedBy, ToldBy}
+use Rattle.trdp_net.proofs.CallerLemmas.{asked_there, answers_confirmed, answered_before, done_by}
+use Rattle.trdp_net.proofs.Explained.{MessageBy, IsFrom, ClosedBy, ToldBy}
 use Rattle.trdp_net.specs.Provenance.{Each}
 use Rattle.trdp_net.proofs.TypedMoveLemmas.{IsCaller}
 use Rattle.trdp_md.proofs.AnswerLemmas.{all_apart_map}
@@ -69,24 +69,38 @@ caller_confirmed past m at place c is made kept =
       apart = all_apart_map place c.answers kept.apart;
     })
 
+-- a caller that confirms has the answers of the same places
+confirming_keeps : (c : AnyCaller) (place p : Place) → awaits c.answers place ≡ true
+    → has_answered (confirming c place).answers p ≡ false → has_answered c.answers p ≡ false
+unfolding confirmed
+confirming_keeps c place p is none =
+    answered_before place p c.answers
+    (subst (λ (x : AnyCaller). has_answered x.answers p ≡ false) (confirming_is c place is) none)
+
 -- it goes on, or closes where all has come
 concluded_kept : (past : List Move) (m : Move) (at : Spot) (c after : AnyCaller)
     (records : List Content) (reason : Option Reason) → closed_of after ≡ reason
     → Held at (Caller c) m → after.terms ≡ c.terms
+    → ((place : Place) → has_answered after.answers place ≡ false
+    → has_answered c.answers place ≡ false)
+    → ((place : Place) → IsFrom place m.event → ⊥)
     → CallerKept (m ∷ past) m.before.setup at after
     → Each (ToldBy past m at.node at.slot) records
     → ActKept past m at (concluded reason at.handle after records)
-concluded_kept past m at c after records None closed held terms kept tells =
+concluded_kept past m at c after records None closed held terms keeps no_source kept tells =
     record { stays = kept; tells = tells }
-concluded_kept past m at c after records (Some reason) closed held terms kept tells = record {
-  stays = tt;
-  tells =
-      each_append (ToldBy past m at.node at.slot) records (closing at.handle reason ∷ []) tells (
-        subst (λ (r : Reason). ClosedBy past m at r) (sym (closed-done after reason closed).0)
-            (done_by past m at c after held terms (closed-done after reason closed).1 kept),
-        tt,
-      );
-}
+concluded_kept past m at c after records (Some reason) closed held terms keeps no_source kept
+    tells = record {
+      stays = tt;
+      tells =
+          each_append (ToldBy past m at.node at.slot) records (closing at.handle reason ∷ [])
+          tells (
+            subst (λ (r : Reason). ClosedBy past m at r) (sym (closed-done after reason closed).0)
+                (done_by past m at c after held terms (closed-done after reason closed).1 keeps
+                (λ place from. absurd (no_source place from)) kept),
+            tt,
+          );
+    }
 
 refusal_awaits : (c : AnyCaller) (place : Place) (status : ℤ)
     → confirm_refusal c place status ≡ None → awaits c.answers place ≡ true
@@ -141,6 +155,8 @@ confirms_kept past m at None place status c is event fits status_fits kept held 
     concluded_kept past m at c (confirming c place)
     (Answers DoneIs ∷ Sends Md place (md_bytes (confirm_of c.terms status) []) ∷ [])
     (closed_of (confirming c place)) refl held (terms-confirming c place)
+    (λ p none. confirming_keeps c place p owed none)
+    (λ p from. subst (λ (v : EventModel). IsFrom p v) event from)
     (caller_confirmed past m at place c owed (status, made) kept) (
       tt,
       (

@@ -1,9 +1,10 @@
 -- A caller's answers: who made them, which await a confirmation, and when all have come.
--- For `CallerMoveLemmas` and `CallerConfirmLemmas`, which it spares inductions on the answers.
+-- For `CallerMoveLemmas`, `CallerConfirmLemmas`, `HeardLemmas` and `HeardTelegramLemmas`.
 -- Each answer is kept with the move that told of it, by induction on the list.
 use Rattle.std.proofs.Common.{◌≡◌, ◌≤◌, List, [], ◌∷◌, length, map}
 use Rattle.std.proofs.Common.{Bool, true, false, refl, sym, subst, inl}
-use Rattle.std.proofs.Common.{inr}
+use Rattle.std.proofs.Common.{inr, ◌++◌, arith}
+use Rattle.std.proofs.lemmas.Bool.Decides.{nat_tests}
 use Rattle.std.specs.Prelude.{◌&&◌, ◌||◌, if◌then◌else◌}
 use Rattle.std.specs.List.{list_any}
 use Rattle.trdp_base.specs.declared.place.Place.{Place}
@@ -14,7 +15,7 @@ use Rattle.trdp_head.specs.MdTelegrams.{MdTelegram}
 use Rattle.trdp_md.specs.declared.answers.Answer.{Answer}
 use Rattle.trdp_md.specs.declared.caller.Caller.{Caller as AnyCaller}
 use Rattle.trdp_md.specs.declared.terms.CallerTerms.{CallerTerms}
-use Rattle.trdp_md.specs.Answers.{is_place, awaits, awaits_any}
+use Rattle.trdp_md.specs.Answers.{is_place, has_answered, awaits, awaits_any}
 use Rattle.trdp_md.specs.Answers.{confirmed_if}
 use Rattle.trdp_md.specs.Callers.{is_answer, is_query}
 use Rattle.trdp_md.specs.Sessions.{IsDone}
@@ -26,8 +27,8 @@ use Rattle.trdp_net.specs.Provenance.{Ever, Spot, Held}
 use Rattle.trdp_net.specs.Provenance.{IsAnsweredBySome, IsReplied, IsConfirmedAs}
 use Rattle.trdp_net.proofs.PartLemmas.{and_left, and_right}
 use Rattle.trdp_net.proofs.Kept.{AnswerKept, CallerKept, answer_later}
-use Rattle.trdp_net.proofs.Explained.{MessageBy}
-use Rattle.trdp_net.specs.Promises.{IsSettled, IsDoneDue}
+use Rattle.trdp_net.proofs.Explained.{MessageBy, IsFrom, DoneBy}
+use Rattle.trdp_net.specs.Promises.{IsSettled}
 use Rattle.trdp_net.specs.Provenance.{Each}
 use Rattle.trdp_md.proofs.AnswerLemmas.{or_left, or_right}
 use Rattle.trdp_md.proofs.ConfirmLemmas.{place-is_place}
@@ -114,11 +115,63 @@ answers_confirmed past m at session home place (a ∷ answers) made kept = (
         }
     one false is = answer_later past m at session home a kept.0
 
+-- a confirmation adds no place
+pub answered_before : (place p : Place) (all : List Answer)
+    → has_answered (map (confirmed_if place) all) p ≡ false → has_answered all p ≡ false
+unfolding has_answered
+answered_before place p [] none = refl
+answered_before place p (a ∷ all) none =
+    either (is_place a.place place) none (λ rest. answered_before place p all rest)
+  where
+    both : (x y : Bool) → (x || y) ≡ false → (y ≡ false → has_answered all p ≡ false)
+        → (x || has_answered all p) ≡ false
+    both true y is later = absurd (cc is)
+    both false y is later = later is
+
+    either : (b : Bool)
+        → (is_place (let c : Answer = (if b then record a { confirm_owed = false } else a) in
+        c).place
+        p || has_answered (map (confirmed_if place) all) p) ≡ false
+        → (has_answered (map (confirmed_if place) all) p ≡ false → has_answered all p ≡ false)
+        → (is_place a.place p || has_answered all p) ≡ false
+    either true is later = both (is_place a.place p) _ is later
+    either false is later = both (is_place a.place p) _ is later
+
+-- a place that hasn't answered didn't do so before the last answer, nor by it
+pub answered_push : (all : List Answer) (a : Answer) (p : Place)
+    → has_answered (all ++ a ∷ []) p ≡ false
+    → (has_answered all p ≡ false) × (is_place a.place p ≡ false)
+unfolding has_answered
+answered_push [] a p none = (refl, or_left (is_place a.place p) false none)
+answered_push (b ∷ all) a p none =
+    let rest = answered_push all a p (or_right (is_place b.place p) _ none) in (
+      both (is_place b.place p) (has_answered all p) (or_left (is_place b.place p) _ none) rest.0,
+      rest.1,
+    )
+  where
+    both : (x y : Bool) → x ≡ false → y ≡ false → (x || y) ≡ false
+    both true y is_x is_y = absurd (cc is_x)
+    both false y is_x is_y = is_y
+
+-- the place of the last answer has answered
+pub answered_last : (all : List Answer) (a : Answer) → has_answered (all ++ a ∷ []) a.place ≡ true
+answered_last all a = either (has_answered (all ++ a ∷ []) a.place) refl
+  where
+    either : (b : Bool) → has_answered (all ++ a ∷ []) a.place ≡ b
+        → has_answered (all ++ a ∷ []) a.place ≡ true
+    either true is = is
+    either false is =
+        let other : is_place a.place a.place ≡ false = (answered_push all a a.place is).1 in
+        grind (arith, nat_tests)
+
 -- a caller that is done
 pub done_by : (past : List Move) (m : Move) (at : Spot) (c : AnyCaller) (after : AnyCaller)
     → Held at (Caller c) m → after.terms ≡ c.terms → IsDone after
-    → CallerKept (m ∷ past) m.before.setup at after → IsDoneDue m past at
-done_by past m at c after held terms done kept = record {
+    → ((place : Place) → has_answered after.answers place ≡ false
+    → has_answered c.answers place ≡ false)
+    → ((place : Place) → IsFrom place m.event → has_answered after.answers place ≡ true)
+    → CallerKept (m ∷ past) m.before.setup at after → DoneBy past m at
+done_by past m at c after held terms done keeps adds kept = record {
   c = c;
   held = held;
   answers = after.answers;
@@ -132,4 +185,6 @@ done_by past m at c after held terms done kept = record {
       terms
       (settled (m ∷ past) at after.terms.session (place_of Md m.before.setup) after.answers
       done.none_owed kept.answers);
+  keeps = keeps;
+  adds = adds;
 }

@@ -3,7 +3,7 @@
 -- What is known of a caller stays known, and each record is explained, by the rule's own tests.
 use Rattle.std.proofs.Common.{◌≡◌, ℕ, List, [], ◌∷◌}
 use Rattle.std.proofs.Common.{None, Bool, true, false, refl, ap, subst, arith, inl}
-use Rattle.std.proofs.Common.{inr}
+use Rattle.std.proofs.Common.{inr, sym, ◌∙◌}
 use Rattle.std.specs.Prelude.{not, ◌==◌, ◌&&◌, if◌then◌else◌}
 use Rattle.std.proofs.lemmas.Bool.Decides.{nat_tests}
 use Rattle.trdp_base.specs.declared.place.Place.{Place}
@@ -33,6 +33,8 @@ use Rattle.trdp_model.specs.declared.record.Protocol.TheVariants.{Md}
 use Rattle.trdp_model.specs.Configs.{NodeSetup}
 use Rattle.trdp_model.specs.Records.{Content, MessageModel, ReplyModel, RepliedIs, Indicates}
 use Rattle.trdp_model.specs.Acts.{Act}
+use Rattle.trdp_model.specs.Events.{EventModel, MomentIs, TopologyIs, RoleIs, DatagramIs, CallIs}
+use Rattle.trdp_model.specs.Events.{AddSlotIs}
 use Rattle.trdp_model.specs.Replies.{reply_of}
 use Rattle.trdp_model.specs.Moments.{firing_act, firing_records, left_firing}
 use Rattle.trdp_model.specs.Datagrams.{taking_act, taken_records, left_taking}
@@ -46,8 +48,8 @@ use Rattle.trdp_net.proofs.Kept.{object_later, ActKept, said_by}
 use Rattle.trdp_net.proofs.HeadLemmas.{request_head}
 use Rattle.trdp_net.proofs.SendingLemmas.{sends_md}
 use Rattle.trdp_net.proofs.CallerLemmas.{answer_origin, query_owes}
-use Rattle.trdp_net.proofs.CallerLemmas.{done_by}
-use Rattle.trdp_net.proofs.Explained.{MessageBy, ClosedBy}
+use Rattle.trdp_net.proofs.CallerLemmas.{done_by, answered_push, answered_last}
+use Rattle.trdp_net.proofs.Explained.{MessageBy, IsFrom, ClosedBy}
 use Rattle.trdp_net.proofs.TypedMoveLemmas.{IsCaller}
 use Rattle.trdp_md.proofs.AnswerLemmas.{flipped, all_apart_push}
 use Rattle.trdp_md.proofs.CallerLemmas.{query-is_query}
@@ -128,18 +130,27 @@ for_caller c src head is =
           (and_right (is_answer head.kind) (head.session.0 == c.terms.session.0) both),
     )
 
+-- a datagram is from one place
+one_source : (event : EventModel) (a b : Place) → IsFrom a event → IsFrom b event → a ≡ b
+one_source (DatagramIs protocol src dst bytes) a b is_a is_b = sym is_a ∙ is_b
+one_source (MomentIs t) a b is_a is_b = absurd is_a
+one_source (TopologyIs topo) a b is_a is_b = absurd is_a
+one_source (RoleIs group leader) a b is_a is_b = absurd is_a
+one_source (CallIs s call) a b is_a is_b = absurd is_a
+one_source (AddSlotIs quotas) a b is_a is_b = absurd is_a
+
 -- a caller at a telegram that was made
 pub caller_takes : (past : List Move) (m : Move) (at : Spot) (setup : NodeSetup)
     (src dst to : Place) (t : MdTelegram) (globals : Globals) (c : AnyCaller)
-    → MessageBy t.head.kind past src to t → CallerKept past m.before.setup at c
-    → Held at (Caller c) m
+    → MessageBy t.head.kind past src to t → IsFrom src m.event
+    → CallerKept past m.before.setup at c → Held at (Caller c) m
     → ((content : Content) → In content (taking_act setup (MdIs src dst t) globals
     (record { handle = at.handle; object = Caller c })).records
     → Gives at.node at.slot content m)
     → ActKept past m at (taking_act setup (MdIs src dst t) globals
     (record { handle = at.handle; object = Caller c }))
 unfolding answer_taken
-caller_takes past m at setup src dst to t globals c origin kept held given =
+caller_takes past m at setup src dst to t globals c origin from kept held given =
     either (is_accepted_answer c src t.head) refl given
   where
     after : AnyCaller
@@ -175,8 +186,17 @@ caller_takes past m at setup src dst to t globals c origin kept held given =
           held = held;
           requested = some_request at c.terms.session _ past kept.requested;
           answered = answered accepted;
+          from = from;
         },
-        (done_by past m at c after held refl (IsDone-is_complete after complete) later, tt),
+        (
+          done_by past m at c after held refl (IsDone-is_complete after complete)
+              (λ place none. (answered_push c.answers (answer_of src t.head) place none).0)
+              (λ place also. subst (λ (p : Place). has_answered after.answers p ≡ true)
+              (one_source m.event src place from also)
+              (answered_last c.answers (answer_of src t.head)))
+              later,
+          tt,
+        ),
       );
     }
     last false complete accepted later = record {
@@ -187,6 +207,7 @@ caller_takes past m at setup src dst to t globals c origin kept held given =
           held = held;
           requested = some_request at c.terms.session _ past kept.requested;
           answered = answered accepted;
+          from = from;
         },
         tt,
       );
@@ -223,11 +244,12 @@ unfolding request_of
 again_origin past m at home c e = inr (by_some at c.terms.session _ past e)
 
 -- a caller's deadline
-pub caller_fires : (past : List Move) (m : Move) (at : Spot) (globals : Globals)
-    (c : AnyCaller) → IsCaller c → CallerKept past m.before.setup at c → Held at (Caller c) m
+pub caller_fires : (past : List Move) (m : Move) (at : Spot) (t : ℕ) (globals : Globals)
+    (c : AnyCaller) → m.event ≡ MomentIs t → IsCaller c → CallerKept past m.before.setup at c
+    → Held at (Caller c) m
     → ActKept past m at
     (firing_act globals (record { handle = at.handle; object = Caller c }))
-caller_fires past m at globals c fits kept held = either (is_repeating c) refl
+caller_fires past m at t globals c event fits kept held = either (is_repeating c) refl
   where
     later : CallerKept (m ∷ past) m.before.setup at c
     later = object_later past m m.before.setup at (Caller c) kept
@@ -237,7 +259,8 @@ caller_fires past m at globals c fits kept held = either (is_repeating c) refl
     by_reason none Done is =
         let fired : (caller_firing c globals).fired ≡ fires.Closed Done =
         rw none (ap fires.Closed is) in
-        done_by past m at c c held refl (fired-done c globals fired) later
+        done_by past m at c c held refl (fired-done c globals fired) (λ place none. none)
+        (λ place from. absurd (subst (λ (v : EventModel). IsFrom place v) event from)) later
     by_reason none NoReply is = tt
     by_reason none NotAllReplies is = tt
     by_reason none NotConfirmed is = tt

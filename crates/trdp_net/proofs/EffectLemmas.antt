@@ -2,7 +2,7 @@
 -- For the five promises of `laws`, through `RunLemmas`.
 -- By cases on the event, and on a telegram by what it is; what a datagram brings was sent before.
 use Rattle.std.proofs.Common.{◌≡◌, ℕ, List, [], ◌∷◌, Option, Some}
-use Rattle.std.proofs.Common.{None, Bool, true, false, refl, subst, arith, inl, inr}
+use Rattle.std.proofs.Common.{None, Bool, true, false, refl, sym, subst, arith, inl, inr}
 use Rattle.std.proofs.Common.{slice_get}
 use Rattle.std.specs.Prelude.{◌==◌, if◌then◌else◌}
 use Rattle.std.specs.Prelude.{option_map}
@@ -46,7 +46,7 @@ use Rattle.trdp_net.proofs.Kept.{EntryKept}
 use Rattle.trdp_net.proofs.ObjectLemmas.{TelegramBy}
 use Rattle.trdp_net.proofs.SlotLemmas.{OutcomeKept, AreGiven, entries_later, unchanged_kept}
 use Rattle.trdp_net.proofs.SlotLemmas.{moved_kept, handed_kept}
-use Rattle.trdp_net.proofs.Explained.{MessageBy, SentBy}
+use Rattle.trdp_net.proofs.Explained.{MessageBy, IsFrom, SentBy}
 use Rattle.trdp_net.proofs.TypedMoveLemmas.{SendsTyped, IsTypedEntry}
 use Rattle.trdp_net.specs.Provenance.{Each}
 use Rattle.trdp_net.proofs.CallEffectLemmas.{called_kept}
@@ -139,7 +139,7 @@ request_origin past from to t is origin =
     subst (λ (k : MdKind). MessageBy k past from to t) is origin
 
 received_kept : (past : List Move) (m : Move) (s : ℕ) (slot : SlotState) (setup : NodeSetup)
-    (globals : Globals) (telegram : TelegramModel) → TelegramBy past m.before.setup telegram
+    (globals : Globals) (telegram : TelegramModel) → TelegramBy past m telegram
     → slice_get m.before.slots s ≡ Some slot → Each IsTypedEntry slot.objects
     → Each (EntryKept past m.before.setup m.node s) slot.objects
     → AreGiven m s (received setup slot globals telegram).records
@@ -157,14 +157,14 @@ received_kept past m s slot setup globals (MdIs src dst t) origin slot_is typed 
     either true is by =
         asked_kept past m s slot (hearing (MdIs src dst t) globals slot.objects) globals src t
         (request_origin past src (place_of Md m.before.setup) t
-        (request_kind t.head.kind is) origin)
+        (request_kind t.head.kind is) origin.1)
         kept by
     either false is by =
         handed_kept past m s slot setup globals (MdIs src dst t) origin slot_is typed kept by
 
 received_if_kept : (past : List Move) (m : Move) (s : ℕ) (slot : SlotState) (setup : NodeSetup)
     (globals : Globals) (telegram : Option TelegramModel)
-    → ((t : TelegramModel) → telegram ≡ Some t → TelegramBy past m.before.setup t)
+    → ((t : TelegramModel) → telegram ≡ Some t → TelegramBy past m t)
     → slice_get m.before.slots s ≡ Some slot → Each IsTypedEntry slot.objects
     → Each (EntryKept past m.before.setup m.node s) slot.objects
     → AreGiven m s (received_if setup slot globals telegram).records
@@ -189,25 +189,26 @@ IsSent past setup (DatagramIs protocol src dst bytes) =
 IsSent past setup event = Unit {0}
 
 -- the telegram of a datagram that was sent
-telegram_origin : (past : List Move) (setup : NodeSetup) (protocol : Protocol) (src dst : Place)
-    (bytes : List ℕ) → SentBy protocol past src (place_of protocol setup) bytes
-    → (t : TelegramModel) → telegram_of protocol src dst bytes ≡ Some t → TelegramBy past setup t
-telegram_origin past setup Pd src dst bytes sent t is = here (pd_telegram_of bytes) refl is
+telegram_origin : (past : List Move) (m : Move) (protocol : Protocol) (src dst : Place)
+    (bytes : List ℕ) → IsFrom src m.event
+    → SentBy protocol past src (place_of protocol m.before.setup) bytes
+    → (t : TelegramModel) → telegram_of protocol src dst bytes ≡ Some t → TelegramBy past m t
+telegram_origin past m Pd src dst bytes from sent t is = here (pd_telegram_of bytes) refl is
   where
     here : (o : Option PdTelegram) → pd_telegram_of bytes ≡ o
-        → option_map (λ telegram. PdIs src dst telegram) o ≡ Some t → TelegramBy past setup t
+        → option_map (λ telegram. PdIs src dst telegram) o ≡ Some t → TelegramBy past m t
     here None read is = absurd (cc is)
     here (Some telegram) read is =
         let same : PdIs src dst telegram ≡ t = cc is in
-        subst (λ (x : TelegramModel). TelegramBy past setup x) same (sent telegram read)
-telegram_origin past setup Md src dst bytes sent t is = here (md_telegram_of bytes) refl is
+        subst (λ (x : TelegramModel). TelegramBy past m x) same (sent telegram read)
+telegram_origin past m Md src dst bytes from sent t is = here (md_telegram_of bytes) refl is
   where
     here : (o : Option MdTelegram) → md_telegram_of bytes ≡ o
-        → option_map (λ telegram. MdIs src dst telegram) o ≡ Some t → TelegramBy past setup t
+        → option_map (λ telegram. MdIs src dst telegram) o ≡ Some t → TelegramBy past m t
     here None read is = absurd (cc is)
     here (Some telegram) read is =
         let same : MdIs src dst telegram ≡ t = cc is in
-        subst (λ (x : TelegramModel). TelegramBy past setup x) same (sent telegram read)
+        subst (λ (x : TelegramModel). TelegramBy past m x) same (from, sent telegram read)
 
 effect_kept : (past : List Move) (m : Move) (s : ℕ) (slot : SlotState) (event : EventModel)
     → m.event ≡ event → SendsTyped event → IsSent past m.before.setup event
@@ -216,7 +217,7 @@ effect_kept : (past : List Move) (m : Move) (s : ℕ) (slot : SlotState) (event 
     → AreGiven m s (plain_effect m.before.setup s slot m.before.globals event).records
     → OutcomeKept past m s (plain_effect m.before.setup s slot m.before.globals event)
 effect_kept past m s slot (MomentIs t) event fits sent slot_is typed kept given =
-    moved_kept past m s slot (record m.before.globals { now = t }) slot_is typed kept given
+    moved_kept past m s slot t (record m.before.globals { now = t }) event slot_is typed kept given
 effect_kept past m s slot (TopologyIs topo) event fits sent slot_is typed kept given =
     unchanged_kept past m s slot kept
 effect_kept past m s slot (RoleIs group leader) event fits sent slot_is typed kept given =
@@ -225,7 +226,9 @@ effect_kept past m s slot (DatagramIs protocol src dst bytes) event fits sent sl
     given =
     received_if_kept past m s slot m.before.setup m.before.globals
     (telegram_of protocol src dst bytes)
-    (telegram_origin past m.before.setup protocol src dst bytes sent) slot_is typed kept given
+    (telegram_origin past m protocol src dst bytes
+    (subst (λ (v : EventModel). IsFrom src v) (sym event) refl) sent)
+    slot_is typed kept given
 effect_kept past m s slot (AddSlotIs quotas) event fits sent slot_is typed kept given =
     unchanged_kept past m s slot kept
 effect_kept past m s slot (CallIs r call) event fits sent slot_is typed kept given =

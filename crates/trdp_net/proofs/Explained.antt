@@ -1,7 +1,7 @@
 -- By what each record of a move is explained: the invariant of a history.
 -- For all modules from `Kept` to `RunLemmas`, which show that each move keeps it.
 -- A definition for each kind of record: the earlier move that it needs, as the promises name it.
-use Rattle.std.specs.Prelude.{◌≡◌, ℕ, List, ◌∷◌, Some}
+use Rattle.std.specs.Prelude.{◌≡◌, ℕ, ◌<◌, ◌≤◌, List, ◌∷◌, length, Some, true, false}
 use Rattle.std.specs.Prelude.{slice_get}
 use Rattle.trdp_base.specs.declared.place.Place.{Place}
 use Rattle.trdp_head.specs.declared.pd.PdKind.{PdKind}
@@ -12,7 +12,10 @@ use Rattle.trdp_head.specs.PdTelegrams.{PdTelegram, pd_telegram_of}
 use Rattle.trdp_head.specs.MdTelegrams.{MdTelegram, md_telegram_of}
 use Rattle.trdp_pd.specs.declared.object.Reason.{Reason}
 use Rattle.trdp_pd.specs.declared.object.Reason.TheVariants.{Done}
+use Rattle.trdp_md.specs.declared.answers.Answer.{Answer}
 use Rattle.trdp_md.specs.declared.caller.Caller.{Caller as AnyCaller}
+use Rattle.trdp_md.specs.Answers.{has_answered}
+use Rattle.trdp_md.specs.Sessions.{AreApart}
 use Rattle.trdp_model.specs.declared.any_object.AnyObject.TheVariants.{Caller}
 use Rattle.trdp_model.specs.declared.record.Protocol.{Protocol}
 use Rattle.trdp_model.specs.declared.record.Protocol.TheVariants.{Pd, Md}
@@ -21,11 +24,12 @@ use Rattle.trdp_model.specs.Records.{RepliedIs, ConfirmedIs, ClosedIs, Answers, 
 use Rattle.trdp_model.specs.Notices.{message_of}
 use Rattle.trdp_model.specs.Replies.{reply_of}
 use Rattle.trdp_model.specs.Slots.{SlotState}
+use Rattle.trdp_model.specs.Events.{EventModel, DatagramIs}
 use Rattle.trdp_net.specs.Networks.{Move, effect_in, place_of}
 use Rattle.trdp_net.specs.Provenance.{Ever, Each, Spot, Held, IsPut, IsNotified, IsRequestedBySome}
 use Rattle.trdp_net.specs.Provenance.{IsRequestedAs, IsAnsweredBySome}
 use Rattle.trdp_net.specs.Provenance.{IsConfirmedBySome}
-use Rattle.trdp_net.specs.Promises.{IsConfirmMade, IsDoneDue}
+use Rattle.trdp_net.specs.Promises.{IsConfirmMade, IsSettled}
 
 -- the object of that node, slot and handle
 abbrev pub spot : ℕ → ℕ → ℕ → Spot
@@ -58,17 +62,39 @@ SentBy Pd past from to bytes =
 SentBy Md past from to bytes =
     (t : MdTelegram) → md_telegram_of bytes ≡ Some t → MessageBy t.head.kind past from to t
 
+-- the event is a datagram from that place
+abbrev pub IsFrom : Place → EventModel → Type 0
+IsFrom place (DatagramIs protocol src dst bytes) = src ≡ place
+IsFrom place event = ⊥
+
 -- a caller that a granted Request at this node opened, and an answer that was made to its
--- identifier
+-- identifier, which the event of the move brought
 pub record RepliedBy (past : List Move) (m : Move) (at : Spot) (answer : ReplyModel) : Type 0 where
   pub c : AnyCaller
   pub held : Held at (Caller c) m
   pub requested : Ever (IsRequestedAs at c.terms.session) past
   pub answered : Ever (IsAnsweredBySome c.terms.session answer) past
+  pub from : IsFrom answer.src m.event
+
+-- a caller that is done, and its answers by then: all that it had before the move, and the one that
+-- the event of the move brought, if it brought any
+pub record DoneBy (past : List Move) (m : Move) (at : Spot) : Type 0 where
+  pub c : AnyCaller
+  pub held : Held at (Caller c) m
+  pub answers : List Answer
+  pub enough : c.terms.expected ≤ length answers
+  pub some : 0 < length answers
+  pub apart : AreApart answers
+  pub settled :
+      Each (IsSettled (m ∷ past) at c.terms.session (place_of Md m.before.setup)) answers
+  pub keeps :
+      (place : Place) → has_answered answers place ≡ false
+      → has_answered c.answers place ≡ false
+  pub adds : (place : Place) → IsFrom place m.event → has_answered answers place ≡ true
 
 -- a caller that is done; nothing is asked of any other reason
 abbrev pub ClosedBy : List Move → Move → Spot → Reason → Type 0
-ClosedBy past m at Done = IsDoneDue m past at
+ClosedBy past m at Done = DoneBy past m at
 ClosedBy past m at reason = Unit {0}
 
 -- an indication to slot s of node k

@@ -3,7 +3,7 @@
 -- By cases on the kind of object: no record of these acts is the indication of an answer.
 use Rattle.std.proofs.Common.{◌≡◌, ℕ, ℤ, List, [], ◌∷◌, map, Option, Some, None, Bool, true}
 use Rattle.std.proofs.Common.{false, refl}
-use Rattle.std.specs.Prelude.{◌||◌, if◌then◌else◌}
+use Rattle.std.specs.Prelude.{if◌then◌else◌}
 use Rattle.trdp_base.specs.declared.place.Place.{Place}
 use Rattle.trdp_head.specs.declared.pd.PdHead.{PdHead}
 use Rattle.trdp_head.specs.declared.md.MdHead.{MdHead}
@@ -15,10 +15,9 @@ use Rattle.trdp_pd.specs.declared.object.Fired.TheVariants as fires
 use Rattle.trdp_pd.specs.Effects.{Firing}
 use Rattle.trdp_pd.specs.Publishers.{PublisherState, may_send, next_due}
 use Rattle.trdp_pd.specs.Publishers.{next_counter, data_head}
-use Rattle.trdp_md.specs.declared.answers.Answer.{Answer}
 use Rattle.trdp_md.specs.declared.caller.Caller.{Caller as AnyCaller}
 use Rattle.trdp_md.specs.declared.replier.Replier.{Replier as AnyReplier}
-use Rattle.trdp_md.specs.Answers.{is_place, has_answered, awaits, confirmed, confirmed_if}
+use Rattle.trdp_md.specs.Answers.{has_answered, awaits, confirmed, confirmed_if}
 use Rattle.trdp_md.specs.Callers.{confirming, closed_of, confirm_of, request_of, reason_of}
 use Rattle.trdp_md.specs.Callers.{is_repeating, waiting_again, repeating}
 use Rattle.trdp_model.specs.declared.kind.Kind.{Kind}
@@ -41,6 +40,7 @@ use Rattle.trdp_model.specs.Replies.{replies, queries, reply_errors, confirms, a
 use Rattle.trdp_model.specs.Replies.{answers_unless, confirms_unless, confirm_refusal, concluded}
 use Rattle.trdp_model.specs.Replies.{reply_refusal, query_refusal, error_refusal}
 use Rattle.trdp_net.specs.Promises.{replied_in, IsNew}
+use Rattle.trdp_net.proofs.CallerLemmas.{answered_before}
 
 -- what was told to an object is among what it knows to have been answered
 abbrev pub Covers : List Place → AnyObject → Type 0
@@ -226,28 +226,6 @@ errors_quiet places com_id status (Subscription u) covers =
 errors_quiet places com_id status (Requester r) covers = answers_quiet places (Requester r) _ tt
 errors_quiet places com_id status (Listener l) covers = answers_quiet places (Listener l) _ tt
 errors_quiet places com_id status (Caller c) covers = answers_quiet places (Caller c) _ covers
-
--- a confirmation keeps the places
-answered_before : (place p : Place) (all : List Answer)
-    → has_answered (map (confirmed_if place) all) p ≡ false → has_answered all p ≡ false
-unfolding has_answered
-answered_before place p [] none = refl
-answered_before place p (a ∷ all) none =
-    either (is_place a.place place) none (λ rest. answered_before place p all rest)
-  where
-    both : (x y : Bool) → (x || y) ≡ false → (y ≡ false → has_answered all p ≡ false)
-        → (x || has_answered all p) ≡ false
-    both true y is later = absurd (cc is)
-    both false y is later = later is
-
-    either : (b : Bool)
-        → (is_place (let c : Answer = (if b then record a { confirm_owed = false } else a) in
-        c).place
-        p || has_answered (map (confirmed_if place) all) p) ≡ false
-        → (has_answered (map (confirmed_if place) all) p ≡ false → has_answered all p ≡ false)
-        → (is_place a.place p || has_answered all p) ≡ false
-    either true is later = both (is_place a.place p) _ is later
-    either false is later = both (is_place a.place p) _ is later
 
 confirming_covers : (places : List Place) (c : AnyCaller) (place : Place)
     → Covers places (Caller c) → Covers places (Caller (confirming c place))

@@ -1,5 +1,5 @@
 -- No two answers that one caller is told of come from one place.
--- For `no_invented_reply`, its clause `distinct`.
+-- For `no_invented_reply`, its clause `distinct`, and for `no_early_done`, through `DoneLemmas`.
 -- By induction on the steps: what a caller was told of is among what it knows, no place twice.
 use Rattle.std.proofs.Common.{◌≡◌, ℕ, zero, suc, ◌+◌, List, [], ◌∷◌, ◌++◌, map, Option, Some}
 use Rattle.std.proofs.Common.{None, Bool, true, false, refl, sym, ◌∙◌, subst, arith}
@@ -20,7 +20,7 @@ use Rattle.trdp_net.specs.Networks.{NetNode, place_of, Sent, Move, Network, Step
 use Rattle.trdp_net.specs.Networks.{MomentAt, TopologyAt, RoleAt, DeliveryAt, AddSlotAt}
 use Rattle.trdp_net.specs.Networks.{plain_node, moves, moves_unless, moves_at, reaches, delivered}
 use Rattle.trdp_net.specs.Networks.{network_step, network_run, opened_network, plain_slots}
-use Rattle.trdp_net.specs.Provenance.{Spot}
+use Rattle.trdp_net.specs.Provenance.{Always, Spot}
 use Rattle.trdp_net.specs.Promises.{history, replied_in, told_in, all_replied}
 use Rattle.trdp_net.specs.Promises.{AreDistinct}
 use Rattle.trdp_net.proofs.HeardEntryLemmas.{HeardSlot, heard_same}
@@ -37,11 +37,16 @@ abbrev slot_in : Option NetNode → ℕ → Option SlotState
 slot_in None s = None
 slot_in (Some node) s = slice_get node.slots s
 
--- what the objects of each slot were told of in the history
-pub HeardNetwork : Network → Type 0
-HeardNetwork w =
-    (k s : ℕ) → HeardAt (λ h. all_replied (spot k s h) w.history)
-    (slot_in (slice_get w.nodes k) s)
+-- what the objects of each slot of the move's node had been told of before it
+abbrev pub HeardBefore : Move → List Move → Type 0
+HeardBefore m past =
+    (s : ℕ) → HeardAt (λ h. all_replied (spot m.node s h) past) (slice_get m.before.slots s)
+
+-- what the objects of each slot were told of in the history, and had been before each move
+pub record HeardNetwork (w : Network) : Type 0 where
+  pub nodes : (k s : ℕ) → HeardAt (λ h. all_replied (spot k s h) w.history)
+      (slot_in (slice_get w.nodes k) s)
+  pub always : Always HeardBefore w.history
 
 heard_at_same : (old new : ℕ → List Place) (slot : Option SlotState)
     → ((h : ℕ) → old h ≡ new h) → HeardAt old slot → HeardAt new slot
@@ -122,10 +127,20 @@ set_elsewhere (z ∷ xs) (suc k) zero y other = refl
 set_elsewhere (z ∷ xs) (suc k) (suc j) y other =
     let not : (k == j) ≡ false = grind (arith, nat_tests) in set_elsewhere xs k j y not
 
-move_heard : (w : Network) (k : ℕ) (node : NetNode) (event : EventModel)
-    → slice_get w.nodes k ≡ Some node → HeardNetwork w → HeardNetwork (moves w k node event)
-unfolding HeardNetwork
-move_heard w k node event is heard j s = either (k == j) refl
+-- the slots of a node, known by its number
+node_heard : (w : Network) (k : ℕ) (node : NetNode) → slice_get w.nodes k ≡ Some node
+    → HeardNetwork w → (s : ℕ)
+    → HeardAt (λ h. all_replied (spot k s h) w.history) (slice_get node.slots s)
+node_heard w k node is heard s =
+    subst
+    (λ (o : Option NetNode). HeardAt (λ h. all_replied (spot k s h) w.history) (slot_in o s)) is
+    (heard.nodes k s)
+
+moved_nodes : (w : Network) (k : ℕ) (node : NetNode) (event : EventModel)
+    → slice_get w.nodes k ≡ Some node → HeardNetwork w → (j s : ℕ)
+    → HeardAt (λ h. all_replied (spot j s h) (moves w k node event).history)
+    (slot_in (slice_get (moves w k node event).nodes j) s)
+moved_nodes w k node event is heard j s = either (k == j) refl
   where
     m : Move
     m = record { node = k; before = node; event = event }
@@ -135,9 +150,6 @@ move_heard w k node event is heard j s = either (k == j) refl
 
     from_zero : zero + s ≡ s
     from_zero = omega arith
-
-    at_it : slice_get w.nodes j ≡ Some node → HeardAt old (slice_get node.slots s)
-    at_it is_j = subst (λ (o : Option NetNode). HeardAt old (slot_in o s)) is_j (heard j s)
 
     told : Bool → ℕ → List Place
     told b h =
@@ -168,14 +180,21 @@ move_heard w k node event is heard j s = either (k == j) refl
         (slice_get (plain_node node event).slots s))
         from_zero
         (moved_slot node.setup node.globals event zero node.slots s old m refl refl refl
-        (at_it is_j))))
+        (node_heard w j node is_j heard s))))
     either false other =
         subst
         (λ (o : Option NetNode).
         HeardAt (λ h. all_replied (spot j s h) (m ∷ w.history)) (slot_in o s))
         (sym (set_elsewhere w.nodes k j (plain_node node event) other))
         (subst (λ (b : Bool). HeardAt (told b) (slot_in (slice_get w.nodes j) s)) (sym other)
-        (heard j s))
+        (heard.nodes j s))
+
+move_heard : (w : Network) (k : ℕ) (node : NetNode) (event : EventModel)
+    → slice_get w.nodes k ≡ Some node → HeardNetwork w → HeardNetwork (moves w k node event)
+move_heard w k node event is heard = record {
+  nodes = moved_nodes w k node event is heard;
+  always = (node_heard w k node is heard, heard.always);
+}
 
 unless_heard : (w : Network) (k : ℕ) (fault : Option NodeFault) (node : NetNode)
     (event : EventModel) → slice_get w.nodes k ≡ Some node → HeardNetwork w
@@ -235,8 +254,7 @@ opened_heard_at (config ∷ configs) zero s = opened_slot_heard config.slots s
 opened_heard_at (config ∷ configs) (suc k) s = opened_heard_at configs k s
 
 opened_heard_network : (configs : List ConfigModel) → HeardNetwork (opened_network configs)
-unfolding HeardNetwork
-opened_heard_network configs k s = opened_heard_at configs k s
+opened_heard_network configs = record { nodes = opened_heard_at configs; always = tt }
 
 heard_distinct : (old : ℕ → List Place) (slot : Option SlotState) → HeardAt old slot
     → (h : ℕ) → AreDistinct (old h)
@@ -246,11 +264,16 @@ heard_distinct old (Some slot) is h = is.distinct h
 -- no caller is told of two answers of one place
 pub all_distinct : (configs : List ConfigModel) (steps : List Step) (caller : Spot)
     → AreDistinct (all_replied caller (history configs steps))
-unfolding HeardNetwork
 all_distinct configs steps caller =
     let w : Network = network_run (opened_network configs) steps in
     heard_distinct (λ h. all_replied (spot caller.node caller.slot h) w.history)
     (slot_in (slice_get w.nodes caller.node) caller.slot)
-    (run_heard (opened_network configs) steps (opened_heard_network configs) caller.node
+    ((run_heard (opened_network configs) steps (opened_heard_network configs)).nodes caller.node
     caller.slot)
     caller.handle
+
+-- before each move of a run, each object had been told of no more than it knew
+pub always_heard : (configs : List ConfigModel) (steps : List Step)
+    → Always HeardBefore (history configs steps)
+always_heard configs steps =
+    (run_heard (opened_network configs) steps (opened_heard_network configs)).always

@@ -3,7 +3,7 @@
 -- Only a caller tells of an answer, and only of one whose place isn't yet among its answers.
 use Rattle.std.proofs.Common.{◌≡◌, ℕ, List, [], ◌∷◌, ◌++◌, Bool, true}
 use Rattle.std.proofs.Common.{false, refl, sym, subst, arith}
-use Rattle.std.specs.Prelude.{not, ◌==◌, ◌&&◌, ◌||◌, if◌then◌else◌}
+use Rattle.std.specs.Prelude.{not, ◌==◌, ◌&&◌, if◌then◌else◌}
 use Rattle.std.proofs.lemmas.Bool.Decides.{nat_tests}
 use Rattle.trdp_base.specs.declared.place.Place.{Place}
 use Rattle.trdp_head.specs.declared.md.MdKind.{MdKind}
@@ -20,11 +20,10 @@ use Rattle.trdp_pd.specs.Publishers.{PublisherState, is_answered}
 use Rattle.trdp_pd.specs.Publishers.{next_counter, reply_head}
 use Rattle.trdp_pd.specs.Subscriptions.{SubscriptionState, is_accepted_value as is_stored, storing}
 use Rattle.trdp_pd.specs.Subscriptions.{taken_in}
-use Rattle.trdp_md.specs.declared.answers.Answer.{Answer}
 use Rattle.trdp_md.specs.declared.caller.Caller.{Caller as AnyCaller}
 use Rattle.trdp_md.specs.declared.replier.Replier.{Replier as AnyReplier}
 use Rattle.trdp_md.specs.declared.listener.Listener.{Listener as AnyListener}
-use Rattle.trdp_md.specs.Answers.{is_place, has_answered}
+use Rattle.trdp_md.specs.Answers.{has_answered}
 use Rattle.trdp_md.specs.Callers.{is_accepted_answer, is_for_caller, has_place, answering}
 use Rattle.trdp_md.specs.Callers.{answer_of}
 use Rattle.trdp_md.specs.Callers.{answer_taken, is_complete}
@@ -41,8 +40,9 @@ use Rattle.trdp_model.specs.Datagrams.{taking_act, taken_records, left_taking, f
 use Rattle.trdp_model.specs.Pulls.{answer_place}
 use Rattle.trdp_net.specs.Promises.{replied_in, IsNew, AreDistinct}
 use Rattle.trdp_net.proofs.PartLemmas.{and_right}
+use Rattle.trdp_net.proofs.CallerLemmas.{answered_push}
 use Rattle.trdp_net.proofs.HeardLemmas.{Covers, CoversLeft, IsQuiet, QuietAct, value_quiet}
-use Rattle.trdp_md.proofs.AnswerLemmas.{or_left, or_right, flipped}
+use Rattle.trdp_md.proofs.AnswerLemmas.{flipped}
 
 -- at a telegram
 
@@ -163,22 +163,6 @@ replier_quiet places handle setup (MdIs src dst t) globals r =
         else record { object = r; taken = took.Nothing }))
     either true = record { covers = tt; quiet = λ h. refl }
     either false = record { covers = tt; quiet = λ h. refl }
-
--- a place that was added
-answered_push : (all : List Answer) (a : Answer) (p : Place)
-    → has_answered (all ++ a ∷ []) p ≡ false
-    → (has_answered all p ≡ false) × (is_place a.place p ≡ false)
-unfolding has_answered
-answered_push [] a p none = (refl, or_left (is_place a.place p) false none)
-answered_push (b ∷ all) a p none =
-    let rest = answered_push all a p (or_right (is_place b.place p) _ none) in (
-      both (is_place b.place p) (has_answered all p) (or_left (is_place b.place p) _ none) rest.0,
-      rest.1,
-    )
-  where
-    both : (x y : Bool) → x ≡ false → y ≡ false → (x || y) ≡ false
-    both true y is_x is_y = absurd (cc is_x)
-    both false y is_x is_y = is_y
 
 same_handle : (h : ℕ) → (h == h) ≡ true
 same_handle h = grind (arith, nat_tests)

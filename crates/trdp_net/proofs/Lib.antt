@@ -21,6 +21,8 @@ pub mod HeardTelegramLemmas
 pub mod HeardEntryLemmas
 pub mod HeardSlotLemmas
 pub mod HeardRunLemmas
+pub mod ToldLemmas
+pub mod DoneLemmas
 pub mod TypedObjectLemmas
 pub mod TypedCallLemmas
 pub mod TypedSlotLemmas

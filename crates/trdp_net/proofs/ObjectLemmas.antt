@@ -37,7 +37,7 @@ use Rattle.trdp_model.specs.Replies.{replies, queries, reply_errors, confirms, a
 use Rattle.trdp_model.specs.Replies.{error_refusal}
 use Rattle.trdp_model.specs.Replies.{confirm_refusal}
 use Rattle.trdp_model.specs.Events.{PutCall, ReplyCall, QueryCall, ReplyErrorCall, ConfirmCall}
-use Rattle.trdp_model.specs.Events.{CallIs}
+use Rattle.trdp_model.specs.Events.{MomentIs, CallIs}
 use Rattle.trdp_net.specs.Networks.{Move, place_of}
 use Rattle.trdp_net.specs.Provenance.{In, Spot, Gives, Held}
 use Rattle.trdp_net.proofs.Kept.{ObjectKept, object_later, ActKept, nothing_kept}
@@ -47,32 +47,34 @@ use Rattle.trdp_net.proofs.CallerMoveLemmas.{caller_takes, caller_fires}
 use Rattle.trdp_net.proofs.CallerConfirmLemmas.{confirms_kept}
 use Rattle.trdp_net.proofs.ReplierLemmas.{replier_takes, replier_fires, replies_kept, queries_kept}
 use Rattle.trdp_net.proofs.ReplierLemmas.{errors_kept}
-use Rattle.trdp_net.proofs.Explained.{DataBy, MessageBy, ToldBy}
+use Rattle.trdp_net.proofs.Explained.{DataBy, MessageBy, IsFrom, ToldBy}
 use Rattle.trdp_net.proofs.TypedMoveLemmas.{IsTypedObject}
 use Rattle.trdp_net.specs.Provenance.{Each}
 
 -- at a moment
-pub fires_kept : (past : List Move) (m : Move) (at : Spot) (globals : Globals)
-    (x : AnyObject) → IsTypedObject x → ObjectKept past m.before.setup at x → Held at x m
+pub fires_kept : (past : List Move) (m : Move) (at : Spot) (t : ℕ) (globals : Globals)
+    (x : AnyObject) → m.event ≡ MomentIs t → IsTypedObject x
+    → ObjectKept past m.before.setup at x → Held at x m
     → ActKept past m at
     (firing_act globals (record { handle = at.handle; object = x }))
-fires_kept past m at globals (Publisher p) fits kept held =
+fires_kept past m at t globals (Publisher p) event fits kept held =
     publisher_fires past m at globals p fits kept
-fires_kept past m at globals (Subscription u) fits kept held =
+fires_kept past m at t globals (Subscription u) event fits kept held =
     subscription_fires past m at globals u
-fires_kept past m at globals (Requester r) fits kept held =
+fires_kept past m at t globals (Requester r) event fits kept held =
     nothing_kept past m at (Requester r) kept
-fires_kept past m at globals (Listener l) fits kept held =
+fires_kept past m at t globals (Listener l) event fits kept held =
     nothing_kept past m at (Listener l) kept
-fires_kept past m at globals (Caller c) fits kept held =
-    caller_fires past m at globals c fits kept held
-fires_kept past m at globals (Replier r) fits kept held =
+fires_kept past m at t globals (Caller c) event fits kept held =
+    caller_fires past m at t globals c event fits kept held
+fires_kept past m at t globals (Replier r) event fits kept held =
     replier_fires past m at globals r
 
--- what a telegram was sent as, to the node of a move
-abbrev pub TelegramBy : List Move → NodeSetup → TelegramModel → Type 0
-TelegramBy past setup (PdIs src dst t) = DataBy t.head.kind past t
-TelegramBy past setup (MdIs src dst t) = MessageBy t.head.kind past src (place_of Md setup) t
+-- what a telegram was sent as, to the node of a move whose event brings it
+abbrev pub TelegramBy : List Move → Move → TelegramModel → Type 0
+TelegramBy past m (PdIs src dst t) = DataBy t.head.kind past t
+TelegramBy past m (MdIs src dst t) =
+    IsFrom src m.event × MessageBy t.head.kind past src (place_of Md m.before.setup) t
 
 -- a listener that heard a message
 heard_kept : (kind : MdKind) (past : List Move) (m : Move) (k s h : ℕ) (src to : Place)
@@ -87,7 +89,7 @@ heard_kept message.Confirm past m k s h src to t origin = tt
 
 listener_takes : (past : List Move) (m : Move) (at : Spot) (setup : NodeSetup)
     (telegram : TelegramModel) (globals : Globals) (l : AnyListener)
-    → TelegramBy past m.before.setup telegram
+    → TelegramBy past m telegram
     → ActKept past m at (taking_act setup telegram globals
     (record { handle = at.handle; object = Listener l }))
 listener_takes past m at setup (PdIs src dst t) globals l origin =
@@ -103,14 +105,14 @@ listener_takes past m at setup (MdIs src dst t) globals l origin =
     either true = record {
       stays = tt;
       tells = heard_kept t.head.kind past m at.node at.slot at.handle src
-          (place_of Md m.before.setup) t origin;
+          (place_of Md m.before.setup) t origin.1;
     }
     either false = record { stays = tt; tells = tt }
 
 -- at a telegram
 pub takes_kept : (past : List Move) (m : Move) (at : Spot) (setup : NodeSetup)
     (telegram : TelegramModel) (globals : Globals) (x : AnyObject)
-    → TelegramBy past m.before.setup telegram
+    → TelegramBy past m telegram
     → IsTypedObject x → ObjectKept past m.before.setup at x → Held at x m
     → ((content : Content) → In content (taking_act setup telegram globals
     (record { handle = at.handle; object = x })).records
@@ -132,12 +134,12 @@ takes_kept past m at setup telegram globals (Listener l) origin fits kept held g
 takes_kept past m at setup (PdIs src dst t) globals (Caller c) origin fits kept held given =
     nothing_kept past m at (Caller c) kept
 takes_kept past m at setup (MdIs src dst t) globals (Caller c) origin fits kept held given =
-    caller_takes past m at setup src dst (place_of Md m.before.setup) t globals c origin kept
-    held given
+    caller_takes past m at setup src dst (place_of Md m.before.setup) t globals c origin.1 origin.0
+    kept held given
 takes_kept past m at setup (PdIs src dst t) globals (Replier r) origin fits kept held given =
     nothing_kept past m at (Replier r) kept
 takes_kept past m at setup (MdIs src dst t) globals (Replier r) origin fits kept held given =
-    replier_takes past m at setup src dst t globals r origin kept held
+    replier_takes past m at setup src dst t globals r origin.1 kept held
 
 -- at a call
 

@@ -1,5 +1,5 @@
 -- The promises, from what is known of every run.
--- For the five `no_..` functions of `laws`, each of whose clauses is a lemma here.
+-- For the five `no_..` functions of `laws`; `no_early_done` needs more, through `DoneLemmas`.
 -- By what `RunLemmas` keeps: it explains each record, and a promise looks the explanation up.
 use Rattle.std.proofs.Common.{◌≡◌, ℕ, List, [], ◌∷◌, Option, Some, None, Bool, true, false, ap}
 use Rattle.std.proofs.Common.{sym, ◌∙◌, subst, inl, inr, slice_get}
@@ -7,7 +7,6 @@ use Rattle.std.specs.Prelude.{◌==◌, if◌then◌else◌}
 use Rattle.trdp_base.specs.declared.place.Place.{Place}
 use Rattle.trdp_base.specs.declared.session.SessionId.{SessionId}
 use Rattle.trdp_dataset.specs.Configs.{ConfigModel}
-use Rattle.trdp_pd.specs.declared.object.Reason.TheVariants.{Done}
 use Rattle.trdp_pd.specs.declared.terms.ValueState.TheVariants.{Valid}
 use Rattle.trdp_pd.specs.Subscriptions.{SubscriptionState}
 use Rattle.trdp_md.specs.declared.terms.CallerTerms.{CallerTerms}
@@ -18,7 +17,7 @@ use Rattle.trdp_model.specs.declared.any_object.AnyObject.TheVariants.{Subscript
 use Rattle.trdp_model.specs.declared.fault.Refusal.{Refusal}
 use Rattle.trdp_model.specs.Configs.{NodeSetup}
 use Rattle.trdp_model.specs.Records.{Content, MessageModel, ReplyModel, HandleIs, NotifiedIs}
-use Rattle.trdp_model.specs.Records.{AskedIs, RepliedIs, ConfirmedIs, ClosedIs, Answers}
+use Rattle.trdp_model.specs.Records.{AskedIs, RepliedIs, ConfirmedIs, Answers}
 use Rattle.trdp_model.specs.Records.{Indicates}
 use Rattle.trdp_model.specs.Slots.{SlotState, Outcome, unchanged}
 use Rattle.trdp_model.specs.Openings.{opened_with}
@@ -32,7 +31,7 @@ use Rattle.trdp_net.specs.Provenance.{Ever, Always, In, Spot, Gives, IsPut, IsRe
 use Rattle.trdp_net.specs.Provenance.{IsRequestedAs, IsAsked, IsAnswered}
 use Rattle.trdp_net.specs.Provenance.{IsAnsweredTo, IsAnsweredBySome}
 use Rattle.trdp_net.specs.Promises.{history, AreSingle, Requests, IsFresh, ValuesArePut}
-use Rattle.trdp_net.specs.Promises.{RepliesAreMade, ConfirmsAreMade, DoneIsDue, NoticesAreMade}
+use Rattle.trdp_net.specs.Promises.{RepliesAreMade, ConfirmsAreMade, NoticesAreMade}
 use Rattle.trdp_net.specs.Promises.{RequestsAreMade}
 use Rattle.trdp_net.proofs.PartLemmas.{each_in, ever_map}
 use Rattle.trdp_net.proofs.Kept.{ObjectKept, EntryKept}
@@ -54,7 +53,7 @@ always_with P R Q f [] a r = tt
 always_with P R Q f (m ∷ past) a r = (f m past a.0 r.1, always_with P R Q f past a.1 r.1)
 
 -- a record of a move that is explained
-told_by : (past : List Move) (m : Move) (k s : ℕ) (content : Content) → IsExplained m past
+pub told_by : (past : List Move) (m : Move) (k s : ℕ) (content : Content) → IsExplained m past
     → Gives k s content m → ToldBy past m k s content
 told_by past m k s content is gives =
     subst (λ (n : ℕ). ToldBy past m n s content) gives.node_is
@@ -222,15 +221,6 @@ confirms_made configs steps single typed =
     always_map IsExplained ConfirmsAreMade
     (λ m past is at status gives.
     told_by past m at.node at.slot (Indicates (ConfirmedIs at.handle status)) is gives)
-    (history configs steps) (every_run configs steps single typed).always
-
--- no early completion
-pub done_due : (configs : List ConfigModel) (steps : List Step) → AreSingle configs
-    → Always IsTypedMove (history configs steps) → Always DoneIsDue (history configs steps)
-done_due configs steps single typed =
-    always_map IsExplained DoneIsDue
-    (λ m past is at gives.
-    told_by past m at.node at.slot (Indicates (ClosedIs at.handle Done)) is gives)
     (history configs steps) (every_run configs steps single typed).always
 
 -- no invented notification

@@ -24,6 +24,7 @@ use Rattle.trdp_model.specs.Moments.{moved_to}
 use Rattle.trdp_model.specs.Datagrams.{is_acting, acting}
 use Rattle.trdp_model.specs.Datagrams.{taking_act, handed}
 use Rattle.trdp_model.specs.Calls.{at_entry, at_object}
+use Rattle.trdp_model.specs.Events.{MomentIs}
 use Rattle.trdp_net.specs.Networks.{Move}
 use Rattle.trdp_net.specs.Provenance.{In, Gives, Held}
 use Rattle.trdp_net.proofs.PartLemmas.{each_append, each_map, each_in, in_flat_map, each_flat_map}
@@ -166,23 +167,24 @@ in_its_order f (e ∷ es) (inl same) = inserted_in e f (in_order es) (inl same)
 in_its_order f (e ∷ es) (inr is) = inserted_in e f (in_order es) (inr (in_its_order f es is))
 
 -- at a moment
-pub moved_kept : (past : List Move) (m : Move) (s : ℕ) (slot : SlotState) (globals : Globals)
+pub moved_kept : (past : List Move) (m : Move) (s : ℕ) (slot : SlotState) (t : ℕ)
+    (globals : Globals) → m.event ≡ MomentIs t
     → slice_get m.before.slots s ≡ Some slot → Each IsTypedEntry slot.objects
     → Each (EntryKept past m.before.setup m.node s) slot.objects
     → AreGiven m s (moved_to slot globals).records → OutcomeKept past m s (moved_to slot globals)
-moved_kept past m s slot globals slot_is typed kept given =
+moved_kept past m s slot t globals event slot_is typed kept given =
     acting_kept past m s slot (is_due globals.now) (firing_act globals)
     (in_order (filter (is_due globals.now) slot.objects)) slot_is typed kept
     (λ e is. filter_in (is_due globals.now) slot.objects e
     (order_in e (filter (is_due globals.now) slot.objects) is))
     (λ e is due. in_its_order e (filter (is_due globals.now) slot.objects)
     (in_filter (is_due globals.now) slot.objects e is due))
-    (λ e fits was held by. fires_kept past m (spot m.node s e.handle) globals e.object fits
+    (λ e fits was held by. fires_kept past m (spot m.node s e.handle) t globals e.object event fits
     was held) given
 
 -- at a telegram that is no request
 pub handed_kept : (past : List Move) (m : Move) (s : ℕ) (slot : SlotState) (setup : NodeSetup)
-    (globals : Globals) (telegram : TelegramModel) → TelegramBy past m.before.setup telegram
+    (globals : Globals) (telegram : TelegramModel) → TelegramBy past m telegram
     → slice_get m.before.slots s ≡ Some slot → Each IsTypedEntry slot.objects
     → Each (EntryKept past m.before.setup m.node s) slot.objects
     → AreGiven m s (handed setup slot globals telegram).records

@@ -88,8 +88,13 @@ pub record IsSettled (past : List Move) (at : Spot) (session : SessionId) (home 
   pub replied : Ever (IsReplied at session a.place a.kind) past
   pub confirmed : a.kind ≡ message.Query → Ever (IsConfirmedAs at session home a.place) past
 
--- as many places as expected have answered, and at least one, and each query is confirmed. The
--- move that closes the caller may be the one that tells the last answer or confirms the last query
+-- this caller was told of this answer
+abbrev pub IsToldOf : Spot → ReplyModel → Move → List Move → Type 0
+IsToldOf at answer m past = Gives at.node at.slot (Indicates (RepliedIs at.handle answer)) m
+
+-- as many places as expected have answered, and at least one; and each query that the caller was
+-- told of is confirmed, however many answers it expected. The move that closes the caller may be
+-- the one that tells the last answer or confirms the last query
 pub record IsDoneDue (m : Move) (past : List Move) (at : Spot) : Type 0 where
   pub c : AnyCaller
   pub held : Held at (Caller c) m
@@ -99,6 +104,10 @@ pub record IsDoneDue (m : Move) (past : List Move) (at : Spot) : Type 0 where
   pub apart : AreApart answers
   pub settled :
       Each (IsSettled (m ∷ past) at c.terms.session (place_of Md m.before.setup)) answers
+  pub each_query : (answer : ReplyModel) → Ever (IsToldOf at answer) (m ∷ past)
+      → answer.kind ≡ message.Query
+      → Ever (IsConfirmedAs at c.terms.session (place_of Md m.before.setup) answer.src)
+      (m ∷ past)
 
 -- no early completion: a caller is told `Done` once nothing is wanted any more
 abbrev pub DoneIsDue : Move → List Move → Type 0

@@ -60,7 +60,8 @@ pub fn no_invented_confirm()
 {}
 
 /// A caller that is told that it is done has been told of as many answers as it expected, at least
-/// one, each of a place of its own, and each query among them was confirmed by a granted Confirm.
+/// one, each of a place of its own; and each query that it was told of was confirmed to its place
+/// by a granted Confirm of this caller, also where it expected any number of answers.
 ///
 /// Needs `AreSingle` and `AreTypedSteps`. Not promised: that the confirmations arrived.
 pub fn no_early_done()

@@ -1,4 +1,4 @@
-use Rattle.trdp_net.proofs.PromiseLemmas.{done_due}
+use Rattle.trdp_net.proofs.DoneLemmas.{done_due}
 use Rattle.trdp_net.proofs.TypedRunLemmas.{history_typed}
 use Rattle.trdp_net.proofs.laws.no_early_done.Goals as goal
 
