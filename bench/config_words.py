@@ -99,6 +99,8 @@ WORDS = [
      "node 10.0.0.1: process data at port 17224, message data at port 17225\noperator at 127.0.0.2:18100\n"
      f"slot 0 at 127.0.0.2:18000: {QUOTAS}\nslots that are added have, at 127.0.0.2, the ports 18001 0\n"),
     (GOOD + "control_port = 18000\n", MEANT.replace(", no control port", " at 10.0.0.1:18000") + REACHED.format("10.0.0.1")),
+    (NODE + "spare_control_ports = [0, 18001]\n" + ONE,
+     MEANT + "slots that are added have, at 10.0.0.1, the ports 0 18001\n" + REACHED.format("10.0.0.1")),
     (NODE.replace("10.0.0.1", "0.0.0.0") + ONE,
      MEANT.replace("10.0.0.1", "0.0.0.0")
      + "warning: address is 0.0.0.0: its ports are at every interface, and a telegram counts as sent to 0.0.0.0\n"),

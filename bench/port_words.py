@@ -1,0 +1,91 @@
+#!/usr/bin/env python3
+"""What `trdpd daemon` says of ports that the system refuses: which ones, at which address, and why, word by word.
+
+    bench/port_words.py [PROGRAM]                 default: crates/trdpd/out/trdpd (./run prove builds it)
+
+For each case some ports are held by others, at 127.0.7.1 or at 127.0.7.2. Prints a line for each case whose words or status differ, and
+then how many there were. The status is 0 where none differs.
+"""
+from __future__ import annotations
+
+import contextlib
+import os
+import socket
+import subprocess
+import sys
+import tempfile
+
+TOP = os.path.dirname(os.path.dirname(os.path.abspath(__file__)))
+HOME, KEPT = "127.0.7.1", "127.0.7.2"
+PD, MD, OPERATOR, CONTROL, SPARE, LAST = 18721, 18722, 18723, 18724, 18725, 18726
+CONFIG = """
+[node]
+address = "{home}"
+control_address = "{kept}"
+pd_port = {pd}
+md_port = {md}
+operator_port = {operator}
+spare_control_ports = [{spare}, 0, {last}]
+[[slot]]
+callers = 1
+control_port = {control}
+"""
+MEANT = """\
+node {home}: process data at port {pd}, message data at port {md}
+operator at {kept}:{operator}
+slot 0 at {kept}:{control}: 0 publishers, 0 subscriptions, 0 requesters, 0 listeners, 1 callers, 0 repliers
+slots that are added have, at {kept}, the ports {spare} 0 {last}
+bind fault
+"""
+USUAL = {"home": HOME, "kept": KEPT, "pd": PD, "md": MD, "operator": OPERATOR, "control": CONTROL, "spare": SPARE, "last": LAST}
+Place = tuple[str, int]
+# What others hold, what differs from the usual configuration, and the places that are refused, in the order in which they are bound.
+CASES: list[tuple[list[Place], dict[str, str | int], list[Place]]] = [
+    ([(HOME, PD)], {}, [(HOME, PD)]),
+    ([(HOME, MD)], {}, [(HOME, MD)]),
+    ([(KEPT, OPERATOR)], {}, [(KEPT, OPERATOR)]),
+    ([(KEPT, CONTROL)], {}, [(KEPT, CONTROL)]),
+    ([(KEPT, SPARE)], {}, [(KEPT, SPARE)]),
+    ([(KEPT, LAST)], {}, [(KEPT, LAST)]),
+    ([(KEPT, LAST), (HOME, PD), (KEPT, CONTROL)], {}, [(HOME, PD), (KEPT, CONTROL), (KEPT, LAST)]),
+    # What is held at the other one of the two addresses hinders nothing.
+    ([(KEPT, PD), (KEPT, MD), (HOME, OPERATOR), (HOME, CONTROL), (HOME, SPARE), (HOME, LAST), (KEPT, SPARE)], {}, [(KEPT, SPARE)]),
+    # Ports that are named twice.
+    ([], {"md": PD}, [(HOME, PD)]),
+    ([], {"kept": HOME, "control": MD, "last": SPARE}, [(HOME, MD), (HOME, SPARE)]),
+]
+
+
+def said(program: str, config: str) -> tuple[int, str, str]:
+    """The status, what was written, and what stands on the error stream."""
+    with tempfile.NamedTemporaryFile("w", suffix=".toml") as file:
+        file.write(config)
+        file.flush()
+        # A daemon whose ports are all bound goes on.
+        words = ["timeout", "20", program, "daemon", file.name]
+        ran = subprocess.run(words, stdin=subprocess.DEVNULL, capture_output=True, text=True)
+        return ran.returncode, ran.stdout, ran.stderr
+
+
+def differs(program: str, held: list[Place], other: dict[str, str | int], refused: list[Place]) -> bool:
+    """Whether something else is said where others hold these ports; tells it."""
+    keys = {**USUAL, **other}
+    wanted = MEANT.format(**keys) + "".join(f"port {ip}:{port}: Address already in use (os error 98)\n" for ip, port in refused)
+    with contextlib.ExitStack() as stack:
+        for place in held:
+            stack.enter_context(socket.socket(socket.AF_INET, socket.SOCK_DGRAM)).bind(place)
+        found = said(program, CONFIG.format(**keys))
+    if found != (4, "", wanted):
+        print(f"differs: {held} {other}\n    wanted {(4, '', wanted)!r}\n    found  {found!r}")
+    return found != (4, "", wanted)
+
+
+def main(words: list[str]) -> int:
+    program = words[0] if words else f"{TOP}/crates/trdpd/out/trdpd"
+    differ = sum(differs(program, *case) for case in CASES)
+    print(f"{len(CASES)} configurations, {differ} differ")
+    return 1 if differ else 0
+
+
+if __name__ == "__main__":
+    sys.exit(main(sys.argv[1:]))
