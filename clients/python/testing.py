@@ -48,7 +48,7 @@ class Daemon:
         with open(errors, "wb") as out:
             line = [PROGRAM, "daemon", str(self.path), *self.words]
             self.process = subprocess.Popen(line, stdout=out, stderr=out)
-        wait_until(lambda: self.process.poll() is not None or self._has_ports())
+        wait_until(lambda: self.process.poll() is not None or self._has_ports(), seconds=20)
         if self.process.poll() is not None:
             raise RuntimeError(f"the daemon ended: {errors.read_text()}")
 
