@@ -17,6 +17,7 @@ from __future__ import annotations
 import collections
 import ipaddress
 import os
+import re
 import selectors
 import socket
 import struct
@@ -24,7 +25,7 @@ import time
 import tomllib
 import uuid
 from collections.abc import Callable, Iterator, Mapping, Sequence
-from typing import Any, NamedTuple, overload
+from typing import Any, NamedTuple, TypeVar, get_args
 
 PD_MOST = 1432
 """The most bytes that a telegram of process data carries."""
@@ -34,13 +35,20 @@ DATAGRAM_MOST = 65507
 """The most bytes of one datagram, and so of one line to a control port."""
 ANY = "0.0.0.0"
 """In a filter: from any address, to any address."""
+_U32_MOST = 0xFFFFFFFF
+_TOML_MOST = 1 << 24  # bytes of a file that is read: a device as /dev/zero has no end
 
 # -----------------------------------------------------------------------------
 # What goes wrong
 # -----------------------------------------------------------------------------
 
 
-class Refused(Exception):
+class SlotError(Exception):
+    """What this client raises by itself, but for arguments that can't be meant: these are a ValueError or a
+    TypeError."""
+
+
+class Refused(SlotError):
     """The node refused a call, which changed nothing.
 
     `name` is the refusal's name by docs/SCRIPT.md, as "NoHandle"; `line` the call; `tries` how often it had been
@@ -54,11 +62,36 @@ class Refused(Exception):
         self.tries = tries
 
 
-class DoesNotFit(ValueError):
+class NoAnswer(SlotError, TimeoutError):
+    """No answer to a call came in its time, at any try. Whether it took effect isn't known."""
+
+
+class Nobody(NoAnswer, ConnectionRefusedError):
+    """Nobody is at the control port, as the system said of the latest try: that one didn't take effect."""
+
+
+class OtherSlot(SlotError):
+    """The control port is that of another slot, which has taken the call. `line` is what it said."""
+
+    def __init__(self, place: str, number: int, line: str) -> None:
+        super().__init__(f"{place} is the port of another slot than slot {number}: it says {_shown(line)}")
+        self.line = line
+
+
+class WrongAnswer(SlotError):
+    """The port answered what no trdpd answers, so that it is the port of another program, or of another version.
+    `line` is the answer. Whether the call took effect isn't known."""
+
+    def __init__(self, place: str, line: str) -> None:
+        super().__init__(f"{place} answers what no trdpd answers: {_shown(line)}")
+        self.line = line
+
+
+class DoesNotFit(SlotError, ValueError):
     """A value isn't one of its dataset, or bytes aren't; the text names the place in the dataset."""
 
 
-class ConfigFault(ValueError):
+class ConfigFault(SlotError, ValueError):
     """A configuration isn't one of a node, or lacks what is asked of it."""
 
 
@@ -109,10 +142,11 @@ BASIC_TYPES: Mapping[str, Number | Time] = {
 }
 """The basic types by name. A TIMEDATE48 is (seconds, ticks of 1/65536 s), a TIMEDATE64 (seconds, microseconds)."""
 
-TYPE_NAMES: Mapping[int | str, str] = {
+_NUMBERED: dict[int | str, str] = {
     1: "BOOL8", 2: "CHAR8", 3: "UTF16", 4: "INT8", 5: "INT16", 6: "INT32", 7: "INT64", 8: "UINT8", 9: "UINT16",
-    10: "UINT32", 11: "UINT64", 14: "TIMEDATE32", 15: "TIMEDATE48", 16: "TIMEDATE64", "BITSET8": "BOOL8",
-} | {name: name for name in BASIC_TYPES}
+    10: "UINT32", 11: "UINT64", 14: "TIMEDATE32", 15: "TIMEDATE48", 16: "TIMEDATE64",
+}
+TYPE_NAMES: Mapping[int | str, str] = {**_NUMBERED, **{name: name for name in BASIC_TYPES}, "BITSET8": "BOOL8"}
 """The name of a basic type, by what a configuration may have for it."""
 
 REAL_TYPES = (12, 13, "REAL32", "REAL64")
@@ -299,7 +333,10 @@ class Datasets:
 
 
 def _shown(value: Any) -> str:
-    text = repr(value)
+    try:
+        text = repr(value)
+    except ValueError:
+        text = f"a {type(value).__name__} of very many digits"
     return text if len(text) <= 40 else text[:37] + "..."
 
 
@@ -333,22 +370,33 @@ def _pack_basic(kind: str, item: Any, way: _Way) -> bytes:
 
 def _read_toml(path: str | os.PathLike[str]) -> dict[str, Any]:
     with open(path, "rb") as file:
-        return tomllib.load(file)
+        data = file.read(_TOML_MOST + 1)
+    if len(data) > _TOML_MOST:
+        raise ConfigFault(f"the file has more than {_TOML_MOST} bytes")
+    try:
+        return tomllib.loads(data.decode())
+    except RecursionError:
+        raise ConfigFault("arrays or tables nest too deep") from None
 
 
 def _tables(table: Mapping[str, Any], key: str) -> list[Mapping[str, Any]]:
     """The tables of an array at a key; none where it isn't there."""
     found = table.get(key, [])
+    if isinstance(found, dict):
+        raise ConfigFault(f"{key} is a table, and no array of tables: [[{key}]] begins each")
     if not isinstance(found, list) or not all(isinstance(it, dict) for it in found):
         raise ConfigFault(f"{key} is no array of tables")
     return found
 
 
-def _config_number(table: Mapping[str, Any], key: str, low: int, high: int, default: int | None = None) -> int:
-    """The whole number at a key."""
+def _config_number(table: Mapping[str, Any], key: str, low: int, high: int, default: int | None = None,
+                   where: str = "") -> int:
+    """The whole number at a key of a table; `where` is how the table is called."""
     number = table.get(key, default)
+    if number is None:
+        raise ConfigFault(f"{where}{key} is missing")
     if not isinstance(number, int) or isinstance(number, bool) or not low <= number <= high:
-        raise ConfigFault(f"{key} is {number!r}, and no whole number of {low} to {high}")
+        raise ConfigFault(f"{where}{key} is {_shown(number)}, and no whole number of {low} to {high}")
     return number
 
 
@@ -371,13 +419,28 @@ def control_place(config: Mapping[str, Any], slot: int) -> tuple[str, int]:
     node = config.get("node")
     if not isinstance(node, dict):
         raise ConfigFault("there is no table node")
-    slots = _tables(config, "slot")
-    ports = [it.get("control_port", 0) for it in slots] + list(node.get("spare_control_ports", []))
-    if not 0 <= slot < len(ports) or not ports[slot]:
+    port = _control_port(node, _tables(config, "slot"), slot)
+    if port == 0:
         raise ConfigFault(f"slot {slot} has no control port")
-    address = node.get("control_address", node.get("address"))
-    port = _config_number({"control_port": ports[slot]}, "control_port", 1, 0xFFFF)
-    return _address_word("control_address", address), port
+    key = "control_address" if "control_address" in node else "address"
+    if key not in node:
+        raise ConfigFault("node: address is missing")
+    try:
+        return _address_word(key, node[key]), port
+    except ValueError as fault:
+        raise ConfigFault(f"node: {fault}") from None
+
+
+def _control_port(node: Mapping[str, Any], slots: Sequence[Mapping[str, Any]], slot: int) -> int:
+    """The control port of a slot; 0 where it has none."""
+    if 0 <= slot < len(slots):
+        return _config_number(slots[slot], "control_port", 0, 0xFFFF, 0, f"slot {slot}: ")
+    spares = node.get("spare_control_ports", [])
+    if not isinstance(spares, list):
+        raise ConfigFault(f"node: spare_control_ports is {_shown(spares)}, and no list of ports")
+    name = f"spare_control_ports[{slot - len(slots)}]"
+    added = dict(zip(range(len(slots), len(slots) + len(spares)), spares))
+    return _config_number({name: added[slot]}, name, 0, 0xFFFF, None, "node: ") if slot in added else 0
 
 
 # -----------------------------------------------------------------------------
@@ -385,10 +448,14 @@ def control_place(config: Mapping[str, Any], slot: int) -> tuple[str, int]:
 # -----------------------------------------------------------------------------
 
 
-def _number_word(name: str, value: int, low: int = 0, high: int = 0xFFFFFFFF) -> str:
+def _number_word(name: str, value: int, low: int = 0, high: int = _U32_MOST) -> str:
     if not isinstance(value, int) or not low <= value <= high:
-        raise ValueError(f"{name} is {value!r}, and no whole number of {low} to {high}")
+        raise ValueError(f"{name} is {_shown(value)}, and no whole number of {low} to {high}")
     return str(int(value))
+
+
+def _whole(name: str, value: int, low: int, high: int = _U32_MOST) -> int:
+    return int(_number_word(name, value, low, high))
 
 
 def _status_word(value: int) -> str:
@@ -397,17 +464,26 @@ def _status_word(value: int) -> str:
 
 def _address_word(name: str, value: Any) -> str:
     try:
-        return str(ipaddress.IPv4Address(value))
+        if isinstance(value, (str, ipaddress.IPv4Address)):
+            return str(ipaddress.IPv4Address(value))
     except ValueError:
-        raise ValueError(f"{name} is {value!r}, and no address as 10.0.0.2") from None
+        pass
+    raise ValueError(f"{name} is {_shown(value)}, and no address as 10.0.0.2")
 
 
 def _place_word(name: str, value: str) -> str:
-    address, colon, port = str(value).rpartition(":")
+    address, _, port = str(value).rpartition(":")
     try:
         return f"{ipaddress.IPv4Address(address)}:{_number_word(name, int(port), 0, 0xFFFF)}"
     except ValueError:
-        raise ValueError(f"{name} is {value!r}, and no place as 10.0.0.2:17224") from None
+        raise ValueError(f"{name} is {_shown(value)}, and no place as 10.0.0.2:17224") from None
+
+
+def _session_word(value: uuid.UUID | str) -> str:
+    try:
+        return str(value if isinstance(value, uuid.UUID) else uuid.UUID(value))
+    except (ValueError, TypeError, AttributeError):
+        raise ValueError(f"session is {_shown(value)}, and no UUID") from None
 
 
 def _hex_word(data: bytes) -> str:
@@ -415,10 +491,20 @@ def _hex_word(data: bytes) -> str:
 
 
 def _uri_word(name: str, value: str) -> str:
-    data = value.encode("utf-8", "surrogateescape")
+    data = _typed(name, value, str, "text").encode("utf-8", "surrogateescape")
     if len(data) > 32 or 0 in data:
-        raise ValueError(f"{name} is {value!r}, and no text of at most 32 bytes, none of them zero")
+        raise ValueError(f"{name} is {_shown(value)}, and no text of at most 32 bytes, none of them zero")
     return _hex_word(data)
+
+
+_Kind = TypeVar("_Kind")
+
+
+def _typed(name: str, value: Any, kind: type[_Kind], what: str) -> _Kind:
+    """A value that is of that type. Raises TypeError."""
+    if not isinstance(value, kind):
+        raise TypeError(f"{name} is {_shown(value)}, and no {what}")
+    return value
 
 
 def _bytes_of(word: str) -> bytes:
@@ -547,10 +633,56 @@ Indication = Silent | Alive | Notified | Asked | Overrun | Replied | Confirmed |
 
 _DECLARED = ("publisher", "subscription", "requester", "listener")
 
+_ANSWERS = ("handle", "done", "value", "refused")
+
+
+def _forms() -> dict[str, re.Pattern[str]]:
+    """What stands behind each first word of an answer or an indication, by docs/SCRIPT.md."""
+    number, data, place = "(?:0|[1-9][0-9]{0,9})", "(?:-|(?:[0-9a-f]{2})+)", r"[0-9.]{7,15}:[0-9]{1,5}"
+    name, session = "[A-Z][A-Za-z0-9]*", "[0-9a-f]{8}(?:-[0-9a-f]{4}){3}-[0-9a-f]{12}"
+    message = f"{number} {data} {data} {data}"
+    forms = {
+        "handle": number, "done": "", "value": f"(?:Never|Valid|Silent) {number} {data}", "refused": name,
+        "silent": number, "alive": number, "overrun": number, "notified": f"{number} {place} {message}",
+        "asked": f"{number} {number} {session} {place} {message}",
+        "replied": f"{number} {place} (?:Mp|Mq|Me) -?{number} {number} {data}",
+        "confirmed": f"{number} -?{number}", "closed": f"{number} {name}",
+    }
+    return {word: re.compile(f"{word} {form}" if form else word) for word, form in forms.items()}
+
+
+_FORMS = _forms()
+_SLOT_LINE = re.compile("(0|[1-9][0-9]{0,4}) (([a-z]+)(?: .*)?)")
+
+
+class _Said(NamedTuple):
+    """What a line of a control port says: which slot, and the words of an answer or an indication."""
+
+    slot: int
+    words: list[str]
+
+
+def _read_line(line: str) -> _Said | None:
+    """An answer or an indication of a slot; None of any other line. Raises ValueError where a line begins as one, and
+    isn't one."""
+    found = _SLOT_LINE.fullmatch(line)
+    form = _FORMS.get(found[3]) if found else None
+    if found is None or form is None:
+        return None
+    if not form.fullmatch(found[2]):
+        raise ValueError(line)
+    return _Said(int(found[1]), found[2].split(" "))
+
+
 # A line that can't be read is answered by its fault, and does nothing. So these, which are no calls, mark a place
 # among the answers: three, of which one after the other is sent, so that a mark that comes twice isn't taken for
 # the next one.
 _MARKS = (("mark", "line fault Unknown"), ("get", "line fault Count"), ("get mark", "line fault BadWord"))
+_LINE_FAULT = re.compile("line fault [A-Z][A-Za-z0-9]*")
+
+SLOTS_MOST = 16
+"""The most slots of a node."""
+_WAIT_MOST = 3600.0  # seconds of one wait: the system takes none of many days
 
 
 # -----------------------------------------------------------------------------
@@ -583,39 +715,40 @@ class Slot:
     requesters and listeners are made again under the same `Handle`, and the call that noticed it is made again. A
     client that makes no calls notices by `check`.
 
-    All calls raise Refused, TimeoutError where no answer came, ValueError where an argument can't stand in a line,
-    and OSError where the socket fails.
+    All calls raise Refused, TimeoutError where no answer came (Nobody where nobody is at the port), OtherSlot where
+    another slot answers, WrongAnswer where no trdpd does, ValueError or TypeError where an argument can't stand in a
+    line, and OSError where the socket fails.
     """
 
-    @overload
     def __init__(self, config: str | os.PathLike[str], slot: int, /, *, datasets: Datasets | None = None,
-                 answer_us: int = 200_000, tries: int = 3, restore: bool = False) -> None: ...
-
-    @overload
-    def __init__(self, address: str, port: int, /, *, datasets: Datasets | None = None,
-                 answer_us: int = 200_000, tries: int = 3, restore: bool = False) -> None: ...
-
-    def __init__(self, config: str | os.PathLike[str], slot: int, /, *, datasets: Datasets | None = None,
-                 answer_us: int = 200_000, tries: int = 3, restore: bool = False) -> None:
+                 answer_us: int = 200_000, tries: int = 3, restore: bool = False, number: int | None = None) -> None:
         """A client of slot `slot` of the node with that configuration, or at that address and port, as 127.0.0.1
         and 18000.
 
         `datasets` are those by which values are packed; where it is None, those of the configuration, and at an
         address none: then values are bytes. `answer_us` is how long an answer is waited for, and `tries` how often
-        a call is sent that may be made twice. Nothing is sent yet. Raises ConfigFault where the slot has no control
-        port."""
-        if answer_us <= 0 or tries < 1:
-            raise ValueError("answer_us and tries are at least 1")
+        a call is sent that may be made twice. `number` is the slot's number at an address, where it is known; None
+        takes the number that the first answer has. Nothing is sent yet. Raises ConfigFault where the configuration
+        isn't one, or the slot has no control port."""
+        self._slot = None if number is None else _whole("number", number, 0, SLOTS_MOST - 1)
+        self.answer_us = _whole("answer_us", answer_us, 1)
+        self.tries = _whole("tries", tries, 1)
+        self.restore = restore
+        if not isinstance(config, (str, os.PathLike)):
+            raise TypeError(f"config is {_shown(config)}, and no path or address")
         if _is_address(config):
-            address, port = str(config), slot
+            address, port = str(config), _whole("port", slot, 1, 0xFFFF)
         else:
+            if not isinstance(slot, int) or not 0 <= slot < SLOTS_MOST:
+                raise ValueError(f"{_shown(config)} is no address as 127.0.0.1, and {_shown(slot)} no slot of a "
+                                 f"configuration, 0 to {SLOTS_MOST - 1}")
+            if number not in (None, slot):
+                raise ValueError(f"number is {number}, and the slot is {slot}")
             tables = _read_toml(config)
             address, port = control_place(tables, slot)
             datasets = datasets or Datasets.from_tables(tables)
-        self.datasets = datasets or Datasets({})
-        self.answer_us = answer_us
-        self.tries = tries
-        self.restore = restore
+            self._slot = slot
+        self.datasets = Datasets({}) if datasets is None else _typed("datasets", datasets, Datasets, "Datasets")
         self._handles: dict[int, Handle] = {}
         self._declared: list[Handle] = []
         self._highest = 0  # of the handles that the node gave
@@ -625,6 +758,8 @@ class Slot:
         self._marks = 0  # how many were sent
         self._awaited: str | None = None  # the answer to the latest mark, where it hasn't come
         self._mark_end = 0.0  # until when it is waited for
+        self._is_nobody = False  # whether the system said of the latest try that nobody is at the port
+        self._left_out: str | None = None  # the first line of the latest call that was no answer to it
         self._place = (address, port)
         self._selector = selectors.DefaultSelector()
         self._socket = self._connected()
@@ -660,7 +795,7 @@ class Slot:
         fit; bytes are sent as they are, and the node looks whether they are one. A second try does no harm."""
         dataset = handle.dataset if isinstance(handle, Handle) else 0
         data = self._payload(dataset, value, PD_MOST)
-        self._act("put", handle, [_hex_word(data)], tries or self.tries)
+        self._act("put", handle, [_hex_word(data)], self._tries(tries))
         if isinstance(handle, Handle):
             handle._data = data
 
@@ -687,7 +822,7 @@ class Slot:
     def get(self, handle: Handle | int, *, tries: int | None = None) -> Value:
         """What a subscription shows: its state, the counter of its latest telegram, and the value. A second try
         does no harm. Raises DoesNotFit where the daemon has another dataset of that number than this client."""
-        _, state, counter, data = self._act("get", handle, [], tries or self.tries, "value")
+        _, state, counter, data = self._act("get", handle, [], self._tries(tries), "value")
         dataset = handle.dataset if isinstance(handle, Handle) else 0
         value = _bytes_of(data)
         return Value(state, int(counter), self.datasets.unpack(dataset, value) if dataset in self.datasets else value)
@@ -748,7 +883,7 @@ class Slot:
         A second try, where the answer to the first got lost, is refused by SessionOpen, as the first one's session
         is open; what comes of that one is told under a handle of kind "unknown"."""
         session = session or uuid.uuid4()
-        words = [_number_word("com_id", com_id), str(session), _number_word("expected", expected, 0, 255),
+        words = [_number_word("com_id", com_id), _session_word(session), _number_word("expected", expected, 0, 255),
                  _number_word("time_us", time_us), _uri_word("source_uri", source_uri),
                  _uri_word("dest_uri", dest_uri), *_counts(etb, op_trn), _place_word("place", place),
                  _hex_word(self._payload(dataset, value, MD_MOST))]
@@ -803,7 +938,7 @@ class Slot:
 
     def next_indication(self, time_us: int | None = None) -> Indication | None:
         """The next indication; None where none has come within `time_us`. 0 doesn't wait."""
-        end = None if time_us is None else time.monotonic() + time_us / 1_000_000
+        end = _end_of(time_us)
         while not self._told:
             if self._take_next(end) is None:
                 return None
@@ -812,12 +947,16 @@ class Slot:
     def on(self, kind: type[Any], callback: Callable[[Any], object]) -> None:
         """Has `run` call `callback` with each indication of that kind, as `slot.on(Silent, print)`. Several
         callbacks of a kind are called in the order in which they were given. Each may make calls."""
+        if kind not in get_args(Indication):
+            raise TypeError(f"kind is {_shown(kind)}, and no kind of indication, as Silent")
+        if not callable(callback):
+            raise TypeError(f"callback is {_shown(callback)}, and can't be called")
         self._callbacks.setdefault(kind, []).append(callback)
 
     def run(self, time_us: int | None = None) -> None:
         """Calls the callbacks of the indications that come within `time_us`; None is for ever. Those without one
         are dropped. What a callback raises ends it."""
-        end = None if time_us is None else time.monotonic() + time_us / 1_000_000
+        end = _end_of(time_us)
         left = time_us
         while (told := self.next_indication(left)) is not None:
             for callback in self._callbacks.get(type(told), []):
@@ -839,10 +978,11 @@ class Slot:
         indications kept. Raises TimeoutError where nobody is there."""
         for _ in range(self.tries):
             self._settle()
+            self._begin_try()
             self._send_mark()
             if self._reads_to_mark():
                 return
-        raise TimeoutError(f"no answer, at {self.tries} tries of {self.answer_us} microseconds")
+        raise self._silence(self.tries, "")
 
     def check(self) -> bool:
         """Whether the daemon still has the objects of this client; False where it was started anew since the call
@@ -867,11 +1007,20 @@ class Slot:
 
     def read_line(self, time_us: int) -> str | None:
         """The next line that comes, an answer or an indication, without its end; None where none came within
-        `time_us`. Don't mix this with calls. Raises ConnectionRefusedError where the system knows that nobody is at
-        the control port."""
-        if not self._selector.select(time_us / 1_000_000):
-            return None
-        return _line_of(self._socket.recv(65536))
+        `time_us`. Don't mix this with calls. Raises Nobody where the system knows that nobody is at the control
+        port."""
+        end = _end_of(time_us)
+        while True:
+            ready = self._selector.select(_wait(end))
+            try:
+                if ready:
+                    return _line_of(self._socket.recv(65536, socket.MSG_DONTWAIT))
+            except ConnectionRefusedError:
+                raise Nobody(f"nobody is at {self._place_text()}") from None
+            except BlockingIOError:
+                pass
+            if end is not None and time.monotonic() >= end:
+                return None
 
     # -- inside ----------------------------------------------------------------
 
@@ -898,20 +1047,24 @@ class Slot:
         """What comes first before the moment `end` of `time.monotonic`, at each socket; none where nothing does.
         What is there already is read even then. Where nobody is at the port, it goes on waiting, as somebody may
         come."""
-        while ready := self._selector.select(None if end is None else max(0.0, end - time.monotonic())):
+        while True:
+            ready = self._selector.select(_wait(end))
             lines = []
             for key, _ in ready:
                 port = key.data
                 try:
                     lines.append((port, _line_of(port.recv(65536, socket.MSG_DONTWAIT))))
-                except (ConnectionRefusedError, BlockingIOError):
+                except ConnectionRefusedError:
+                    self._is_nobody = self._is_nobody or port is self._socket
+                except BlockingIOError:
                     continue
             if lines:
                 return lines
-        return []
+            if not ready and end is not None and time.monotonic() >= end:
+                return []
 
     def _send(self, line: str) -> None:
-        data = line.encode()
+        data = _typed("line", line, str, "text").encode("utf-8", "surrogateescape")
         if len(data) > DATAGRAM_MOST:
             raise ValueError(f"the line has {len(data)} bytes, and a datagram carries {DATAGRAM_MOST}")
         for _ in range(2):
@@ -920,7 +1073,7 @@ class Slot:
                 return
             except ConnectionRefusedError:
                 # Told of what was sent before, to a port that nobody had. Then nothing was sent now.
-                continue
+                self._is_nobody = True
 
     def _send_mark(self) -> None:
         line, self._awaited = _MARKS[self._marks % len(_MARKS)]
@@ -930,8 +1083,15 @@ class Slot:
 
     def _settle(self) -> None:
         """Sees to it that no answer to an earlier call comes any more."""
-        if not self._reads_to_mark():
-            self._renew()
+        is_over = False
+        while not is_over:
+            try:
+                if not self._reads_to_mark():
+                    self._renew()
+                is_over = True
+            except (OtherSlot, WrongAnswer):
+                # What an earlier call was answered, which was told by then.
+                continue
 
     def _reads_to_mark(self) -> bool:
         """Reads up to the answer to the latest mark. Answers whether it came in its time."""
@@ -943,11 +1103,11 @@ class Slot:
     def _ask(self, words: Sequence[str], answer: str, tries: int) -> list[str]:
         """Makes a call. Answers the words of its answer, of which `answer` is the first."""
         line = " ".join(words)
-        if tries < 1:
-            raise ValueError("tries is at least 1")
+        _number_word("tries", tries, 1)
         self._settle()
         for number in range(1, tries + 1):
             self._send(line)
+            self._begin_try()
             self._send_mark()
             found = self._answer(answer)
             if found is None:
@@ -956,8 +1116,30 @@ class Slot:
                 raise Refused(found[1], line, number)
             else:
                 return found
-        shown = line if len(line) <= 80 else line[:77] + "..."
-        raise TimeoutError(f"no answer, at {tries} tries of {self.answer_us} microseconds: {shown}")
+        raise self._silence(tries, line)
+
+    def _begin_try(self) -> None:
+        """Forgets what the system and the port said of earlier tries."""
+        self._is_nobody = False
+        self._left_out = None
+
+    def _silence(self, tries: int, line: str) -> NoAnswer | WrongAnswer:
+        """What is said where no answer came: nobody is there, somebody else is, or it isn't known."""
+        left_out = self._left_out
+        if left_out is not None and _read_line_or_none(left_out) is None:
+            return WrongAnswer(self._place_text(), left_out)
+        call = f": {line if len(line) <= 80 else line[:77] + '...'}" if line else ""
+        if self._is_nobody:
+            return Nobody(f"nobody is at {self._place_text()}{call}")
+        heard = "" if left_out is None else f", but {_shown(left_out)}"
+        return NoAnswer(f"no answer{heard}, at {tries} tries of {self.answer_us} microseconds{call}")
+
+    def _place_text(self) -> str:
+        return f"{self._place[0]}:{self._place[1]}"
+
+    def _tries(self, tries: int | None) -> int:
+        """How often a call is sent that may be sent twice."""
+        return self.tries if tries is None else tries
 
     def _answer(self, answer: str) -> list[str] | None:
         """The first answer of that form, or the refusal, before the mark; None where none came."""
@@ -968,22 +1150,30 @@ class Slot:
             for words in answers:
                 if words[0] in (answer, "refused"):
                     return words
+                self._left_out = self._left_out or f"{self._slot} {' '.join(words)}"
         return None
 
     def _take_next(self, end: float | None) -> list[list[str]] | None:
         """Takes what comes first: notes a mark, keeps indications. Answers the words of the answers among it; None
-        where nothing came."""
+        where nothing came. Raises OtherSlot and WrongAnswer, once the rest of it is taken."""
         lines = self._lines(end)
         if not lines:
             return None
         answers = []
+        fault: SlotError | None = None
         for port, line in lines:
-            if port is not self._socket:
-                self._keep(line)
-            elif line == self._awaited:
+            if port is self._socket and line == self._awaited:
                 self._note_mark()
-            elif (words := self._keep(line)):
+                continue
+            try:
+                words = self._keep(line)
+            except (OtherSlot, WrongAnswer) as told:
+                fault = told if port is self._socket else fault
+                continue
+            if words and port is self._socket:
                 answers.append(words)
+        if fault:
+            raise fault
         return answers
 
     def _note_mark(self) -> None:
@@ -993,20 +1183,36 @@ class Slot:
         if self._known is not self._socket:
             try:
                 while True:
-                    self._keep(_line_of(self._known.recv(65536, socket.MSG_DONTWAIT)))
+                    try:
+                        self._keep(_line_of(self._known.recv(65536, socket.MSG_DONTWAIT)))
+                    except (OtherSlot, WrongAnswer):
+                        # As of a daemon before this one.
+                        continue
             except (BlockingIOError, ConnectionRefusedError):
                 self._drop(self._known)
             self._known = self._socket
 
     def _keep(self, line: str) -> list[str]:
-        """Keeps an indication, and answers the words of an answer; none of any other line."""
-        _, *words = line.split(" ")
-        if not words or words[0] not in ("handle", "done", "value", "refused"):
-            told = self._indication(words)
-            if told is not None:
-                self._told.append(told)
+        """Keeps an indication, and answers the words of an answer; none of any other line. Raises OtherSlot, and
+        WrongAnswer where a line begins as one of these, and isn't one."""
+        try:
+            said = _read_line(line)
+        except ValueError:
+            raise WrongAnswer(self._place_text(), line) from None
+        if said is None:
+            if not _LINE_FAULT.fullmatch(line):
+                self._left_out = self._left_out or line
             return []
-        return words
+        if self._slot is None:
+            self._slot = said.slot
+        elif said.slot != self._slot:
+            raise OtherSlot(self._place_text(), self._slot, line)
+        if said.words[0] in _ANSWERS:
+            return said.words
+        told = self._indication(said.words)
+        if told is not None:
+            self._told.append(told)
+        return []
 
     def _indication(self, words: list[str]) -> Indication | None:
         """The indication of these words; None where they are none."""
@@ -1057,7 +1263,7 @@ class Slot:
         """The bytes of a value, or the bytes that it is."""
         if isinstance(value, (bytes, bytearray, memoryview)):
             return bytes(value)
-        if dataset == 0 or dataset not in self.datasets:
+        if _whole("dataset", dataset, 0) == 0 or dataset not in self.datasets:
             raise DoesNotFit(f"dataset {dataset}: {_shown(value)} is no bytes, and the dataset isn't known here")
         return self.datasets.pack(dataset, value, most)
 
@@ -1106,6 +1312,7 @@ class Slot:
         """The node's number of an object, which is made again where the daemon that had it is gone."""
         if isinstance(handle, int):
             return _number_word("handle", handle)
+        _typed("handle", handle, Handle, "Handle or number")
         if handle._start not in (-1, self._start):
             if not self.restore or handle not in self._declared:
                 raise Refused("NoHandle", f"{handle} of a daemon that was started anew since")
@@ -1130,12 +1337,12 @@ class Slot:
 
     def _end(self, verb: str, handle: Handle | int, tries: int | None) -> None:
         """Ends an object. Where an earlier try did that, a later one finds no handle."""
-        if handle in self._declared and handle._start != self._start:
+        if isinstance(handle, Handle) and handle in self._declared and handle._start != self._start:
             # Of a daemon that is gone. From here on it isn't made again.
             self._forget(handle)
             return
         try:
-            self._ask([verb, self._number_of(handle)], "done", tries or self.tries)
+            self._ask([verb, self._number_of(handle)], "done", self._tries(tries))
         except Refused as refusal:
             if refusal.name != "NoHandle":
                 raise
@@ -1154,6 +1361,28 @@ class Slot:
 def _line_of(data: bytes) -> str:
     """The line in a datagram of the daemon, without its end."""
     return data.decode("ascii", "replace").rstrip("\n")
+
+
+def _end_of(time_us: float | None) -> float | None:
+    """The moment of `time.monotonic` in so many microseconds; None where that is for ever."""
+    if time_us is None:
+        return None
+    if not isinstance(time_us, (int, float)) or not time_us >= 0:
+        raise ValueError(f"time_us is {_shown(time_us)}, and no time of 0 or more")
+    return time.monotonic() + min(time_us, 1e18) / 1_000_000
+
+
+def _wait(end: float | None) -> float:
+    """How many seconds to wait at once for what comes before that moment."""
+    return _WAIT_MOST if end is None else min(_WAIT_MOST, max(0.0, end - time.monotonic()))
+
+
+def _read_line_or_none(line: str) -> _Said | None:
+    """What a line says, where it is an answer or an indication."""
+    try:
+        return _read_line(line)
+    except ValueError:
+        return None
 
 
 def _counts(etb: int, op_trn: int) -> tuple[str, str]:
@@ -1177,14 +1406,15 @@ class Operator:
     """The operator of a node, at its operator's port: what concerns all slots.
 
     Each line goes from a socket of its own, so that no answer is taken for that of another line. Each method raises
-    Refused with the fault's name (NoGroup, SlotsFull), and TimeoutError where no answer came."""
+    Refused with the fault's name (NoGroup, SlotsFull), TimeoutError where no answer came (Nobody where nobody is
+    there), and WrongAnswer where no trdpd answers."""
 
     def __init__(self, address: str, port: int, *, answer_us: int = 200_000, tries: int = 3) -> None:
         """The operator at that address and port. `answer_us` is how long an answer is waited for, and `tries` how
         often a line is sent that may be sent twice."""
-        self.place = (_address_word("address", address), port)
-        self.answer_us = answer_us
-        self.tries = tries
+        self.place = (_address_word("address", address), _whole("port", port, 1, 0xFFFF))
+        self.answer_us = _whole("answer_us", answer_us, 1)
+        self.tries = _whole("tries", tries, 1)
 
     def topology(self, etb: int, op_trn: int) -> None:
         """The train's network has these topology counts from now on. A second try does no harm."""
@@ -1203,16 +1433,22 @@ class Operator:
         self._say(" ".join(["addslot", *(_number_word("quota", it, 0, 256) for it in quotas)]), 1)
 
     def _say(self, line: str, tries: int) -> None:
+        place = f"{self.place[0]}:{self.place[1]}"
+        is_nobody = False
         for _ in range(tries):
             with socket.socket(socket.AF_INET, socket.SOCK_DGRAM) as port:
                 port.connect(self.place)
                 port.settimeout(self.answer_us / 1_000_000)
                 try:
                     port.send(line.encode())
-                    answer = port.recv(65536).decode("ascii", "replace").split()
-                except (TimeoutError, ConnectionRefusedError):
+                    answer = _line_of(port.recv(65536))
+                except (TimeoutError, ConnectionRefusedError) as fault:
+                    is_nobody = isinstance(fault, ConnectionRefusedError)
                     continue
-            if answer != ["ok"]:
-                raise Refused(answer[-1], line)
-            return
-        raise TimeoutError(f"no answer, at {tries} tries of {self.answer_us} microseconds: {line}")
+            if answer == "ok":
+                return
+            refused = re.fullmatch("(?:line )?fault ([A-Z][A-Za-z0-9]*)", answer)
+            raise Refused(refused[1], line) if refused else WrongAnswer(place, answer)
+        if is_nobody:
+            raise Nobody(f"nobody is at {place}: {line}")
+        raise NoAnswer(f"no answer, at {tries} tries of {self.answer_us} microseconds: {line}")
