@@ -24,12 +24,15 @@ for each comId. The node ignores these.
 
 The ports are bound, so nobody else may have them; a group's address can't be joined. With `--beside`, what comes to
 the ports of another program, as a node, is copied from the system, which takes root. It goes on until it is
-interrupted, or by `--count` and `--for-us`.
+interrupted, or by `--count` and `--for-us`. Where the system told of datagrams that it couldn't hand over, as one whose
+UDP check sum is wrong, or of packets that hold none, the last line on the error stream says how many these were.
 """
 from __future__ import annotations
 
 import argparse
 import contextlib
+import errno
+import functools
 import selectors
 import socket
 import struct
@@ -38,10 +41,14 @@ import time
 from collections.abc import Iterator
 from typing import NamedTuple
 
+import trdp_words
 from trdp_slot import Datasets, DoesNotFit
 from trdp_telegram import MD_KINDS, MD_PORT, PD_KINDS, PD_PORT, NoTelegram, PcapngFile, Telegram, read_telegram
 
+IP_HEADER = 20
 UDP_HEADER = 8
+# How many seconds one wait takes at most: the system takes none of many days.
+WAIT_MOST = 3600.0
 
 
 class Datagram(NamedTuple):
@@ -114,82 +121,140 @@ def dump_line(datagram: Datagram, is_message: bool, wanted: Filter, datasets: Da
     return telegram_line(telegram, datagram.source, datasets) if wanted.takes(telegram) else None
 
 
-class Ports:
+def datagram_of(packet: bytes) -> Datagram | None:
+    """The datagram in an IP packet; None where it holds no whole one."""
+    start = (packet[0] & 15) * 4 if packet and packet[0] >> 4 == 4 else 0
+    if start < IP_HEADER or len(packet) < start + UDP_HEADER:
+        return None
+    source, dest, length = struct.unpack_from(">3H", packet, start)
+    if not UDP_HEADER <= length <= len(packet) - start:
+        return None
+    addresses = socket.inet_ntoa(packet[12:16]), socket.inet_ntoa(packet[16:20])
+    return Datagram((addresses[0], source), (addresses[1], dest), packet[start + UDP_HEADER:start + length])
+
+
+def seconds_left(end: float | None) -> float:
+    """How long to wait at once for what comes before that moment."""
+    return WAIT_MOST if end is None else min(WAIT_MOST, max(0.0, end - time.monotonic()))
+
+
+def bind(port: socket.socket, place: tuple[str, int]) -> None:
+    """Binds a socket. Raises OSError with the place, and with a way out where another program has it."""
+    try:
+        port.bind(place)
+    except OSError as fault:
+        why = fault.strerror
+        if fault.errno == errno.EADDRINUSE:
+            why = f"{why}: a program has this port; --beside copies what comes to it, as root"
+        raise OSError(fault.errno, why, f"{place[0]}:{place[1]}") from None
+
+
+class Taker:
+    """Takes what comes to two ports of an address, and counts what the system tells of and can't be read."""
+
+    unread = 0
+
+    def datagrams(self, end: float | None) -> Iterator[Datagram]:
+        """What comes before the moment `end` of `time.monotonic`."""
+        while end is None or time.monotonic() < end:
+            yield from self.take(seconds_left(end))
+
+    def take(self, seconds: float) -> Iterator[Datagram]:
+        """What there is, where something comes within so many seconds."""
+        raise NotImplementedError
+
+
+class Ports(Taker):
     """Two ports of an address, bound."""
 
     def __init__(self, address: str, ports: tuple[int, int], stack: contextlib.ExitStack) -> None:
         """The sockets are closed with the stack."""
         self.address = address
         self.selector = stack.enter_context(selectors.DefaultSelector())
-        for port in dict.fromkeys(ports):
+        for port in ports:
             bound = stack.enter_context(socket.socket(socket.AF_INET, socket.SOCK_DGRAM))
-            bound.bind((address, port))
+            bind(bound, (address, port))
             bound.setblocking(False)
             self.selector.register(bound, selectors.EVENT_READ, (bound, port))
 
-    def datagrams(self, end: float | None) -> Iterator[Datagram]:
-        """What comes before the moment `end` of `time.monotonic`."""
-        while end is None or time.monotonic() < end:
-            for key, _ in self.selector.select(None if end is None else max(0.0, end - time.monotonic())):
-                bound, port = key.data
+    def take(self, seconds: float) -> Iterator[Datagram]:
+        for key, _ in self.selector.select(seconds):
+            bound, port = key.data
+            try:
                 data, source = bound.recvfrom(65536)
-                yield Datagram(source, (self.address, port), data)
+            except OSError:
+                # As where the system finds a check sum wrong only when it hands the datagram over.
+                self.unread += 1
+                continue
+            yield Datagram(source, (self.address, port), data)
 
 
-class Beside:
-    """The same of ports that another program may have: the system gives a copy of each datagram, with its headers."""
+class Beside(Taker):
+    """The same of ports that another program may have: the system gives a copy of each packet, with its headers."""
 
     def __init__(self, address: str, ports: tuple[int, int], stack: contextlib.ExitStack) -> None:
         """The socket is closed with the stack."""
         self.ports = ports
-        self.raw = stack.enter_context(socket.socket(socket.AF_INET, socket.SOCK_RAW, socket.IPPROTO_UDP))
-        self.raw.bind((address, 0))
+        try:
+            self.raw = stack.enter_context(socket.socket(socket.AF_INET, socket.SOCK_RAW, socket.IPPROTO_UDP))
+        except PermissionError as fault:
+            raise OSError(fault.errno, f"{fault.strerror}: it takes root", "--beside") from None
+        try:
+            self.raw.bind((address, 0))
+        except OSError as fault:
+            raise OSError(fault.errno, fault.strerror, address) from None
 
-    def datagrams(self, end: float | None) -> Iterator[Datagram]:
-        """What comes before the moment `end` of `time.monotonic`."""
-        while end is None or time.monotonic() < end:
-            self.raw.settimeout(None if end is None else max(0.001, end - time.monotonic()))
-            try:
-                packet = self.raw.recv(65536)
-            except TimeoutError:
-                return
-            udp = (packet[0] & 15) * 4
-            source, dest, length = struct.unpack_from(">3H", packet, udp)
-            if dest in self.ports:
-                data = packet[udp + UDP_HEADER:udp + length]
-                addresses = socket.inet_ntoa(packet[12:16]), socket.inet_ntoa(packet[16:20])
-                yield Datagram((addresses[0], source), (addresses[1], dest), data)
+    def take(self, seconds: float) -> Iterator[Datagram]:
+        self.raw.settimeout(max(0.001, seconds))
+        try:
+            datagram = datagram_of(self.raw.recv(65536))
+        except TimeoutError:
+            return
+        except OSError:
+            datagram = None
+        if datagram is None:
+            self.unread += 1
+        elif datagram.dest[1] in self.ports:
+            yield datagram
+
+
+@functools.cache
+def parser() -> trdp_words.Words:
+    """All words of the command line."""
+    u32, port = trdp_words.number(0, trdp_words.U32_MOST), trdp_words.number(1, trdp_words.PORT_MOST)
+    words = trdp_words.Words(prog="trdp_dump.py",
+                             description="Prints the telegrams that come to the ports of an address.")
+    words.add_argument("address", type=trdp_words.address, help="the address, as 127.0.0.2")
+    words.add_argument("--pd-port", type=port, default=PD_PORT, help="port of process data (17224)")
+    words.add_argument("--md-port", type=port, default=MD_PORT, help="port of message data (17225)")
+    words.add_argument("--toml", help="a file with datasets, and [[telegram]] tables of comIds")
+    words.add_argument("--com-id", type=u32, action="append", default=[],
+                        help="only telegrams of this comId; may be repeated")
+    words.add_argument("--type", choices=[*PD_KINDS, *MD_KINDS], action="append", default=[],
+                        help="only telegrams of this type; may be repeated")
+    words.add_argument("--pcapng", help="write what is printed to this file, too, for Wireshark")
+    words.add_argument("--time", action="store_true", help="the seconds since 1970 before each line")
+    words.add_argument("--beside", action="store_true", help="beside the program that has the ports, as root")
+    words.add_argument("--count", type=trdp_words.number(1, trdp_words.U32_MOST), help="end after so many lines")
+    words.add_argument("--for-us", type=trdp_words.number(1, trdp_words.WAIT_MOST_US),
+                        help="end after so many microseconds")
+    return words
 
 
 def parse(words: list[str]) -> argparse.Namespace:
     """The words of the command line."""
-    parser = argparse.ArgumentParser(description="Prints the telegrams that come to the ports of an address.")
-    parser.add_argument("address", help="the address, as 127.0.0.2")
-    parser.add_argument("--pd-port", type=int, default=PD_PORT, help="port of process data (17224)")
-    parser.add_argument("--md-port", type=int, default=MD_PORT, help="port of message data (17225)")
-    parser.add_argument("--toml", help="a file with datasets, and [[telegram]] tables of comIds")
-    parser.add_argument("--com-id", type=int, action="append", default=[],
-                        help="only telegrams of this comId; may be repeated")
-    parser.add_argument("--type", choices=[*PD_KINDS, *MD_KINDS], action="append", default=[],
-                        help="only telegrams of this type; may be repeated")
-    parser.add_argument("--pcapng", help="write what is printed to this file, too, for Wireshark")
-    parser.add_argument("--time", action="store_true", help="the seconds since 1970 before each line")
-    parser.add_argument("--beside", action="store_true", help="beside the program that has the ports, as root")
-    parser.add_argument("--count", type=int, help="end after so many lines")
-    parser.add_argument("--for-us", type=int, help="end after so many microseconds")
-    return parser.parse_args(words)
+    asked = parser().parse_args(words)
+    if asked.pd_port == asked.md_port:
+        parser().error(f"--pd-port and --md-port are both {asked.pd_port}")
+    return asked
 
 
-def dump(asked: argparse.Namespace, stack: contextlib.ExitStack) -> None:
-    """Prints what comes, and writes it to the file. What is opened is closed with the stack."""
-    file = PcapngFile(stack.enter_context(open(asked.pcapng, "wb"))) if asked.pcapng else None
-    datasets = Datasets.from_toml(asked.toml) if asked.toml else Datasets({})
+def print_all(asked: argparse.Namespace, taker: Taker, datasets: Datasets, file: PcapngFile | None) -> None:
+    """Prints what comes until it is enough, and writes it to the file."""
     wanted = Filter(frozenset(asked.com_id), frozenset(asked.type))
     end = None if asked.for_us is None else time.monotonic() + asked.for_us / 1_000_000
-    ports = (Beside if asked.beside else Ports)(asked.address, (asked.pd_port, asked.md_port), stack)
-    print(f"trdp_dump.py: at {asked.address}, ports {asked.pd_port} and {asked.md_port}", file=sys.stderr, flush=True)
     count = 0
-    for datagram in ports.datagrams(end):
+    for datagram in taker.datagrams(end):
         now = time.time_ns() // 1000
         line = dump_line(datagram, datagram.dest[1] == asked.md_port, wanted, datasets)
         if line is None:
@@ -202,14 +267,29 @@ def dump(asked: argparse.Namespace, stack: contextlib.ExitStack) -> None:
             return
 
 
+def dump(asked: argparse.Namespace, stack: contextlib.ExitStack) -> None:
+    """Prints what comes, and then how much couldn't be read. What is opened is closed with the stack."""
+    datasets = trdp_words.datasets_of(asked.toml) if asked.toml else Datasets({})
+    ports = asked.pd_port, asked.md_port
+    taker = Beside(asked.address, ports, stack) if asked.beside else Ports(asked.address, ports, stack)
+    file = PcapngFile(stack.enter_context(open(asked.pcapng, "wb"))) if asked.pcapng else None
+    print(f"trdp_dump.py: at {asked.address}, ports {asked.pd_port} and {asked.md_port}", file=sys.stderr, flush=True)
+    try:
+        print_all(asked, taker, datasets, file)
+    finally:
+        if taker.unread:
+            print(f"trdp_dump.py: {taker.unread} datagrams couldn't be read", file=sys.stderr)
+
+
 def main(words: list[str]) -> int:
-    """Exit status 0, 1 where the ports or a file can't be had, 2 for other words."""
+    """Exit status 0, 1 where the ports or a file can't be had, 2 for words that can't be meant."""
     asked = parse(words)
     try:
         with contextlib.ExitStack() as stack:
             dump(asked, stack)
     except (OSError, ValueError) as fault:
-        print(f"trdp_dump.py: {fault}", file=sys.stderr)
+        print(f"trdp_dump.py: {trdp_words.sentence(fault)}", file=sys.stderr)
+        trdp_words.drop_output()
         return 1
     except KeyboardInterrupt:
         pass

@@ -1,0 +1,99 @@
+"""Words of command lines: what each can be, and one sentence for what can't be meant.
+
+Used by trdp_dump.py, trdp_send.py and examples/control/client.py.
+"""
+from __future__ import annotations
+
+import argparse
+import ipaddress
+import math
+import os
+import re
+import sys
+from collections.abc import Callable
+from typing import NoReturn
+
+from trdp_slot import Datasets
+
+U32_MOST = 0xFFFFFFFF
+I32_MOST = 0x7FFFFFFF
+PORT_MOST = 0xFFFF
+WAIT_MOST_US = 10**15
+"""The longest wait that a command line asks for, in microseconds: thirty years."""
+
+
+class Words(argparse.ArgumentParser):
+    """A command line. Words that can't be meant are answered by a sentence on the error stream, and status 2."""
+
+    def error(self, message: str) -> NoReturn:
+        """Ends the program by that sentence."""
+        self.exit(2, f"{self.prog}: {message} (--help names all words)\n")
+
+
+def number(low: int, high: int) -> Callable[[str], int]:
+    """Reads a whole number in that range."""
+    def read(text: str) -> int:
+        if re.fullmatch("-?[0-9]{1,19}", text) and low <= int(text) <= high:
+            return int(text)
+        raise argparse.ArgumentTypeError(f"{shown(text)} is no whole number of {low} to {high}")
+    return read
+
+
+def seconds(text: str) -> float:
+    """Reads a time in seconds, at most thirty years."""
+    most = WAIT_MOST_US / 1_000_000
+    try:
+        found = float(text)
+    except ValueError:
+        found = math.nan
+    if 0 <= found <= most:
+        return found
+    raise argparse.ArgumentTypeError(f"{shown(text)} is no time of 0 to {most:.0f} seconds")
+
+
+def address(text: str) -> str:
+    """Reads an address."""
+    try:
+        return str(ipaddress.IPv4Address(text))
+    except ValueError:
+        raise argparse.ArgumentTypeError(f"{shown(text)} is no address, as 127.0.0.1") from None
+
+
+def place(lowest_port: int) -> Callable[[str], tuple[str, int]]:
+    """Reads a place, whose port isn't below that one."""
+    def read(text: str) -> tuple[str, int]:
+        home, colon, port = text.rpartition(":")
+        if not colon:
+            raise argparse.ArgumentTypeError(f"{shown(text)} has no port, as 127.0.0.1:17224")
+        return address(home), number(lowest_port, PORT_MOST)(port)
+    return read
+
+
+def datasets_of(path: str) -> Datasets:
+    """The datasets of a file. Raises OSError, and ValueError with the file."""
+    try:
+        return Datasets.from_toml(path)
+    except ValueError as fault:
+        raise ValueError(f"{path}: {fault}") from None
+
+
+def shown(text: str) -> str:
+    """A word in a sentence: not all of it where it is long."""
+    return repr(text if len(text) <= 60 else text[:57] + "...")
+
+
+def sentence(fault: OSError | ValueError) -> str:
+    """What went wrong, in words, with the file or the place where that is known."""
+    if isinstance(fault, OSError) and fault.strerror:
+        return fault.strerror if fault.filename is None else f"{fault.filename}: {fault.strerror}"
+    return str(fault)
+
+
+def drop_output() -> None:
+    """Drops what standard output hasn't taken, where it takes nothing: else Python tells of it behind the end."""
+    try:
+        sys.stdout.flush()
+    except (OSError, ValueError):
+        nowhere = os.open(os.devnull, os.O_WRONLY)
+        os.dup2(nowhere, 1)
+        os.close(nowhere)
