@@ -211,9 +211,7 @@ class Tools(unittest.TestCase):
         toml = ["--toml", str(self.toml)]
         for words, fault in [
             (["--com-id", "2101", *toml, "--value", "[1, [300], 0]"], "dataset 5002, element 1, item 0: 300 is no"),
-            (["--com-id", "2101", *toml, "--value", "[1, ["], "is no value"),
             (["--com-id", "1", *toml, "--value", "[1]"], "names no dataset for comId 1"),
-            (["--com-id", "1", "--value", "[1]"], "--value wants --toml"), (["--com-id", "-1"], "out of its range"),
         ]:
             line = [sys.executable, str(HERE / "trdp_send.py"), f"{OTHER}:9", *words]
             ran = subprocess.run(line, capture_output=True, timeout=20, text=True)
@@ -248,6 +246,12 @@ class Tools(unittest.TestCase):
             self.assertEqual(value, line.partition(" value=")[2])
         self.assertEqual([Datasets.from_toml(self.toml).pack(6001, eval(shown.splitlines()[1].split("|")[6])).hex()],
                          [VALUE_6001])
+
+
+def load_tests(loader: unittest.TestLoader, tests: unittest.TestSuite, _: str | None) -> unittest.TestSuite:
+    """With these tests go those of the words that can't be meant, and of the page."""
+    tests.addTests(loader.loadTestsFromNames(["test_traps"]))
+    return tests
 
 
 if __name__ == "__main__":

@@ -16,6 +16,7 @@ from __future__ import annotations
 
 import sys
 
+import trdp_words
 from trdp_slot import Datasets, Element
 
 HEAD = """\
@@ -45,9 +46,9 @@ def main(words: list[str]) -> int:
         print("usage: trdp_lua.py FILE", file=sys.stderr)
         return 2
     try:
-        datasets = Datasets.from_toml(words[0])
+        datasets = trdp_words.datasets_of(words[0])
     except (OSError, ValueError) as fault:
-        print(f"trdp_lua.py: {words[0]}: {fault}", file=sys.stderr)
+        print(f"trdp_lua.py: {trdp_words.sentence(fault)}", file=sys.stderr)
         return 1
     if not datasets.com_ids:
         print(f"trdp_lua.py: {words[0]} has no [[telegram]] tables, so that no comId has a dataset", file=sys.stderr)

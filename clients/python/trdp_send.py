@@ -16,89 +16,136 @@ from __future__ import annotations
 
 import argparse
 import ast
+import functools
 import socket
 import sys
 import time
 import uuid
 from typing import Any
 
-from trdp_slot import Datasets
+import trdp_words
 from trdp_telegram import MD_KINDS, PD_KINDS, Telegram
 
-
-def place_of(text: str) -> tuple[str, int]:
-    """A place, as 127.0.0.1:17224."""
-    address, _, port = text.rpartition(":")
-    socket.inet_aton(address)
-    return address, int(port)
+NO_SESSION = uuid.UUID(int=0)
+MESSAGES = frozenset(MD_KINDS)
+# The types of telegrams whose headers have what these words say.
+HEADERS = {
+    "reply_com_id": frozenset(PD_KINDS), "reply_address": frozenset(PD_KINDS), "session": MESSAGES - {"Mn"},
+    "status": MESSAGES, "time_us": MESSAGES, "source_uri": MESSAGES, "dest_uri": MESSAGES,
+}
 
 
 def data_of(text: str) -> bytes:
     """Bytes as trdp_dump.py prints them: hexadecimal digits, `-` for none."""
-    return b"" if text == "-" else bytes.fromhex(text)
+    try:
+        return b"" if text == "-" else bytes.fromhex(text)
+    except ValueError:
+        raise argparse.ArgumentTypeError(
+            f"{trdp_words.shown(text)} is neither - nor hexadecimal digits, two for each byte") from None
 
 
 def session_of(text: str) -> uuid.UUID:
     """A session; one by chance for `new`."""
-    return uuid.uuid4() if text == "new" else uuid.UUID(text)
+    try:
+        return uuid.uuid4() if text == "new" else uuid.UUID(text)
+    except ValueError:
+        raise argparse.ArgumentTypeError(f"{trdp_words.shown(text)} is neither new nor a UUID") from None
 
 
-def parse(words: list[str]) -> argparse.Namespace:
-    """The words of the command line."""
-    parser = argparse.ArgumentParser(description="Sends a telegram, once or with a cycle.")
-    parser.add_argument("place", type=place_of, help="where it goes to, as 127.0.0.1:17224")
-    parser.add_argument("--type", choices=[*PD_KINDS, *MD_KINDS], default="Pd", help="its type (Pd)")
-    parser.add_argument("--com-id", type=int, required=True)
-    parser.add_argument("--counter", type=int, default=0, help="of the first one (0)")
-    parser.add_argument("--etb", type=int, default=0, help="topology count ETB (0)")
-    parser.add_argument("--op-trn", type=int, default=0, help="topology count OPTRN (0)")
-    parser.add_argument("--reply-com-id", type=int, default=0, help="of a pull request (0)")
-    parser.add_argument("--reply-address", default="0.0.0.0", help="of a pull request (0.0.0.0)")
-    parser.add_argument("--session", type=session_of, default="new", help="of a message: a UUID, or new")
-    parser.add_argument("--status", type=int, default=0, help="of a message (0)")
-    parser.add_argument("--time-us", type=int, default=0, help="of a message: what is left to the other side (0)")
-    parser.add_argument("--source-uri", default="", help="of a message")
-    parser.add_argument("--dest-uri", default="", help="of a message")
-    payload = parser.add_mutually_exclusive_group()
-    payload.add_argument("--data", type=data_of, default=b"", help="the payload's bytes, in hexadecimal digits")
-    payload.add_argument("--value", help="the payload as a value of a dataset, as Python writes it")
-    parser.add_argument("--toml", help="a file with datasets, and [[telegram]] tables of comIds")
-    parser.add_argument("--dataset", type=int, help="the dataset of --value, where the file names none for the comId")
-    parser.add_argument("--from", dest="source", type=place_of, help="where it comes from, as 127.0.0.9:17224")
-    parser.add_argument("--cycle-us", type=int, help="send it again and again, so many microseconds apart")
-    parser.add_argument("--count", type=int, help="end after so many; with --cycle-us")
-    return parser.parse_args(words)
-
-
-def payload_of(asked: argparse.Namespace) -> bytes:
-    """The payload. Raises ValueError where there is no dataset for the value, or it doesn't fit."""
-    if asked.value is None:
-        return asked.data
-    if not asked.toml:
-        raise ValueError("--value wants --toml")
-    datasets = Datasets.from_toml(asked.toml)
-    number = asked.dataset or datasets.com_ids.get(asked.com_id)
-    if number is None or number not in datasets:
-        raise ValueError(f"{asked.toml} names no dataset for comId {asked.com_id}: name one by --dataset")
-    return datasets.pack(number, value_of(asked.value))
+def uri_of(text: str) -> bytes:
+    """A URI, of the bytes that were typed."""
+    data = text.encode("utf-8", "surrogateescape")
+    if len(data) > 32 or 0 in data:
+        raise argparse.ArgumentTypeError(f"{trdp_words.shown(text)} has more than 32 bytes, or a zero byte")
+    return data
 
 
 def value_of(text: str) -> Any:
     """A value as Python writes it: numbers, tuples and lists."""
     try:
         return ast.literal_eval(text)
-    except (SyntaxError, ValueError):
-        raise ValueError(f"{text} is no value, as [4, [0, 0, 0, 0], 0]") from None
+    except (SyntaxError, ValueError, TypeError, MemoryError, RecursionError):
+        raise argparse.ArgumentTypeError(
+            f"{trdp_words.shown(text)} is no value, as [4, [0, 0, 0, 0], 0]") from None
+
+
+@functools.cache
+def parser() -> trdp_words.Words:
+    """All words of the command line."""
+    u32 = trdp_words.number(0, trdp_words.U32_MOST)
+    words = trdp_words.Words(prog="trdp_send.py", description="Sends a telegram, once or with a cycle.")
+    words.add_argument("place", type=trdp_words.place(1), help="where it goes to, as 127.0.0.1:17224")
+    words.add_argument("--type", choices=[*PD_KINDS, *MD_KINDS], default="Pd", help="its type (Pd)")
+    words.add_argument("--com-id", type=u32, required=True)
+    words.add_argument("--counter", type=u32, default=0, help="of the first one (0)")
+    words.add_argument("--etb", type=u32, default=0, help="topology count ETB (0)")
+    words.add_argument("--op-trn", type=u32, default=0, help="topology count OPTRN (0)")
+    words.add_argument("--reply-com-id", type=u32, help="of a pull request (0)")
+    words.add_argument("--reply-address", type=trdp_words.address, help="of a pull request (0.0.0.0)")
+    words.add_argument("--session", type=session_of, help="of a message: a UUID, or new (new)")
+    words.add_argument("--status", type=trdp_words.number(-trdp_words.I32_MOST - 1, trdp_words.I32_MOST),
+                       help="of a message (0)")
+    words.add_argument("--time-us", type=u32, help="of a message: what is left to the other side (0)")
+    words.add_argument("--source-uri", type=uri_of, help="of a message")
+    words.add_argument("--dest-uri", type=uri_of, help="of a message")
+    payload = words.add_mutually_exclusive_group()
+    payload.add_argument("--data", type=data_of, default=b"", help="the payload's bytes, in hexadecimal digits")
+    payload.add_argument("--value", type=value_of, help="the payload as a value of a dataset, as Python writes it")
+    words.add_argument("--toml", help="a file with datasets, and [[telegram]] tables of comIds")
+    words.add_argument("--dataset", type=trdp_words.number(1, trdp_words.U32_MOST),
+                       help="the dataset of --value, where the file names none for the comId")
+    words.add_argument("--from", dest="source", type=trdp_words.place(0),
+                       help="where it comes from, as 127.0.0.9:17224")
+    words.add_argument("--cycle-us", type=trdp_words.number(1, trdp_words.U32_MOST),
+                       help="send it again and again, so many microseconds apart")
+    words.add_argument("--count", type=trdp_words.number(1, trdp_words.U32_MOST),
+                       help="end after so many; with --cycle-us")
+    return words
+
+
+def parse(words: list[str]) -> argparse.Namespace:
+    """The words of the command line."""
+    line = parser()
+    asked = line.parse_args(words)
+    for word, kinds in HEADERS.items():
+        if getattr(asked, word) is not None and asked.type not in kinds:
+            line.error(f"--{word.replace('_', '-')}: a telegram of type {asked.type} has none")
+    if asked.count and not asked.cycle_us:
+        line.error("--count wants --cycle-us")
+    if asked.value is not None and not asked.toml:
+        line.error("--value wants --toml")
+    if asked.dataset and asked.value is None:
+        line.error("--dataset wants --value")
+    return asked
+
+
+def payload_of(asked: argparse.Namespace) -> bytes:
+    """The payload. Raises ValueError where there is no dataset for the value, or it doesn't fit."""
+    if asked.value is None:
+        return bytes(asked.data)
+    datasets = trdp_words.datasets_of(asked.toml)
+    number = asked.dataset or datasets.com_ids.get(asked.com_id)
+    if asked.dataset and asked.dataset not in datasets:
+        raise ValueError(f"{asked.toml} has no dataset {asked.dataset}")
+    if number is None or number not in datasets:
+        raise ValueError(f"{asked.toml} names no dataset for comId {asked.com_id}: name one by --dataset")
+    return datasets.pack(number, asked.value)
 
 
 def telegram_of(asked: argparse.Namespace) -> Telegram:
     """The telegram that is asked for."""
-    is_message = asked.type in MD_KINDS
-    has_session = is_message and asked.type != "Mn"
-    session = asked.session if has_session else uuid.UUID(int=0)
+    session = asked.session or (uuid.uuid4() if asked.type in HEADERS["session"] else NO_SESSION)
     return Telegram(asked.type, asked.com_id, asked.counter, asked.etb, asked.op_trn, payload_of(asked),
-                    asked.reply_com_id, asked.reply_address, asked.status, session, asked.time_us,
-                    asked.source_uri.encode(), asked.dest_uri.encode())
+                    asked.reply_com_id or 0, asked.reply_address or "0.0.0.0", asked.status or 0, session,
+                    asked.time_us or 0, asked.source_uri or b"", asked.dest_uri or b"")
+
+
+def bind(out: socket.socket, source: tuple[str, int]) -> None:
+    """Has it come from there. Raises OSError with the place."""
+    try:
+        out.bind(source)
+    except OSError as fault:
+        raise OSError(fault.errno, fault.strerror, f"{source[0]}:{source[1]}") from None
 
 
 def send(asked: argparse.Namespace) -> None:
@@ -108,7 +155,7 @@ def send(asked: argparse.Namespace) -> None:
     start = time.monotonic()
     with socket.socket(socket.AF_INET, socket.SOCK_DGRAM) as out:
         if asked.source:
-            out.bind(asked.source)
+            bind(out, asked.source)
         sent = 0
         while sent != count:
             out.sendto(telegram.write(), asked.place)
@@ -120,12 +167,12 @@ def send(asked: argparse.Namespace) -> None:
 
 
 def main(words: list[str]) -> int:
-    """Exit status 0, 1 where it can't be sent, 2 for other words."""
+    """Exit status 0, 1 where it can't be sent or a file can't be had, 2 for words that can't be meant."""
     asked = parse(words)
     try:
         send(asked)
     except (OSError, ValueError) as fault:
-        print(f"trdp_send.py: {fault}", file=sys.stderr)
+        print(f"trdp_send.py: {trdp_words.sentence(fault)}", file=sys.stderr)
         return 1
     except KeyboardInterrupt:
         pass
