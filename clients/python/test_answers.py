@@ -9,10 +9,12 @@ import tempfile
 import time
 import unittest
 import uuid
+from collections.abc import Callable, Sequence
 from typing import Any
 
 import testing
 import trdp_slot
+from testing import Said
 from trdp_slot import (Alive, Asked, Closed, ConfigFault, Confirmed, NoAnswer, Nobody, Notified, Operator, OtherSlot, Overrun,
                        Refused, Replied, Restarted, Silent, Slot, SlotError, WrongAnswer)
 
@@ -30,7 +32,8 @@ class Node:
         self.highest = 0
 
     def start_anew(self) -> None:
-        self.__init__()
+        """Has no objects."""
+        self.made, self.put, self.highest = {}, {}, 0
 
     def answer(self, line: str) -> list[str]:
         """The answer to a line."""
@@ -58,15 +61,20 @@ class Case(unittest.TestCase):
 
     def setUp(self) -> None:
         self.node = Node()
-        self.say = self.node.answer
+        self.say: Callable[[str], Sequence[Said]] = self.node.answer
         self.port = testing.Port(ADDRESS, lambda line: self.say(line))
         self.addCleanup(self.port.close)
 
-    def client(self, **words: object) -> Slot:
+    def client(self, **words: Any) -> Slot:
         """A client at the port."""
-        slot = Slot(ADDRESS, self.port.number, **{"answer_us": 50_000, **words})
+        words = {"answer_us": 50_000, **words}
+        slot = Slot(ADDRESS, self.port.number, **words)
         self.addCleanup(slot.close)
         return slot
+
+    def losing(self, is_lost: Callable[[str], bool]) -> Callable[[str], Sequence[Said]]:
+        """What the node answers, but to these lines, which get lost."""
+        return lambda line: () if is_lost(line) else self.node.answer(line)
 
     def calls(self) -> list[str]:
         """The calls that came, without marks and remarks."""
@@ -79,7 +87,7 @@ class Calls(Case):
     def test_lines(self) -> None:
         self.say = lambda line: [MARKS[line]] if line in MARKS else [f"0 {self.told}"]
         slot = self.client()
-        for told, call, line in [
+        calls: list[tuple[str, Callable[[], object], str]] = [
             ("handle 1", lambda: slot.publish(100, "10.0.0.2:17224", dataset=1001, cycle_us=100_000, group=3),
              "publish 100 1001 100000 3 0 0 10.0.0.2:17224"),
             ("done", lambda: slot.put(1, bytes.fromhex("0200010002")), "put 1 0200010002"),
@@ -113,7 +121,8 @@ class Calls(Case):
             ("done", lambda: slot.replyerror(4, 301, -5), "replyerror 4 301 -5"),
             ("done", lambda: slot.confirm(3, "10.0.0.3:17225"), "confirm 3 10.0.0.3:17225 0"),
             ("done", lambda: slot.abort(3), "abort 3"),
-        ]:
+        ]
+        for told, call, line in calls:
             with self.subTest(line):
                 self.told = told
                 call()
@@ -121,16 +130,18 @@ class Calls(Case):
 
     def test_what_cant_stand_in_a_line_is_not_sent(self) -> None:
         slot = self.client()
-        for call in [
+        odd: dict[str, Any] = {"cycle_us": 1.5}
+        calls: list[Callable[[], object]] = [
             lambda: slot.publish(-1, "10.0.0.2:17224"), lambda: slot.publish(1 << 32, "10.0.0.2:17224"),
             lambda: slot.publish(100, "10.0.0.2"), lambda: slot.publish(100, "10.0.0.02:17224"),
             lambda: slot.publish(100, "10.0.0.2:65536"), lambda: slot.publish(100, "10.0.0.2:17224", group=256),
-            lambda: slot.publish(100, "10.0.0.2:17224", cycle_us=1.5), lambda: slot.subscribe(100, low="10.0.0.256"),
+            lambda: slot.publish(100, "10.0.0.2:17224", **odd), lambda: slot.subscribe(100, low="10.0.0.256"),
             lambda: slot.subscribe(100, behaviour="hold"), lambda: slot.put(-1, b""), lambda: slot.put(1, [1]),
             lambda: slot.listen(100, uri="x" * 33), lambda: slot.listen(100, uri="a\0b"),
             lambda: slot.request(1, "10.0.0.2:17225", retries=256), lambda: slot.replyerror(1, 1, -(1 << 31) - 1),
             lambda: slot.notify(1, "10.0.0.2:17225", bytes(40_000)),
-        ]:
+        ]
+        for call in calls:
             with self.assertRaises(ValueError):
                 call()
         self.assertEqual(self.port.lines, [])
@@ -156,7 +167,7 @@ class Traps(Case):
         slot = self.client()
         odd: Any = Slot, slot, Operator
         make, it, operator = odd
-        for call, kind, text in [
+        traps: list[tuple[Callable[[], object], type[Exception], str]] = [
             (lambda: make("localhost", 18000), ValueError, "'localhost' is no address as 127.0.0.1, and 18000 no slot"),
             (lambda: make("node.toml", 16), ValueError, "and 16 no slot of a configuration, 0 to 15"),
             (lambda: make("node.toml", -1), ValueError, "and -1 no slot"), (lambda: make("node.toml", None), ValueError, "None no slot"),
@@ -187,7 +198,8 @@ class Traps(Case):
             (lambda: it.read_line(float("nan")), ValueError, "time_us is nan"), (lambda: it.send_line(None), TypeError, "line is None"),
             (lambda: operator("localhost", 18100), ValueError, "address is 'localhost'"),
             (lambda: operator(ADDRESS, 99999), ValueError, "port is 99999"), (lambda: operator(ADDRESS, 1, tries=0), ValueError, "tries is 0"),
-        ]:
+        ]
+        for call, kind, text in traps:
             with self.assertRaises(kind) as caught:
                 call()
             self.assertIn(text, str(caught.exception))
@@ -220,7 +232,8 @@ class Traps(Case):
         answers = iter(["7 value Valid 1 0b", "7 done", "7 refused NoHandle", "0 refused NoHandle", "7 handle 4", "7 value x"])
         self.say = lambda line: [MARKS[line]] if line in MARKS else [next(answers)] if line != "#" else []
         slot = self.client(number=0, answer_us=500_000)
-        for call in (lambda: slot.get(1), lambda: slot.put(1, b""), lambda: slot.unpublish(1)):
+        calls: list[Callable[[], object]] = [lambda: slot.get(1), lambda: slot.put(1, b""), lambda: slot.unpublish(1)]
+        for call in calls:
             with self.assertRaises(OtherSlot) as caught:
                 call()
         self.assertEqual(str(caught.exception), f"{ADDRESS}:{self.port.number} is the port of another slot than slot 0: "
@@ -238,11 +251,12 @@ class Traps(Case):
         told: str | None = None
         self.say = lambda line: [MARKS[line]] if line in MARKS else [] if told is None else [told]
         slot = self.client(tries=1, answer_us=500_000)
+        calls: list[Callable[[], object]] = [lambda: slot.get(1), lambda: slot.publish(1, "10.0.0.2:17224"), lambda: slot.put(1, b"")]
         for told in ("0 refused", "0 refused x", "0 refused No Handle", "0 handle", "0 handle x", "0 handle -1", "0 value", "0 value Valid",
                      "0 value Valid x 00", "0 value Valid 1 0", "0 value Valid 1 xy", "0 value Valid 1 00 00", "0 value Old 1 00",
                      "0 done 1", "0 silent", "0 silent x", "0 asked 1 2 3 4 5 6 7 8", "0 replied 1 x Mp 0 1 -", "0 closed 1",
                      "HTTP/1.1 400", "get 1", "", "0", "0 jumped", "00 done", "ok", "\ufffd", "x" * 500, "line fault"):
-            for call in (lambda: slot.get(1), lambda: slot.publish(1, "10.0.0.2:17224"), lambda: slot.put(1, b"")):
+            for call in calls:
                 with self.assertRaises(WrongAnswer) as caught:
                     call()
                 self.assertEqual(caught.exception.line, told.encode().decode("ascii", "replace"))
@@ -272,8 +286,10 @@ class Traps(Case):
     def test_nobody_is_there(self) -> None:
         number = self.free_port()
         with Slot(ADDRESS, number, tries=2, answer_us=10_000) as slot:
-            for call, behind in [(lambda: slot.get(1), ": get 1"), (slot.sync, ""), (slot.check, ""),
-                                 (lambda: slot.listen(1), ": listen 1 0.0.0.0 0.0.0.0 0.0.0.0 - 0 0")]:
+            calls: list[tuple[Callable[[], object], str]] = [
+                (lambda: slot.get(1), ": get 1"), (slot.sync, ""), (slot.check, ""),
+                (lambda: slot.listen(1), ": listen 1 0.0.0.0 0.0.0.0 0.0.0.0 - 0 0")]
+            for call, behind in calls:
                 with self.assertRaises(Nobody) as caught:
                     call()
                 self.assertEqual(str(caught.exception), f"nobody is at {ADDRESS}:{number}{behind}")
@@ -312,13 +328,13 @@ class Answers(Case):
         slot = self.client()
         slot.publish(100, "10.0.0.2:17224")
         lost = iter([True, True])
-        self.say = lambda line: [] if line.startswith("put") and next(lost, False) else self.node.answer(line)
+        self.say = self.losing(lambda line: line.startswith("put") and next(lost, False))
         slot.put(1, b"\x01")
         self.assertEqual(self.calls()[1:], ["put 1 01"] * 3)
 
     def test_a_lost_answer_of_publish_is_told_and_sent_once(self) -> None:
         slot = self.client()
-        self.say = lambda line: [] if line.startswith("publish") else self.node.answer(line)
+        self.say = self.losing(lambda line: line.startswith("publish"))
         with self.assertRaises(TimeoutError):
             slot.publish(100, "10.0.0.2:17224")
         self.assertEqual(len(self.calls()), 1)
@@ -341,7 +357,7 @@ class Answers(Case):
             slot.get(1)
 
     def test_nobody_at_the_port(self) -> None:
-        with testing.socket.socket(testing.socket.AF_INET, testing.socket.SOCK_DGRAM) as free:
+        with socket.socket(socket.AF_INET, socket.SOCK_DGRAM) as free:
             free.bind((ADDRESS, 0))
             number = free.getsockname()[1]
         with Slot(ADDRESS, number, tries=2, answer_us=20_000) as slot:
@@ -367,15 +383,15 @@ class Answers(Case):
     def test_late_answers(self) -> None:
         slot = self.client()
         first, second = slot.subscribe(100), slot.subscribe(101)
-        held: list[str] = []
+        held: list[Said] = []
 
-        def hold(line: str) -> list[str]:
+        def hold(line: str) -> list[Said]:
             held.extend((self.port.client, it) for it in self.node.answer(line))
             return []
 
-        def release(line: str) -> list[str]:
+        def release(line: str) -> list[Said]:
             self.say = self.node.answer
-            late = held + self.node.answer(line)
+            late = [*held, *self.node.answer(line)]
             held.clear()
             return late
 
@@ -393,12 +409,12 @@ class Answers(Case):
 
     def test_lost_doubled_and_late_by_chance(self) -> None:
         for seed in range(20):
-            chance = testing.random.Random(seed)
-            held: list[str] = []
+            chance = random.Random(seed)
+            held: list[Said] = []
 
-            def say(line: str) -> list[str]:
+            def say(line: str) -> list[Said]:
                 times = chance.choice([0, 1, 1, 1, 2])
-                told = held + [(self.port.client, it) for it in self.node.answer(line) for _ in range(times)]
+                told = [*held, *((self.port.client, it) for it in self.node.answer(line) for _ in range(times))]
                 held.clear()
                 if chance.randrange(4) == 0:
                     held.extend(told)
@@ -461,7 +477,7 @@ class Answers(Case):
         told = list(slot.indications(20_000))
         # Two calls and two marks, each with one of either kind round its answer.
         self.assertEqual([type(it) for it in told], [Silent, Alive] * 4)
-        self.assertIs(told[-1].handle, handle)
+        self.assertEqual(told[-1], Alive(handle))
 
 
 class Indications(Case):
@@ -472,7 +488,7 @@ class Indications(Case):
         self.slot = self.client()
         self.slot.subscribe(100)
 
-    def tell(self, *lines: str) -> list[object]:
+    def tell(self, *lines: str) -> list[Any]:
         for line in lines:
             self.port.say(line)
         return list(self.slot.indications(30_000))
@@ -513,7 +529,7 @@ class Indications(Case):
         self.assertIsInstance(self.slot.next_indication(None), Silent)
 
     def test_callbacks(self) -> None:
-        heard: list[object] = []
+        heard: list[Any] = []
         self.slot.on(Silent, heard.append)
         self.slot.on(Silent, lambda it: heard.append(self.slot.get(it.handle).value))
         self.slot.on(Closed, heard.append)
@@ -529,7 +545,7 @@ class Indications(Case):
 class Restarts(Case):
     """A daemon that was started anew."""
 
-    def declare(self, **words: object) -> tuple[Slot, dict[str, trdp_slot.Handle]]:
+    def declare(self, **words: Any) -> tuple[Slot, dict[str, trdp_slot.Handle]]:
         slot = self.client(**words)
         handles = {
             "publisher": slot.publish(100, "10.0.0.2:17224", cycle_us=1000), "subscription": slot.subscribe(101),
@@ -547,7 +563,7 @@ class Restarts(Case):
         self.assertEqual(list(self.node.made.values()), made)
         self.assertEqual(self.node.put, {"1": "07"})
         told = slot.next_indication(0)
-        self.assertIsInstance(told, Restarted)
+        assert isinstance(told, Restarted)
         self.assertEqual([it.kind for it in told.declared], ["publisher", "subscription", "requester", "listener"])
         self.assertEqual(told.lost, (handles["caller"],))
         self.assertEqual([it.number for it in told.declared], [1, 2, 3, 4])
@@ -633,7 +649,7 @@ class Restarts(Case):
     def test_silence_while_objects_are_made_again(self) -> None:
         slot, handles = self.declare(restore=True)
         self.node.start_anew()
-        self.say = lambda line: [] if line.startswith("openpull") else self.node.answer(line)
+        self.say = self.losing(lambda line: line.startswith("openpull"))
         with self.assertRaises(TimeoutError):
             slot.get(handles["subscription"])
         self.say = self.node.answer

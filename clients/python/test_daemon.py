@@ -4,6 +4,7 @@ from __future__ import annotations
 import pathlib
 import random
 import re
+import signal
 import socket
 import struct
 import subprocess
@@ -119,7 +120,7 @@ class ProcessData(Case):
         self.assertEqual(self.desk.get(zero.number).value, struct.pack(">BHH", 2, 700, 800))
         wait_until(lambda: self.desk.get(zero).counter >= first.counter + 2)
         self.door.put(publisher, [1, [65535]])
-        wait_until(lambda: self.desk.get(zero).value == [1, [65535]])
+        wait_until(lambda: bool(self.desk.get(zero).value == [1, [65535]]))
         self.door.unpublish(publisher)
         self.assertEqual(self.told(self.desk, Silent), Silent(zero))
         self.assertEqual(self.told(self.desk, Silent), Silent(keep))
@@ -182,7 +183,8 @@ class MessageData(Case):
     def ask(self, **words: Any) -> tuple[Handle, Asked]:
         """The desk asks; the door listens, and hears it."""
         listener = self.door.listen(300, low=DESK, high=DESK, dest=DOOR)
-        caller = self.desk.request(300, f"{DOOR}:{MD}", b"\x0d", **{"time_us": 2 * SECOND, **words})
+        words = {"time_us": 2 * SECOND, **words}
+        caller = self.desk.request(300, f"{DOOR}:{MD}", b"\x0d", **words)
         asked = self.told(self.door, Asked)
         self.assertIs(asked.listener, listener)
         return caller, asked
@@ -334,10 +336,11 @@ class Refusals(Case):
 
     def test_quotas(self) -> None:
         slot, place = self.door, f"{SINK}:{PD}"
-        for count, call in [
+        quotas: list[tuple[int, Callable[[], object]]] = [
             (4, lambda: slot.publish(1, place)), (4, lambda: slot.subscribe(1)), (2, lambda: slot.openpull(1, place)),
             (2, lambda: slot.listen(1)), (4, lambda: slot.request(1, place)),
-        ]:
+        ]
+        for count, call in quotas:
             for _ in range(count):
                 call()
             self.refused("Quota", call)
@@ -431,7 +434,7 @@ class Restarts(Case):
         own = door.subscribe(101)
         door.put(publisher, [1, [7]])
         caller = door.request(300, f"{SINK}:{MD}", time_us=100 * SECOND)
-        wait_until(lambda: self.desk.get(subscription).value == [1, [7]])
+        wait_until(lambda: bool(self.desk.get(subscription).value == [1, [7]]))
         self.daemons[0].end()
         self.assertRaises(TimeoutError, door.get, own)
         wait_until(lambda: self.desk.get(subscription)[0::2] == ("Silent", [0, []]))
@@ -460,11 +463,11 @@ class Restarts(Case):
     def test_a_daemon_that_halts_for_a_while(self) -> None:
         door = self.client(Slot(DOOR, CONTROL, answer_us=60_000))
         one, two = door.subscribe(100, time_us=100_000), door.subscribe(101)
-        self.daemons[0].process.send_signal(testing.signal.SIGSTOP)
+        self.daemons[0].process.send_signal(signal.SIGSTOP)
         for _ in range(3):
             self.assertRaises(TimeoutError, door.get, one)
         self.assertRaises(TimeoutError, door.publish, 102, f"{DESK}:{PD}")
-        self.daemons[0].process.send_signal(testing.signal.SIGCONT)
+        self.daemons[0].process.send_signal(signal.SIGCONT)
         self.assertEqual(self.told(door, Silent), Silent(one))
         wait_until(lambda: self.answers(door))
         self.assertEqual(door.get(two).state, "Never")
@@ -563,7 +566,7 @@ class Maker:
         elements: list[tuple[str | int, int]] = []
         deep = [it for it, depth in self.depths.items() if depth < 5]
         for _ in range(self.chance.randrange(1, 5)):
-            kind = self.chance.choice(deep if deep and self.chance.randrange(3) == 0 else self.KINDS)
+            kind: str | int = self.chance.choice(deep) if deep and self.chance.randrange(3) == 0 else self.chance.choice(self.KINDS)
             size = self.chance.choice([1, 1, 1, 0, 2, 3, self.chance.randrange(4, 12)])
             if size == 0:
                 elements.append((self.chance.choice(self.COUNTS), 1))
@@ -590,9 +593,10 @@ class Maker:
         value: list[Any] = []
         data = b""
         elements = self.elements[number]
+        entry: Any
         for index, (kind, size) in enumerate(elements):
             if index + 1 < len(elements) and elements[index + 1][1] == 0:
-                entry, part = self.number(self.chance.randint(0, most), self.WIDTHS[kind])
+                entry, part = self.number(self.chance.randint(0, most), self.WIDTHS[str(kind)])
             elif size == 1:
                 entry, part = self.item(kind, most)
             else:

@@ -7,9 +7,11 @@ import subprocess
 import tempfile
 import unittest
 import zlib
+from typing import Any
 
 from testing import CONTROL, MD, OPERATOR, PD, PROGRAM, Daemon, wait_until
 
+Socket = socket.socket
 HOME, KEPT, DEVICE = "127.0.8.5", "127.0.8.6", "127.0.8.7"
 
 # The first telegram of comId 100 with the dataset 0a0b, under zlib's frame check.
@@ -43,7 +45,7 @@ class Case(unittest.TestCase):
         self.addCleanup(daemon.close)
         return daemon
 
-    def socket(self, address: str, port: int = 0, to: tuple[str, int] | None = None) -> socket.socket:
+    def socket(self, address: str, port: int = 0, to: tuple[str, int] | None = None) -> Socket:
         """A socket there, which sends to that place and waits for two seconds at most."""
         port_socket = socket.socket(socket.AF_INET, socket.SOCK_DGRAM)
         self.addCleanup(port_socket.close)
@@ -53,16 +55,16 @@ class Case(unittest.TestCase):
             port_socket.connect(to)
         return port_socket
 
-    def client(self, port: int, address: str = HOME) -> socket.socket:
+    def client(self, port: int, address: str = HOME) -> Socket:
         """A new client of that port."""
         return self.socket(address, to=(address, port))
 
-    def answers(self, client: socket.socket, line: bytes, answer: bytes) -> None:
+    def answers(self, client: Socket, line: bytes, answer: bytes) -> None:
         """The line is answered so."""
         client.send(line)
         self.assertEqual(client.recv(65536), answer, line)
 
-    def is_quiet(self, client: socket.socket) -> None:
+    def is_quiet(self, client: Socket) -> None:
         """Nothing more comes for a while."""
         client.settimeout(0.05)
         self.assertRaises(TimeoutError, client.recv, 65536)
@@ -162,12 +164,12 @@ class Ends(unittest.TestCase):
     NOTHING = "taken 0 offered 0 lost 0 unread 0 memory 0\n"
     ONE_PORT = f'[node]\naddress = "{HOME}"\npd_port = {PD}\nmd_port = {PD}\n[[slot]]\n'
 
-    def ends(self, config: str, *words: str, **streams: object) -> tuple[int, str | None, str | None]:
+    def ends(self, config: str, *words: str, **streams: Any) -> tuple[int, Any, Any]:
         """The status, the output, and what stands on the error stream."""
         with tempfile.NamedTemporaryFile("w", suffix=".toml") as file:
             file.write(config)
             file.flush()
-            how = {"stdout": subprocess.PIPE, "stderr": subprocess.PIPE, "text": True, "timeout": 20, **streams}
+            how: dict[str, Any] = {"stdout": subprocess.PIPE, "stderr": subprocess.PIPE, "text": True, "timeout": 20, **streams}
             ran = subprocess.run([PROGRAM, words[0], file.name, *words[1:]], **how)
             return ran.returncode, ran.stdout, ran.stderr
 

@@ -8,7 +8,9 @@ import socket
 import subprocess
 import sys
 import tempfile
+import time
 import unittest
+from collections.abc import Callable
 
 import testing
 import trdp_dump
@@ -102,6 +104,7 @@ class Dump:
     def __init__(self, words: list[str], count: int) -> None:
         line = [sys.executable, "-W", "error", str(HERE / "trdp_dump.py"), DUMP, "--count", str(count), *words]
         self.process = subprocess.Popen(line, stdout=subprocess.PIPE, stderr=subprocess.PIPE, text=True)
+        assert self.process.stderr is not None
         self.begun = self.process.stderr.readline()
 
     def lines(self) -> list[str]:
@@ -114,6 +117,8 @@ class Dump:
 
 class Tools(unittest.TestCase):
     """The telegrams that a script gives, in all tools."""
+
+    telegrams: list[tuple[str, bytes]]
 
     @classmethod
     def setUpClass(cls) -> None:
@@ -135,7 +140,7 @@ class Tools(unittest.TestCase):
                 address, port = place.split(":")
                 out.sendto(data, (address, int(port)))
                 # They come to two ports: so they are read in their order.
-                testing.time.sleep(0.005)
+                time.sleep(0.005)
             return f"{SOURCE}:{out.getsockname()[1]}"
 
     def test_lines(self) -> None:
@@ -144,11 +149,12 @@ class Tools(unittest.TestCase):
         self.assertEqual(dump.lines(), [it.format(source) for it in DUMPED])
 
     def test_filters(self) -> None:
-        for words, is_wanted in [
+        filters: list[tuple[list[str], Callable[[str], bool]]] = [
             (["--com-id", "300", "--com-id", "100"], lambda it: "comId=300 " in it or "comId=100 " in it),
             (["--type", "Mn", "--type", "Pr"], lambda it: it[:2] in ("Mn", "Pr")),
             (["--type", "Mr", "--com-id", "300"], lambda it: it.startswith("Mr comId=300 ")),
-        ]:
+        ]
+        for words, is_wanted in filters:
             wanted = [it for it in DUMPED if is_wanted(it)]
             dump = Dump(["--toml", str(self.toml), *words], len(wanted))
             source = self.send_all()
@@ -157,8 +163,8 @@ class Tools(unittest.TestCase):
     def test_without_a_file_the_payload_is_bytes(self) -> None:
         dump = Dump(["--time"], 1)
         source = self.send_all()
-        time, line = dump.lines()[0].split(" ", 1)
-        self.assertAlmostEqual(float(time), testing.time.time(), delta=20)
+        moment, line = dump.lines()[0].split(" ", 1)
+        self.assertAlmostEqual(float(moment), time.time(), delta=20)
         self.assertEqual(line, f"Pd comId=2101 counter=0 counts=0,0 from={source} length=7 data=04000200000102")
 
     def test_what_is_no_telegram(self) -> None:
@@ -184,8 +190,8 @@ class Tools(unittest.TestCase):
             source = self.send_all()
             self.assertEqual(dump.lines(), [it.format(source) for it in DUMPED])
             self.assertEqual(taken.recv(65536), self.telegrams[0][1])
-            dump = subprocess.run([sys.executable, str(HERE / "trdp_dump.py"), DUMP], capture_output=True, timeout=20)
-            self.assertEqual(dump.returncode, 1)
+            ran = subprocess.run([sys.executable, str(HERE / "trdp_dump.py"), DUMP], capture_output=True, timeout=20)
+            self.assertEqual(ran.returncode, 1)
 
     def test_send_gives_the_same_telegrams(self) -> None:
         with socket.socket(socket.AF_INET, socket.SOCK_DGRAM) as port:
@@ -235,9 +241,9 @@ class Tools(unittest.TestCase):
         names = ["comId", "sequenceCounter", "etbTopoCnt", "opTrnTopoCnt", "datasetLength", "headerFcs.status",
                  "value"]
         words = [it for name in names for it in ("-e", f"trdp.{name}")]
-        line = ["tshark", "-X", f"lua_script:{TOP}/wireshark/trdp.lua", "-X", f"lua_script:{script}", "-r", str(file),
+        command = ["tshark", "-X", f"lua_script:{TOP}/wireshark/trdp.lua", "-X", f"lua_script:{script}", "-r", str(file),
                 "-T", "fields", "-E", "separator=|", *words]
-        shown = subprocess.run(line, capture_output=True, text=True, check=True, timeout=60).stdout
+        shown = subprocess.run(command, capture_output=True, text=True, check=True, timeout=60).stdout
         for line, row in zip(lines, shown.splitlines(), strict=True):
             com_id, counter, etb, op_trn, length, status, value = row.split("|")
             self.assertIn(f" comId={com_id} counter={counter} counts={etb},{op_trn} ", line)

@@ -16,8 +16,11 @@ import struct
 import subprocess
 import sys
 import tempfile
+import time
 import types
 import unittest
+import zlib
+from typing import Any
 from unittest import mock
 
 import testing
@@ -53,8 +56,7 @@ FAULTS = {
 }
 
 # The words of each tool that can't be meant, by what is wrong with them, and what the sentence says of it.
-SEND = ["trdp_send.py", PLACE, "--com-id", "2101"]
-SEND_TRAPS = [
+SEND_TRAPS: list[tuple[list[str], str]] = [
     (["127.0.0.1", "--com-id", "1"], "'127.0.0.1' has no port"), (["x:17224", "--com-id", "1"], "'x' is no address"),
     (["localhost:17224", "--com-id", "1"], "'localhost' is no address"), (["", "--com-id", "1"], "'' has no port"),
     ([f"{SOURCE}:99999", "--com-id", "1"], "'99999' is no whole number of 1 to 65535"),
@@ -86,7 +88,7 @@ SEND_TRAPS = [
       for it in ("[1, [", "", "x", "{[]: 1}", "[" * 5000, "(" + "-" * 5000 + "1)", "f()", "\0")],
     ([PLACE, "--com-id", "1", "--data", "00", "--value", "[1]"], "not allowed with"),
 ]
-DUMP_TRAPS = [
+DUMP_TRAPS: list[tuple[list[str], str]] = [
     (["localhost"], "'localhost' is no address"), (["::1"], "is no address"), ([""], "is no address"), ([], "required"),
     (["127.0.0.1:17224"], "is no address"), ([DUMP, "--pd-port", "99999"], "'99999' is no whole number of 1 to 65535"),
     ([DUMP, "--md-port", "0"], "'0' is no whole number"), ([DUMP, "--pd-port", "17225"], "are both 17225"),
@@ -95,7 +97,7 @@ DUMP_TRAPS = [
     ([DUMP, "--for-us", "0"], "'0' is no whole number of 1"), ([DUMP, "--for-us", "1e6"], "'1e6' is no whole number"),
     ([DUMP, "--for-us", "9" * 18], "is no whole number"), ([DUMP, "more"], "unrecognized"),
 ]
-CLIENT_TRAPS = [
+CLIENT_TRAPS: list[tuple[list[str], str]] = [
     (["localhost", "18000", "1", "get 1"], "'localhost' is no address"), ([SOURCE, "18000", "1"], "required: line"),
     ([SOURCE, "99999", "1", "get 1"], "'99999' is no whole number of 1 to 65535"), ([], "required"),
     ([SOURCE, "0", "1", "get 1"], "'0' is no whole"), ([SOURCE, "x", "1", "get 1"], "'x' is no whole"),
@@ -103,7 +105,7 @@ CLIENT_TRAPS = [
     ([SOURCE, "18000", "1", "x" * 65508], "more than 65507 bytes"),
 ]
 # The words that are meant, but can't be done.
-UNDONE = [
+UNDONE: list[tuple[types.ModuleType, list[str], str]] = [
     (trdp_send, [PLACE, "--com-id", "1", "--from", "192.0.2.1:0"], "192.0.2.1:0: Cannot assign requested address"),
     (trdp_send, [PLACE, "--com-id", "2101", "--toml", "gone.toml", "--value", "[1]"], "gone.toml: No such file"),
     (trdp_send, [PLACE, "--com-id", "2101", "--toml", ".", "--value", "[1]"], ".: Is a directory"),
@@ -161,8 +163,9 @@ class Traps(Case):
     """Each trap once."""
 
     def test_words_that_cant_be_meant(self) -> None:
-        for tool, name, traps in [(trdp_send, "trdp_send.py", SEND_TRAPS), (trdp_dump, "trdp_dump.py", DUMP_TRAPS),
-                                  (client, "client.py", CLIENT_TRAPS)]:
+        tables: list[tuple[types.ModuleType, str, list[tuple[list[str], str]]]] = [
+            (trdp_send, "trdp_send.py", SEND_TRAPS), (trdp_dump, "trdp_dump.py", DUMP_TRAPS), (client, "client.py", CLIENT_TRAPS)]
+        for tool, name, traps in tables:
             for words, sentence in traps:
                 status, said = run(tool, words)
                 self.assertEqual(status, 2, (words, said))
@@ -229,7 +232,8 @@ class Unread(Case):
     def test_a_wrong_check_sum_and_a_packet_without_a_header(self) -> None:
         telegram = trdp_telegram.Telegram("Pd", 1, payload=bytes(100)).write()
         wrong = struct.pack(">4H", 9, 17224, 8 + len(telegram), 1) + telegram
-        for words, packets, count in [([], [wrong], 1), (["--beside"], [b"", b"abcde"], 2)]:
+        cases: list[tuple[list[str], list[bytes], int]] = [([], [wrong], 1), (["--beside"], [b"", b"abcde"], 2)]
+        for words, packets, count in cases:
             line = [sys.executable, "-W", "error", str(HERE / "trdp_dump.py"), DUMP, "--count", "1", *words]
             with subprocess.Popen(line, stdout=subprocess.PIPE, stderr=subprocess.PIPE, text=True) as dump, \
                     socket.socket(socket.AF_INET, socket.SOCK_RAW, socket.IPPROTO_UDP) as raw, \
@@ -238,7 +242,7 @@ class Unread(Case):
                 dump.stderr.readline()
                 for packet in packets:
                     raw.sendto(packet, (DUMP, 0))
-                testing.time.sleep(0.05)
+                time.sleep(0.05)
                 out.sendto(telegram, (DUMP, 17224))
                 said, told = dump.communicate(timeout=20)
             self.assertEqual((dump.returncode, told), (0, f"trdp_dump.py: {count} datagrams couldn't be read\n"))
@@ -302,7 +306,7 @@ def interrupt(*_: object) -> None:
 class Quiet(socket.socket):
     """A socket that sends nothing."""
 
-    def sendto(self, *_: object) -> int:  # type: ignore[override]
+    def sendto(self, *_: object) -> int:
         return 0
 
     def connect(self, *_: object) -> None:
@@ -341,7 +345,7 @@ class Random(Case):
         for _ in range(self.chance.randrange(3)):
             data[self.chance.randrange(len(data))] = self.chance.randrange(256)
         if self.chance.randrange(4) == 0:
-            struct.pack_into("<I", data, 36, trdp_telegram.zlib.crc32(data[:36]))
+            struct.pack_into("<I", data, 36, zlib.crc32(data[:36]))
         del data[self.chance.choice([0, len(data), len(data), len(data)]):]
         packet = bytearray(packet_of(bytes(data)) + self.chance.randbytes(self.chance.choice([0, 0, 9])))
         if self.chance.randrange(4) == 0:
@@ -350,14 +354,16 @@ class Random(Case):
 
     def test_words_in_one_process(self) -> None:
         print(f"command lines by chance: seed {SEED}", file=sys.stderr)
-        stubs = [mock.patch.object(trdp_send.time, "sleep", interrupt), mock.patch.object(socket, "socket", Quiet),
-                 mock.patch.object(trdp_dump, "Beside", trdp_dump.Ports), mock.patch.object(client, "Slot", Mute),
-                 mock.patch.object(trdp_dump.Ports, "take", lambda *_: interrupt())]
+        stubs: list[contextlib.AbstractContextManager[Any]] = [
+            mock.patch.object(time, "sleep", interrupt), mock.patch.object(socket, "socket", Quiet),
+            mock.patch.object(trdp_dump, "Beside", trdp_dump.Ports), mock.patch.object(client, "Slot", Mute),
+            mock.patch.object(trdp_dump.Ports, "take", lambda *_: interrupt()),
+            # argparse looks for a file at each text.
+            mock.patch.object(argparse, "_", str),
+        ]
         with contextlib.ExitStack() as stack:
             for stub in stubs:
                 stack.enter_context(stub)
-            # It looks for a file at each text.
-            stack.enter_context(mock.patch.object(argparse, "_", str))
             for tool, name in [(trdp_send, "trdp_send.py"), (trdp_dump, "trdp_dump.py"), (client, "client.py")]:
                 statuses = [self.status_of(tool, name) for _ in range(LINES)]
                 self.assertEqual({it for it in statuses}, {0, 1, 2}, name)
@@ -388,7 +394,7 @@ class Random(Case):
         path = TOP / "examples/control" / name if name == "client.py" else HERE / name
         # What no command line has is left out.
         typed = [it.encode("utf-8", "replace").replace(b"\0", b"") for it in words]
-        line = ["timeout", "-s", "KILL", "2", sys.executable, "-W", "error", str(path), *typed]
+        line: list[str | bytes] = ["timeout", "-s", "KILL", "2", sys.executable, "-W", "error", str(path), *typed]
         ran = subprocess.run(line, capture_output=True, timeout=60)
         self.assertNotIn(b"Traceback", ran.stderr, (SEED, name, words))
         self.assertIn(ran.returncode, (0, 1, 2, 128 + 9, -9), (SEED, name, words))

@@ -6,6 +6,7 @@ import tomllib
 import unittest
 import uuid
 import zlib
+from typing import Any
 
 import testing
 import trdp_lua
@@ -42,7 +43,7 @@ BASIC = [
     ("TIMEDATE64", (3, 4), struct.pack(">II", 3, 4)), ("TIMEDATE64", (2**32 - 1, 2**32 - 1), b"\xff" * 8),
 ]
 # Type, and values that aren't one.
-OTHERS = [
+OTHERS: list[tuple[str, list[object]]] = [
     ("BOOL8", [256, -1, 1.0, "A", None, [1]]), ("CHAR8", ["A", 256]), ("UTF16", [65536]), ("INT8", [128, -129]),
     ("INT16", [32768, -32769]), ("INT32", [2**31, -2**31 - 1]), ("INT64", [2**63, -2**63 - 1]), ("UINT8", [256, -1]),
     ("UINT16", [65536]), ("UINT32", [2**32]), ("UINT64", [2**64, -1]), ("TIMEDATE32", [2**32, (1, 2)]),
@@ -113,7 +114,8 @@ class Values(unittest.TestCase):
         self.assertEqual(of.pack(1002, [-2, (3, 4), [1, [5]]]), bytes.fromhex("fffe" "000000030004" "010005"))
 
     def test_nesting(self) -> None:
-        value, way = 7, "dataset 1000"
+        value: object = 7
+        way = "dataset 1000"
         for _ in range(5):
             value, way = [value], way + ", element 0"
         self.assertEqual(nested(5).pack(1000, value), b"\x07")
@@ -206,7 +208,7 @@ class Configurations(unittest.TestCase):
         self.assertEqual(datasets(table + "[[telegram]]\ncom_id = 7\ndataset = 1000\n").com_ids, {7: 1000})
 
     def test_control_places(self) -> None:
-        node = {"node": {"address": "10.0.0.1", "spare_control_ports": [0, 18002]},
+        node: dict[str, Any] = {"node": {"address": "10.0.0.1", "spare_control_ports": [0, 18002]},
                 "slot": [{"control_port": 18000}, {}]}
         self.assertEqual(trdp_slot.control_place(node, 0), ("10.0.0.1", 18000))
         self.assertEqual(trdp_slot.control_place(node, 3), ("10.0.0.1", 18002))
@@ -217,14 +219,16 @@ class Configurations(unittest.TestCase):
         self.assertEqual(trdp_slot.control_place(node, 0), ("127.0.0.1", 18000))
 
 
-def docs_telegram(kind, counter, com_id, payload, etb=0, op_trn=0, reply_com_id=0, reply_address=0):
+def docs_telegram(kind: bytes, counter: int, com_id: int, payload: bytes, etb: int = 0, op_trn: int = 0, reply_com_id: int = 0,
+                  reply_address: int = 0) -> bytes:
     """As docs/SCRIPT.md makes one."""
     head = struct.pack(">IH2s7I", counter, 0x0100, kind, com_id, etb, op_trn, len(payload), 0, reply_com_id,
                        reply_address)
     return head + struct.pack("<I", zlib.crc32(head)) + payload + bytes(-len(payload) % 4)
 
 
-def docs_message(kind, com_id, payload, session=0, status=0, time=0, source_uri=b"", dest_uri=b"", etb=0, op_trn=0):
+def docs_message(kind: bytes, com_id: int, payload: bytes, session: int = 0, status: int = 0, time: int = 0, source_uri: bytes = b"",
+                 dest_uri: bytes = b"", etb: int = 0, op_trn: int = 0) -> bytes:
     """As docs/SCRIPT.md makes one."""
     head = struct.pack(">IH2s4Ii", 0, 0x0100, kind, com_id, etb, op_trn, len(payload), status)
     head += session.to_bytes(16, "big") + struct.pack(">I", time)

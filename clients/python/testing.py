@@ -36,10 +36,20 @@ class Daemon:
     def __init__(self, config: str, folder: str | None = None, words: Sequence[str] = ()) -> None:
         self.words = words
         self.folder = tempfile.TemporaryDirectory() if folder is None else None
-        self.path = pathlib.Path(folder or self.folder.name) / "node.toml"
+        self.path = pathlib.Path(self.folder.name if self.folder else str(folder)) / "node.toml"
         self.path.write_text(config)
-        self.process: subprocess.Popen[bytes] | None = None
-        self.start()
+        self.running: subprocess.Popen[bytes] | None = None
+        try:
+            self.start()
+        except BaseException:
+            self.close()
+            raise
+
+    @property
+    def process(self) -> subprocess.Popen[bytes]:
+        """The process of a daemon that runs."""
+        assert self.running is not None
+        return self.running
 
     def start(self) -> None:
         """Starts it, and waits until it has its ports."""
@@ -47,7 +57,7 @@ class Daemon:
         errors = self.path.with_suffix(".errors")
         with open(errors, "wb") as out:
             line = [PROGRAM, "daemon", str(self.path), *self.words]
-            self.process = subprocess.Popen(line, stdout=out, stderr=out)
+            self.running = subprocess.Popen(line, stdout=out, stderr=out)
         wait_until(lambda: self.process.poll() is not None or self._has_ports(), seconds=20)
         if self.process.poll() is not None:
             raise RuntimeError(f"the daemon ended: {errors.read_text()}")
@@ -75,10 +85,10 @@ class Daemon:
 
     def end(self) -> None:
         """Ends it at once."""
-        if self.process is not None:
-            self.process.send_signal(signal.SIGKILL)
-            self.process.wait()
-            self.process = None
+        if self.running is not None:
+            self.running.send_signal(signal.SIGKILL)
+            self.running.wait()
+            self.running = None
 
     def close(self) -> None:
         """Ends it for good."""
@@ -98,11 +108,15 @@ def play(config: str, script: str) -> list[str]:
     return ran.stdout.decode().splitlines()
 
 
+# A text, or a text and where it goes to.
+Said = str | tuple[tuple[str, int] | None, str]
+
+
 class Port(threading.Thread):
     """A UDP port that answers each datagram by what a function says of its line, as a control port would: texts in
     their order, or pairs of a place and a text."""
 
-    def __init__(self, address: str, answer: Callable[[str], list[str | tuple]]) -> None:
+    def __init__(self, address: str, answer: Callable[[str], Sequence[Said]]) -> None:
         super().__init__(daemon=True)
         self.answer = answer
         self.lines: list[str] = []
@@ -122,9 +136,10 @@ class Port(threading.Thread):
             for text in self.answer(line):
                 self.say(text)
 
-    def say(self, text: str | tuple) -> None:
+    def say(self, said: Said) -> None:
         """Sends a text to where the latest line came from, or to its place."""
-        place, text = text if isinstance(text, tuple) else (self.client, text)
+        place, text = said if isinstance(said, tuple) else (self.client, said)
+        assert place is not None
         self.socket.sendto(text.encode() + b"\n", place)
 
     def close(self) -> None:
