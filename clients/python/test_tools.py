@@ -255,8 +255,8 @@ class Tools(unittest.TestCase):
 
 
 def load_tests(loader: unittest.TestLoader, tests: unittest.TestSuite, _: str | None) -> unittest.TestSuite:
-    """With these tests go those of words that can't be meant, and of the packet filter."""
-    tests.addTests(loader.loadTestsFromNames(["test_traps", "test_filter"]))
+    """With these tests go those of words that can't be meant, of the packet filter, and of the page."""
+    tests.addTests(loader.loadTestsFromNames(["test_traps", "test_filter", "test_page"]))
     return tests
 
 
