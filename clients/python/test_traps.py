@@ -107,6 +107,7 @@ CLIENT_TRAPS: list[tuple[list[str], str]] = [
 # The words that are meant, but can't be done.
 UNDONE: list[tuple[types.ModuleType, list[str], str]] = [
     (trdp_send, [PLACE, "--com-id", "1", "--from", "192.0.2.1:0"], "192.0.2.1:0: Cannot assign requested address"),
+    (trdp_send, ["255.255.255.255:9", "--com-id", "1"], "255.255.255.255:9: "),
     (trdp_send, [PLACE, "--com-id", "2101", "--toml", "gone.toml", "--value", "[1]"], "gone.toml: No such file"),
     (trdp_send, [PLACE, "--com-id", "2101", "--toml", ".", "--value", "[1]"], ".: Is a directory"),
     (trdp_send, [PLACE, "--com-id", "2101", "--toml", "bad.toml", "--value", "[1]"], "bad.toml: "),

@@ -148,6 +148,14 @@ def bind(out: socket.socket, source: tuple[str, int]) -> None:
         raise OSError(fault.errno, fault.strerror, f"{source[0]}:{source[1]}") from None
 
 
+def give(out: socket.socket, data: bytes, place: tuple[str, int]) -> None:
+    """Has the system send it. Raises OSError with the place."""
+    try:
+        out.sendto(data, place)
+    except OSError as fault:
+        raise OSError(fault.errno, fault.strerror, f"{place[0]}:{place[1]}") from None
+
+
 def send(asked: argparse.Namespace) -> None:
     """Sends the telegram, as often as it is asked for."""
     telegram = telegram_of(asked)
@@ -158,7 +166,7 @@ def send(asked: argparse.Namespace) -> None:
             bind(out, asked.source)
         sent = 0
         while sent != count:
-            out.sendto(telegram.write(), asked.place)
+            give(out, telegram.write(), asked.place)
             sent += 1
             if not telegram.is_message:
                 telegram.counter = (telegram.counter + 1) % (1 << 32)
