@@ -173,7 +173,7 @@ class Traps(Case):
             (lambda: make("node.toml", -1), ValueError, "and -1 no slot"), (lambda: make("node.toml", None), ValueError, "None no slot"),
             (lambda: make("gone.toml", 0), FileNotFoundError, "gone.toml"), (lambda: make("", 0), FileNotFoundError, "''"),
             (lambda: make("127.0.0.1", 99999), ValueError, "port is 99999, and no whole number of 1 to 65535"),
-            (lambda: make("127.0.0.1", 0), ValueError, "port is 0"), (lambda: make("127.0.0.1", "18000"), ValueError, "port is '18000'"),
+            (lambda: make("255.255.255.255", 1), OSError, "'255.255.255.255:1'"), (lambda: make("127.0.0.1", 0), ValueError, "port is 0"), (lambda: make("127.0.0.1", "18000"), ValueError, "port is '18000'"),
             (lambda: make(None, 0), TypeError, "config is None, and no path or address"),
             (lambda: make(5, 18000), TypeError, "config is 5"), (lambda: make(ADDRESS, 1, tries="x"), ValueError, "tries is 'x'"),
             (lambda: make(ADDRESS, 1, answer_us=1.5), ValueError, "answer_us is 1.5"),

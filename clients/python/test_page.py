@@ -126,7 +126,7 @@ class Page(unittest.TestCase):
         self.doors()
 
     def programs(self) -> None:
-        """The two programs in Python, at their first run; and what the first one comes to at its second."""
+        """The two programs in Python, at their first run; and what they come to at their second."""
         (self.top / "doors.py").write_text(self.block("from trdp_slot import Slot\n"))
         (self.top / "display.py").write_text(self.block("from trdp_slot import Alive, Silent, Slot\n"))
         doors, display = commands(self.block("$ PYTHONPATH=clients/python python3 doors.py"))
@@ -142,6 +142,7 @@ class Page(unittest.TestCase):
         self.assertEqual(said, [COUNTS.sub("N", it) for it in display[1]])
         os.killpg(process.pid, signal.SIGKILL)
         self.assertEqual(self.type(doors[0])[-1], self.block("trdp_slot.Refused: ").rstrip("\n"))
+        self.assertIn("trdp_slot.Refused: Quota: subscribe ", self.type(display[0])[-1])
 
     def look(self) -> None:
         """The shortest program in C."""

@@ -762,7 +762,11 @@ class Slot:
         self._left_out: str | None = None  # the first line of the latest call that was no answer to it
         self._place = (address, port)
         self._selector = selectors.DefaultSelector()
-        self._socket = self._connected()
+        try:
+            self._socket = self._connected()
+        except OSError:
+            self._selector.close()
+            raise
         self._known = self._socket  # at which the node answered last: indications may come there still
 
     def close(self) -> None:
@@ -1025,9 +1029,13 @@ class Slot:
     # -- inside ----------------------------------------------------------------
 
     def _connected(self) -> socket.socket:
-        """A socket that takes datagrams of the control port alone."""
+        """A socket that takes datagrams of the control port alone. Raises OSError with the place."""
         made = socket.socket(socket.AF_INET, socket.SOCK_DGRAM)
-        made.connect(self._place)
+        try:
+            made.connect(self._place)
+        except OSError as fault:
+            made.close()
+            raise OSError(fault.errno, fault.strerror, self._place_text()) from None
         self._selector.register(made, selectors.EVENT_READ, made)
         return made
 
