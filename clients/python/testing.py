@@ -51,13 +51,17 @@ class Daemon:
         assert self.running is not None
         return self.running
 
+    @process.setter
+    def process(self, started: subprocess.Popen[bytes]) -> None:
+        self.running = started
+
     def start(self) -> None:
         """Starts it, and waits until it has its ports."""
         # What it says goes to a file: a pipe that nobody reads would fill.
         errors = self.path.with_suffix(".errors")
         with open(errors, "wb") as out:
             line = [PROGRAM, "daemon", str(self.path), *self.words]
-            self.running = subprocess.Popen(line, stdout=out, stderr=out)
+            self.process = subprocess.Popen(line, stdout=out, stderr=out)
         wait_until(lambda: self.process.poll() is not None or self._has_ports(), seconds=20)
         if self.process.poll() is not None:
             raise RuntimeError(f"the daemon ended: {errors.read_text()}")
