@@ -1,7 +1,6 @@
 """How answers are matched to calls, and what each call says: at a port that is made up, without a daemon."""
 from __future__ import annotations
 
-import os
 import random
 import socket
 import sys
@@ -14,9 +13,9 @@ from typing import Any
 
 import testing
 import trdp_slot
-from testing import Said
-from trdp_slot import (Alive, Asked, Closed, ConfigFault, Confirmed, NoAnswer, Nobody, Notified, Operator, OtherSlot, Overrun,
-                       Refused, Replied, Restarted, Silent, Slot, SlotError, WrongAnswer)
+from testing import SEED, Said
+from trdp_slot import (Alive, Asked, Closed, ConfigFault, Confirmed, NoAnswer, Nobody, Notified, Operator, OtherSlot,
+                       Overrun, Refused, Replied, Restarted, Silent, Slot, SlotError, WrongAnswer)
 
 ADDRESS = "127.0.8.40"
 MARKS = {"mark": "line fault Unknown", "get": "line fault Count", "get mark": "line fault BadWord"}
@@ -170,20 +169,29 @@ class Traps(Case):
         traps: list[tuple[Callable[[], object], type[Exception], str]] = [
             (lambda: make("localhost", 18000), ValueError, "'localhost' is no address as 127.0.0.1, and 18000 no slot"),
             (lambda: make("node.toml", 16), ValueError, "and 16 no slot of a configuration, 0 to 15"),
-            (lambda: make("node.toml", -1), ValueError, "and -1 no slot"), (lambda: make("node.toml", None), ValueError, "None no slot"),
-            (lambda: make("gone.toml", 0), FileNotFoundError, "gone.toml"), (lambda: make("", 0), FileNotFoundError, "''"),
+            (lambda: make("node.toml", -1), ValueError, "and -1 no slot"),
+            (lambda: make("node.toml", None), ValueError, "None no slot"),
+            (lambda: make("gone.toml", 0), FileNotFoundError, "gone.toml"),
+            (lambda: make("", 0), FileNotFoundError, "''"),
             (lambda: make("127.0.0.1", 99999), ValueError, "port is 99999, and no whole number of 1 to 65535"),
-            (lambda: make("255.255.255.255", 1), OSError, "'255.255.255.255:1'"), (lambda: make("127.0.0.1", 0), ValueError, "port is 0"), (lambda: make("127.0.0.1", "18000"), ValueError, "port is '18000'"),
+            (lambda: make("255.255.255.255", 1), OSError, "'255.255.255.255:1'"),
+            (lambda: make("127.0.0.1", 0), ValueError, "port is 0"),
+            (lambda: make("127.0.0.1", "18000"), ValueError, "port is '18000'"),
             (lambda: make(None, 0), TypeError, "config is None, and no path or address"),
-            (lambda: make(5, 18000), TypeError, "config is 5"), (lambda: make(ADDRESS, 1, tries="x"), ValueError, "tries is 'x'"),
+            (lambda: make(5, 18000), TypeError, "config is 5"),
+            (lambda: make(ADDRESS, 1, tries="x"), ValueError, "tries is 'x'"),
             (lambda: make(ADDRESS, 1, answer_us=1.5), ValueError, "answer_us is 1.5"),
             (lambda: make(ADDRESS, 1, datasets="node.toml"), TypeError, "datasets is 'node.toml', and no Datasets"),
             (lambda: make(ADDRESS, 1, number=16), ValueError, "number is 16, and no whole number of 0 to 15"),
             (lambda: it.get(None), TypeError, "handle is None, and no Handle or number"),
-            (lambda: it.put("1", b""), TypeError, "handle is '1'"), (lambda: it.unpublish(None), TypeError, "handle is None"),
-            (lambda: it.unlisten([]), TypeError, "handle is []"), (lambda: it.reply(None, 1), TypeError, "handle is None"),
-            (lambda: it.abort(1 << 32), ValueError, "handle is 4294967296"), (lambda: it.get(1, tries=0), ValueError, "tries is 0"),
-            (lambda: it.get(1, tries="x"), ValueError, "tries is 'x'"), (lambda: it.publish("100", "10.0.0.2:1"), ValueError, "com_id is '100'"),
+            (lambda: it.put("1", b""), TypeError, "handle is '1'"),
+            (lambda: it.unpublish(None), TypeError, "handle is None"),
+            (lambda: it.unlisten([]), TypeError, "handle is []"),
+            (lambda: it.reply(None, 1), TypeError, "handle is None"),
+            (lambda: it.abort(1 << 32), ValueError, "handle is 4294967296"),
+            (lambda: it.get(1, tries=0), ValueError, "tries is 0"),
+            (lambda: it.get(1, tries="x"), ValueError, "tries is 'x'"),
+            (lambda: it.publish("100", "10.0.0.2:1"), ValueError, "com_id is '100'"),
             (lambda: it.publish(100, None), ValueError, "place is None, and no place"),
             (lambda: it.publish(100, "localhost:17224"), ValueError, "place is 'localhost:17224', and no place"),
             (lambda: it.subscribe(1, low=5), ValueError, "low is 5, and no address"),
@@ -193,11 +201,15 @@ class Traps(Case):
             (lambda: it.notify(1, "10.0.0.2:1", [1], dataset=[]), ValueError, "dataset is []"),
             (lambda: it.request(1, "10.0.0.2:1", session="x"), ValueError, "session is 'x', and no UUID"),
             (lambda: it.request(1, "10.0.0.2:1", session=5), ValueError, "session is 5, and no UUID"),
-            (lambda: it.on("Silent", print), TypeError, "kind is 'Silent'"), (lambda: it.on(Silent, None), TypeError, "callback is None"),
-            (lambda: it.next_indication("x"), ValueError, "time_us is 'x'"), (lambda: it.run(-1), ValueError, "time_us is -1"),
-            (lambda: it.read_line(float("nan")), ValueError, "time_us is nan"), (lambda: it.send_line(None), TypeError, "line is None"),
+            (lambda: it.on("Silent", print), TypeError, "kind is 'Silent'"),
+            (lambda: it.on(Silent, None), TypeError, "callback is None"),
+            (lambda: it.next_indication("x"), ValueError, "time_us is 'x'"),
+            (lambda: it.run(-1), ValueError, "time_us is -1"),
+            (lambda: it.read_line(float("nan")), ValueError, "time_us is nan"),
+            (lambda: it.send_line(None), TypeError, "line is None"),
             (lambda: operator("localhost", 18100), ValueError, "address is 'localhost'"),
-            (lambda: operator(ADDRESS, 99999), ValueError, "port is 99999"), (lambda: operator(ADDRESS, 1, tries=0), ValueError, "tries is 0"),
+            (lambda: operator(ADDRESS, 99999), ValueError, "port is 99999"),
+            (lambda: operator(ADDRESS, 1, tries=0), ValueError, "tries is 0"),
         ]
         for call, kind, text in traps:
             with self.assertRaises(kind) as caught:
@@ -213,13 +225,17 @@ class Traps(Case):
             ("[node]\naddress = 5\n" + slot, 0, "node: address is 5, and no address"),
             (node + "control_address = ''\n" + slot, 0, "node: control_address is '', and no address"),
             (node + "spare_control_ports = 5\n" + slot, 1, "node: spare_control_ports is 5, and no list of ports"),
-            (node + "spare_control_ports = [0, 'x']\n" + slot, 2, "node: spare_control_ports[1] is 'x', and no whole number"),
+            (node + "spare_control_ports = [0, 'x']\n" + slot, 2,
+             "node: spare_control_ports[1] is 'x', and no whole number"),
             (node + "spare_control_ports = [70000]\n" + slot, 1, "node: spare_control_ports[0] is 70000"),
-            (node + "[[slot]]\ncontrol_port = []\n", 0, "slot 0: control_port is [], and no whole number of 0 to 65535"),
+            (node + "[[slot]]\ncontrol_port = []\n", 0,
+             "slot 0: control_port is [], and no whole number of 0 to 65535"),
             (node + slot + "[[slot]]\ncontrol_port = 70000\n", 1, "slot 1: control_port is 70000"),
-            (node + "[slot]\ncontrol_port = 18000\n", 0, "slot is a table, and no array of tables: [[slot]] begins each"),
+            (node + "[slot]\ncontrol_port = 18000\n", 0,
+             "slot is a table, and no array of tables: [[slot]] begins each"),
             (node + "[[slot]]\n", 0, "slot 0 has no control port"), (node + slot, 1, "slot 1 has no control port"),
-            (node + slot + "[[dataset]]\nid = 40\n", 0, "dataset 40 has 0 elements"), ("slot = 5\n" + node, 0, "slot is no array"),
+            (node + slot + "[[dataset]]\nid = 40\n", 0, "dataset 40 has 0 elements"),
+            ("slot = 5\n" + node, 0, "slot is no array"),
         ]:
             with tempfile.NamedTemporaryFile("w", suffix=".toml") as file:
                 file.write(text)
@@ -229,15 +245,16 @@ class Traps(Case):
                 self.assertIn(fault, str(caught.exception), text)
 
     def test_another_slot_answers(self) -> None:
-        answers = iter(["7 value Valid 1 0b", "7 done", "7 refused NoHandle", "0 refused NoHandle", "7 handle 4", "7 value x"])
+        answers = iter(["7 value Valid 1 0b", "7 done", "7 refused NoHandle", "0 refused NoHandle", "7 handle 4",
+         "7 value x"])
         self.say = lambda line: [MARKS[line]] if line in MARKS else [next(answers)] if line != "#" else []
         slot = self.client(number=0, answer_us=500_000)
         calls: list[Callable[[], object]] = [lambda: slot.get(1), lambda: slot.put(1, b""), lambda: slot.unpublish(1)]
         for call in calls:
             with self.assertRaises(OtherSlot) as caught:
                 call()
-        self.assertEqual(str(caught.exception), f"{ADDRESS}:{self.port.number} is the port of another slot than slot 0: "
-                                                "it says '7 refused NoHandle'")
+        said = f"{ADDRESS}:{self.port.number} is the port of another slot than slot 0: it says '7 refused NoHandle'"
+        self.assertEqual(str(caught.exception), said)
         self.assertEqual(caught.exception.line, "7 refused NoHandle")
         self.assertRaises(Refused, slot.get, 1)
         # At an address it is the slot that answers first.
@@ -251,10 +268,14 @@ class Traps(Case):
         told: str | None = None
         self.say = lambda line: [MARKS[line]] if line in MARKS else [] if told is None else [told]
         slot = self.client(tries=1, answer_us=500_000)
-        calls: list[Callable[[], object]] = [lambda: slot.get(1), lambda: slot.publish(1, "10.0.0.2:17224"), lambda: slot.put(1, b"")]
-        for told in ("0 refused", "0 refused x", "0 refused No Handle", "0 handle", "0 handle x", "0 handle -1", "0 value", "0 value Valid",
-                     "0 value Valid x 00", "0 value Valid 1 0", "0 value Valid 1 xy", "0 value Valid 1 00 00", "0 value Old 1 00",
-                     "0 done 1", "0 silent", "0 silent x", "0 asked 1 2 3 4 5 6 7 8", "0 replied 1 x Mp 0 1 -", "0 closed 1",
+        calls: list[Callable[[], object]] = [lambda: slot.get(1), lambda: slot.publish(1,
+         "10.0.0.2:17224"), lambda: slot.put(1, b"")]
+        for told in ("0 refused", "0 refused x", "0 refused No Handle", "0 handle", "0 handle x", "0 handle -1",
+         "0 value", "0 value Valid",
+                     "0 value Valid x 00", "0 value Valid 1 0", "0 value Valid 1 xy", "0 value Valid 1 00 00",
+                     "0 value Old 1 00",
+                     "0 done 1", "0 silent", "0 silent x", "0 asked 1 2 3 4 5 6 7 8", "0 replied 1 x Mp 0 1 -",
+                     "0 closed 1",
                      "HTTP/1.1 400", "get 1", "", "0", "0 jumped", "00 done", "ok", "\ufffd", "x" * 500, "line fault"):
             for call in calls:
                 with self.assertRaises(WrongAnswer) as caught:
@@ -269,11 +290,12 @@ class Traps(Case):
             slot.get(1)
 
     def test_a_line_by_chance_is_taken_or_told(self) -> None:
-        seed = int(os.environ.get("TRDP_SEED") or random.randrange(1 << 32))
-        print(f"answers by chance: seed {seed}", file=sys.stderr)
-        chance = random.Random(seed)
-        words = ["0", "1", "7", "-1", "4294967296", "handle", "done", "value", "refused", "silent", "alive", "notified", "asked",
-                 "overrun", "replied", "confirmed", "closed", "Valid", "NoHandle", "10.0.0.2:17225", "-", "00", "0", "Mp", str(FIRST),
+        print(f"answers by chance: seed {SEED}", file=sys.stderr)
+        chance = random.Random(SEED)
+        words = ["0", "1", "7", "-1", "4294967296", "handle", "done", "value", "refused", "silent", "alive",
+         "notified", "asked",
+                 "overrun", "replied", "confirmed", "closed", "Valid", "NoHandle", "10.0.0.2:17225", "-", "00", "0",
+                 "Mp", str(FIRST),
                  "line", "fault", "", "\xff"]
         slot = self.client(number=0)
         for _ in range(20_000):
@@ -307,7 +329,8 @@ class Traps(Case):
 
     def test_the_operator_is_answered_by_something_else(self) -> None:
         operator = Operator(ADDRESS, self.port.number, tries=1, answer_us=500_000)
-        for told, kind in [("", WrongAnswer), (" ", WrongAnswer), ("0 done", WrongAnswer), ("okay", WrongAnswer), ("ok", None),
+        for told, kind in [("", WrongAnswer), (" ", WrongAnswer), ("0 done", WrongAnswer), ("okay", WrongAnswer),
+        ("ok", None),
                            ("fault NoGroup", Refused), ("line fault Unknown", Refused)]:
             self.say = lambda _: [told]
             if kind is None:
@@ -316,7 +339,8 @@ class Traps(Case):
                 self.assertRaises(kind, operator.role, 1, True)
 
     def test_one_class_is_the_base_of_all(self) -> None:
-        for kind, base in [(Refused, Exception), (NoAnswer, TimeoutError), (Nobody, ConnectionRefusedError), (OtherSlot, Exception),
+        for kind, base in [(Refused, Exception), (NoAnswer, TimeoutError), (Nobody, ConnectionRefusedError),
+        (OtherSlot, Exception),
                            (WrongAnswer, Exception), (ConfigFault, ValueError), (trdp_slot.DoesNotFit, ValueError)]:
             self.assertTrue(issubclass(kind, SlotError) and issubclass(kind, base), kind)
 

@@ -566,7 +566,8 @@ class Maker:
         elements: list[tuple[str | int, int]] = []
         deep = [it for it, depth in self.depths.items() if depth < 5]
         for _ in range(self.chance.randrange(1, 5)):
-            kind: str | int = self.chance.choice(deep) if deep and self.chance.randrange(3) == 0 else self.chance.choice(self.KINDS)
+            is_deep = deep and self.chance.randrange(3) == 0
+            kind: str | int = self.chance.choice(deep) if is_deep else self.chance.choice(self.KINDS)
             size = self.chance.choice([1, 1, 1, 0, 2, 3, self.chance.randrange(4, 12)])
             if size == 0:
                 elements.append((self.chance.choice(self.COUNTS), 1))

@@ -1,8 +1,8 @@
 """docs/CLIENTS.md as it is printed: its files are written, its commands typed, and what they print is compared.
 
-The page's nodes are at 127.0.0.1 and 127.0.0.2; here they have addresses of their own, and the page is read with these. A line that begins
-with `$` is typed, one with `#` by root; what stands below it, up to the next one or the end of the block, is printed, but for the numbers
-that count.
+The page's nodes are at 127.0.0.1 and 127.0.0.2; here they have addresses of their own, and the page is read with these.
+A line that begins with `$` is typed, one with `#` by root; what stands below it, up to the next one or the end of the
+block, is printed, but for the numbers that count.
 """
 from __future__ import annotations
 
@@ -84,8 +84,8 @@ class Page(unittest.TestCase):
         command = line[2:].removesuffix("&").strip()
         words = ["sh", "-c", command if ">" in command or "=" in command.split()[0] else f"exec {command}"]
         settings = {**os.environ, "PYTHONUNBUFFERED": "1", "PYTHONWARNINGS": "error"}
-        process = subprocess.Popen(words, cwd=self.top, env=settings, text=True, stdout=subprocess.PIPE, stderr=subprocess.STDOUT,
-                                   stdin=subprocess.DEVNULL, start_new_session=True)
+        process = subprocess.Popen(words, cwd=self.top, env=settings, text=True, stdout=subprocess.PIPE,
+                                   stderr=subprocess.STDOUT, stdin=subprocess.DEVNULL, start_new_session=True)
         self.running.append(process)
         return process
 
@@ -107,8 +107,9 @@ class Page(unittest.TestCase):
             assert process.stdout is not None
             while (said := process.stdout.readline()) and not said.startswith("dataset "):
                 pass
+            files = pathlib.Path(f"/proc/{process.pid}/fd")
             wait_until(lambda: process.poll() is not None or sum(
-                os.readlink(it).startswith("socket:") for it in pathlib.Path(f"/proc/{process.pid}/fd").iterdir()) >= 3, 30)
+                os.readlink(it).startswith("socket:") for it in files.iterdir()) >= 3, 30)
             self.assertIsNone(process.poll(), part)
 
     def test_all(self) -> None:

@@ -169,7 +169,8 @@ class Ends(unittest.TestCase):
         with tempfile.NamedTemporaryFile("w", suffix=".toml") as file:
             file.write(config)
             file.flush()
-            how: dict[str, Any] = {"stdout": subprocess.PIPE, "stderr": subprocess.PIPE, "text": True, "timeout": 20, **streams}
+            how: dict[str, Any] = {"stdout": subprocess.PIPE, "stderr": subprocess.PIPE, "text": True, "timeout": 20,
+                                   **streams}
             ran = subprocess.run([PROGRAM, words[0], file.name, *words[1:]], **how)
             return ran.returncode, ran.stdout, ran.stderr
 

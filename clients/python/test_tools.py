@@ -241,8 +241,8 @@ class Tools(unittest.TestCase):
         names = ["comId", "sequenceCounter", "etbTopoCnt", "opTrnTopoCnt", "datasetLength", "headerFcs.status",
                  "value"]
         words = [it for name in names for it in ("-e", f"trdp.{name}")]
-        command = ["tshark", "-X", f"lua_script:{TOP}/wireshark/trdp.lua", "-X", f"lua_script:{script}", "-r", str(file),
-                "-T", "fields", "-E", "separator=|", *words]
+        command = ["tshark", "-X", f"lua_script:{TOP}/wireshark/trdp.lua", "-X", f"lua_script:{script}", "-r",
+                   str(file), "-T", "fields", "-E", "separator=|", *words]
         shown = subprocess.run(command, capture_output=True, text=True, check=True, timeout=60).stdout
         for line, row in zip(lines, shown.splitlines(), strict=True):
             com_id, counter, etb, op_trn, length, status, value = row.split("|")
@@ -252,12 +252,6 @@ class Tools(unittest.TestCase):
             self.assertEqual(value, line.partition(" value=")[2])
         self.assertEqual([Datasets.from_toml(self.toml).pack(6001, eval(shown.splitlines()[1].split("|")[6])).hex()],
                          [VALUE_6001])
-
-
-def load_tests(loader: unittest.TestLoader, tests: unittest.TestSuite, _: str | None) -> unittest.TestSuite:
-    """With these tests go those of words that can't be meant, of the packet filter, and of the page."""
-    tests.addTests(loader.loadTestsFromNames(["test_traps", "test_filter", "test_page"]))
-    return tests
 
 
 if __name__ == "__main__":

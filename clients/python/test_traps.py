@@ -1,16 +1,13 @@
 """What can't be meant, and what can't be read: the tools answer each word by a sentence, and survive all that comes.
 
-The random tests draw anew each time, and print the seed; TRDP_SEED=N in the environment draws the same again.
+What comes by chance is in test_chance.py.
 """
 from __future__ import annotations
 
-import argparse
-import concurrent.futures
 import contextlib
 import io
 import os
 import pathlib
-import random
 import socket
 import struct
 import subprocess
@@ -19,8 +16,6 @@ import tempfile
 import time
 import types
 import unittest
-import zlib
-from typing import Any
 from unittest import mock
 
 import testing
@@ -29,14 +24,11 @@ import trdp_lua
 import trdp_send
 import trdp_telegram
 from testing import HERE, TOP
-from trdp_slot import Datasets
 
 sys.path.insert(0, str(TOP / "examples/control"))
 import client
 
 SOURCE, DUMP = "127.0.8.25", "127.0.8.26"
-DATAGRAMS, LINES, PROGRAMS = 100_000, 5_000, 50
-SEED = int(os.environ.get("TRDP_SEED") or random.randrange(1 << 32))
 PLACE = f"{SOURCE}:9"
 TOML = """
 [node]
@@ -52,7 +44,8 @@ com_id = 300
 dataset = 5002
 """
 FAULTS = {
-    "bad.toml": "dataset = [", "deep.toml": "a = " + "[" * 5000, "none.toml": "[[telegram]]\ncom_id = 2101\ndataset = 7\n",
+    "bad.toml": "dataset = [", "deep.toml": "a = " + "[" * 5000,
+    "none.toml": "[[telegram]]\ncom_id = 2101\ndataset = 7\n",
 }
 
 # The words of each tool that can't be meant, by what is wrong with them, and what the sentence says of it.
@@ -60,7 +53,8 @@ SEND_TRAPS: list[tuple[list[str], str]] = [
     (["127.0.0.1", "--com-id", "1"], "'127.0.0.1' has no port"), (["x:17224", "--com-id", "1"], "'x' is no address"),
     (["localhost:17224", "--com-id", "1"], "'localhost' is no address"), (["", "--com-id", "1"], "'' has no port"),
     ([f"{SOURCE}:99999", "--com-id", "1"], "'99999' is no whole number of 1 to 65535"),
-    ([f"{SOURCE}:0", "--com-id", "1"], "'0' is no whole number of 1"), ([f"{SOURCE}:", "--com-id", "1"], "'' is no whole"),
+    ([f"{SOURCE}:0", "--com-id", "1"], "'0' is no whole number of 1"),
+    ([f"{SOURCE}:", "--com-id", "1"], "'' is no whole"),
     (["::1:17224", "--com-id", "1"], "'::1' is no address"), ([f"{SOURCE}.:1", "--com-id", "1"], "is no address"),
     (["127.0.0.01:17224", "--com-id", "1"], "is no address"), ([PLACE], "required: --com-id"), ([], "required: place"),
     ([PLACE, "--com-id", "-1"], "'-1' is no whole number of 0 to 4294967295"),
@@ -68,10 +62,12 @@ SEND_TRAPS: list[tuple[list[str], str]] = [
     ([PLACE, "--com-id", "1_0"], "is no whole number"), ([PLACE, "--com-id", "1", "--jump"], "unrecognized"),
     ([PLACE, "--com-id", "1", "--type", "Px"], "invalid choice: 'Px'"),
     ([PLACE, "--com-id", "1", "--data", "xyz"], "'xyz' is neither - nor hexadecimal digits"),
-    ([PLACE, "--com-id", "1", "--data", "0"], "'0' is neither"), ([PLACE, "--com-id", "1", "--count", "3"], "--count wants"),
+    ([PLACE, "--com-id", "1", "--data", "0"], "'0' is neither"),
+    ([PLACE, "--com-id", "1", "--count", "3"], "--count wants"),
     ([PLACE, "--com-id", "1", "--cycle-us", "0"], "'0' is no whole number of 1"),
     ([PLACE, "--com-id", "1", "--cycle-us", "9", "--count", "0"], "'0' is no whole number of 1"),
-    ([PLACE, "--com-id", "1", "--cycle-us", "-1"], "'-1' is no whole"), ([PLACE, "--com-id", "1", "--count"], "expected one"),
+    ([PLACE, "--com-id", "1", "--cycle-us", "-1"], "'-1' is no whole"),
+    ([PLACE, "--com-id", "1", "--count"], "expected one"),
     ([PLACE, "--com-id", "1", "--from", "127.0.0.1"], "'127.0.0.1' has no port"),
     ([PLACE, "--com-id", "1", "--type", "Mr", "--session", "x"], "'x' is neither new nor a UUID"),
     ([PLACE, "--com-id", "1", "--session", "new"], "--session: a telegram of type Pd has none"),
@@ -112,9 +108,11 @@ UNDONE: list[tuple[types.ModuleType, list[str], str]] = [
     (trdp_send, [PLACE, "--com-id", "2101", "--toml", ".", "--value", "[1]"], ".: Is a directory"),
     (trdp_send, [PLACE, "--com-id", "2101", "--toml", "bad.toml", "--value", "[1]"], "bad.toml: "),
     (trdp_send, [PLACE, "--com-id", "2101", "--toml", "deep.toml", "--value", "[1]"], "deep.toml: "),
-    (trdp_send, [PLACE, "--com-id", "2101", "--toml", "none.toml", "--value", "[1]"], "none.toml: comId 2101: there is no dataset 7"),
+    (trdp_send, [PLACE, "--com-id", "2101", "--toml", "none.toml", "--value", "[1]"],
+     "none.toml: comId 2101: there is no dataset 7"),
     (trdp_send, [PLACE, "--com-id", "1", "--toml", "node.toml", "--value", "[1]"], "names no dataset for comId 1"),
-    (trdp_send, [PLACE, "--com-id", "1", "--toml", "node.toml", "--value", "[1]", "--dataset", "7"], "has no dataset 7"),
+    (trdp_send, [PLACE, "--com-id", "1", "--toml", "node.toml", "--value", "[1]", "--dataset", "7"],
+     "has no dataset 7"),
     (trdp_send, [PLACE, "--com-id", "2101", "--toml", "node.toml", "--value", "[1, [300], 0]"],
      "dataset 5002, element 1, item 0: 300 is no UINT8"),
     (trdp_send, [PLACE, "--com-id", "2101", "--toml", "node.toml", "--value", "0x" + "f" * 9000], "dataset 5002: "),
@@ -125,7 +123,8 @@ UNDONE: list[tuple[types.ModuleType, list[str], str]] = [
     (trdp_dump, [DUMP, "--for-us", "1", "--pcapng", "no/file"], "no/file: No such file"),
     (trdp_dump, [DUMP, "--for-us", "1", "--pcapng", "/dev/full"], "No space left on device"),
     (client, [SOURCE, "9", "1", "get 1"], f"nobody is at {SOURCE}:9"),
-    (trdp_lua, ["/dev/zero"], "/dev/zero: the file has more than"), (trdp_lua, ["gone.toml"], "gone.toml: No such file"), (trdp_lua, ["deep.toml"], "deep.toml: "),
+    (trdp_lua, ["/dev/zero"], "/dev/zero: the file has more than"),
+    (trdp_lua, ["gone.toml"], "gone.toml: No such file"), (trdp_lua, ["deep.toml"], "deep.toml: "),
 ]
 
 
@@ -165,7 +164,8 @@ class Traps(Case):
 
     def test_words_that_cant_be_meant(self) -> None:
         tables: list[tuple[types.ModuleType, str, list[tuple[list[str], str]]]] = [
-            (trdp_send, "trdp_send.py", SEND_TRAPS), (trdp_dump, "trdp_dump.py", DUMP_TRAPS), (client, "client.py", CLIENT_TRAPS)]
+            (trdp_send, "trdp_send.py", SEND_TRAPS), (trdp_dump, "trdp_dump.py", DUMP_TRAPS),
+            (client, "client.py", CLIENT_TRAPS)]
         for tool, name, traps in tables:
             for words, sentence in traps:
                 status, said = run(tool, words)
@@ -188,7 +188,8 @@ class Traps(Case):
 
     def test_a_reader_that_ends_and_a_full_device(self) -> None:
         telegram = trdp_telegram.Telegram("Pd", 1).write()
-        for into, said in [("| true", "trdp_dump.py: Broken pipe"), ("> /dev/full", "trdp_dump.py: No space left on device")]:
+        for into, said in [("| true", "trdp_dump.py: Broken pipe"),
+        ("> /dev/full", "trdp_dump.py: No space left on device")]:
             line = f"{sys.executable} {HERE}/trdp_dump.py {DUMP} --count 1 --for-us 20000000 {into}"
             with subprocess.Popen(line, shell=True, stderr=subprocess.PIPE, text=True) as dump:
                 assert dump.stderr is not None
@@ -214,8 +215,10 @@ class Unread(Case):
         for packet, wanted in [
             (whole, found), (packet_of(b"abc", words=15), found), (whole + b"more", found),
             (packet_of(b"abc", 10), found._replace(data=b"ab")), (packet_of(b""), found._replace(data=b"")),
-            *[(whole[:end], None) for end in range(len(whole))], (packet_of(b"abc", 12), None), (packet_of(b"", 7), None),
-            (packet_of(b"abc", words=4), None), (packet_of(b"abc", version=6), None), (packet_of(b"", words=15)[:67], None),
+            *[(whole[:end], None) for end in range(len(whole))], (packet_of(b"abc", 12), None),
+            (packet_of(b"", 7), None),
+            (packet_of(b"abc", words=4), None), (packet_of(b"abc", version=6), None),
+            (packet_of(b"", words=15)[:67], None),
         ]:
             self.assertEqual(trdp_dump.datagram_of(packet), wanted, packet)
 
@@ -223,8 +226,10 @@ class Unread(Case):
         with contextlib.ExitStack() as stack:
             ports = trdp_dump.Ports(DUMP, (0, 0), stack)
             bound = mock.Mock()
-            bound.recvfrom.side_effect = [BlockingIOError(11, "again"), (b"abc", (SOURCE, 9)), OSError(101, "unreachable")]
-            stack.enter_context(mock.patch.object(ports.selector, "select", lambda _: [(mock.Mock(data=(bound, 7)), 1)]))
+            bound.recvfrom.side_effect = [BlockingIOError(11, "again"),
+            (b"abc", (SOURCE, 9)), OSError(101, "unreachable")]
+            stack.enter_context(mock.patch.object(ports.selector,
+             "select", lambda _: [(mock.Mock(data=(bound, 7)), 1)]))
             taken = [it for _ in range(3) for it in ports.take(1)]
         self.assertEqual(taken, [trdp_dump.Datagram((SOURCE, 9), (DUMP, 7), b"abc")])
         self.assertEqual(ports.unread, 2)
@@ -248,178 +253,6 @@ class Unread(Case):
                 said, told = dump.communicate(timeout=20)
             self.assertEqual((dump.returncode, told), (0, f"trdp_dump.py: {count} datagrams couldn't be read\n"))
             self.assertTrue(said.startswith("Pd comId=1 "))
-
-
-# Pieces of command lines.
-PLACES = [PLACE, SOURCE, "localhost", f"{SOURCE}:99999", ":", "127.0.8.27:5", "x:17224", "0.0.0.0:1", "[::1]:17224"]
-NUMBERS = ["0", "1", "-1", "3", "17224", "17225", "65535", "65536", "4294967295", "4294967296", "9" * 30, "0x10", "1e3",
-           "1.5", "nan", "inf", "x", "", " 7", "١"]
-TEXTS = ["-", "--", "-h", "--help", "00", "0d0", "xyz", "new", "0a0b0c0d-0000-0000-0000-000000000001", "node.toml", "bad.toml",
-         "deep.toml", "none.toml", "gone.toml", ".", "out.pcapng", "/dev/full", "[4, [0, 0, 0, 0], 0]", "[1, [300], 0]", "((", "\0",
-         "\udcff", "\ud800", "é", "x" * 70, "%s", "%(prog)s", "get 1", "#", "Pd", "Pr", "Mn", "Mr", "Pe", "\n", "\x1b[2J"]
-OPTIONS = {
-    "trdp_send.py": ["--type", "--com-id", "--counter", "--etb", "--op-trn", "--reply-com-id", "--reply-address", "--session",
-                     "--status", "--time-us", "--source-uri", "--dest-uri", "--data", "--value", "--toml", "--dataset", "--from",
-                     "--cycle-us", "--count", "--c", "--jump"],
-    "trdp_dump.py": ["--pd-port", "--md-port", "--toml", "--com-id", "--type", "--pcapng", "--time", "--beside", "--count",
-                     "--for-us", "--p", "--jump"],
-    "client.py": ["--jump"],
-}
-FITTING = {
-    "--type": ["Pd", "Mn", "Mr"], "--value": ["[4, [0, 0, 0, 0], 0]", "[1, [300], 0]"], "--data": ["0d"], "--session": ["new"],
-    "--toml": ["node.toml", "node.toml", "bad.toml", "gone.toml"], "--from": [f"{SOURCE}:0"], "--pcapng": ["out.pcapng"],
-}
-# What is put in together.
-GROUPS = {
-    "trdp_send.py": [["--toml", "node.toml", "--value", "[4, [0, 0, 0, 0], 0]"], ["--cycle-us", "1000", "--count", "3"],
-                     ["--type", "Mr", "--session", "new"]],
-    "trdp_dump.py": [["--toml", "none.toml"]], "client.py": [["put 1 -", "#"]],
-}
-GOOD = {
-    "trdp_send.py": [PLACE, "--com-id", "2101"], "trdp_dump.py": [DUMP, "--for-us", "1"],
-    "client.py": [SOURCE, "9", "0", "get 1"],
-}
-
-
-def random_words(chance: random.Random, name: str) -> list[str]:
-    """A command line by chance: a good one with some words put in, changed or left out; or any words."""
-    words = list(GOOD[name]) if chance.randrange(4) else []
-    for _ in range(chance.randrange(5)):
-        word = chance.choice(chance.choice([PLACES, NUMBERS, TEXTS, OPTIONS[name], OPTIONS[name], GOOD[name]]))
-        at = chance.randrange(len(words) + 1)
-        if words and chance.randrange(4) == 0:
-            words[at % len(words)] = word
-        elif chance.randrange(3) == 0:
-            words += chance.choice(GROUPS[name])
-        else:
-            values = chance.choice([NUMBERS + TEXTS, FITTING.get(word, ["1"])])
-            words[at:at] = [word, chance.choice(values)] if word.startswith("--") else [word]
-    if words and chance.randrange(6) == 0:
-        del words[chance.randrange(len(words))]
-    return words
-
-
-def interrupt(*_: object) -> None:
-    """Ends a program that would go on, as its user does."""
-    raise KeyboardInterrupt
-
-
-class Quiet(socket.socket):
-    """A socket that sends nothing."""
-
-    def sendto(self, *_: object) -> int:
-        return 0
-
-    def connect(self, *_: object) -> None:
-        pass
-
-
-class Random(Case):
-    """Bytes and words by chance."""
-
-    def setUp(self) -> None:
-        super().setUp()
-        self.chance = random.Random(SEED)
-
-    def test_datagrams_and_packets(self) -> None:
-        datasets = Datasets.from_toml("node.toml")
-        everything = trdp_dump.Filter(frozenset(), frozenset())
-        telegrams = [trdp_telegram.Telegram(kind, 2101, payload=b"\x01\x02\x03\x04", source_uri=b"door").write()
-                     for kind in trdp_telegram.PD_KINDS + trdp_telegram.MD_KINDS]
-        kinds = {"None": 0, "fault": 0, "telegram": 0}
-        for _ in range(DATAGRAMS):
-            packet = self.random_packet(telegrams)
-            datagram = trdp_dump.datagram_of(packet)
-            if datagram is None:
-                kinds["None"] += 1
-                continue
-            line = trdp_dump.dump_line(datagram, bool(self.chance.randrange(2)), everything, datasets)
-            self.assertTrue(line is not None and line.isprintable(), (SEED, packet))
-            kinds["fault" if line is not None and line.startswith("fault=") else "telegram"] += 1
-        self.assertGreater(min(kinds.values()), DATAGRAMS // 100, kinds)
-
-    def random_packet(self, telegrams: list[bytes]) -> bytes:
-        """Any bytes; or a packet with a telegram, of which bytes may be changed, cut or added."""
-        if self.chance.randrange(4) == 0:
-            return self.chance.randbytes(self.chance.randrange(80))
-        data = bytearray(self.chance.choice(telegrams))
-        for _ in range(self.chance.randrange(3)):
-            data[self.chance.randrange(len(data))] = self.chance.randrange(256)
-        if self.chance.randrange(4) == 0:
-            struct.pack_into("<I", data, 36, zlib.crc32(data[:36]))
-        del data[self.chance.choice([0, len(data), len(data), len(data)]):]
-        packet = bytearray(packet_of(bytes(data)) + self.chance.randbytes(self.chance.choice([0, 0, 9])))
-        if self.chance.randrange(4) == 0:
-            packet[self.chance.choice([0, 24, 25, self.chance.randrange(len(packet))])] = self.chance.randrange(256)
-        return bytes(packet[:self.chance.choice([len(packet), len(packet), self.chance.randrange(len(packet) + 1)])])
-
-    def test_words_in_one_process(self) -> None:
-        print(f"command lines by chance: seed {SEED}", file=sys.stderr)
-        stubs: list[contextlib.AbstractContextManager[Any]] = [
-            mock.patch.object(time, "sleep", interrupt), mock.patch.object(socket, "socket", Quiet),
-            mock.patch.object(trdp_dump, "Beside", trdp_dump.Ports), mock.patch.object(client, "Slot", Mute),
-            mock.patch.object(trdp_dump.Ports, "take", lambda *_: interrupt()),
-            # argparse looks for a file at each text.
-            mock.patch.object(argparse, "_", str),
-        ]
-        with contextlib.ExitStack() as stack:
-            for stub in stubs:
-                stack.enter_context(stub)
-            for tool, name in [(trdp_send, "trdp_send.py"), (trdp_dump, "trdp_dump.py"), (client, "client.py")]:
-                statuses = [self.status_of(tool, name) for _ in range(LINES)]
-                self.assertEqual({it for it in statuses}, {0, 1, 2}, name)
-
-    def status_of(self, tool: types.ModuleType, name: str) -> int:
-        """The status of a tool with words by chance."""
-        words = random_words(self.chance, name)
-        if any(it.startswith("--p") for it in words):
-            self.write_files()
-        try:
-            status, said = run(tool, words)
-        except Exception as fault:
-            raise AssertionError(f"seed {SEED}: {name} {words}: {fault!r}") from fault
-        if status == 2:
-            self.assertTrue(said.startswith(f"{name}: "), (SEED, words, said))
-        return status
-
-    def test_words_of_programs(self) -> None:
-        with concurrent.futures.ThreadPoolExecutor(5) as pool:
-            list(pool.map(self.run_program, [random_words(self.chance, name) for name in self.names()], self.names()))
-
-    def names(self) -> list[str]:
-        """The names of the tools that run."""
-        return [list(GOOD)[number % len(GOOD)] for number in range(PROGRAMS)]
-
-    def run_program(self, words: list[str], name: str) -> None:
-        """A tool with these words ends by itself, or goes on; by no traceback."""
-        path = TOP / "examples/control" / name if name == "client.py" else HERE / name
-        # What no command line has is left out.
-        typed = [it.encode("utf-8", "replace").replace(b"\0", b"") for it in words]
-        line: list[str | bytes] = ["timeout", "-s", "KILL", "2", sys.executable, "-W", "error", str(path), *typed]
-        ran = subprocess.run(line, capture_output=True, timeout=60)
-        self.assertNotIn(b"Traceback", ran.stderr, (SEED, name, words))
-        self.assertIn(ran.returncode, (0, 1, 2, 128 + 9, -9), (SEED, name, words))
-
-
-class Mute:
-    """A slot at which nobody says anything, until its user ends the program."""
-
-    def __init__(self, *_: object) -> None:
-        pass
-
-    def __enter__(self) -> Mute:
-        return self
-
-    def __exit__(self, *_: object) -> None:
-        pass
-
-    def send_line(self, line: str) -> None:
-        """Sends nothing."""
-        line.encode("utf-8", "surrogateescape")
-
-    def read_line(self, time_us: int) -> str | None:
-        """Says something, or nothing, for a short while."""
-        raise KeyboardInterrupt
 
 
 if __name__ == "__main__":

@@ -19,6 +19,8 @@ PROGRAM = os.environ.get("TRDPD") or str(TOP / "crates/trdpd/out/trdpd")
 # Addresses and ports of their own, so that the tests collide with nobody.
 PD, MD, OPERATOR, CONTROL = 18224, 18225, 18790, 18800
 SECOND = 1_000_000
+# What tests by chance draw by, which they print: TRDP_SEED=N in the environment draws the same again.
+SEED = int(os.environ.get("TRDP_SEED") or random.randrange(1 << 32))
 
 
 def wait_until(is_so: Callable[[], bool], seconds: float = 5) -> None:
