@@ -26,7 +26,7 @@ use std::alloc::{AllocError, Global};
 use trdp_base::Place;
 use trdp_dataset::NodeConfig;
 use trdp_engine::{Event, Node, NodeFault, Outbox, Protocol, SLOTS_MAX};
-use trdp_script::{read_control, read_operator};
+use trdp_script::{read_control_event, read_operator_event};
 
 /// A node, with the control places of its slots and the lists that are used again from event to
 /// event.
@@ -147,7 +147,7 @@ impl Service {
         ensures comes { ComesWith W.takings W.gives self.old self.new link.old link.new
             (operator_effect (service_state self.old) from (operator_line_of bytes.now)) }
     {
-        match read_operator(bytes) {
+        match read_operator_event(bytes) {
             Ok(Some(event)) => {
                 if let Ok(fault) = self.take_event(&event, link) {
                     link.give(Port::Operator, from, operator_text(fault));
@@ -173,7 +173,7 @@ impl Service {
         ensures comes { ComesWith W.takings W.gives self.old self.new link.old link.new
             (control_effect (service_state self.old) slot from (control_line_of slot bytes.now)) }
     {
-        match read_control(buffer, slot, bytes) {
+        match read_control_event(buffer, slot, bytes) {
             Ok(Some(event)) => {
                 self.set_place(slot, from);
                 let _ = self.take_event(&event, link);

@@ -14,6 +14,8 @@ mod daemon;
 #[cfg(test)]
 mod items;
 #[cfg(test)]
+mod lines;
+#[cfg(test)]
 mod network;
 #[cfg(test)]
 mod node;

@@ -14,7 +14,7 @@ use std::test::Fail;
 use trdp_dataset::NodeConfig;
 use trdp_engine::Event;
 use trdp_net::{Network, NetworkFault};
-use trdp_script::{print_record, read_line};
+use trdp_script::{print_record, read_event};
 
 /// The configurations of the nodes. The last one has other ports.
 static NODES: [&str; 4] = [
@@ -95,7 +95,7 @@ impl NetworkBench {
     /// Lets the node of that number take the event of a line; None where it has none.
     fn take(&mut self, node: usize, line: &str) -> Option<Result<(), NetworkFault>> {
         let mut buffer = Vec::new(self.alloc);
-        match read_line(&mut buffer, line.as_bytes()) {
+        match read_event(&mut buffer, line.as_bytes()) {
             Ok(Some(event)) => Some(self.step(node, &event)),
             Ok(None) | Err(_) => None,
         }

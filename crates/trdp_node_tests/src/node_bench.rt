@@ -6,7 +6,7 @@ use std::process::Abort;
 use std::test::Fail;
 use trdp_dataset::NodeConfig;
 use trdp_engine::{Event, Node, NodeFault, Outbox};
-use trdp_script::{print_record, read_line};
+use trdp_script::{print_record, read_event};
 
 /// Hands an event to a node, as the nodes of a network take theirs. It promises nothing of what
 /// [`Node::step`] does, so that whoever calls it has less to prove.
@@ -33,7 +33,7 @@ impl NodeBench {
     /// Hands the event of a line to the node.
     pub fn take(&mut self, alloc: Global, line: &str) -> Result<(), Fail> {
         let mut buffer = Vec::new(alloc);
-        match read_line(&mut buffer, line.as_bytes()) {
+        match read_event(&mut buffer, line.as_bytes()) {
             Ok(None) => Ok(()),
             Ok(Some(event)) => Ok(step(&mut self.node, &event, &mut self.out)?),
             Err(fault) => Err(fault.into()),

@@ -18,7 +18,7 @@ use trdp_base::Ip;
 use trdp_dataset::{ConfigFault, NodeConfig, Registry};
 use trdp_engine::{Call, Event, Node, NodeFault, Outbox};
 use trdp_marshal::{Item, MarshalFault, decode, encode};
-use trdp_script::{LineFault, print_record, read_line};
+use trdp_script::{LineFault, print_record, read_event, read_line};
 
 /// What a call answers, or the same call once more where it says that memory is wanting.
 fn again<T, E: PartialEq + Debug + Copy, F: Fn() -> Result<T, E>>(
@@ -144,7 +144,7 @@ static ROWS: [Row; 7] = [
 /// Hands the event of a line to a node, and answers whether memory was there.
 fn take(alloc: Global, node: &mut Node, line: &str, out: &mut Outbox) -> bool {
     let mut buffer = Vec::new(alloc);
-    match read_line(&mut buffer, line.as_bytes()) {
+    match read_event(&mut buffer, line.as_bytes()) {
         Ok(Some(event)) => step(node, &event, out).is_ok(),
         Ok(None) | Err(_) => false,
     }
@@ -217,7 +217,7 @@ fn lines_of(alloc: Global, out: &Outbox) -> Result<Vec<u8>, AllocError> {
 
 /// Reads a line for the first time, when memory for its bytes may be wanting.
 fn read_first(rt: &(impl Abort + AllocGlobal), buffer: &mut Vec<u8>, line: &[u8]) {
-    match read_line(buffer, line) {
+    match read_event(buffer, line) {
         Ok(_) => {}
         Err(fault) => same(rt, "the first time", fault, LineFault::OutOfMemory),
     }
@@ -232,7 +232,7 @@ fn take_again(
 ) -> Result<(), Fail> {
     let mut buffer = Vec::new(rt.alloc());
     read_first(rt, &mut buffer, row.line.as_bytes());
-    match read_line(&mut buffer, row.line.as_bytes()) {
+    match read_event(&mut buffer, row.line.as_bytes()) {
         Ok(None) => Ok(()),
         Ok(Some(event)) => {
             step_again(rt, row.name, node, &event, out);
@@ -358,12 +358,14 @@ fn is_put(event: &Event<'_>) -> bool {
 }
 
 #[test]
-fn a_line_is_read_again(rt: HostRuntime) {
-    let mut buffer = Vec::new(rt.alloc());
-    read_first(&rt, &mut buffer, b"call 0 put 1 0a0b");
-    let is_put = match read_line(&mut buffer, b"call 0 put 1 0a0b") {
-        Ok(Some(event)) => is_put(&event),
-        _ => false,
+fn a_line_is_read_again(rt: HostRuntime) -> Result<(), Fail> {
+    let alloc = rt.alloc();
+    let read = || read_line(alloc, b"call 0 put 1 0a0b");
+    let line = again(&rt, read, LineFault::OutOfMemory)?;
+    let is_put = match line.event() {
+        Some(event) => is_put(&event),
+        None => false,
     };
-    same(&rt, "the second time", is_put, true);
+    same(&rt, "the line", is_put, true);
+    Ok(())
 }

@@ -68,11 +68,17 @@ line_of text = line_among forms text
 
 -- what was read is the event of the line, none where it is skipped, or memory ran out for the bytes
 -- of a line that carries some, where nothing else is wrong
+abbrev pub ReadsLine : Result (Option EventModel) LineFault → Result (Option EventModel) LineFault
+    → Type 0
+ReadsLine (Ok event) (Ok read) = read ≡ event
+ReadsLine (Ok event) (Err fault) = (fault ≡ OutOfMemory) × (carries_bytes event ≡ true)
+ReadsLine (Err fault) (Ok read) = ⊥
+ReadsLine (Err fault) (Err other) = other ≡ fault
+
+-- the same, wherever the bytes of the event lie that was read
 abbrev pub Reads : Result (Option EventModel) LineFault → Result (Option Event) LineFault → Type 0
-Reads (Ok event) (Ok read) = option_map event_model read ≡ event
-Reads (Ok event) (Err fault) = (fault ≡ OutOfMemory) × (carries_bytes event ≡ true)
-Reads (Err fault) (Ok read) = ⊥
-Reads (Err fault) (Err other) = other ≡ fault
+Reads meaning (Ok read) = ReadsLine meaning (Ok (option_map event_model read))
+Reads meaning (Err fault) = ReadsLine meaning (Err fault)
 
 -- the same where a line isn't skipped: what was read is its event
 abbrev pub ReadsEvent : Result (Option EventModel) LineFault → Result Event LineFault → Type 0

@@ -23,6 +23,17 @@ pub enum LineFault {
     OutOfMemory = 5,
 }
 
+impl From<AllocError> for LineFault {
+    ghost use Rattle.std.specs.Prelude.{◌≡◌};
+    ghost use Rattle.trdp_script.specs.declared.fault.LineFault.TheVariants.{OutOfMemory};
+
+    ghost from_gives = { λ _ fault. fault ≡ OutOfMemory };
+
+    fn from(_: AllocError) -> LineFault {
+        LineFault::OutOfMemory
+    }
+}
+
 /// Why a script ends before the end of its input.
 #[derive(Clone, Copy, Debug, PartialEq, Eq, Error)]
 pub enum ScriptFault {

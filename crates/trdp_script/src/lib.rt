@@ -2,9 +2,11 @@
 //! tell of records.
 //!
 //! [`run_script`] plays a script over a node that it opens: it reads lines, lets the node take
-//! their events, and writes what each slot gets. [`read_line`] reads the event that one line means,
-//! [`read_control`] and [`read_operator`] that of one that came in a datagram, and [`print_record`]
-//! writes a record as its line. The bytes of an event lie in a buffer that the caller keeps.
+//! their events, and writes what each slot gets. [`read_line`] reads what one line says,
+//! [`read_control`] and [`read_operator`] what one says that came in a datagram, and
+//! [`print_record`] writes a record as its line. Whoever reads line after line keeps a buffer for
+//! their bytes: [`read_event`], [`read_control_event`] and [`read_operator_event`] read the same
+//! over it.
 //!
 //! ```text
 //! call 0 publish 100 0 100000 0 0 0 10.0.0.2:17224    answers  0 handle 1
@@ -31,6 +33,7 @@ mod input;
 mod line;
 mod names;
 mod output;
+mod owned_line;
 mod play;
 mod player;
 mod port;
@@ -45,9 +48,10 @@ mod split;
 mod words;
 
 pub use fault::{LineFault, ScriptFault};
-pub use line::{LINE_MAX, read_line};
+pub use line::{LINE_MAX, read_event};
 pub use names::line_fault_name;
 pub use output::{WRITE_TRIES, write_whole};
-pub use port::{read_control, read_operator};
+pub use owned_line::{Line, read_control, read_line, read_operator};
+pub use port::{read_control_event, read_operator_event};
 pub use print::print_record;
-pub use script::run_script;
+pub use script::{READS_MAX, run_script};

@@ -16,17 +16,18 @@ use trdp_engine::Event;
 /// The longest line, in bytes without its end (profile).
 pub const LINE_MAX: usize = 140_000;
 
-/// Reads a line, which comes without its end: the event that it says, or the first of its faults
-/// (profile). None where the line is skipped: it is empty or begins with `#`, and isn't too long.
+/// Reads a line as [`read_line`](crate::read_line) does, with the event's bytes in the buffer, in
+/// place of what that held: the event that it says, or the first of its faults (profile). None
+/// where the line is skipped: it is empty or begins with `#`, and isn't too long.
 ///
-/// The event's bytes lie in the buffer, in place of what that held. Only a line that carries bytes
-/// takes memory, where the buffer lacks room for them; so a buffer that is used again from line to
-/// line soon takes none. Behind a fault the buffer may hold anything.
+/// Only a line that carries bytes takes memory, where the buffer lacks room for them; so a buffer
+/// that is used again from line to line soon takes none. Behind a fault the buffer may hold
+/// anything.
 ///
 /// # Errors
 /// Every [`LineFault`], in their order. `OutOfMemory` comes only where the line carries bytes, and
 /// is found when nothing else is wrong.
-pub fn read_line<'b>(buffer: &'b mut Vec<u8>, text: &[u8]) -> Result<Option<Event<'b>>, LineFault>
+pub fn read_event<'b>(buffer: &'b mut Vec<u8>, text: &[u8]) -> Result<Option<Event<'b>>, LineFault>
     ensures meaning { Reads (line_of text.now) result }
 {
     let mut words = CutWords::new();

@@ -7,7 +7,7 @@ ghost use Rattle.trdp_script.specs.Lines.{line_of};
 ghost use Rattle.trdp_script.specs.ScriptSteps.{LineComesTo};
 
 use crate::fault::{LineFault, ScriptFault};
-use crate::line::read_line;
+use crate::line::read_event;
 use crate::output::{flush_full, output_buffer};
 use crate::play::play;
 use std::alloc::{AllocError, Global};
@@ -57,7 +57,7 @@ impl Player {
             (W.contents writer.old) (W.contents writer.new)
             number (line_of line.now) result }
     {
-        match read_line(&mut self.bytes, line) {
+        match read_event(&mut self.bytes, line) {
             Ok(None) => Ok(()),
             Ok(Some(event)) => {
                 match play(&mut self.node, &event, &mut self.records, &mut self.output) {

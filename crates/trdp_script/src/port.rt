@@ -19,13 +19,13 @@ use trdp_engine::Event;
 ///
 /// An end of line is dropped: a newline, and one carriage return before it. A line that is
 /// empty or begins with `#` is skipped, however long it is: it has no event. The event's bytes lie
-/// in the buffer, as those of [`read_line`](crate::read_line).
+/// in the buffer, as those of [`read_event`](crate::read_event).
 ///
 /// # Errors
 /// Every [`LineFault`] of the line with `call SLOT ` before it, in their order. `OutOfMemory` comes
 /// only where the line carries bytes, and is found when nothing else is wrong.
 #[tactic(auto, unfolding(crate::specs::PortLines::control_line_of))]
-pub fn read_control<'b>(
+pub fn read_control_event<'b>(
     buffer: &'b mut Vec<u8>,
     slot: u16,
     bytes: &[u8],
@@ -61,7 +61,7 @@ pub fn read_control<'b>(
 /// `TooLong`, `Unknown` at any other first word, `Count` and `BadWord`, in their order. None of
 /// these lines carries bytes, so that none can want memory.
 #[tactic(auto, unfolding(crate::specs::PortLines::operator_line_of))]
-pub fn read_operator<'b>(bytes: &[u8]) -> Result<Option<Event<'b>>, LineFault>
+pub fn read_operator_event<'b>(bytes: &[u8]) -> Result<Option<Event<'b>>, LineFault>
     ensures meaning { Reads (operator_line_of bytes.now) result }
     ensures memory { IfErr result (λ fault. fault ≢ LineFault.OutOfMemory) }
 {

@@ -102,11 +102,7 @@ fn put_content(text: &mut Vec<u8>, what: &What<'_>)
     match what {
         What::Answer(answer) => put_answer(text, *answer),
         What::Indication(indication) => put_indication(text, indication),
-        What::Send {
-            kind,
-            to,
-            telegram,
-        } => put_send(text, *kind, *to, telegram),
+        What::Send { kind, to, telegram } => put_send(text, *kind, *to, telegram),
     }
 }
 

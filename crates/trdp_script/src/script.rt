@@ -3,6 +3,7 @@
 ghost use Rattle.std.specs.Prelude.{◌≡◌, ◌<◌, ◌≤◌, ◌+◌, ◌^◌, ◌++◌, ◌∷◌, ℕ, List, [], length};
 ghost use Rattle.std.specs.Prelude.{Option, Some, Ok, Err, true, false, vec_capacity, vec_len};
 ghost use Rattle.std.specs.Prelude.{IfOk, OnOk, OnErr, IfErr};
+ghost use Rattle.std.specs.Io.KnownBytes.{ReadConsumes};
 ghost use Rattle.trdp_script.specs.Pieces.{IsBare};
 ghost use Rattle.trdp_script.specs.Writes.{PassesOn, PassesSome};
 ghost use Rattle.trdp_script.specs.ScriptRuns.{RunsScript};
@@ -20,6 +21,11 @@ use crate::split::split_at_byte;
 use std::alloc::{AllocError, Global};
 use std::io::{Read, Write};
 use trdp_dataset::NodeConfig;
+
+/// How many reads of its input a script makes at most (profile).
+pub const READS_MAX: u32 = 4_294_967_295;
+
+const _: () = prove!(READS_MAX == 4_294_967_295);
 
 /// How many bytes are read at once.
 const PIECE_ROOM: usize = 65_536;
@@ -39,8 +45,8 @@ const LINE_ROOM: usize = LINE_MAX + 1;
 /// # Errors
 /// `Line` at the first line with a fault, and `OutOfMemory` before anything is read or at a line
 /// for which there is no memory: the lines before it were played. `Read` where the reader fails or
-/// after 4,294,967,295 reads, a number that no clause names: the lines whose end had been read were
-/// played. `Write` where the writer fails or is interrupted 1,000 times in a row
+/// after 4,294,967,295 reads ([`READS_MAX`]): the lines whose end had been read were played.
+/// `Write` where the writer fails or is interrupted 1,000 times in a row
 /// ([`WRITE_TRIES`](crate::WRITE_TRIES)): a front of the output was written.
 pub fn run_script<R: Read, W: Write>(
     alloc: Global,
@@ -125,11 +131,11 @@ impl Script {
             → ComesTo self.old self.new (W.contents writer.old) (W.contents writer.new)
             input (R.remaining reader.new) result }
     {
-        for _read in 0..u32::MAX {
+        for _read in 0..READS_MAX {
             if let Err(fault) = self.write_out(writer) {
                 return Err(fault);
             }
-            match read_piece(reader, piece) {
+            match self.read_piece(reader, piece) {
                 Ok(0) => return self.end(writer),
                 Ok(count) => {
                     let (front, _) = piece.split_at(count);
@@ -141,6 +147,20 @@ impl Script {
             }
         }
         Err(ScriptFault::Read)
+    }
+
+    /// Reads the next bytes of the input, and answers how many these are: 0 at its end. Nothing is
+    /// left to write meanwhile, so that whoever waits for a line's answer before the next gets it.
+    fn read_piece<R: Read>(&self, reader: &mut R, piece: &mut [u8]) -> Result<usize, ScriptFault>
+        requires room { 0 < length piece.old }
+        requires written { self.now.player.output.items ≡ [] }
+        ensures within { IfOk result (λ count. count ≤ length piece.new) }
+        ensures length { length piece.new ≡ length piece.old }
+        ensures bytes { ReadConsumes (R.remaining reader.old) (R.remaining reader.new)
+            result piece.new }
+        ensures fault { IfErr result (λ fault. fault ≡ ScriptFault.Read) }
+    {
+        read_piece(reader, piece)
     }
 
     /// Writes the output that is left to write.

@@ -1,5 +1,5 @@
 -- Facts on the forms of a line.
--- For `read_words`, `read_line`, `read_control` and `read_operator`.
+-- For `read_words`, `read_event`, `read_control_event` and `read_operator_event`.
 -- By: the keywords of a form, and the number of its words, show in the first 15 words of a line.
 use Rattle.std.proofs.Common.{◌≡◌, ℕ, zero, suc, ◌<◌, ◌≤◌, ◌&&◌, Bool, true, false, List, []}
 use Rattle.std.proofs.Common.{◌∷◌, length, take, Some, Result, refl, ap, arith, subst}

@@ -1,5 +1,5 @@
 -- Facts on lines at the control port of a slot and at the operator's port.
--- For `read_control` and `read_operator`, and for what the daemon above may lose.
+-- For `read_control_event`, `read_operator_event`, `read_operator`, and what the daemon may lose.
 -- By: a control line is that of a call with two words before it; the operator has a few forms.
 use Rattle.std.proofs.Common.{◌≡◌, ℕ, ◌+◌, ◌^◌, ◌<◌, ◌≤◌, ◌==◌, nat_lt, Bool, true, false, List, []}
 use Rattle.std.proofs.Common.{◌∷◌, ◌++◌, length, Ok, Err, refl, sym, ap, ◌∙◌, inl, arith}
@@ -17,7 +17,8 @@ use Rattle.trdp_script.specs.Forms.{call_word, event_in, forms, has_keywords}
 use Rattle.trdp_script.specs.Forms.{role_form, topology_form, add_slot_form}
 use Rattle.trdp_script.specs.Words.{words_of, first_word, other_words, number_of_word}
 use Rattle.trdp_script.specs.WordsLeft.{words_at}
-use Rattle.trdp_script.specs.Lines.{Reads, event_or_fault, form_says, is_skipped, line_among}
+use Rattle.trdp_script.specs.Lines.{Reads, ReadsLine, event_or_fault, form_says, is_skipped}
+use Rattle.trdp_script.specs.Lines.{line_among}
 use Rattle.trdp_script.specs.Lines.{may_have, say_among, words_say}
 use Rattle.trdp_script.specs.PortLines.{call_line, control_line_of, operator_forms}
 use Rattle.trdp_script.specs.PortLines.{operator_line_of, without_end}
@@ -203,3 +204,8 @@ pub operators_sure : (meaning : Result (Option EventModel) LineFault)
     → IsOperators meaning → Reads meaning r → IfErr r (λ fault. fault ≡ OutOfMemory → ⊥)
 operators_sure meaning (Ok line) of reads = tt
 operators_sure meaning (Err fault) of reads = operators_never_want meaning fault of reads
+
+pub operators_line_sure : (meaning r : Result (Option EventModel) LineFault)
+    → IsOperators meaning → ReadsLine meaning r → IfErr r (λ fault. fault ≡ OutOfMemory → ⊥)
+operators_line_sure meaning (Ok line) of reads = tt
+operators_line_sure meaning (Err fault) of reads = operators_never_want meaning fault of reads

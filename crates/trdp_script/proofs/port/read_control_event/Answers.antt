@@ -2,7 +2,7 @@ use Rattle.std.proofs.Common.{refl, ◌∙◌, Ok, Err, Some}
 use Rattle.trdp_script.specs.Forms.{forms}
 use Rattle.trdp_script.proofs.ReadLemmas.Forms.{words_read, few_parts}
 use Rattle.trdp_script.proofs.ReadLemmas.Ports.{call_cut, control_too_long, control_says}
-use Rattle.trdp_script.proofs.port.read_control.Goals as goal
+use Rattle.trdp_script.proofs.port.read_control_event.Goals as goal
 
 pub returns-then-slot-text-gt-LINE_MAX : goal.returns-then-slot-text-gt-LINE_MAX
 returns-then-slot-text-gt-LINE_MAX c =

@@ -5,7 +5,7 @@ use Rattle.trdp_script.specs.Words.{words_of}
 use Rattle.trdp_script.specs.WordsLeft.{words_at}
 use Rattle.trdp_script.proofs.ReadLemmas.Forms.{line_read, operators_few_parts}
 use Rattle.trdp_script.proofs.ReadLemmas.Ports.{operators_line, operators_sure}
-use Rattle.trdp_script.proofs.port.read_operator.Goals as goal
+use Rattle.trdp_script.proofs.port.read_operator_event.Goals as goal
 
 pub returns-in-Ok-clause-meaning : goal.returns-in-Ok-clause-meaning
 unfolding operator_line_of

@@ -3,7 +3,7 @@ use Rattle.trdp_script.specs.Forms.{forms}
 use Rattle.trdp_script.specs.Words.{words_of}
 use Rattle.trdp_script.specs.WordsLeft.{words_at}
 use Rattle.trdp_script.proofs.ReadLemmas.Forms.{line_read, few_parts}
-use Rattle.trdp_script.proofs.line.read_line.Goals as goal
+use Rattle.trdp_script.proofs.line.read_event.Goals as goal
 
 pub returns-in-Ok : goal.returns-in-Ok
 returns-in-Ok c =

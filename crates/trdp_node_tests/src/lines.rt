@@ -1,0 +1,78 @@
+//! Lines that are read by themselves, each with its event or its fault.
+
+use crate::same::same;
+use std::process::Abort;
+use std::test::Fail;
+use trdp_base::Topo;
+use trdp_engine::{Call, Event};
+use trdp_script::{LINE_MAX, Line, LineFault, read_control, read_line, read_operator};
+
+/// What a line comes to, as far as these tests look.
+#[derive(Clone, Copy, Debug, PartialEq, Eq)]
+enum Said {
+    Nothing,
+    Moment(u64),
+    Topology(u32, u32),
+    /// The slot, and the handle.
+    Get(u16, u32),
+    /// Any other event.
+    Other,
+    Bad(LineFault),
+}
+
+/// What was read.
+fn said(read: &Result<Line, LineFault>) -> Said {
+    match read {
+        Ok(line) => match line.event() {
+            None => Said::Nothing,
+            Some(Event::Moment(moment)) => Said::Moment(moment),
+            Some(Event::Topology(Topo { etb, op_trn })) => Said::Topology(etb, op_trn),
+            Some(
+                Event::Call {
+                    slot,
+                    call: Call::Get { handle },
+                },
+            ) => Said::Get(slot, handle),
+            Some(_) => Said::Other,
+        },
+        Err(fault) => Said::Bad(*fault),
+    }
+}
+
+/// Lines of a script.
+static LINES: [(&str, Said); 7] = [
+    ("moment 7", Said::Moment(7)),
+    ("", Said::Nothing),
+    ("# x", Said::Nothing),
+    ("moment", Said::Bad(LineFault::Count)),
+    ("moment 07", Said::Bad(LineFault::BadWord)),
+    ("jump 1", Said::Bad(LineFault::Unknown)),
+    ("call 0 jump", Said::Bad(LineFault::Unknown)),
+];
+
+#[test]
+fn a_line_says_its_event(rt: HostRuntime) -> Result<(), Fail> {
+    for (line, wanted) in &LINES {
+        same(
+            &rt,
+            *line,
+            said(&read_line(rt.alloc(), line.as_bytes())),
+            *wanted,
+        );
+    }
+    let long = vec![in rt.alloc(); b'x'; LINE_MAX + 1]?;
+    let found = said(&read_line(rt.alloc(), &long));
+    same(&rt, "a long line", found, Said::Bad(LineFault::TooLong));
+    Ok(())
+}
+
+#[test]
+fn a_datagram_says_its_event(rt: HostRuntime) {
+    let alloc = rt.alloc();
+    let found = said(&read_operator(alloc, b"topology 8 0\r\n"));
+    same(&rt, "topology", found, Said::Topology(8, 0));
+    let found = said(&read_operator(alloc, b"moment 1"));
+    same(&rt, "moment", found, Said::Bad(LineFault::Unknown));
+    let found = said(&read_control(alloc, 0, b"get 1"));
+    same(&rt, "get", found, Said::Get(0, 1));
+}
