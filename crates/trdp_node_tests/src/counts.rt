@@ -1,8 +1,15 @@
-//! What datagrams cost a node, counted exactly.
+//! What datagrams and a moment cost a node, counted exactly.
 //!
 //! A search in the index by comId halves the rows: it compares the middle one, and goes on in the
 //! half before it or behind it. The rows of a comId are found by two searches, for the first of
 //! them, and for the first behind them among the rows from there on.
+//!
+//! The orders of the due objects stand in a heap, in which none comes before the one above it. What
+//! room a moment needs is found from the top down, as far as something is due, by a comparison of
+//! each order with the moment; and before each object that fires, and at the end, the top is
+//! compared with it. A later order, or the last one where another is taken out, is compared with
+//! the one that stood there, goes down to the end, where of two below it the sooner one is found by
+//! a comparison, and from there up again as long as it is sooner than the one above it.
 
 use crate::node_bench::{NodeBench, lend};
 use crate::same::same;
@@ -51,29 +58,42 @@ const NOTIFICATION: &str = "\
     00000000000000000000000000000000000000000000000000000000000000000000000000000000\
     00000000000000000000000000000000000000000000000000000000000000006d6f3c7c0d000000";
 
-/// What a datagram costs a node that has taken lines: comparisons, filter tests and look-ups by
+/// A publisher in the first slot, due at 100,000.
+const PUBLISHER: &str = "call 0 publish 100 0 100000 0 0 0 10.0.0.2:17224";
+
+/// One in the second slot, due at 300,000.
+const SLOWER_PUBLISHER: &str = "call 1 publish 100 0 300000 0 0 0 10.0.0.2:17224";
+
+/// A subscription in the second slot, due at 50,000 and then no more.
+const SUPERVISED: &str = "call 1 subscribe 100 0 0.0.0.0 0.0.0.0 0.0.0.0 0 0 50000 zero";
+
+/// A caller in the first slot, which ends at 100,000.
+const CALLER: &str = "\
+    call 0 request 300 00000000-0000-0000-0000-000000000001 1 100000 - - 0 0 10.0.0.2:17225 0d";
+
+/// What an event costs a node that has taken lines: comparisons, filter tests and look-ups by
 /// session.
 struct Costing {
     name: &'static str,
     before: &'static [&'static str],
-    datagram: &'static str,
+    event: &'static str,
     counts: [u64; 3],
 }
 
-static COSTINGS: [Costing; 4] = [
+static COSTINGS: [Costing; 5] = [
     // The first search compares the second row and the first, the other one the second row, behind
     // which all is looked for. Two objects are asked, and both are handed the telegram.
     Costing {
         name: "data that a subscription in each slot takes",
         before: &[FIRST, SECOND],
-        datagram: DATA,
+        event: DATA,
         counts: [3, 4, 0],
     },
     // Both searches compare the second row and the first.
     Costing {
         name: "data of a comId that nobody has",
         before: &[FIRST, SECOND, DATA],
-        datagram: OTHER_DATA,
+        event: OTHER_DATA,
         counts: [4, 0, 0],
     },
     // The rows are those of any, of the first slot and the second, and then that of comId 300,
@@ -82,15 +102,28 @@ static COSTINGS: [Costing; 4] = [
     Costing {
         name: "a notification for two listeners of one slot and one of the other",
         before: &[LISTENER, LISTENER_TO_ANY, SECOND_TO_ANY],
-        datagram: NOTIFICATION,
+        event: NOTIFICATION,
         counts: [7, 5, 0],
     },
     // Its session is looked for in each slot.
     Costing {
         name: "a reply that nobody waits for",
         before: &[],
-        datagram: REPLY,
+        event: REPLY,
         counts: [0, 0, 2],
+    },
+    // The heap is the subscription on top, below it the publisher and the caller, and the slower
+    // publisher below the other. All 4 are compared with the moment for the room; then the top is 4
+    // times, since 3 are due. The subscription goes: the slower publisher is compared with it, the
+    // two below with each other, and the slower one with the publisher, 3. The publisher is due
+    // later: it is compared with what it was, the two below with each other, and it with the caller
+    // above it, 3. The caller goes, which is a look-up: the publisher is compared with it, goes
+    // below the slower one without a comparison, and up again by one, 2.
+    Costing {
+        name: "a moment by which three objects of four are due, and one ends",
+        before: &[PUBLISHER, SUPERVISED, CALLER, SLOWER_PUBLISHER],
+        event: "moment 100000",
+        counts: [16, 0, 1],
     },
 ];
 
@@ -100,14 +133,14 @@ fn cost(bench: &mut NodeBench, alloc: Global, line: &str) -> Result<[u64; 3], Fa
     Ok(bench.node.counts())
 }
 
-/// What the datagram of the row costs the node.
+/// What the event of the row costs the node.
 fn counts_of(alloc: Global, row: &Costing) -> Result<[u64; 3], Fail> {
     let bench = NodeBench::after(alloc, CONFIG, row.before);
-    lend(bench, |bench| cost(bench, alloc, row.datagram))
+    lend(bench, |bench| cost(bench, alloc, row.event))
 }
 
 #[test]
-fn datagrams_cost_what_they_concern(rt: HostRuntime) -> Result<(), Fail> {
+fn events_cost_what_they_concern(rt: HostRuntime) -> Result<(), Fail> {
     for row in &COSTINGS {
         same(&rt, row.name, counts_of(rt.alloc(), row)?, row.counts);
     }
