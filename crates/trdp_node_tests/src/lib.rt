@@ -28,6 +28,8 @@ mod resting;
 #[cfg(test)]
 mod same;
 #[cfg(test)]
+mod spare_port;
+#[cfg(test)]
 mod turns;
 #[cfg(test)]
 mod two_slots;

@@ -6,6 +6,7 @@
 
 mod exchanges;
 mod faults;
+mod repeats;
 
 use crate::same::same;
 use std::alloc::{AllocError, Global};
