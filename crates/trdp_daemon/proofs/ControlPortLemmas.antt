@@ -1,10 +1,10 @@
 -- The control ports of slots, one after another.
--- For `ports_of`, `push_control` and `control_number`, and for `EachPortLemmas`.
+-- For `ports_of`, `push_control`, `control_number` and `ask_for_ports`, and for `EachPortLemmas`.
 -- By a loop's invariant: the ports so far, and one for each number of those left.
 use Rattle.std.proofs.Common.{◌≡◌, suc, ◌+◌, ◌<◌, ℕ, List, [], ◌∷◌, ◌++◌, Some, None}
 use Rattle.std.proofs.Common.{refl, sym, ◌∙◌, ap, arith, append_assoc, append-nil, length, drop}
-use Rattle.std.proofs.Common.{zero, map}
-use Rattle.std.specs.Prelude.{slice_get}
+use Rattle.std.proofs.Common.{zero, map, Option}
+use Rattle.std.specs.Prelude.{slice_get, unwrap_or}
 use Rattle.std.specs.Option.{option_map}
 use Rattle.std.proofs.lemmas.List.{drop_all}
 use Rattle.std.proofs.lemmas.Option.{slice_get-get_or}
@@ -77,3 +77,24 @@ unfolding ports_of
 ports_start config items number is start =
     ap (λ l. l ++ control_ports 0 (control_numbers config)) start
     ∙ ap (λ n. Pd ∷ Md ∷ (port_unless_0 n Operator ++ control_ports 0 (control_numbers config))) is
+
+-- the port of one slot, and those of the slots behind it
+pub control_next : (numbers : List ℕ) (i : ℕ) → i < length numbers
+    → control_ports i (drop i numbers)
+    ≡ port_unless_0 (unwrap_or (slice_get numbers i) 0) (Control i)
+    ++ control_ports (i + 1) (drop (i + 1) numbers)
+control_next numbers i below = by_number (slice_get numbers i) refl
+  where
+    by_number : (found : Option ℕ) → slice_get numbers i ≡ found
+        → control_ports i (drop i numbers)
+        ≡ port_unless_0 (unwrap_or found 0) (Control i)
+        ++ control_ports (i + 1) (drop (i + 1) numbers)
+    by_number (Some number) is =
+        sym (ports_next numbers i number [] (port_unless_0 number (Control i)) is refl)
+    by_number None is = absurd (no_slot numbers i below is)
+
+-- behind the last slot there are none
+pub control_end : (numbers : List ℕ) (i : ℕ)
+    → length numbers ≡ i → control_ports i (drop i numbers) ≡ []
+unfolding control_ports
+control_end numbers i end = ap (control_ports i) (drop_all i numbers (omega (arith, end)))

@@ -9,6 +9,8 @@ pub mod TurnLemmas
 pub mod EachPortLemmas
 pub mod DaemonLemmas
 pub mod RestLemmas
+pub mod SocketLemmas
+pub mod SocketWireLemmas
 pub mod ControlPortLemmas
 pub mod GiveRowLemmas
 pub mod LossLemmas

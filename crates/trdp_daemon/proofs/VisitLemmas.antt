@@ -26,7 +26,8 @@ use Rattle.trdp_daemon.specs.Services.{Comes, ComesWith, TakesOnce, service_stat
 use Rattle.trdp_daemon.specs.Turns.{Visit, udp_room}
 use Rattle.trdp_daemon.specs.Visits.{fault_telling, operator_event, operator_effect}
 use Rattle.trdp_daemon.specs.Visits.{line_lost_or, control_effect, control_event}
-use Rattle.trdp_daemon.specs.Visits.{datagram_effect, taking_effect, with_place, own_place}
+use Rattle.trdp_daemon.specs.Ports.{place_of_port}
+use Rattle.trdp_daemon.specs.Visits.{datagram_effect, taking_effect, with_place}
 use Rattle.trdp_daemon.proofs.LinkLemmas.{carries_none, carries_both}
 use Rattle.trdp_daemon.proofs.TellingLemmas.{silence_both}
 
@@ -171,7 +172,7 @@ control_took {W} {takings_in} {gives_in} {a} {b} old
 -- where a port is known
 pub at_pd : {W : Type 0} {takings_in : W → Option (List Taking)} {gives_in : W → Option (List Give)}
     {a b : Link W} (old new : Service) (port : Port) (from home : Place) (bytes : List ℕ)
-    → port ≡ Pd → home ≡ own_place old.node.config old.node.config.pd_port
+    → port ≡ Pd → home ≡ place_of_port old.node.config Pd
     → ComesWith takings_in gives_in old new a
     b (event_effect (service_state old) (DatagramIs PdData from home bytes)) → ComesWith takings_in
     gives_in old new a b (datagram_effect (service_state old) port from bytes)
@@ -183,7 +184,7 @@ at_pd {W} {takings_in} {gives_in} {a} {b} old new port from home bytes is own co
 
 pub at_md : {W : Type 0} {takings_in : W → Option (List Taking)} {gives_in : W → Option (List Give)}
     {a b : Link W} (old new : Service) (port : Port) (from home : Place) (bytes : List ℕ)
-    → port ≡ Md → home ≡ own_place old.node.config old.node.config.md_port
+    → port ≡ Md → home ≡ place_of_port old.node.config Md
     → ComesWith takings_in gives_in old new a
     b (event_effect (service_state old) (DatagramIs MdData from home bytes)) → ComesWith takings_in
     gives_in old new a b (datagram_effect (service_state old) port from bytes)

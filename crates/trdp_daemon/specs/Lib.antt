@@ -3,11 +3,17 @@ pub mod Daemons
 pub mod Effects
 pub mod Links
 pub mod MemoryClocks
+pub mod MemorySockets
 pub mod MemoryWires
+pub mod Openings
 pub mod Ports
 pub mod Resting
 pub mod Rows
+pub mod RunClocks
 pub mod Services
+pub mod SocketWires
+pub mod Sockets
+pub mod SystemSockets
 pub mod Tellings
 pub mod Told
 pub mod Turns

@@ -1,6 +1,7 @@
 -- Ports, and those that a daemon takes datagrams from.
 use Rattle.std.specs.Prelude.{ℕ, suc, ◌==◌, if◌then◌else◌, List, [], ◌∷◌, ◌++◌, map}
-use Rattle.std.specs.Prelude.{Bool, true, false}
+use Rattle.std.specs.Prelude.{Bool, true, false, slice_get, unwrap_or}
+use Rattle.trdp_base.specs.declared.place.Place.{Place}
 use Rattle.trdp_dataset.specs.Configs.{ConfigModel}
 use Rattle.trdp_daemon.specs.declared.port.Port.{Port}
 use Rattle.trdp_daemon.specs.declared.port.Port.TheVariants.{Pd, Md, Operator, Control}
@@ -36,3 +37,20 @@ unfoldable pub ports_of : ConfigModel → List Port
 ports_of config =
     Pd ∷ Md ∷ (port_unless_0 config.operator_port Operator
     ++ control_ports 0 (control_numbers config))
+
+-- the place of the node's address and a port of that number, and of its control address
+abbrev pub own_place : ConfigModel → ℕ → Place
+own_place config port = record { ip = record { 0 = config.address }; port = port }
+
+abbrev pub control_place : ConfigModel → ℕ → Place
+control_place config port = record { ip = record { 0 = config.control_address }; port = port }
+
+-- where the socket of a port is bound, and so where the datagrams go to that come there: those of
+-- process data and message data at the node's address, the others at its control address; number 0
+-- for a slot that the configuration names no control port for
+abbrev pub place_of_port : ConfigModel → Port → Place
+place_of_port config Pd = own_place config config.pd_port
+place_of_port config Md = own_place config config.md_port
+place_of_port config Operator = control_place config config.operator_port
+place_of_port config (Control slot) =
+    control_place config (unwrap_or (slice_get (control_numbers config) slot) 0)

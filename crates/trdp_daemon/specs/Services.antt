@@ -4,15 +4,16 @@ use Rattle.trdp_dataset.specs.Configs.{ConfigModel}
 use Rattle.trdp_engine.specs.NodeStates.{uncounted}
 use Rattle.trdp_model.specs.Events.{EventModel}
 use Rattle.trdp_daemon.specs.declared.port.Port.{Port}
+use Rattle.trdp_daemon.specs.declared.port.Port.TheVariants.{Pd, Md}
 use Rattle.trdp_daemon.specs.declared.home.Home.{Home}
 use Rattle.trdp_daemon.specs.declared.link.Link.{Link}
 use Rattle.trdp_daemon.specs.declared.service.Service.{Service}
+use Rattle.trdp_daemon.specs.Ports.{place_of_port}
 use Rattle.trdp_daemon.specs.Told.{Taking, Give}
 use Rattle.trdp_daemon.specs.Effects.{ServiceState, Effect, Loss, TextsLost, event_effect}
 use Rattle.trdp_daemon.specs.Links.{Carries}
 use Rattle.trdp_daemon.specs.Turns.{Visit, visit_effect, visits_effect, Turn, takings_of}
 use Rattle.trdp_daemon.specs.Turns.{turn_effect, port_and_room, with_room, TakesAt, TurnTakesAt}
-use Rattle.trdp_daemon.specs.Visits.{own_place}
 
 -- the node, of which nothing tells what an event cost, and the control places
 abbrev pub service_state : Service → ServiceState
@@ -70,10 +71,10 @@ pub record TakesTurn {W : Type 0} (takings_in : W → Option (List Taking))
   pub comes : Comes takings_in gives_in old new link link_then (takings_of turn)
       (turn_effect (service_state old) turn)
 
--- the places that datagrams of process data and of message data go to at this node
+-- the places that datagrams of process data and of message data go to at this node: where the
+-- sockets of these ports are bound
 abbrev pub IsHome : ConfigModel → Home → Type 0
-IsHome config home = (home.pd ≡ own_place config config.pd_port)
-    × (home.md ≡ own_place config config.md_port)
+IsHome config home = (home.pd ≡ place_of_port config Pd) × (home.md ≡ place_of_port config Md)
 
 -- telegrams go to where the node's configuration says
 abbrev pub IsSoundService : Service → Type 0

@@ -29,11 +29,14 @@ pub record Give : Type 0 where
   pub offer : Offer
   pub failed : Bool
 
--- what a take answered, which has put the bytes at the front of the room
-abbrev pub arrived_in : Result (Option (Place × ℕ)) WireFault → List ℕ → Arrived
+-- what a take found, which has put the bytes at the front of the room; and what it answered
+abbrev pub arrival_in : Option (Place × ℕ) → List ℕ → Arrived
+arrival_in None room = Nothing
+arrival_in (Some found) room = Came found.0 (take found.1 room)
+
+abbrev pub arrived_in : {E : Type 0} → Result (Option (Place × ℕ)) E → List ℕ → Arrived
 arrived_in (Err fault) room = Failed
-arrived_in (Ok None) room = Nothing
-arrived_in (Ok (Some found)) room = Came found.0 (take found.1 room)
+arrived_in (Ok found) room = arrival_in found room
 
 abbrev pub taking_of : Port → Result (Option (Place × ℕ)) WireFault → List ℕ → Taking
 taking_of port result room =

@@ -2,7 +2,6 @@
 use Rattle.std.specs.Prelude.{ℕ, List, [], ◌++◌, length, codes, slice_set, Bool}
 use Rattle.std.specs.Prelude.{Option, Some, None, Result, Ok, Err, if◌then◌else◌}
 use Rattle.trdp_base.specs.declared.place.Place.{Place}
-use Rattle.trdp_dataset.specs.Configs.{ConfigModel}
 use Rattle.trdp_model.specs.declared.fault.NodeFault.{NodeFault}
 use Rattle.trdp_model.specs.declared.record.Protocol.TheVariants.{Pd as PdData, Md as MdData}
 use Rattle.trdp_model.specs.Alone.{refused_as}
@@ -15,14 +14,11 @@ use Rattle.trdp_script.specs.RecordText.{text_of_fault, name_of_line_fault}
 use Rattle.trdp_script.specs.PortLines.{control_line_of, operator_line_of}
 use Rattle.trdp_daemon.specs.declared.port.Port.{Port}
 use Rattle.trdp_daemon.specs.declared.port.Port.TheVariants.{Pd, Md, Operator, Control}
+use Rattle.trdp_daemon.specs.Ports.{place_of_port}
 use Rattle.trdp_daemon.specs.Told.{Arrived, Failed, Nothing, Came}
 use Rattle.trdp_daemon.specs.Effects.{Telling, missing, offering, ServiceState, Effect, still}
 use Rattle.trdp_daemon.specs.Effects.{telling_only, then_effect, event_effect, lost_or}
 use Rattle.trdp_daemon.specs.Effects.{Loss, LineLost, EventLost, TextsLost}
-
--- the place of the node's address and that port
-abbrev pub own_place : ConfigModel → ℕ → Place
-own_place config port = record { ip = record { 0 = config.address }; port = port }
 
 -- the answer to a datagram that is no line
 unfoldable pub text_of_line_fault : LineFault → List ℕ
@@ -100,9 +96,9 @@ control_effect service slot from (Ok (Some event)) loss =
 -- a datagram at a port
 unfoldable pub datagram_effect : ServiceState → Port → Place → List ℕ → Loss → Effect
 datagram_effect service Pd from bytes loss = event_effect service (DatagramIs PdData from
-    (own_place service.node.config service.node.config.pd_port) bytes) loss
+    (place_of_port service.node.config Pd) bytes) loss
 datagram_effect service Md from bytes loss = event_effect service (DatagramIs MdData from
-    (own_place service.node.config service.node.config.md_port) bytes) loss
+    (place_of_port service.node.config Md) bytes) loss
 datagram_effect service Operator from bytes loss =
     operator_effect service from (operator_line_of bytes) loss
 datagram_effect service (Control slot) from bytes loss =

@@ -9,7 +9,7 @@ ghost use Rattle.trdp_daemon.specs.MemoryWires.{arrival_for, arrives_at, failure
 ghost use Rattle.trdp_daemon.specs.MemoryWires.{one_more_if, room_after};
 ghost use Rattle.trdp_daemon.specs.Ports.{is_port};
 ghost use Rattle.trdp_daemon.specs.Rows.{IsLaidDown, arrived_of};
-ghost use Rattle.trdp_daemon.specs.Told.{arrived_in};
+ghost use Rattle.trdp_daemon.specs.Told.{arrival_in, arrived_in};
 
 use crate::fault::{WireFault, fail};
 use crate::port::Port;
@@ -130,14 +130,14 @@ fn take_arrival(
     number: usize,
     room: &mut [u8],
 ) -> (TakeAnswer, Option<(Place, usize)>)
-    ensures arrived { arrived_in (Ok result.1) room.new
+    ensures arrived { arrival_in result.1 room.new
         ≡ arrival_for arrivals.now port number (length room.old) }
-    ensures told { arrived_of arrivals.now result.0 ≡ arrived_in (Ok result.1) room.new }
+    ensures told { arrived_of arrivals.now result.0 ≡ arrival_in result.1 room.new }
     ensures known { IsLaidDown (length arrivals.now) result.0 }
     ensures within { IfSome result.1 (λ found. found.1 ≤ length room.new) }
     ensures works { (failures : ℕ)
-        → failures ≡ one_more_if (has_failed (arrived_in (Ok result.1) room.new)) failures }
-    ensures room { room.new ≡ room_after (arrived_in (Ok result.1) room.new) room.old }
+        → failures ≡ one_more_if (has_failed (arrival_in result.1 room.new)) failures }
+    ensures room { room.new ≡ room_after (arrival_in result.1 room.new) room.old }
 {
     match arrival_index(arrivals, port, number) {
         None => (TakeAnswer::Nothing, None),
@@ -150,7 +150,7 @@ fn take_arrival(
 }
 
 /// Puts as many of these bytes at the front of the room as it holds, and answers how many.
-fn fill(room: &mut [u8], bytes: &[u8]) -> usize
+pub(crate) fn fill(room: &mut [u8], bytes: &[u8]) -> usize
     ensures within { result ≤ length room.new }
     ensures bytes { take result room.new ≡ take (length room.old) bytes.now }
     ensures cut { take result bytes.now ≡ take result room.new }

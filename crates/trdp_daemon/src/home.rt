@@ -2,6 +2,8 @@
 
 ghost use Rattle.trdp_daemon.specs.Services.{IsHome};
 
+use crate::port::Port;
+use crate::seats::place_of_port;
 use trdp_base::Place;
 use trdp_dataset::NodeConfig;
 
@@ -14,19 +16,13 @@ pub(crate) struct Home {
     pub(crate) md: Place,
 }
 
-/// Where telegrams go to at the node of a configuration.
+/// Where telegrams go to at the node of a configuration: where the sockets of these ports are
+/// bound.
 pub(crate) fn home_of(config: &NodeConfig) -> Home
     ensures { IsHome config.now result }
 {
-    let ip = config.address();
     Home {
-        pd: Place {
-            ip,
-            port: config.pd_port(),
-        },
-        md: Place {
-            ip,
-            port: config.md_port(),
-        },
+        pd: place_of_port(config, Port::Pd),
+        md: place_of_port(config, Port::Md),
     }
 }

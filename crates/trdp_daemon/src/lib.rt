@@ -15,20 +15,26 @@
 //! What no contract can say is that memory is there: a daemon that loses every text, each line that
 //! carries bytes, and each event for which memory may be wanting, and counts them in `memory`,
 //! meets its contract, and `trdp_node_tests` shows that with ample memory nothing is lost. What
-//! is told of a wire and a clock is told where these tell; the system's sockets and clock tell
-//! nothing. So a [`UdpWire`] at which nothing ever comes, or that sends nothing, meets its
-//! contract, as a network may be so, and so does a [`RunClock`] that stands still; that they work
-//! is tested. For the same reason no contract says which sockets [`UdpWire::bind`] binds, and its
-//! must-fail edit turns all that it promises, a wire without failures: the tests over loopback try
-//! a port of each kind. A [`RestingWire`] is such a wire that waits: of what it takes, gives and
-//! binds the same is said, and one that binds nothing answers `Bind` always as far as its contract
-//! tells. How long a rest is no contract of a wire says, nor that a daemon rests at all: one that
-//! never does offers the same. That it asks for rests, and for how long, is tested over a
-//! [`MemoryWire`]; that a datagram ends one is tested over loopback.
+//! is told of a wire and a clock is told where these tell. That it asks for rests, and for how long,
+//! is tested over a [`MemoryWire`].
+//!
+//! [`UdpWire`], which never rests, and [`RestingWire`], which does, stand over [`Sockets`]: a trait
+//! of five calls, to bind a socket, to take and to give a datagram, to watch a socket and to wait.
+//! What the wires make of these is proved for all sockets that tell what was asked of them: which
+//! sockets are bound, where and in which order, and with which fault that ends; that a take and a
+//! give are one call each, at the socket of their port; which datagrams aren't handed in; when a
+//! failure is counted; which sockets a wait watches, when a rest waits, and how long. So is how
+//! [`RunClock`] makes numbers of the moments that it is told. What is left to the system is one
+//! function a call in [`SystemSockets`], and the one reading in [`RunClock`]: that a socket is
+//! bound where it is asked for and never waits, that what came is taken whole and what is given is
+//! sent, that a wait ends when a datagram comes, and that the moment is now. The system tells
+//! nothing of it, so a system at which nothing ever comes meets the contracts, as a network may be
+//! so; the tests over loopback try it. [`MemorySockets`] tell, and are for tests.
 #![tactic(auto)]
 
 mod answer;
 mod arrivals;
+mod bind_fault;
 mod clock;
 mod daemon;
 mod fault;
@@ -36,30 +42,39 @@ mod home;
 mod laws;
 mod link;
 mod memory_clock;
+mod memory_sockets;
 mod memory_wire;
 mod offers;
+mod opening;
 mod port;
 mod ports;
 mod resting_wire;
 mod rows;
 mod run_clock;
+mod seats;
 mod service;
+mod sockets;
+mod system_sockets;
 mod telling;
 mod totals;
 mod udp_wire;
 mod wire;
 
+pub use bind_fault::BindFault;
 pub use clock::Clock;
 pub use daemon::Daemon;
 pub use fault::WireFault;
 pub use laws::{each_port_is_taken_from, lost_only_where_memory_is_taken, nothing_missed};
 pub use memory_clock::MemoryClock;
+pub use memory_sockets::{MemorySockets, SocketRow};
 pub use memory_wire::MemoryWire;
 pub use offers::Offers;
 pub use port::Port;
 pub use resting_wire::RestingWire;
 pub use rows::Rest;
 pub use run_clock::RunClock;
+pub use sockets::{SocketFault, Sockets};
+pub use system_sockets::SystemSockets;
 pub use totals::Totals;
-pub use udp_wire::{BindFault, UdpWire};
+pub use udp_wire::UdpWire;
 pub use wire::Wire;

@@ -54,7 +54,7 @@ fn push_control(ports: &mut Vec<Port>, config: &NodeConfig, slot: usize) -> Resu
 }
 
 /// The index of a slot as its number.
-fn slot_number(slot: usize) -> u16
+pub(crate) fn slot_number(slot: usize) -> u16
     requires { slot < 31 }
     ensures { result ≡ slot }
 {

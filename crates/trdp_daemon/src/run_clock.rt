@@ -1,6 +1,8 @@
 //! The system's clock.
 
-ghost use Rattle.std.specs.Prelude.{◌≡◌, None};
+ghost use Rattle.std.specs.Prelude.{◌≡◌, None, Option};
+ghost use Rattle.std.specs.declared.time.Instant.{Instant};
+ghost use Rattle.trdp_daemon.specs.RunClocks.{Reads, micros_between};
 
 use crate::clock::Clock;
 use std::time;
@@ -12,7 +14,14 @@ use std::time::Instant;
 pub struct RunClock<'a, R: time::Clock> {
     /// The system, which has the clock.
     rt: &'a R,
-    /// The first moment that the system's clock told; None before.
+    /// What was told so far.
+    count: MomentCount,
+}
+
+/// The microseconds since the first moment that was told.
+#[derive(Clone, Copy)]
+struct MomentCount {
+    /// The first moment that was told; None before.
     start: Option<Instant>,
     /// The last number.
     last: u64,
@@ -21,14 +30,14 @@ pub struct RunClock<'a, R: time::Clock> {
 impl<'a, R: time::Clock> RunClock<'a, R> {
     /// A clock that hasn't read yet.
     pub fn new(rt: &'a R) -> RunClock<'a, R>
-        ensures start { result.start ≡ None }
-        ensures last { result.last ≡ 0 }
+        ensures start { result.count.start ≡ None }
+        ensures last { result.count.last ≡ 0 }
     {
-        RunClock {
-            rt,
+        let count = MomentCount {
             start: None,
             last: 0,
-        }
+        };
+        RunClock { rt, count }
     }
 }
 
@@ -36,21 +45,34 @@ impl<'a, R: time::Clock> Clock for RunClock<'a, R> {
     ghost readings = { λ _. None };
 
     fn now(&mut self) -> u64
-        ensures told { result ≡ self.new.last }
-        ensures first { self.old.start ≡ None → result ≡ self.old.last }
+        ensures told { (moment : Option Instant)
+            × Reads self.old.count self.new.count moment result }
     {
-        if let Ok(moment) = Instant::now(self.rt) {
-            match self.start {
-                Some(start) => self.last = micros_between(start, moment),
-                None => self.start = Some(moment),
-            }
+        match Instant::now(self.rt) {
+            Ok(moment) => self.count.read(Some(moment)),
+            Err(_) => self.count.read(None),
+        }
+    }
+}
+
+impl MomentCount {
+    /// The number of a moment, or of a reading at which the clock told none.
+    fn read(&mut self, moment: Option<Instant>) -> u64
+        ensures { Reads self.old self.new moment result }
+    {
+        match (self.start, moment) {
+            (Some(start), Some(moment)) => self.last = micros_between(start, moment),
+            (None, _) => self.start = moment,
+            (Some(_), None) => {}
         }
         self.last
     }
 }
 
 /// The microseconds from one moment to another, at most 2^64 - 1.
-fn micros_between(start: Instant, moment: Instant) -> u64 {
+fn micros_between(start: Instant, moment: Instant) -> u64
+    ensures { result ≡ micros_between start moment }
+{
     let micros = moment.duration_since(start).as_micros();
     match u64::try_from(micros) {
         Ok(micros) => micros,

@@ -1,10 +1,11 @@
 //! What no script says of a node, of a network of nodes and of a daemon: calls over the libraries,
 //! values as items, what a datagram costs, calls for which memory is refused, an exchange of
-//! running nodes with the steps that their network doesn't take, and turns over a wire and a clock
-//! in memory, whose takes, gives and memory fail. What a script says stands in the folder `rows` of
-//! the repository, with what it gives; what comes and goes at ports, readers and writers that fail,
-//! and services, are tried over the program. The values come from outside: telegrams from the
-//! standard's layout with zlib's CRC-32, and answers by the rules of the profile, computed by hand.
+//! running nodes with the steps that their network doesn't take, turns over a wire and a clock in
+//! memory, whose takes, gives and memory fail, and wires over sockets in memory. What a script says
+//! stands in the folder `rows` of the repository, with what it gives; what comes and goes at ports,
+//! readers and writers that fail, and services, are tried over the program. The values come from
+//! outside: telegrams from the standard's layout with zlib's CRC-32, and answers by the rules of
+//! the profile, computed by hand.
 #![tactic(auto)]
 
 #[cfg(test)]
@@ -27,6 +28,8 @@ mod refused;
 mod resting;
 #[cfg(test)]
 mod same;
+#[cfg(test)]
+mod sockets;
 #[cfg(test)]
 mod spare_port;
 #[cfg(test)]

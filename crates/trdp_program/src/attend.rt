@@ -16,7 +16,7 @@ use std::alloc::Global;
 use std::io::Write;
 use std::net::Net;
 use std::time::Clock;
-use trdp_daemon::{Daemon, RestingWire, RunClock, Wire};
+use trdp_daemon::{Daemon, RestingWire, RunClock, SystemSockets, Wire};
 use trdp_dataset::NodeConfig;
 
 /// Serves a node of that configuration (TOML) over the system's sockets until the program is
@@ -135,7 +135,10 @@ fn step_of(seconds: u32) -> u64 {
 ///
 /// # Errors
 /// `Bind` where the system refuses a port, and `OutOfMemory`.
-fn bind<H: Net + AllocGlobal>(rt: &H, config: &NodeConfig) -> Result<RestingWire, ServeFault>
+fn bind<'a, H: Net + AllocGlobal>(
+    rt: &'a H,
+    config: &NodeConfig,
+) -> Result<RestingWire<SystemSockets<'a, H>>, ServeFault>
     ensures { IfErr result (λ fault. fault ≢ ServeFault.Write) }
 {
     match RestingWire::bind(rt, rt.alloc(), config) {

@@ -14,7 +14,7 @@ use std::fmt;
 use std::io::Write;
 use std::net::Net;
 use std::time::Clock;
-use trdp_daemon::{BindFault, Daemon, RunClock, Totals, UdpWire, Wire};
+use trdp_daemon::{BindFault, Daemon, RunClock, SystemSockets, Totals, UdpWire, Wire};
 use trdp_dataset::NodeConfig;
 use trdp_script::write_whole;
 
@@ -122,7 +122,10 @@ pub(crate) fn write_totals<W: Write>(
 ///
 /// # Errors
 /// `Bind` where the system refuses a port, and `OutOfMemory`.
-fn bind<H: Net + AllocGlobal>(rt: &H, config: &NodeConfig) -> Result<UdpWire, ServeFault>
+fn bind<'a, H: Net + AllocGlobal>(
+    rt: &'a H,
+    config: &NodeConfig,
+) -> Result<UdpWire<SystemSockets<'a, H>>, ServeFault>
     ensures { IfErr result (λ fault. fault ≢ ServeFault.Write) }
 {
     match UdpWire::bind(rt, config) {

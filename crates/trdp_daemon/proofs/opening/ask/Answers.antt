@@ -1,0 +1,11 @@
+use Rattle.trdp_daemon.proofs.SocketLemmas.{bind_made, watch_made}
+use Rattle.trdp_daemon.proofs.opening.ask.Goals as goal
+
+pub returns-in-Bind : goal.returns-in-Bind
+returns-in-Bind g c = rw c.in-Bind.is (bind_made _ _ c.args.config.now c.args.port
+    c.socket_of.result c.place_of_port.result c.bind.result c.socket_of.ensures
+    c.place_of_port.ensures c.bind.ensures)
+
+pub returns-in-Watch : goal.returns-in-Watch
+returns-in-Watch g c = rw c.in-Watch.is (watch_made _ _ c.args.port
+    c.socket_of-in-Watch.result c.watch.result c.socket_of-in-Watch.ensures c.watch.ensures)

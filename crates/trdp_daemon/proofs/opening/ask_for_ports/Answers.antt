@@ -1,0 +1,134 @@
+use Rattle.std.proofs.Common.{◌≡◌, ◌<◌, ◌+◌, ◌++◌, [], ◌∷◌, ℕ, List, arith, drop, length, map}
+use Rattle.std.proofs.Common.{sym, subst}
+use Rattle.std.proofs.Common.{Option}
+use Rattle.std.specs.Prelude.{slice_get, unwrap_or}
+use Rattle.trdp_daemon.specs.declared.port.Port.{Port}
+use Rattle.trdp_daemon.specs.declared.port.Port.TheVariants.{Pd, Md, Operator, Control}
+use Rattle.trdp_dataset.specs.Configs.{ConfigModel}
+use Rattle.trdp_daemon.specs.Openings.{request_of}
+use Rattle.trdp_daemon.specs.Ports.{control_numbers, control_ports, port_unless_0, ports_of}
+use Rattle.trdp_daemon.specs.Sockets.{SocketCall}
+use Rattle.trdp_daemon.specs.Told.{TellsMore}
+use Rattle.trdp_daemon.proofs.ControlPortLemmas.{control_next, control_end, numbers_count}
+use Rattle.trdp_daemon.proofs.SocketLemmas.{Asked, asked_first, asked_more, asked_stops, asked_all}
+use Rattle.trdp_daemon.proofs.SocketLemmas.{stops_with}
+use Rattle.trdp_daemon.proofs.opening.ask_for_ports.Goals as goal
+
+-- process data and message data were asked
+two_asked : (f : Port → SocketCall) (config : ConfigModel) (number : ℕ)
+    (a b c : Option (List SocketCall)) → number ≡ config.operator_port
+    → TellsMore a b (f Pd ∷ []) → TellsMore b c (f Md ∷ [])
+    → Asked f (ports_of config) a c
+    (port_unless_0 number Operator ++ control_ports 0 (control_numbers config))
+two_asked f config number a b c is one other =
+    subst (λ (n : ℕ). Asked f (ports_of config) a c (port_unless_0 n Operator
+    ++ control_ports 0 (control_numbers config))) (sym is)
+    (asked_more f (ports_of config) (Md ∷ []) _ a b c
+    (asked_more f (ports_of config) (Pd ∷ []) _ a a b (asked_first f config a) one) other)
+
+-- all was asked but for the control ports of a slot and those behind it
+next_slot : (f : Port → SocketCall) (config : ConfigModel) (slot : ℕ)
+    (a b : Option (List SocketCall)) → slot < length (control_numbers config)
+    → Asked f (ports_of config) a b (control_ports slot (drop slot (control_numbers config)))
+    → Asked f (ports_of config) a b (port_unless_0
+    (unwrap_or (slice_get (control_numbers config) slot) 0) (Control slot)
+    ++ control_ports (slot + 1) (drop (slot + 1) (control_numbers config)))
+next_slot f config slot a b below asked =
+    subst (λ (l : List Port). Asked f (ports_of config) a b l)
+    (control_next (control_numbers config) slot below) asked
+
+all_asked : (f : Port → SocketCall) (config : ConfigModel) (slot : ℕ)
+    (a b : Option (List SocketCall)) → length (control_numbers config) ≡ slot
+    → Asked f (ports_of config) a b (control_ports slot (drop slot (control_numbers config)))
+    → TellsMore a b (map f (ports_of config))
+all_asked f config slot a b end asked =
+    asked_all f (ports_of config) a b (subst (λ (l : List Port). Asked f (ports_of config) a b l)
+    (control_end (control_numbers config) slot end) asked)
+
+pub returns-in_err-ask : goal.returns-in_err-ask
+returns-in_err-ask g c =
+    let f = request_of c.args.config.now c.args.request in
+    let all = ports_of c.args.config.now in
+    stops_with _ _ _ c.from_residual.result c.in_err-ask.field-0.0 c.from_residual.ensures.1
+    (asked_stops f all (Pd ∷ []) _ c.in_err-ask.field-0.0 _ _ _
+    (asked_first f c.args.config.now _) c.in_err-ask.ensures)
+
+pub returns-in_err-ask-2 : goal.returns-in_err-ask-2
+returns-in_err-ask-2 g c =
+    let f = request_of c.args.config.now c.args.request in
+    let all = ports_of c.args.config.now in
+    stops_with _ _ _ c.from_residual-in_err-ask-2.result c.in_err-ask-2.field-0.0
+    c.from_residual-in_err-ask-2.ensures.1
+    (asked_stops f all (Md ∷ []) _ c.in_err-ask-2.field-0.0 _ _ _
+    (asked_more f all (Pd ∷ []) _ _ _ _ (asked_first f c.args.config.now _) c.in_ok-ask.ensures)
+    c.in_err-ask-2.ensures)
+
+pub returns-in_err-ask_unless_0 : goal.returns-in_err-ask_unless_0
+returns-in_err-ask_unless_0 g c =
+    let f = request_of c.args.config.now c.args.request in
+    let config = c.args.config.now in
+    let number = c.operator_port.result in
+    let two = two_asked f config number _ _ _ c.operator_port.ensures.value
+    c.in_ok-ask.ensures c.in_ok-ask-2.ensures in
+    stops_with _ _ _ c.from_residual-in_err-ask_unless_0.result
+    c.in_err-ask_unless_0.field-0.0 c.from_residual-in_err-ask_unless_0.ensures.1
+    (asked_stops f (ports_of config) (port_unless_0 number Operator) _
+    c.in_err-ask_unless_0.field-0.0 _ _ _ two c.in_err-ask_unless_0.ensures)
+
+pub loop-slot-init : goal.loop-slot-init
+loop-slot-init g c =
+    let f = request_of c.args.config.now c.args.request in
+    let config = c.args.config.now in
+    let number = c.operator_port.result in
+    let two = two_asked f config number _ _ _ c.operator_port.ensures.value
+    c.in_ok-ask.ensures c.in_ok-ask-2.ensures in
+    asked_more f (ports_of config) (port_unless_0 number Operator) _ _ _ _ two
+    c.in_ok-ask_unless_0.ensures
+
+pub returns-in_err-ask_for_control : goal.returns-in_err-ask_for_control
+returns-in_err-ask_for_control g c =
+    let f = request_of c.args.config.now c.args.request in
+    let config = c.args.config.now in
+    let below : c.loop-slot.slot < length (control_numbers config) = omega (
+      arith,
+      c.loop-slot-test.true,
+      c.slots.ensures.value,
+      c.spare_control_ports.ensures.value,
+      numbers_count config.slots config.spare_control_ports,
+    ) in
+    stops_with _ _ _ c.from_residual-in_err-ask_for_control.result
+    c.in_err-ask_for_control.field-0.0 c.from_residual-in_err-ask_for_control.ensures.1
+    (asked_stops f (ports_of config) (port_unless_0
+    (unwrap_or (slice_get (control_numbers config) c.loop-slot.slot) 0) (Control c.loop-slot.slot))
+    _ c.in_err-ask_for_control.field-0.0 _ _ _
+    (next_slot f config c.loop-slot.slot _ _ below c.loop-slot.invariant)
+    c.in_err-ask_for_control.ensures)
+
+pub loop-slot-preserved : goal.loop-slot-preserved
+loop-slot-preserved g c =
+    let f = request_of c.args.config.now c.args.request in
+    let config = c.args.config.now in
+    let below : c.loop-slot.slot < length (control_numbers config) = omega (
+      arith,
+      c.loop-slot-test.true,
+      c.slots.ensures.value,
+      c.spare_control_ports.ensures.value,
+      numbers_count config.slots config.spare_control_ports,
+    ) in
+    asked_more f (ports_of config) (port_unless_0
+    (unwrap_or (slice_get (control_numbers config) c.loop-slot.slot) 0) (Control c.loop-slot.slot))
+    _ _ _ _ (next_slot f config c.loop-slot.slot _ _ below c.loop-slot.invariant)
+    c.in_ok-ask_for_control.ensures
+
+pub returns : goal.returns
+returns g c =
+    let end : length (control_numbers c.args.config.now) ≡ c.loop-slot.slot = omega (
+      arith,
+      c.loop-slot-test.false,
+      c.loop-slot.auto.slot-end,
+      c.slots.ensures.value,
+      c.spare_control_ports.ensures.value,
+      numbers_count c.args.config.now.slots c.args.config.now.spare_control_ports,
+    ) in
+    all_asked (request_of c.args.config.now c.args.request) c.args.config.now
+    c.loop-slot.slot _ _ end c.loop-slot.invariant

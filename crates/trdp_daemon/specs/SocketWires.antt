@@ -1,0 +1,71 @@
+-- What a wire over sockets makes of its calls.
+use Rattle.std.specs.Prelude.{◌≡◌, ℕ, ◌-◌, ◌/◌, ◌^◌, nat_lt, List, [], ◌∷◌, length, codes}
+use Rattle.std.specs.Prelude.{Bool, true, false, ◌&&◌, ◌||◌, ◌==◌, if◌then◌else◌, Option, Result}
+use Rattle.std.specs.Prelude.{is_err}
+use Rattle.std.specs.List.{starts_with}
+use Rattle.trdp_base.specs.declared.place.Place.{Place}
+use Rattle.trdp_daemon.specs.declared.fault.WireFault.{WireFault}
+use Rattle.trdp_daemon.specs.declared.port.Port.{Port}
+use Rattle.trdp_daemon.specs.declared.port.Port.TheVariants.{Pd, Md, Operator, Control}
+use Rattle.trdp_daemon.specs.Counting.{has_failed}
+use Rattle.trdp_daemon.specs.MemoryWires.{failure_after, one_more_if}
+use Rattle.trdp_daemon.specs.Sockets.{SocketCall, TakesFrom, GivesFrom, Waits, socket_of}
+use Rattle.trdp_daemon.specs.Told.{TellsMore, Arrived, Failed, Nothing, Came, arrived_in}
+
+-- whether what comes to a port is a line
+abbrev pub takes_lines : Port → Bool
+takes_lines Pd = false
+takes_lines Md = false
+takes_lines Operator = true
+takes_lines (Control slot) = true
+
+-- whether these bytes begin as each answer does to a datagram that was no line
+unfoldable pub begins_as_answer : List ℕ → Bool
+begins_as_answer bytes = starts_with (λ a b. a == b) bytes (codes "line fault ")
+
+-- whether a datagram at a port is such an answer, which isn't answered in turn: else two ports
+-- could answer each other for ever
+unfoldable pub is_answer : Port → List ℕ → Bool
+is_answer port bytes = takes_lines port && begins_as_answer bytes
+
+-- what a take at a port hands in of what arrived at its socket, where the wire had failed so often:
+-- all but answers
+unfoldable pub handed_in : ℕ → Port → Arrived → Arrived
+handed_in failures port Failed = failure_after failures
+handed_in failures port Nothing = Nothing
+handed_in failures port (Came from bytes) =
+    if is_answer port bytes then Nothing else Came from bytes
+
+-- whether something was heard at a take: a datagram, also one that isn't handed in, or a failure
+abbrev pub is_heard : Arrived → Bool
+is_heard Failed = true
+is_heard Nothing = false
+is_heard (Came from bytes) = true
+
+-- one take was made, at the port's socket and with the whole room, and it answers what is handed in
+-- of what arrived there
+pub record TakesAtSocket (old new : Option (List SocketCall)) (port : Port) (room : List ℕ)
+    (result : Result (Option (Place × ℕ)) WireFault) (failures failures_then : ℕ)
+    (heard heard_then : Bool) : Type 0 where
+  pub arrived : Arrived
+  pub asked : TellsMore old new (TakesFrom (socket_of port) (length room) arrived ∷ [])
+  pub answer : arrived_in result room ≡ handed_in failures port arrived
+  pub counted : failures_then ≡ one_more_if (has_failed (arrived_in result room)) failures
+  pub noted : heard_then ≡ heard || is_heard arrived
+
+-- one give was made, from the port's socket, of these bytes to that place, and it answers whether
+-- that failed, unless the count of failures is at its last value
+pub record GivesAtSocket (old new : Option (List SocketCall)) (port : Port) (to : Place)
+    (bytes : List ℕ) (result : Result (Unit {0}) WireFault) (failures failures_then : ℕ)
+    : Type 0 where
+  pub failed : Bool
+  pub asked : TellsMore old new (GivesFrom (socket_of port) to bytes failed ∷ [])
+  pub answer : is_err result ≡ failed && nat_lt failures (2 ^ 64 - 1)
+  pub counted : failures_then ≡ one_more_if (is_err result) failures
+
+-- the waits of a rest of at most so many microseconds: none where something was heard since the
+-- rest before, since more may be there; else one of whole milliseconds, which ends some 200
+-- microseconds early, as the system comes late; none where no millisecond is left
+unfoldable pub waits_of : Bool → ℕ → List SocketCall
+waits_of heard most =
+    if heard || nat_lt (most - 200) 1000 then [] else Waits ((most - 200) / 1000) ∷ []

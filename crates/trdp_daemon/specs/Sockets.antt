@@ -1,0 +1,73 @@
+-- What is asked of the datagram sockets of a system.
+use Rattle.std.specs.Prelude.{◌≡◌, ℕ, ◌+◌, List, [], ◌∷◌, ◌++◌, map, Option, Some, None}
+use Rattle.std.specs.Prelude.{Bool, Result, Ok, Err}
+use Rattle.trdp_base.specs.declared.place.Place.{Place}
+use Rattle.trdp_dataset.specs.Configs.{ConfigModel}
+use Rattle.trdp_daemon.specs.declared.bind_fault.BindFault.{BindFault}
+use Rattle.trdp_daemon.specs.declared.port.Port.{Port}
+use Rattle.trdp_daemon.specs.declared.port.Port.TheVariants.{Pd, Md, Operator, Control}
+use Rattle.trdp_daemon.specs.Ports.{ports_of, place_of_port}
+use Rattle.trdp_daemon.specs.Told.{TellsMore, Arrived}
+
+-- one call, with its answer: a socket is bound at a place; with room for so many bytes, what was
+-- taken from it; what was given to it, and whether it failed; a wait ends when a datagram comes
+-- there; and a wait, of at most so many milliseconds
+pub data SocketCall : Type 0 where
+  Binds : (socket : ℕ) (place : Place) (fault : Option BindFault) → SocketCall
+  TakesFrom : (socket room : ℕ) (arrived : Arrived) → SocketCall
+  GivesFrom : (socket : ℕ) (to : Place) (bytes : List ℕ) (failed : Bool) → SocketCall
+  Watches : (socket : ℕ) (fault : Option BindFault) → SocketCall
+  Waits : (millis : ℕ) → SocketCall
+
+-- the fault of an answer
+abbrev pub fault_of : {X E : Type 0} → Result X E → Option E
+fault_of (Ok x) = None
+fault_of (Err fault) = Some fault
+
+-- a call of those that can be refused, refused with this fault
+abbrev pub refused : BindFault → SocketCall → SocketCall
+refused fault (Binds socket place answer) = Binds socket place (Some fault)
+refused fault (TakesFrom socket room arrived) = TakesFrom socket room arrived
+refused fault (GivesFrom socket to bytes failed) = GivesFrom socket to bytes failed
+refused fault (Watches socket answer) = Watches socket (Some fault)
+refused fault (Waits millis) = Waits millis
+
+-- of these calls, which are told as granted, the first ones were made, and then one that was
+-- refused with this fault
+pub record StopsAtOne (calls : List SocketCall) (fault : BindFault)
+    (old new : Option (List SocketCall)) : Type 0 where
+  pub granted : List SocketCall
+  pub last : SocketCall
+  pub behind : List SocketCall
+  pub calls_are : calls ≡ granted ++ last ∷ behind
+  pub made : TellsMore old new (granted ++ refused fault last ∷ [])
+
+-- these calls, which are told as granted, were made in this order and granted; or up to the first
+-- that was refused
+abbrev pub MadeInTurn : List SocketCall → Option BindFault → Option (List SocketCall)
+    → Option (List SocketCall) → Type 0
+MadeInTurn calls None old new = TellsMore old new calls
+MadeInTurn calls (Some fault) old new = StopsAtOne calls fault old new
+
+-- the socket of each port
+abbrev pub socket_of : Port → ℕ
+socket_of Pd = 0
+socket_of Md = 1
+socket_of Operator = 2
+socket_of (Control slot) = 3 + slot
+
+-- the socket of a port is bound at its place
+abbrev pub bind_of : ConfigModel → Port → SocketCall
+bind_of config port = Binds (socket_of port) (place_of_port config port) None
+
+-- a wait ends when a datagram comes at a port
+abbrev pub watch_of : Port → SocketCall
+watch_of port = Watches (socket_of port) None
+
+-- the sockets of a configuration's ports are bound, one after another
+abbrev pub binds_of : ConfigModel → List SocketCall
+binds_of config = map (bind_of config) (ports_of config)
+
+-- they are watched, one after another
+abbrev pub watches_of : ConfigModel → List SocketCall
+watches_of config = map watch_of (ports_of config)

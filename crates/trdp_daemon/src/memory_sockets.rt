@@ -1,0 +1,187 @@
+//! Sockets in memory, for tests.
+
+ghost use Rattle.std.specs.Prelude.{◌≡◌, ◌≤◌, ◌∷◌, [], length, map, false, IfOk, IfSome};
+ghost use Rattle.std.specs.Prelude.{Some};
+ghost use Rattle.trdp_daemon.specs.MemorySockets.{Notes, call_of, told_calls};
+ghost use Rattle.trdp_daemon.specs.Sockets.{GivesFrom, TakesFrom};
+ghost use Rattle.trdp_daemon.specs.Told.{TellsMore, arrival_in};
+
+use crate::arrivals::fill;
+use crate::bind_fault::BindFault;
+use crate::sockets::{SocketFault, Sockets};
+use std::alloc::{AllocError, Global};
+use trdp_base::Place;
+
+/// One call of sockets in memory; the first number is the socket's.
+#[derive(Debug, PartialEq, Eq, Drop)]
+pub enum SocketRow {
+    /// It was bound at a place.
+    Bound(usize, Place),
+    /// With room for so many bytes a take found nothing, or where a datagram came from and the
+    /// bytes of it that had room.
+    Taken(usize, usize, Option<(Place, Vec<u8>)>),
+    /// These bytes were given to it, for a place.
+    Given(usize, Place, Vec<u8>),
+    /// It was watched.
+    Watched(usize),
+    /// A wait, of so many milliseconds.
+    Waited(u64),
+}
+
+/// A datagram that waits at a socket.
+#[derive(Drop)]
+struct SocketArrival {
+    /// The number of the socket.
+    socket: usize,
+    /// Where it comes from.
+    from: Place,
+    /// Its bytes.
+    bytes: Vec<u8>,
+}
+
+/// Sockets in memory, which refuse nothing: datagrams are laid down for them, and they remember
+/// what was asked. They tell it, until memory is wanting; after that they tell nothing.
+#[derive(Drop)]
+pub struct MemorySockets {
+    /// What their lists take memory from.
+    alloc: Global,
+    /// What was laid down and not taken yet, in order.
+    arrivals: Vec<SocketArrival>,
+    /// What was asked, in order.
+    rows: Vec<SocketRow>,
+    /// Whether all is told.
+    tells: bool,
+}
+
+impl MemorySockets {
+    /// Sockets that nothing was asked of.
+    pub fn new(alloc: Global) -> MemorySockets
+        ensures { told_calls result ≡ Some [] }
+    {
+        MemorySockets {
+            alloc,
+            arrivals: Vec::new(alloc),
+            rows: Vec::new(alloc),
+            tells: true,
+        }
+    }
+
+    /// Lays down a datagram, behind the others at its socket.
+    ///
+    /// # Errors
+    /// Want of memory for it.
+    pub fn arrive(&mut self, socket: usize, from: Place, bytes: &[u8]) -> Result<(), AllocError>
+        ensures { told_calls self.new ≡ told_calls self.old }
+    {
+        let bytes = bytes.to_vec(self.alloc)?;
+        self.arrivals.push(SocketArrival {
+            socket,
+            from,
+            bytes,
+        })?;
+        Ok(())
+    }
+
+    /// What was asked, in order, until memory was wanting.
+    pub fn rows(&self) -> &[SocketRow]
+        ensures { IfSome (told_calls self.now) (λ calls. calls ≡ map call_of result.now) }
+    {
+        &self.rows
+    }
+
+    /// Takes the next datagram at a socket out of those that were laid down.
+    fn next_at(&mut self, socket: usize, room: &mut [u8]) -> Option<(Place, usize)>
+        ensures within { IfSome result (λ found. found.1 ≤ length room.new) }
+        ensures length { length room.new ≡ length room.old }
+        ensures calls { told_calls self.new ≡ told_calls self.old }
+    {
+        let index = self.arrivals.iter().position(|row| row.socket == socket)?;
+        let arrival = self.arrivals.remove(index);
+        let len = fill(room, &arrival.bytes);
+        Some((arrival.from, len))
+    }
+
+    /// Remembers a call, unless there is no memory for it.
+    fn note(&mut self, row: Result<SocketRow, AllocError>)
+        ensures { Notes row (told_calls self.old) (told_calls self.new) }
+    {
+        match row {
+            Ok(row) => {
+                if self.rows.push(row).is_err() {
+                    self.tells = false;
+                }
+            }
+            Err(_) => self.tells = false,
+        }
+    }
+}
+
+impl Sockets for MemorySockets {
+    ghost calls = { told_calls };
+
+    fn bind(&mut self, socket: usize, place: Place) -> Result<(), BindFault> {
+        self.note(Ok(SocketRow::Bound(socket, place)));
+        Ok(())
+    }
+
+    fn take(
+        &mut self,
+        socket: usize,
+        room: &mut [u8],
+    ) -> Result<Option<(Place, usize)>, SocketFault> {
+        let found = self.next_at(socket, room);
+        let row = taken(self.alloc, socket, room, found);
+        self.note(row);
+        Ok(found)
+    }
+
+    fn give(&mut self, socket: usize, to: Place, bytes: &[u8]) -> Result<(), SocketFault> {
+        let row = given(self.alloc, socket, to, bytes);
+        self.note(row);
+        Ok(())
+    }
+
+    fn watch(&mut self, _alloc: Global, socket: usize) -> Result<(), BindFault> {
+        self.note(Ok(SocketRow::Watched(socket)));
+        Ok(())
+    }
+
+    fn wait(&mut self, millis: u64) {
+        self.note(Ok(SocketRow::Waited(millis)));
+    }
+}
+
+/// A take that put this into a room.
+///
+/// # Errors
+/// Want of memory for its bytes.
+fn taken(
+    alloc: Global,
+    socket: usize,
+    room: &[u8],
+    found: Option<(Place, usize)>,
+) -> Result<SocketRow, AllocError>
+    requires { IfSome found (λ f. f.1 ≤ length room.now) }
+    ensures { IfOk result (λ row. call_of row
+        ≡ TakesFrom socket (length room.now) (arrival_in found room.now)) }
+{
+    match found {
+        None => Ok(SocketRow::Taken(socket, room.len(), None)),
+        Some((from, len)) => {
+            let (bytes, _) = room.split_at(len);
+            let bytes = bytes.to_vec(alloc)?;
+            Ok(SocketRow::Taken(socket, room.len(), Some((from, bytes))))
+        }
+    }
+}
+
+/// A give of these bytes.
+///
+/// # Errors
+/// Want of memory for them.
+fn given(alloc: Global, socket: usize, to: Place, bytes: &[u8]) -> Result<SocketRow, AllocError>
+    ensures { IfOk result (λ row. call_of row ≡ GivesFrom socket to bytes.now false) }
+{
+    let bytes = bytes.to_vec(alloc)?;
+    Ok(SocketRow::Given(socket, to, bytes))
+}

@@ -1,0 +1,146 @@
+//! What is asked of a system's sockets before the first turn: one after another, those of the ports
+//! that a configuration names.
+
+ghost use Rattle.std.specs.Prelude.{◌<◌, ◌≤◌, ◌∷◌, [], ◌++◌, length, map, slice_get, unwrap_or};
+ghost use Rattle.trdp_daemon.specs.Openings.{request_of};
+ghost use Rattle.trdp_daemon.specs.Ports.{control_numbers, port_unless_0, ports_of};
+ghost use Rattle.trdp_daemon.specs.declared.port.Port.TheVariants.{Control};
+ghost use Rattle.trdp_daemon.specs.Sockets.{MadeInTurn, binds_of, fault_of, watches_of};
+
+use crate::bind_fault::BindFault;
+use crate::port::Port;
+use crate::ports::{control_number, slot_number};
+use crate::seats::{place_of_port, socket_of};
+use crate::sockets::Sockets;
+use std::alloc::Global;
+use trdp_dataset::NodeConfig;
+
+/// What is asked for a port.
+#[derive(Clone, Copy)]
+pub(crate) enum PortRequest {
+    /// That its socket is bound at its place.
+    Bind,
+    /// That a wait ends when a datagram comes there, which may take memory.
+    Watch(Global),
+}
+
+/// Binds the sockets of a configuration's ports, one after another.
+///
+/// # Errors
+/// At the first one that is refused: its fault.
+pub(crate) fn bind_ports<S: Sockets>(sockets: &mut S, config: &NodeConfig) -> Result<(), BindFault>
+    ensures { MadeInTurn (binds_of config.now) (fault_of result)
+        (S.calls sockets.old) (S.calls sockets.new) }
+{
+    ask_for_ports(sockets, config, PortRequest::Bind)
+}
+
+/// Binds the sockets of a configuration's ports, one after another, and then has waits end when a
+/// datagram comes at one of them.
+///
+/// # Errors
+/// At the first call that is refused: its fault.
+pub(crate) fn bind_and_watch_ports<S: Sockets>(
+    sockets: &mut S,
+    alloc: Global,
+    config: &NodeConfig,
+) -> Result<(), BindFault>
+    ensures { MadeInTurn (binds_of config.now ++ watches_of config.now) (fault_of result)
+        (S.calls sockets.old) (S.calls sockets.new) }
+{
+    bind_ports(sockets, config)?;
+    ask_for_ports(sockets, config, PortRequest::Watch(alloc))
+}
+
+/// Asks the same for each port that a configuration names, in the order of a turn.
+///
+/// # Errors
+/// At the first one that is refused: its fault.
+fn ask_for_ports<S: Sockets>(
+    sockets: &mut S,
+    config: &NodeConfig,
+    request: PortRequest,
+) -> Result<(), BindFault>
+    ensures { MadeInTurn (map (request_of config.now request) (ports_of config.now))
+        (fault_of result) (S.calls sockets.old) (S.calls sockets.new) }
+{
+    ask(sockets, config, request, Port::Pd)?;
+    ask(sockets, config, request, Port::Md)?;
+    ask_unless_0(
+        sockets,
+        config,
+        request,
+        config.operator_port(),
+        Port::Operator,
+    )?;
+    for slot in 0..config.slots() + config.spare_control_ports() {
+        ask_for_control(sockets, config, request, slot)?;
+    }
+    Ok(())
+}
+
+/// Asks for the control port of a slot, unless its number is 0.
+///
+/// # Errors
+/// As the sockets answer.
+fn ask_for_control<S: Sockets>(
+    sockets: &mut S,
+    config: &NodeConfig,
+    request: PortRequest,
+    slot: usize,
+) -> Result<(), BindFault>
+    requires slot { slot < length (control_numbers config.now) }
+    requires few { length (control_numbers config.now) ≤ 31 }
+    ensures { MadeInTurn (map (request_of config.now request)
+        (port_unless_0 (unwrap_or (slice_get (control_numbers config.now) slot) 0) (Control slot)))
+        (fault_of result) (S.calls sockets.old) (S.calls sockets.new) }
+{
+    let number = control_number(config, slot).unwrap_or(0);
+    ask_unless_0(
+        sockets,
+        config,
+        request,
+        number,
+        Port::Control(slot_number(slot)),
+    )
+}
+
+/// Asks for a port, unless its number is 0.
+///
+/// # Errors
+/// As the sockets answer.
+#[tactic(auto, unfolding(crate::specs::Ports::port_unless_0))]
+fn ask_unless_0<S: Sockets>(
+    sockets: &mut S,
+    config: &NodeConfig,
+    request: PortRequest,
+    number: u16,
+    port: Port,
+) -> Result<(), BindFault>
+    ensures { MadeInTurn (map (request_of config.now request) (port_unless_0 number port))
+        (fault_of result) (S.calls sockets.old) (S.calls sockets.new) }
+{
+    if number == 0 {
+        return Ok(());
+    }
+    ask(sockets, config, request, port)
+}
+
+/// Asks for a port.
+///
+/// # Errors
+/// As the sockets answer.
+fn ask<S: Sockets>(
+    sockets: &mut S,
+    config: &NodeConfig,
+    request: PortRequest,
+    port: Port,
+) -> Result<(), BindFault>
+    ensures { MadeInTurn (request_of config.now request port ∷ []) (fault_of result)
+        (S.calls sockets.old) (S.calls sockets.new) }
+{
+    match request {
+        PortRequest::Bind => sockets.bind(socket_of(port), place_of_port(config, port)),
+        PortRequest::Watch(alloc) => sockets.watch(alloc, socket_of(port)),
+    }
+}

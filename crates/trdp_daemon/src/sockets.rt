@@ -1,0 +1,68 @@
+//! What a wire takes datagrams from and gives them to.
+
+ghost use Rattle.std.specs.Prelude.{[], ◌∷◌, ◌≤◌, length, IfOk, IfSome, is_err};
+ghost use Rattle.trdp_daemon.specs.Sockets.{Binds, TakesFrom, GivesFrom, Watches, Waits, fault_of};
+ghost use Rattle.trdp_daemon.specs.Told.{TellsMore, arrived_in};
+
+use crate::bind_fault::BindFault;
+use std::alloc::Global;
+use thiserror::Error;
+use trdp_base::Place;
+
+/// A socket couldn't take or give a datagram.
+#[derive(Clone, Copy, Debug, PartialEq, Eq, Error)]
+#[error("a socket couldn't take or give a datagram")]
+pub struct SocketFault;
+
+/// The datagram sockets of a system. Who binds one gives it a number, and calls it by that
+/// (profile). No call waits but `wait`. They may tell what was asked of them.
+pub trait Sockets {
+    ghost use Rattle.std.specs.Prelude.{List, Option};
+    ghost use Rattle.trdp_daemon.specs.Sockets.{SocketCall};
+
+    /// What was asked of them, in order, with the answers; none where these sockets don't tell.
+    ghost calls: { Self → Option (List SocketCall) };
+
+    /// Binds a socket at a place of this machine.
+    ///
+    /// # Errors
+    /// `OutOfMemory` where there is no memory for it, and else `Bind`.
+    fn bind(&mut self, socket: usize, place: Place) -> Result<(), BindFault>
+        ensures { TellsMore (calls self.old) (calls self.new)
+            (Binds socket place (fault_of result) ∷ []) };
+
+    /// Takes the next datagram at a socket, if one is there: it is put at the front of the room,
+    /// cut to it, and the answer is where it came from and how many bytes it has there.
+    ///
+    /// # Errors
+    /// `SocketFault`, where the system fails at it.
+    fn take(
+        &mut self,
+        socket: usize,
+        room: &mut [u8],
+    ) -> Result<Option<(Place, usize)>, SocketFault>
+        ensures within { IfOk result (λ found. IfSome found (λ f. f.1 ≤ length room.new)) }
+        ensures told { TellsMore (calls self.old) (calls self.new)
+            (TakesFrom socket (length room.new) (arrived_in result room.new) ∷ []) };
+
+    /// Sends a datagram from a socket to a place.
+    ///
+    /// # Errors
+    /// `SocketFault`, where the system refuses it.
+    fn give(&mut self, socket: usize, to: Place, bytes: &[u8]) -> Result<(), SocketFault>
+        ensures { TellsMore (calls self.old) (calls self.new)
+            (GivesFrom socket to bytes.now (is_err result) ∷ []) };
+
+    /// From now on a wait ends when a datagram comes at a socket.
+    ///
+    /// # Errors
+    /// `OutOfMemory` where there is no memory for it, and else `Bind`.
+    fn watch(&mut self, alloc: Global, socket: usize) -> Result<(), BindFault>
+        ensures { TellsMore (calls self.old) (calls self.new)
+            (Watches socket (fault_of result) ∷ []) };
+
+    /// Waits until a datagram comes at one of the sockets that are watched, at most so many
+    /// milliseconds.
+    fn wait(&mut self, millis: u64)
+        ensures { TellsMore (calls self.old) (calls self.new) (Waits millis ∷ []) };
+}

@@ -1,0 +1,220 @@
+//! The sockets of the system.
+//!
+//! What the system does at a call no contract can say: each call here is one of its own, with no
+//! more than what names its arguments and its answer. They are tested over loopback.
+
+ghost use Rattle.std.specs.Prelude.{◌≡◌, ◌*◌};
+ghost use Rattle.std.specs.IoError.{error_kind};
+ghost use Rattle.std.specs.Duration.{as_nanos};
+ghost use Rattle.trdp_daemon.specs.SystemSockets.{fault_of_kind, place_at, received_of, sent_of};
+
+use crate::bind_fault::BindFault;
+use crate::sockets::{SocketFault, Sockets};
+use mio::unix::SourceFd;
+use mio::{Events, Interest, Poll, Token};
+use std::alloc::Global;
+use std::net::{Ipv4Addr, Net, SocketAddr, SocketAddrV4, UdpSocket};
+use std::os::fd::AsRawFd;
+use std::time::Duration;
+use std::{array, io};
+use trdp_base::{Ip, Place};
+
+/// The most sockets of a node: three, and the control ports of 16 slots and 15 spare ones.
+const SOCKETS_MAX: usize = 34;
+
+/// How many sockets the system tells of at one wait. One is enough to end it.
+const EVENTS: usize = 4;
+
+/// The UDP sockets of the system. They tell nothing.
+#[derive(Drop)]
+pub struct SystemSockets<'a, R: Net> {
+    /// The system, which has the network.
+    rt: &'a R,
+    /// The socket of each number; None where none is bound.
+    sockets: [Option<UdpSocket>; SOCKETS_MAX],
+    /// What a wait is made of; None before the first socket that is watched.
+    waits: Option<Waits>,
+}
+
+/// What a wait is made of, so that none takes memory.
+#[derive(Drop)]
+struct Waits {
+    /// Where the system tells that a datagram came.
+    poll: Poll,
+    /// Room for what it tells at one wait.
+    events: Events<Global>,
+}
+
+impl<'a, R: Net> SystemSockets<'a, R> {
+    /// The sockets of a system, of which none is bound yet.
+    pub fn new(rt: &'a R) -> SystemSockets<'a, R> {
+        SystemSockets {
+            rt,
+            sockets: array::from_fn(|_| None),
+            waits: None,
+        }
+    }
+}
+
+impl<'a, R: Net> Sockets for SystemSockets<'a, R> {
+    ghost use Rattle.std.specs.Prelude.{None};
+
+    ghost calls = { λ _. None };
+
+    fn bind(&mut self, socket: usize, place: Place) -> Result<(), BindFault> {
+        let Some(seat) = self.sockets.get_mut(socket) else {
+            return Err(BindFault::Bind);
+        };
+        match bind_socket(self.rt, place) {
+            Ok(bound) => {
+                *seat = Some(bound);
+                Ok(())
+            }
+            Err(error) => Err(bind_fault(error)),
+        }
+    }
+
+    fn take(
+        &mut self,
+        socket: usize,
+        room: &mut [u8],
+    ) -> Result<Option<(Place, usize)>, SocketFault> {
+        let Some(Some(socket)) = self.sockets.get(socket) else {
+            return Ok(None);
+        };
+        received(socket.recv_from(room))
+    }
+
+    fn give(&mut self, socket: usize, to: Place, bytes: &[u8]) -> Result<(), SocketFault> {
+        let Some(Some(socket)) = self.sockets.get(socket) else {
+            return Err(SocketFault);
+        };
+        let sent = socket.send_to(bytes, SocketAddr::V4(address_of(to)));
+        sent_whole(sent, bytes.len())
+    }
+
+    fn watch(&mut self, alloc: Global, socket: usize) -> Result<(), BindFault> {
+        let Some(Some(socket)) = self.sockets.get(socket) else {
+            return Err(BindFault::Bind);
+        };
+        if self.waits.is_none() {
+            self.waits = Some(Waits::new(self.rt, alloc)?);
+        }
+        match &self.waits {
+            Some(waits) => waits.watch(socket),
+            None => Err(BindFault::Bind),
+        }
+    }
+
+    fn wait(&mut self, millis: u64) {
+        if let Some(waits) = &mut self.waits {
+            // Where the system refuses a wait, there is none.
+            let _ = waits.poll.poll(&mut waits.events, Some(time_of(millis)));
+        }
+    }
+}
+
+impl Waits {
+    /// What a wait is made of, with no socket yet.
+    ///
+    /// # Errors
+    /// `OutOfMemory` where there is no memory for it, and else `Bind`.
+    fn new<R: Net>(rt: &R, alloc: Global) -> Result<Waits, BindFault> {
+        let Ok(events) = Events::with_capacity(alloc, EVENTS) else {
+            return Err(BindFault::OutOfMemory);
+        };
+        match Poll::new(rt) {
+            Ok(poll) => Ok(Waits { poll, events }),
+            Err(error) => Err(bind_fault(error)),
+        }
+    }
+
+    /// Has the system tell when a datagram comes at a socket.
+    ///
+    /// # Errors
+    /// `OutOfMemory` where the system has no memory for it, and else `Bind`.
+    fn watch(&self, socket: &UdpSocket) -> Result<(), BindFault> {
+        let mut source = SourceFd(&socket.as_raw_fd());
+        // The token is of no use: a turn takes at each port.
+        let registry = self.poll.registry();
+        match registry.register(&mut source, Token(0), Interest::READABLE) {
+            Ok(()) => Ok(()),
+            Err(error) => Err(bind_fault(error)),
+        }
+    }
+}
+
+/// A socket at a place, which never waits.
+///
+/// # Errors
+/// What the system says to it.
+fn bind_socket<R: Net>(rt: &R, place: Place) -> io::Result<UdpSocket> {
+    let socket = UdpSocket::bind(rt, SocketAddr::V4(address_of(place)))?;
+    socket.set_nonblocking(true)?;
+    Ok(socket)
+}
+
+/// What a take answers to what the system says: nothing where nothing is there, and where a
+/// datagram came from IPv6, which comes to none of these sockets.
+fn received(found: io::Result<(usize, SocketAddr)>) -> Result<Option<(Place, usize)>, SocketFault>
+    ensures { result ≡ received_of found }
+{
+    match found {
+        Ok((len, SocketAddr::V4(from))) => Ok(Some((place_at(from), len))),
+        Ok((_, SocketAddr::V6(_))) => Ok(None),
+        Err(error) => match error.kind() {
+            io::ErrorKind::WouldBlock => Ok(None),
+            _ => Err(SocketFault),
+        },
+    }
+}
+
+/// What a give of so many bytes answers to how many of them the system says that it sent.
+fn sent_whole(sent: io::Result<usize>, len: usize) -> Result<(), SocketFault>
+    ensures { result ≡ sent_of sent len }
+{
+    match sent {
+        Ok(count) => {
+            if count == len {
+                Ok(())
+            } else {
+                Err(SocketFault)
+            }
+        }
+        Err(_) => Err(SocketFault),
+    }
+}
+
+/// So many milliseconds.
+fn time_of(millis: u64) -> Duration
+    ensures { as_nanos result ≡ millis * 1_000_000 }
+{
+    Duration::from_millis(millis)
+}
+
+/// What it means that the system refuses a socket.
+fn bind_fault(error: io::Error) -> BindFault
+    ensures { result ≡ fault_of_kind (error_kind error) }
+{
+    match error.kind() {
+        io::ErrorKind::OutOfMemory => BindFault::OutOfMemory,
+        _ => BindFault::Bind,
+    }
+}
+
+/// A place as the system's address.
+fn address_of(place: Place) -> SocketAddrV4
+    ensures { place_at result ≡ place }
+{
+    SocketAddrV4::new(Ipv4Addr::from_bits(place.ip.0), place.port)
+}
+
+/// A system's address as a place.
+fn place_at(address: SocketAddrV4) -> Place
+    ensures { result ≡ place_at address }
+{
+    Place {
+        ip: Ip(address.ip().to_bits()),
+        port: address.port(),
+    }
+}

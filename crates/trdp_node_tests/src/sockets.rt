@@ -1,0 +1,193 @@
+//! Wires over sockets in memory: which sockets are bound and watched, and what a few calls ask of
+//! them.
+
+use crate::same::same;
+use std::alloc::Global;
+use std::process::Abort;
+use trdp_base::{Ip, Place};
+use trdp_daemon::{MemorySockets, Port, RestingWire, SocketRow, UdpWire, Wire};
+use trdp_dataset::NodeConfig;
+
+/// A node with an operator's port, one slot, and a spare port for the second of two that may be
+/// added.
+const NODE: &[u8] = b"
+[node]
+address = \"10.0.0.1\"
+control_address = \"127.0.0.1\"
+operator_port = 18100
+spare_control_ports = [0, 18002]
+[[slot]]
+control_port = 18000
+";
+
+/// The sockets that the node's ports have: process data, message data, the operator's, that of slot
+/// 0 and that of slot 2.
+const SOCKETS: [usize; 5] = [0, 1, 2, 3, 5];
+
+/// Where these are bound.
+static PLACES: [Place; 5] = [
+    Place {
+        ip: Ip(0x0a00_0001),
+        port: 17224,
+    },
+    Place {
+        ip: Ip(0x0a00_0001),
+        port: 17225,
+    },
+    Place {
+        ip: Ip(0x7f00_0001),
+        port: 18100,
+    },
+    Place {
+        ip: Ip(0x7f00_0001),
+        port: 18000,
+    },
+    Place {
+        ip: Ip(0x7f00_0001),
+        port: 18002,
+    },
+];
+
+/// Where datagrams come from and go to.
+const PEER: Place = Place {
+    ip: Ip(0x0a00_0002),
+    port: 9000,
+};
+
+/// At which sockets `uses` takes and gives, and how many bytes each datagram has.
+const USES: [(usize, usize); 5] = [(0, 0), (1, 16), (2, 16), (3, 5), (1, 7)];
+
+/// A datagram at each of the first four sockets: an empty one, one like an answer, an answer, and a
+/// line.
+fn sockets(alloc: Global) -> Option<MemorySockets> {
+    let mut sockets = MemorySockets::new(alloc);
+    let datagrams = [
+        b"".as_slice(),
+        b"line fault Count\n",
+        b"line fault Count\n",
+        b"get 1",
+    ];
+    for (socket, bytes) in datagrams.iter().enumerate() {
+        sockets.arrive(socket, PEER, bytes).ok()?;
+    }
+    Some(sockets)
+}
+
+/// The node's configuration.
+fn config(alloc: Global) -> Option<NodeConfig> {
+    NodeConfig::from_toml(alloc, NODE).ok()
+}
+
+/// What a wire hands in at these ports, and how it takes a message that goes out.
+fn uses<W: Wire>(rt: &(impl Abort + AllocGlobal), wire: &mut W) {
+    let mut room = [0; 16];
+    let empty = wire.take(Port::Pd, &mut room);
+    same(rt, "an empty datagram", empty, Ok(Some((PEER, 0))));
+    let message = wire.take(Port::Md, &mut room);
+    same(
+        rt,
+        "a message like an answer",
+        message,
+        Ok(Some((PEER, 16))),
+    );
+    let answer = wire.take(Port::Operator, &mut room);
+    same(rt, "an answer", answer, Ok(None));
+    let line = wire.take(Port::Control(0), &mut room);
+    same(rt, "a line", line, Ok(Some((PEER, 5))));
+    let sent = wire.give(Port::Md, PEER, b"message");
+    same(rt, "a message", sent, Ok(()));
+}
+
+/// Whether a row says that this socket was bound at that place.
+fn is_bound(row: Option<&SocketRow>, socket: usize, place: Place) -> bool {
+    match row {
+        Some(SocketRow::Bound(number, at)) => *number == socket && *at == place,
+        _ => false,
+    }
+}
+
+/// Whether a row says that something was taken or given at this socket, with so many bytes.
+fn is_used(row: Option<&SocketRow>, socket: usize, len: usize) -> bool {
+    match row {
+        Some(SocketRow::Taken(number, 16, Some((from, bytes)))) => {
+            *number == socket && *from == PEER && bytes.len() == len
+        }
+        Some(SocketRow::Given(number, to, bytes)) => {
+            *number == socket && *to == PEER && bytes.len() == len
+        }
+        _ => false,
+    }
+}
+
+/// Asserts that these rows begin with the sockets that were bound.
+fn assert_bound(rt: &(impl Abort + AllocGlobal), rows: &[SocketRow]) {
+    for (i, place) in PLACES.iter().enumerate() {
+        same(rt, i, is_bound(rows.get(i), SOCKETS[i], *place), true);
+    }
+}
+
+/// Asserts that the rows from that index on are those of `uses`.
+fn assert_used(rt: &(impl Abort + AllocGlobal), rows: &[SocketRow], first: usize) {
+    for (i, (socket, len)) in USES.iter().enumerate() {
+        let row = rows.get(i.saturating_add(first));
+        same(rt, i, is_used(row, *socket, *len), true);
+    }
+}
+
+/// A wire over the sockets of the node; None for want of memory.
+fn plain(alloc: Global) -> Option<UdpWire<MemorySockets>> {
+    let config = config(alloc)?;
+    UdpWire::open(sockets(alloc)?, &config).ok()
+}
+
+/// A wire that rests over the sockets of the node; None for want of memory.
+fn resting(alloc: Global) -> Option<RestingWire<MemorySockets>> {
+    let config = config(alloc)?;
+    RestingWire::open(alloc, sockets(alloc)?, &config).ok()
+}
+
+/// A wire that doesn't rest binds its sockets, and takes and gives at them.
+fn works(rt: &(impl Abort + AllocGlobal), wire: &mut UdpWire<MemorySockets>) {
+    uses(rt, wire);
+    wire.rest(1_000_000);
+    let rows = wire.sockets().rows();
+    same(rt, "calls", rows.len(), 10);
+    assert_bound(rt, rows);
+    assert_used(rt, rows, 5);
+}
+
+/// A wire that rests watches its sockets too, and waits where nothing was heard.
+fn works_and_rests(rt: &(impl Abort + AllocGlobal), wire: &mut RestingWire<MemorySockets>) {
+    uses(rt, wire);
+    for most in [10_000, 10_000, 1_199, 1_200] {
+        wire.rest(most);
+    }
+    let rows = wire.sockets().rows();
+    same(rt, "calls", rows.len(), 17);
+    assert_bound(rt, rows);
+    for (i, socket) in SOCKETS.iter().enumerate() {
+        let row = rows.get(i.saturating_add(5));
+        same(rt, i, row == Some(&SocketRow::Watched(*socket)), true);
+    }
+    assert_used(rt, rows, 10);
+    let wait = rows.get(15) == Some(&SocketRow::Waited(9));
+    same(rt, "9 ms", wait, true);
+    let wait = rows.get(16) == Some(&SocketRow::Waited(1));
+    same(rt, "1 ms", wait, true);
+}
+
+#[test]
+fn a_wire_takes_and_gives_at_its_sockets(rt: HostRuntime) {
+    match plain(rt.alloc()) {
+        Some(mut wire) => works(&rt, &mut wire),
+        None => assert!(rt; false, "no memory"),
+    }
+}
+
+#[test]
+fn a_wire_that_rests_waits_at_its_sockets(rt: HostRuntime) {
+    match resting(rt.alloc()) {
+        Some(mut wire) => works_and_rests(&rt, &mut wire),
+        None => assert!(rt; false, "no memory"),
+    }
+}
