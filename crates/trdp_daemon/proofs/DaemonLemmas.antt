@@ -30,6 +30,7 @@ daemon_of service link clock = record {
   wire = link.wire;
   clock = clock;
   totals = link.totals;
+  asked = link.asked;
 }
 
 -- one turn
@@ -141,7 +142,7 @@ turns_both {W} {C} {takings_in} {gives_in} {readings_in} {m} {n} {a} {b} {c} p q
     }
 
 -- turns from the first on
-pub served : {W C : Type 0} {takings_in : W → Option (List Taking)}
+unfoldable pub served : {W C : Type 0} {takings_in : W → Option (List Taking)}
     {gives_in : W → Option (List Give)} {readings_in : C → Option (List ℕ)}
     {config : ConfigModel} {wire : W} {clock : C} {n : ℕ} {d : DaemonState W C}
     → TakesTurns takings_in gives_in readings_in n (opened_daemon config wire clock) d
@@ -160,7 +161,7 @@ served p = record {
   totals = p.totals;
 }
 
-from_first : {W C : Type 0} {takings_in : W → Option (List Taking)}
+unfoldable pub from_first : {W C : Type 0} {takings_in : W → Option (List Taking)}
     {gives_in : W → Option (List Give)} {readings_in : C → Option (List ℕ)}
     {config : ConfigModel} {wire : W} {clock : C} {n : ℕ} {d : DaemonState W C}
     → HasServed takings_in gives_in readings_in config wire clock n d
@@ -179,7 +180,7 @@ from_first p = record {
   totals = p.totals;
 }
 
-pub served_on : {W C : Type 0} {takings_in : W → Option (List Taking)}
+unfoldable pub served_on : {W C : Type 0} {takings_in : W → Option (List Taking)}
     {gives_in : W → Option (List Give)} {readings_in : C → Option (List ℕ)}
     {config : ConfigModel} {wire : W} {clock : C} {m n : ℕ} {d e : DaemonState W C}
     → HasServed takings_in gives_in readings_in config wire clock m d
@@ -188,31 +189,19 @@ pub served_on : {W C : Type 0} {takings_in : W → Option (List Taking)}
 served_on p q = served (turns_both (from_first p) q)
 
 opened_is : {W C : Type 0} (config : ConfigModel) (wire : W) (clock : C) (s : Service) (l : Link W)
-    → service_state s ≡ opened_service config
-    → l.wire ≡ wire → l.totals ≡ no_totals → daemon_of s l clock ≡ opened_daemon config wire clock
-opened_is {W} {C} config wire clock s l service same none =
-    ap (λ x. let d : DaemonState W C =
-    record { service = x; wire = l.wire; clock = clock; totals = l.totals } in d) service
-    ∙ ap (λ x. let d : DaemonState W C = record {
-      service = opened_service config;
-      wire = x;
-      clock = clock;
-      totals = l.totals;
-    } in d) same
-    ∙ ap (λ x. let d : DaemonState W C = record {
-      service = opened_service config;
-      wire = wire;
-      clock = clock;
-      totals = x;
-    } in d) none
+    → service_state s ≡ opened_service config → l.wire ≡ wire → l.totals ≡ no_totals
+    → l.asked ≡ 0 → daemon_of s l clock ≡ opened_daemon config wire clock
+opened_is config wire clock s l service same none fresh = cc
 
 pub served_none : {W C : Type 0} (takings_in : W → Option (List Taking))
     (gives_in : W → Option (List Give)) (readings_in : C → Option (List ℕ))
     (config : ConfigModel) (wire : W) (clock : C) (s : Service) (l : Link W)
     → service_state s ≡ opened_service config → l.wire ≡ wire → l.totals ≡ no_totals
+    → l.asked ≡ 0
     → HasServed takings_in gives_in readings_in config wire clock 0 (daemon_of s l clock)
-served_none {W} {C} takings_in gives_in readings_in config wire clock s l service same none =
+served_none {W} {C} takings_in gives_in readings_in config wire clock s
+    l service same none fresh =
     let first = opened_daemon config wire clock in
     served (subst (λ (d : DaemonState W C). TakesTurns takings_in gives_in readings_in 0 first d)
-    (sym (opened_is config wire clock s l service same none))
+    (sym (opened_is config wire clock s l service same none fresh))
     (no_turns takings_in gives_in readings_in first))

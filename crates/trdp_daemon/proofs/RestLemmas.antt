@@ -1,22 +1,49 @@
 -- Turns with rests between them, one after another.
 -- For `Daemon::attend` and `timed_turn`.
 -- By a loop's invariant: the turns so far are early, and a rest changes nothing of them.
-use Rattle.std.proofs.Common.{◌≡◌, ◌+◌, ℕ, List, [], ◌∷◌, Option, refl, sym, ◌∙◌}
-use Rattle.std.proofs.Common.{ap, subst, map, ◌||◌, false, nat_le, ◌⊎◌, inl, inr, ◌^◌, ◌-◌}
+use Rattle.std.proofs.Common.{◌≡◌, suc, ◌+◌, ◌<◌, ◌≤◌, ℕ, List, [], ◌∷◌, ◌++◌, Option, refl, sym}
+use Rattle.std.proofs.Common.{◌∙◌, ap, subst, map, length, arith, append_assoc, ◌||◌, false}
+use Rattle.std.proofs.Common.{nat_le, ◌⊎◌, inl, inr, ◌^◌, ◌-◌}
 use Rattle.std.specs.List.{list_any, flat_map}
 use Rattle.std.proofs.lemmas.List.{map-append}
 use Rattle.std.proofs.lemmas.List.Folds.{list_any-append}
 use Rattle.trdp_dataset.specs.Configs.{ConfigModel}
 use Rattle.trdp_daemon.specs.Told.{TellsMore, Taking, Give}
 use Rattle.trdp_daemon.specs.Daemons.{DaemonState, TakesTurns, HasServed}
-use Rattle.trdp_daemon.specs.Turns.{takings_of}
+use Rattle.trdp_daemon.specs.Turns.{Turn, takings_of}
 use Rattle.trdp_daemon.specs.Resting.{Rests, TakesTurnAt, TakesEarly, TakesLast, AttendsUntil}
+use Rattle.trdp_daemon.specs.Resting.{RestsBehind, ServesUntil, reading_behind}
+use Rattle.trdp_daemon.specs.Resting.{last_reading}
 use Rattle.trdp_daemon.specs.declared.link.Link.{Link}
 use Rattle.trdp_daemon.specs.declared.port.Port.{Port}
 use Rattle.trdp_daemon.specs.declared.service.Service.{Service}
 use Rattle.trdp_daemon.specs.Ports.{ports_of}
 use Rattle.trdp_daemon.specs.Services.{TakesTurn}
 use Rattle.trdp_daemon.proofs.DaemonLemmas.{daemon_of, one_turn, no_turns, turns_both, served_on}
+use Rattle.trdp_daemon.proofs.DaemonLemmas.{served, from_first}
+
+-- the reading of the last of some turns is that of the turn that was added
+behind_push : (reading : ℕ) (turns : List Turn) (turn : Turn)
+    → reading_behind reading (turns ++ turn ∷ []) ≡ turn.reading
+behind_push reading [] turn = refl
+behind_push reading (first ∷ turns) turn = behind_push first.reading turns turn
+
+-- turns before some turns have no part in the last reading
+behind_more : (reading : ℕ) (turns more : List Turn) → 0 < length more
+    → reading_behind reading (turns ++ more) ≡ last_reading more
+behind_more reading turns [] some = absurd (omega (arith, some))
+behind_more reading [] (turn ∷ more) some = refl
+behind_more reading (first ∷ turns) (turn ∷ more) some =
+    behind_more first.reading turns (turn ∷ more) some
+
+-- the same where these turns were added behind others
+last_push : {reading : ℕ} (first turns : List Turn) (turn : Turn) (more : List Turn)
+    → more ≡ turn ∷ [] → turn.reading ≡ reading
+    → reading ≡ last_reading (first ++ (turns ++ more))
+last_push first turns turn more one same =
+    sym (ap (λ l. last_reading (first ++ (turns ++ l))) one
+    ∙ ap last_reading (sym (append_assoc first turns (turn ∷ [])))
+    ∙ behind_push 0 (first ++ turns) turn ∙ same)
 
 -- one turn, with its reading
 pub turn_at : {W C : Type 0} {takings_in : W → Option (List Taking)}
@@ -29,14 +56,18 @@ pub turn_at : {W C : Type 0} {takings_in : W → Option (List Taking)}
 unfolding one_turn
 turn_at s t a b x y ports reading named config read p = record {
   taken = one_turn s t a b x y ports reading named config read p;
-  reading_is = ap (λ r. r ∷ []) p.reading_is;
+  turn = p.turn;
+  turn_is = refl;
+  reading_is = p.reading_is;
 }
 
 -- a rest behind turns changes nothing of them
-pub turns_rest : {W C : Type 0} {takings_in : W → Option (List Taking)}
+unfoldable turns_rest : {W C : Type 0} {takings_in : W → Option (List Taking)}
     {gives_in : W → Option (List Give)} {readings_in : C → Option (List ℕ)}
-    {n : ℕ} {a b c : DaemonState W C} → TakesTurns takings_in gives_in readings_in n a b
-    → Rests takings_in gives_in b c → TakesTurns takings_in gives_in readings_in n a c
+    {n reading until : ℕ} {a b c : DaemonState W C}
+    → TakesTurns takings_in gives_in readings_in n a b
+    → Rests takings_in gives_in reading until b c
+    → TakesTurns takings_in gives_in readings_in n a c
 turns_rest {W} {C} {takings_in} {gives_in} {readings_in} {n} {a} {b} {c} p q = record {
   turns = p.turns;
   gives = p.gives;
@@ -54,16 +85,27 @@ turns_rest {W} {C} {takings_in} {gives_in} {readings_in} {n} {a} {b} {c} p q = r
   totals = q.totals ∙ p.totals;
 }
 
--- no turn is early
-pub early_none : {W C : Type 0} (takings_in : W → Option (List Taking))
+-- so many early turns, each with a rest behind it, and the reading of the last
+pub record Attended {W C : Type 0} (takings_in : W → Option (List Taking))
+    (gives_in : W → Option (List Give)) (readings_in : C → Option (List ℕ))
+    (until n reading : ℕ) (old new : DaemonState W C) : Type 0 where
+  pub early : TakesEarly takings_in gives_in readings_in until n old new
+  pub rested : RestsBehind takings_in gives_in readings_in until n old new
+  pub reading_is : reading ≡ last_reading early.taken.turns
+
+-- no turn was taken
+pub attended_none : {W C : Type 0} (takings_in : W → Option (List Taking))
     (gives_in : W → Option (List Give)) (readings_in : C → Option (List ℕ)) (until : ℕ)
-    (d : DaemonState W C) → TakesEarly takings_in gives_in readings_in until 0 d d
+    (d : DaemonState W C) → Attended takings_in gives_in readings_in until 0 0 d d
 unfolding no_turns
-early_none takings_in gives_in readings_in until d =
-    record { taken = no_turns takings_in gives_in readings_in d; early = refl }
+attended_none takings_in gives_in readings_in until d = record {
+  early = record { taken = no_turns takings_in gives_in readings_in d; early = refl };
+  rested = refl;
+  reading_is = refl;
+}
 
 -- one more early turn
-pub early_more : {W C : Type 0} {takings_in : W → Option (List Taking)}
+unfoldable early_more : {W C : Type 0} {takings_in : W → Option (List Taking)}
     {gives_in : W → Option (List Give)} {readings_in : C → Option (List ℕ)}
     {until n reading : ℕ} {a b c : DaemonState W C}
     → TakesEarly takings_in gives_in readings_in until n a b
@@ -79,40 +121,109 @@ early_more {until = until} p q late =
           (map-append (λ turn. turn.reading) p.taken.turns q.taken.turns)
           ∙ list_any-append (nat_le until) before behind
           ∙ ap (λ b. b || list_any (nat_le until) behind) p.early
-          ∙ ap (list_any (nat_le until)) q.reading_is
+          ∙ ap (λ l. list_any (nat_le until) (map (λ turn. turn.reading) l)) q.turn_is
+          ∙ ap (λ r. nat_le until r || false) q.reading_is
           ∙ ap (λ b. b || false) late;
     }
 
 -- early turns, and a rest behind them
-pub early_rest : {W C : Type 0} {takings_in : W → Option (List Taking)}
+unfoldable early_rest : {W C : Type 0} {takings_in : W → Option (List Taking)}
     {gives_in : W → Option (List Give)} {readings_in : C → Option (List ℕ)}
-    {until n : ℕ} {a b c : DaemonState W C}
+    {until n reading : ℕ} {a b c : DaemonState W C}
     → TakesEarly takings_in gives_in readings_in until n a b
-    → Rests takings_in gives_in b c → TakesEarly takings_in gives_in readings_in until n a c
+    → Rests takings_in gives_in reading until b c
+    → TakesEarly takings_in gives_in readings_in until n a c
 unfolding turns_rest
 early_rest p q = record { taken = turns_rest p.taken q; early = p.early }
 
--- the same for what was attended, by its end
+-- one more early turn and its rest
+rests_more : {W C : Type 0} {takings_in : W → Option (List Taking)}
+    {gives_in : W → Option (List Give)} {readings_in : C → Option (List ℕ)}
+    {until reading : ℕ} (n : ℕ) (a b c d : DaemonState W C)
+    → RestsBehind takings_in gives_in readings_in until n a b → reading < until
+    → TakesTurnAt takings_in gives_in readings_in reading b c
+    → Rests takings_in gives_in reading until c d
+    → RestsBehind takings_in gives_in readings_in until (n + 1) a d
+rests_more {takings_in = takings_in} {gives_in} {readings_in} {until} {reading}
+    n a b c d p early turn rest =
+    let next : suc n ≡ n + 1 = omega arith in
+    subst (λ (k : ℕ). RestsBehind takings_in gives_in readings_in until k a d) next
+    (b, p, record { reading = reading; early = early; turned = c; turn = turn; rest = rest })
+
+-- the same of all that was attended
+pub attended_more : {W C : Type 0} {takings_in : W → Option (List Taking)}
+    {gives_in : W → Option (List Give)} {readings_in : C → Option (List ℕ)}
+    {until n before reading : ℕ} {a b c d : DaemonState W C}
+    → Attended takings_in gives_in readings_in until n before a b
+    → TakesTurnAt takings_in gives_in readings_in reading b c
+    → nat_le until reading ≡ false → reading < until
+    → Rests takings_in gives_in reading until c d
+    → Attended takings_in gives_in readings_in until (n + 1) reading a d
+unfolding early_more early_rest turns_rest turns_both
+attended_more {n = n} {a = a} {b} {c} {d} p turn late early rest = record {
+  early = early_rest (early_more p.early turn late) rest;
+  rested = rests_more n a b c d p.rested early turn rest;
+  reading_is =
+      last_push [] p.early.taken.turns turn.turn turn.taken.turns turn.turn_is turn.reading_is;
+}
+
+-- who has served goes on by what was attended, by its end
 by_end : {W C : Type 0} {takings_in : W → Option (List Taking)}
     {gives_in : W → Option (List Give)} {readings_in : C → Option (List ℕ)}
-    {config : ConfigModel} {wire : W} {clock : C} {until n k : ℕ} {a b c : DaemonState W C}
-    → HasServed takings_in gives_in readings_in config wire clock n a
-    → TakesTurns takings_in gives_in readings_in k a b
-    → TakesLast takings_in gives_in readings_in until b c ⊎ ((k ≡ 2 ^ 64 - 1) × (c ≡ b))
-    → (m : ℕ) × HasServed takings_in gives_in readings_in config wire clock (n + m) c
-by_end {k = k} h p (inl last) = (k + 1, served_on h (turns_both p last.takes.taken))
-by_end {W} {C} {takings_in} {gives_in} {readings_in} {config} {wire} {clock} {n = n} {k = k}
-    h p (inr all) = (
-      k,
-      subst (λ (d : DaemonState W C). HasServed takings_in gives_in readings_in config wire clock
-          (n + k) d) (sym all.1) (served_on h p),
-    )
+    {config : ConfigModel} {wire : W} {clock : C} {until reading n k : ℕ} {a b c : DaemonState W C}
+    (h : HasServed takings_in gives_in readings_in config wire clock n a)
+    (p : TakesEarly takings_in gives_in readings_in until k a b)
+    → TakesLast takings_in gives_in readings_in until reading b c
+    ⊎ ((k ≡ 2 ^ 64 - 1) × (c ≡ b) × (reading ≡ last_reading p.taken.turns))
+    → ServesUntil takings_in gives_in readings_in config wire clock n h.turns h.gives
+    until reading c
+unfolding turns_both served_on served from_first
+by_end {until = until} {k = k} h p (inl last) =
+    let turn = last.takes in
+    record {
+      m = k + 1;
+      served = served_on h (turns_both p.taken turn.taken);
+      more = p.taken.turns ++ turn.taken.turns;
+      more_gives = p.taken.gives ++ turn.taken.gives;
+      turns_are = refl;
+      gives_are = refl;
+      ends = record {
+        early = p.taken.turns;
+        are_early = p.early;
+        last = inl (
+          turn.turn,
+          ap (λ l. p.taken.turns ++ l) turn.turn_is,
+          subst (λ (r : ℕ). until ≤ r) (sym turn.reading_is) last.come,
+        );
+      };
+      reading_is =
+          last_push h.turns p.taken.turns turn.turn turn.taken.turns turn.turn_is turn.reading_is;
+    }
+by_end {W} {C} {takings_in} {gives_in} {readings_in} {config} {wire} {clock} {until} {reading}
+    {n} {k} h p (inr all) =
+    let some : 0 < length p.taken.turns = omega (arith, p.taken.count, all.0) in
+    subst (λ (d : DaemonState W C). ServesUntil takings_in gives_in readings_in config wire clock
+    n h.turns h.gives until reading d) (sym all.1) (record {
+      m = k;
+      served = served_on h p.taken;
+      more = p.taken.turns;
+      more_gives = p.taken.gives;
+      turns_are = refl;
+      gives_are = refl;
+      ends = record {
+        early = p.taken.turns;
+        are_early = p.early;
+        last = inr (refl, p.taken.count ∙ all.0);
+      };
+      reading_is = all.2 ∙ sym (behind_more 0 h.turns p.taken.turns some);
+    })
 
 -- who has served goes on by what was attended
 pub served_until : {W C : Type 0} {takings_in : W → Option (List Taking)}
     {gives_in : W → Option (List Give)} {readings_in : C → Option (List ℕ)}
-    {config : ConfigModel} {wire : W} {clock : C} {until n : ℕ} {a b : DaemonState W C}
-    → HasServed takings_in gives_in readings_in config wire clock n a
-    → AttendsUntil takings_in gives_in readings_in until a b
-    → (m : ℕ) × HasServed takings_in gives_in readings_in config wire clock (n + m) b
-served_until h p = by_end h p.early.taken p.last
+    {config : ConfigModel} {wire : W} {clock : C} {until reading n : ℕ} {a b : DaemonState W C}
+    (h : HasServed takings_in gives_in readings_in config wire clock n a)
+    → AttendsUntil takings_in gives_in readings_in until reading a b
+    → ServesUntil takings_in gives_in readings_in config wire clock n h.turns h.gives
+    until reading b
+served_until h p = by_end h p.early p.last

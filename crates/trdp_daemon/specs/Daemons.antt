@@ -10,12 +10,14 @@ use Rattle.trdp_daemon.specs.Ports.{ports_of}
 use Rattle.trdp_daemon.specs.Turns.{Turn, AllTakeAt, takings_of, turns_effect, opened_service}
 use Rattle.trdp_daemon.specs.Turns.{offers_of, missed_of}
 
--- a daemon: its node and the control places of the slots, its wire, its clock, and what it counted
+-- a daemon: its node and the control places of the slots, its wire, its clock, what it counted, and
+-- how long the wire's latest rest was asked for, in microseconds; 0 before the first
 pub record DaemonState (W C : Type 0) : Type 0 where
   pub service : ServiceState
   pub wire : W
   pub clock : C
   pub totals : Totals
+  pub asked : ℕ
 
 -- a daemon that was just made
 abbrev pub opened_daemon : {W C : Type 0} → ConfigModel → W → C → DaemonState W C
@@ -24,6 +26,7 @@ opened_daemon config wire clock = record {
   wire = wire;
   clock = clock;
   totals = no_totals;
+  asked = 0;
 }
 
 -- n turns were taken, each with one reading of the clock and one take at each port that is there,

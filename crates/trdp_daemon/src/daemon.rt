@@ -53,6 +53,7 @@ impl<W: Wire, C: Clock> Model for Daemon<W, C> {
       wire = d.link.wire;
       clock = d.clock;
       totals = d.link.totals;
+      asked = d.link.asked;
     } };
 
     ghost invariant = { λ d. IsSoundService d.service
@@ -64,7 +65,7 @@ impl<W: Wire, C: Clock> Daemon<W, C> {
     ghost use Rattle.std.specs.Prelude.{◌≡◌, ◌+◌, ℕ, IfOk, IfErr};
     ghost use Rattle.trdp_dataset.specs.Configs.{ConfigModel};
     ghost use Rattle.trdp_daemon.specs.Daemons.{HasServed, TakesTurns, opened_daemon};
-    ghost use Rattle.trdp_daemon.specs.Resting.{AttendsUntil, Rests, TakesTurnAt};
+    ghost use Rattle.trdp_daemon.specs.Resting.{AttendsUntil, Rests, ServesUntil, TakesTurnAt};
 
     /// A daemon that has taken no turn: its node is at moment 0, and no slot has a control place.
     /// All buffers are made here but that of the bytes of lines, which grows with them.
@@ -144,24 +145,25 @@ impl<W: Wire, C: Clock> Daemon<W, C> {
     }
 
     /// Takes turns until one begins at the reading `until` of the clock or later, in microseconds,
-    /// and at most 2^64 - 1 of them. Between two turns the wire rests: until a datagram may be
-    /// there, and at most until something is due or `until` comes. Answers the totals since the
-    /// daemon was made.
-    pub fn attend(&mut self, until: u64) -> Totals
-        ensures turns { AttendsUntil W.takings W.gives C.readings until self.old self.new }
+    /// and at most 2^64 - 1 of them. Behind each turn but that one the wire is asked for a rest:
+    /// until a datagram may be there, and at most until something is due or `until` comes. Answers
+    /// the reading of the last turn.
+    pub fn attend(&mut self, until: u64) -> u64
+        ensures turns { AttendsUntil W.takings W.gives C.readings until result self.old self.new }
         ensures served { (config : ConfigModel) (wire : W) (clock : C) (n : ℕ)
-            → HasServed W.takings W.gives C.readings config wire clock n self.old
-            → (m : ℕ) × HasServed W.takings W.gives C.readings config wire clock (n + m) self.new }
-        ensures totals { result ≡ self.new.totals }
+            → (before : HasServed W.takings W.gives C.readings config wire clock n self.old)
+            → ServesUntil W.takings W.gives C.readings config wire clock
+            n before.turns before.gives until result self.new }
     {
+        let mut reading = 0;
         for _turn in 0..u64::MAX {
-            let reading = self.timed_turn();
+            reading = self.timed_turn();
             if until <= reading {
-                return self.totals();
+                return reading;
             }
             self.rest(reading, until);
         }
-        self.totals()
+        reading
     }
 
     /// Takes one turn: the moment of a reading of the clock, and then at each port once that is
@@ -185,7 +187,7 @@ impl<W: Wire, C: Clock> Daemon<W, C> {
 
     /// Rests from a reading of the clock while nothing is due, at most up to `until`.
     fn rest(&mut self, reading: u64, until: u64)
-        ensures { Rests W.takings W.gives self.old self.new }
+        ensures { Rests W.takings W.gives reading until self.old self.new }
     {
         let most = self.service.idle_time(reading, until);
         self.link.rest(most);

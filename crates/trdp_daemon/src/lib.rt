@@ -15,8 +15,13 @@
 //! What no contract can say is that memory is there: a daemon that loses every text, each line that
 //! carries bytes, and each event for which memory may be wanting, and counts them in `memory`,
 //! meets its contract, and `trdp_node_tests` shows that with ample memory nothing is lost. What
-//! is told of a wire and a clock is told where these tell. That it asks for rests, and for how long,
-//! is tested over a [`MemoryWire`].
+//! is told of a wire and a clock is told where these tell.
+//!
+//! How long a wire is asked to rest is the contract of [`Daemon::attend`]: behind each turn but the
+//! last as long as nothing is due, up to its end. What the daemon notes is what it hands to
+//! [`Wire::rest`], which one line of `Link::rest` shows and no contract: a wire tells its takes and
+//! gives, and no rests. That a wire is asked for so many rests, and for so long, is tested over a
+//! [`MemoryWire`].
 //!
 //! [`UdpWire`], which never rests, and [`RestingWire`], which does, stand over [`Sockets`]: a trait
 //! of five calls, to bind a socket, to take and to give a datagram, to watch a socket and to wait.

@@ -16,13 +16,16 @@ use trdp_base::Place;
 pub(crate) struct Link<W: Wire> {
     pub(crate) wire: W,
     pub(crate) totals: Totals,
+    /// How long the latest rest was asked for, in microseconds; 0 before the first.
+    pub(crate) asked: u64,
 }
 
 impl<W: Wire> Link<W> {
-    /// A link over which nothing came and went.
+    /// A link over which nothing came and went, and that was asked for no rest.
     pub(crate) fn new(wire: W) -> Link<W>
         ensures wire { result.wire ≡ wire }
         ensures totals { result.totals ≡ no_totals }
+        ensures asked { result.asked ≡ 0 }
     {
         Link {
             wire,
@@ -33,6 +36,7 @@ impl<W: Wire> Link<W> {
                 unread: 0,
                 memory: 0,
             },
+            asked: 0,
         }
     }
 
@@ -64,13 +68,16 @@ impl<W: Wire> Link<W> {
         count_give(&mut self.totals, given.is_err());
     }
 
-    /// Waits until a datagram may be there, at most so many microseconds.
+    /// Asks the wire for a rest until a datagram may be there, of so many microseconds at most, and
+    /// notes how long that is: what is noted is what the wire is handed.
     pub(crate) fn rest(&mut self, most: u64)
+        ensures asked { self.new.asked ≡ most }
         ensures takes_nothing { W.takings self.new.wire ≡ W.takings self.old.wire }
         ensures gives_nothing { W.gives self.new.wire ≡ W.gives self.old.wire }
         ensures totals { self.new.totals ≡ self.old.totals }
     {
-        self.wire.rest(most);
+        self.asked = most;
+        self.wire.rest(self.asked);
     }
 
     /// Counts something that was lost for want of memory.

@@ -46,11 +46,13 @@ pub trait Wire {
         ensures fault { OnErr result (faults self.old < faults self.new) };
 
     /// Waits until a datagram may be at one of the ports, at most so many microseconds. A wire may
-    /// come back at once: a rest changes nothing of what is taken and given.
-    fn rest(&mut self, most: u64)
+    /// come back at once, as one does that has no rest of its own: a rest changes nothing of what
+    /// is taken and given.
+    fn rest(&mut self, _most: u64)
         ensures takes_nothing { takings self.new ≡ takings self.old }
         ensures gives_nothing { gives self.new ≡ gives self.old }
-        ensures fault { faults self.new ≡ faults self.old };
+        ensures fault { faults self.new ≡ faults self.old }
+    {}
 
     /// How often the wire has failed; it stops at 2^64 - 1.
     fn failures(&self) -> u64

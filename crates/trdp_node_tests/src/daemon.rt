@@ -45,7 +45,8 @@ impl MemoryDaemon {
 
     /// Its turns and rests until a moment, and what it has counted then.
     pub fn attend(&mut self, until: u64) -> Totals {
-        self.daemon.attend(until)
+        self.daemon.attend(until);
+        self.daemon.totals()
     }
 }
 

@@ -1,16 +1,17 @@
-use Rattle.std.proofs.Common.{◌≡◌, ◌≤◌, ◌^◌, ◌-◌, arith, inl, inr, refl, false, nat_le}
+use Rattle.std.proofs.Common.{◌≡◌, ◌<◌, ◌≤◌, ◌^◌, ◌-◌, arith, inl, inr, refl, false, nat_le}
 use Rattle.std.proofs.lemmas.Bool.Decides.{nat_tests}
-use Rattle.trdp_daemon.proofs.RestLemmas.{early_none, early_more, early_rest, served_until}
+use Rattle.trdp_daemon.proofs.RestLemmas.{attended_none, attended_more, served_until}
 use Rattle.trdp_daemon.proofs.daemon.Daemon.attend.Goals as goal
 
 pub loop-turn-init : goal.loop-turn-init
-loop-turn-init g c = early_none _ _ _ c.args.until c.args.self.now
+loop-turn-init g c = attended_none _ _ _ c.args.until c.args.self.now
 
 pub loop-turn-preserved : goal.loop-turn-preserved
 loop-turn-preserved g c =
     let late : nat_le c.args.until c.timed_turn-reading.result ≡ false =
     grind (arith, nat_tests) in
-    early_rest (early_more c.loop-turn.invariant c.timed_turn-reading.ensures late) c.rest.ensures
+    let early : c.timed_turn-reading.result < c.args.until = grind (arith, nat_tests) in
+    attended_more c.loop-turn.invariant c.timed_turn-reading.ensures late early c.rest.ensures
 
 pub returns-then-until-reading-clause-turns : goal.returns-then-until-reading-clause-turns
 returns-then-until-reading-clause-turns g c =
@@ -18,12 +19,9 @@ returns-then-until-reading-clause-turns g c =
     record {
       before = c.loop-turn._turn;
       then_at = c.loop-turn.self;
-      early = c.loop-turn.invariant;
-      last = inl (record {
-        reading = c.timed_turn-reading.result;
-        come = come;
-        takes = c.timed_turn-reading.ensures;
-      });
+      early = c.loop-turn.invariant.early;
+      rested = c.loop-turn.invariant.rested;
+      last = inl (record { come = come; takes = c.timed_turn-reading.ensures });
     }
 
 pub returns-then-until-reading-clause-served : goal.returns-then-until-reading-clause-served
@@ -37,8 +35,9 @@ returns-clause-turns g c =
     record {
       before = c.loop-turn._turn;
       then_at = c.loop-turn.self;
-      early = c.loop-turn.invariant;
-      last = inr (all, refl);
+      early = c.loop-turn.invariant.early;
+      rested = c.loop-turn.invariant.rested;
+      last = inr (all, refl, c.loop-turn.invariant.reading_is);
     }
 
 pub returns-clause-served : goal.returns-clause-served

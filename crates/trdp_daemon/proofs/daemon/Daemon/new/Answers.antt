@@ -6,3 +6,4 @@ returns-in-Ok-new-clause-served g c =
     served_none g.W.Wire.takings g.W.Wire.gives g.C.Clock.readings
     c.args.config c.args.wire c.args.clock c.in-Ok-new.service c.new-in-Ok-new.result
     c.in-Ok-new.ensures.opened c.new-in-Ok-new.ensures.wire c.new-in-Ok-new.ensures.totals
+    c.new-in-Ok-new.ensures.asked
