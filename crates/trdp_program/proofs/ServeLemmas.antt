@@ -20,9 +20,11 @@ counts_turns p = record {
   turns = p.took.turns;
   gives = p.took.gives;
   count = p.took.count;
-  ports = p.took.ports;
-  offers = p.took.offers;
-  totals_are = p.totals_are ∙ p.took.totals;
+  are = record {
+    ports = p.took.ports;
+    offers = p.took.offers;
+    totals_are = p.totals_are ∙ p.took.totals;
+  };
 }
 
 -- a fault before the first turn

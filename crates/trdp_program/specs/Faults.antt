@@ -1,6 +1,6 @@
 -- Why a run ends before the end of its script, and why a service comes to no good end.
 use Rattle.std.specs.Prelude.{ℕ, List, ◌++◌, codes, Option, Result, Ok, Err}
-use Rattle.std.specs.Io.KnownBytes.{Keeps}
+use Rattle.std.specs.Io.KnownBytes.{Appends, Keeps}
 use Rattle.trdp_base.specs.NumberText.{text_of_number}
 use Rattle.trdp_script.specs.RecordText.{name_of_line_fault}
 use Rattle.trdp_script.specs.Writes.{PartlyWrites}
@@ -13,6 +13,14 @@ use Rattle.trdp_program.specs.declared.faults.ServeFault.TheVariants as serve
 -- a front of the line of a fault was written, of this text, as far as the stream tells
 abbrev pub TellsFault : List ℕ → Option (List ℕ) → Option (List ℕ) → Type 0
 TellsFault text old new = PartlyWrites old new (text ++ codes "\n")
+
+-- some text was written, as far as the stream tells
+abbrev pub TellsText : Option (List ℕ) → Option (List ℕ) → Type 0
+TellsText old new = (text : List ℕ) × Appends old new text
+
+-- the line of a fault was written, of this text, and then maybe more; or a front of that
+abbrev pub TellsFaultFirst : List ℕ → Option (List ℕ) → Option (List ℕ) → Type 0
+TellsFaultFirst text old new = (more : List ℕ) × PartlyWrites old new (text ++ codes "\n" ++ more)
 
 -- the exit status of a script: 0 at its end, 3 for a bad line, and else 4
 abbrev pub status_of_script : Result (Unit {0}) ScriptFault → ℕ

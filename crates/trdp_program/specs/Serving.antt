@@ -25,18 +25,23 @@ text_of_totals totals =
     ++ codes " unread " ++ text_of_number totals.unread
     ++ codes " memory " ++ text_of_number totals.memory
 
--- these are the totals of a node of that configuration after its first n turns: each turn took
--- once at each port that is there, in order, and the gives are exactly what the turns offer,
--- whatever they answered
-pub record CountsTurns (config : ConfigModel) (n : ℕ) (totals : Totals) : Type 0 where
-  pub turns : List Turn
-  pub gives : List Give
-  pub count : length turns ≡ n
+-- these are the totals of a node of that configuration after these turns, its first, with these
+-- gives: each turn took once at each port that is there, in order, and the gives are exactly what
+-- the turns offer, whatever they answered
+pub record AreTotals (config : ConfigModel) (turns : List Turn) (gives : List Give)
+    (totals : Totals) : Type 0 where
   pub ports : AllTakeAt (ports_of config) (opened_service config) turns
   pub offers : map (λ give. give.offer) gives
       ≡ (turns_effect (opened_service config) turns).telling.offers
   pub totals_are : totals ≡ totals_after no_totals (flat_map takings_of turns) gives
       (turns_effect (opened_service config) turns).telling.missed
+
+-- these are the totals of a node of that configuration after its first n turns
+pub record CountsTurns (config : ConfigModel) (n : ℕ) (totals : Totals) : Type 0 where
+  pub turns : List Turn
+  pub gives : List Give
+  pub count : length turns ≡ n
+  pub are : AreTotals config turns gives totals
 
 -- these are the totals of a daemon of that configuration that has just been made, after n turns
 -- over this wire and this clock, which tell what they do by these functions

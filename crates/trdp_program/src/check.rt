@@ -1,22 +1,24 @@
 //! A check of a configuration.
 
-ghost use Rattle.std.specs.Prelude.{◌≡◌, ◌⊎◌};
+ghost use Rattle.std.specs.Prelude.{◌≡◌, ◌≢◌, ◌⊎◌, IfErr};
 ghost use Rattle.std.specs.Io.KnownBytes.{Keeps};
-ghost use Rattle.trdp_dataset.specs.declared.fault.ConfigFault.{ConfigFault};
-ghost use Rattle.trdp_program.specs.Programs.{IsConfig, IsConfigFault};
+ghost use Rattle.trdp_program.specs.Checking.{ChecksProgram};
+ghost use Rattle.trdp_program.specs.Faults.{TellsText};
+ghost use Rattle.trdp_program.specs.Programs.{IsConfig};
 
 use crate::faults::{SERVE_FAULT_STATUS, ServeFault};
-use crate::program::{CONFIG_STATUS, read_config};
-use crate::told::{tell_fault, tell_text};
+use crate::program::CONFIG_STATUS;
+use crate::told::{tell_config_fault, tell_fault};
 use std::alloc::Global;
 use std::io::Write;
 use trdp_dataset::NodeConfig;
-use trdp_report::{fault_place, report};
+use trdp_report::report;
 use trdp_script::write_whole;
 
 /// Says what a configuration (TOML) means and what its author may not have meant, on the writer,
-/// and answers the exit status: 0, or 1 where it isn't taken, with its fault on `errors` and where
-/// that is, or 4 where the writer fails or memory is wanting, with a line on `errors` (profile).
+/// and answers the exit status: 0, or 1 where it isn't taken, with its fault on `errors` and behind
+/// it where that is, or 4 where the writer fails or memory is wanting, with a line on `errors`
+/// (profile).
 pub fn check_program<W: Write, E: Write>(
     alloc: Global,
     config: &[u8],
@@ -25,11 +27,12 @@ pub fn check_program<W: Write, E: Write>(
 ) -> u8
     ensures status { (result ≡ 0) ⊎ (result ≡ 1) ⊎ (result ≡ 4) }
     ensures config { (result ≡ 1) ⊎ IsConfig config.now }
-    ensures refused { result ≡ 1 → (fault : ConfigFault) × IsConfigFault config.now fault }
+    ensures checks { ChecksProgram config.now (W.contents writer.old) (W.contents writer.new)
+        (E.contents errors.old) (E.contents errors.new) result }
     ensures quiet { result ≡ 1 → Keeps (W.contents writer.old) (W.contents writer.new) }
     ensures faultless { result ≡ 0 → Keeps (E.contents errors.old) (E.contents errors.new) }
 {
-    match read_config(alloc, config, errors) {
+    match NodeConfig::from_toml(alloc, config) {
         Ok(taken) => match write_report(alloc, config, &taken, writer) {
             Ok(()) => 0,
             Err(fault) => {
@@ -38,7 +41,7 @@ pub fn check_program<W: Write, E: Write>(
             }
         },
         Err(fault) => {
-            tell_text(fault_place(alloc, config, fault), errors);
+            tell_config_fault(alloc, config, fault, errors);
             CONFIG_STATUS
         }
     }
@@ -53,7 +56,10 @@ fn write_report<W: Write>(
     config: &[u8],
     taken: &NodeConfig,
     writer: &mut W,
-) -> Result<(), ServeFault> {
+) -> Result<(), ServeFault>
+    ensures written { TellsText (W.contents writer.old) (W.contents writer.new) }
+    ensures err { IfErr result (λ fault. fault ≢ ServeFault.Bind) }
+{
     let Ok(text) = report(alloc, config, taken) else {
         return Err(ServeFault::OutOfMemory);
     };

@@ -2,20 +2,33 @@
 
 ghost use Rattle.std.specs.Prelude.{◌≡◌, ◌⊎◌};
 ghost use Rattle.std.specs.Io.KnownBytes.{Keeps};
+ghost use Rattle.trdp_program.specs.Attending.{AttendsProgram, step_of};
+ghost use Rattle.trdp_program.specs.Faults.{TellsText};
 ghost use Rattle.trdp_program.specs.Programs.{IsConfig};
 
-use crate::attend::daemon_program;
-use crate::told::tell_text;
-use std::alloc::Global;
+use crate::attend::attend_config;
+use crate::program::CONFIG_STATUS;
+use crate::told::{tell_config_fault, tell_text};
 use std::io::Write;
 use std::net::Net;
 use std::time::Clock;
 use trdp_dataset::NodeConfig;
-use trdp_report::{fault_place, refused_ports, report};
+use trdp_report::{refused_ports, report};
 
-/// Serves a node as [`daemon_program`] does, and says on `errors` what its configuration means and
-/// what its author may not have meant, before; where it isn't taken, where its fault is; and where
-/// the system refuses a port, which one, and why (profile).
+/// Serves a node of that configuration (TOML) over the system's sockets until the program is
+/// stopped: binds its UDP ports, and takes turns with rests between them. The line of its totals so
+/// far goes to the writer with the first turn that begins so many seconds behind that of the line
+/// before, or behind the clock's first reading; never where the number is 0. It ends by itself at a
+/// fault, and after 2^64 - 1 lines: the exit status is 1 where the configuration isn't taken, 4
+/// after another fault, and else 0. A fault gives one line on `errors`, or a front of it where
+/// `errors` fails (profile).
+///
+/// The configuration is looked at first, and then the ports are bound: where it isn't taken,
+/// nothing is written.
+///
+/// On `errors` stands before what the configuration means and what its author may not have meant.
+/// Behind the fault's line stands where the fault is, where the configuration isn't taken, and else
+/// which ports the system refuses, and why (profile).
 pub fn report_daemon<H: Net + Clock + AllocGlobal, W: Write, E: Write>(
     rt: &H,
     config: &[u8],
@@ -25,29 +38,34 @@ pub fn report_daemon<H: Net + Clock + AllocGlobal, W: Write, E: Write>(
 ) -> u8
     ensures status { (result ≡ 0) ⊎ (result ≡ 1) ⊎ (result ≡ 4) }
     ensures config { (result ≡ 1) ⊎ IsConfig config.now }
+    ensures attends { AttendsProgram config.now (step_of seconds)
+        (W.contents writer.old) (W.contents writer.new)
+        (E.contents errors.old) (E.contents errors.new) result }
     ensures quiet { result ≡ 1 → Keeps (W.contents writer.old) (W.contents writer.new) }
 {
-    tell_meaning(rt.alloc(), config, errors);
-    let status = daemon_program(rt, config, seconds, writer, errors);
-    tell_end(rt, config, status, errors);
-    status
-}
-
-/// Tells what a configuration means and what its author may not have meant. Nothing is told of one
-/// that isn't taken.
-fn tell_meaning<E: Write>(alloc: Global, config: &[u8], errors: &mut E) {
-    if let Ok(taken) = NodeConfig::from_toml(alloc, config) {
-        tell_text(report(alloc, config, &taken), errors);
+    let alloc = rt.alloc();
+    match NodeConfig::from_toml(alloc, config) {
+        Ok(taken) => {
+            tell_text(report(alloc, config, &taken), errors);
+            let status = attend_config(rt, taken, seconds, writer, errors);
+            tell_ports(rt, config, status, errors);
+            status
+        }
+        Err(fault) => {
+            tell_config_fault(alloc, config, fault, errors);
+            CONFIG_STATUS
+        }
     }
 }
 
-/// Tells why a service came to no good end: where the configuration has its fault, or which of the
-/// ports the system refuses.
-fn tell_end<H: Net + AllocGlobal, E: Write>(rt: &H, config: &[u8], status: u8, errors: &mut E) {
-    let alloc = rt.alloc();
-    match NodeConfig::from_toml(alloc, config) {
-        Ok(taken) if status != 0 => tell_text(refused_ports(rt, alloc, &taken), errors),
-        Ok(_) => {}
-        Err(fault) => tell_text(fault_place(alloc, config, fault), errors),
+/// Tells which ports of a configuration the system refuses, where a service came to no good end.
+fn tell_ports<H: Net + AllocGlobal, E: Write>(rt: &H, config: &[u8], status: u8, errors: &mut E)
+    ensures { TellsText (E.contents errors.old) (E.contents errors.new) }
+{
+    if status != 0 {
+        let alloc = rt.alloc();
+        if let Ok(taken) = NodeConfig::from_toml(alloc, config) {
+            tell_text(refused_ports(rt, alloc, &taken), errors);
+        }
     }
 }

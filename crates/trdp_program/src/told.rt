@@ -1,30 +1,56 @@
 //! What the error stream is told.
 
-ghost use Rattle.std.specs.Prelude.{IfSome};
-ghost use Rattle.trdp_program.specs.Faults.{TellsFault};
+ghost use Rattle.std.specs.Prelude.{◌≡◌, ◌++◌, true, codes, IfSome};
+ghost use Rattle.std.specs.Io.KnownBytes.{Appends};
+ghost use Rattle.trdp_program.specs.ConfigNames.{text_of_config_fault};
+ghost use Rattle.trdp_program.specs.Faults.{TellsFault, TellsFaultFirst, TellsText};
 
-use std::alloc::AllocError;
+use crate::config_names::ConfigFaultText;
+use std::alloc::{AllocError, Global};
 use std::fmt::{Display, InlineText, Write as _};
 use std::io::Write;
+use trdp_dataset::ConfigFault;
+use trdp_report::fault_place;
 use trdp_script::write_whole;
 
 /// Room for the line of a fault, in bytes: more than the longest.
 const FAULT_ROOM: usize = 128;
 
-/// Tells a fault in one line, which takes no memory. One that can't be told, or only in part, is a
-/// fault all the same.
-pub(crate) fn tell_fault<F: Display + Drop, E: Write>(fault: F, errors: &mut E)
-    ensures { IfSome (F.output fault) (λ text.
+/// Tells a fault in one line, which takes no memory, and answers whether the whole line was told.
+/// One that can't be told, or only in part, is a fault all the same.
+pub(crate) fn tell_fault<F: Display + Drop, E: Write>(fault: F, errors: &mut E) -> bool
+    ensures told { IfSome (F.output fault) (λ text.
         TellsFault text (E.contents errors.old) (E.contents errors.new)) }
+    ensures whole { result ≡ true → IfSome (F.output fault) (λ text.
+        Appends (E.contents errors.old) (E.contents errors.new) (text ++ codes "\n")) }
 {
     let mut line = InlineText::<FAULT_ROOM>::new();
     if writeln!(line, "{fault}").is_ok() {
-        let _ = write_whole(errors, line.as_str().as_bytes());
+        write_whole(errors, line.as_str().as_bytes()).is_ok()
+    } else {
+        false
+    }
+}
+
+/// Tells a fault of a configuration, and behind its line where it is.
+pub(crate) fn tell_config_fault<E: Write>(
+    alloc: Global,
+    config: &[u8],
+    fault: ConfigFault,
+    errors: &mut E,
+)
+    ensures { TellsFaultFirst (text_of_config_fault fault)
+        (E.contents errors.old) (E.contents errors.new) }
+{
+    if tell_fault(ConfigFaultText(fault), errors) {
+        tell_text(fault_place(alloc, config, fault), errors);
     }
 }
 
 /// Tells a text, or nothing where memory is wanting for it.
-pub(crate) fn tell_text<E: Write>(text: Result<String, AllocError>, errors: &mut E) {
+pub(crate) fn tell_text<E: Write>(text: Result<String, AllocError>, errors: &mut E)
+    ensures { TellsText (E.contents errors.old) (E.contents errors.new) }
+{
     if let Ok(text) = text {
         // What standard error does with the text changes nothing.
         let _ = write_whole(errors, text.as_bytes());

@@ -15,8 +15,8 @@
 //!
 //! `trdpd daemon CONFIG` does the same until it is stopped: between two turns it rests until a
 //! datagram comes or something is due. With `--totals SECONDS` the line of its totals so far goes
-//! to standard output every so many seconds. It begins with the words of a check, on standard
-//! error.
+//! to standard output with the first turn that begins so many seconds behind that of the line
+//! before. It begins with the words of a check, on standard error.
 //!
 //! The exit status is
 //! - 0 at the script's end, after the last turn, and for a configuration without a fault;
@@ -31,9 +31,11 @@
 //!   the system refuses a port.
 //!
 //! What it does in each case, with the exit status, is the contract of `trdp_program`'s
-//! `run_program`, `serve_program`, `check_program` and `report_daemon`. The functions here and in
-//! `command` have no clauses: how the command line is read, which is `clap`'s, how the file is
-//! read, and status 2 are tried by hand.
+//! `run_program`, `serve_program`, `check_program` and `report_daemon`: but for the words of a
+//! check, and for what the system's sockets and clock do. The functions here and in `command` have
+//! no clauses: how the command line is read is `clap`'s matter. How the file is read, and those
+//! words, are tested over this program (`bench/refused_runs.py`, `bench/config_words.py`); status 2
+//! and the usage text were tried by hand.
 #![tactic(auto)]
 
 mod command;

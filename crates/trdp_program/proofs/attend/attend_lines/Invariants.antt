@@ -1,14 +1,11 @@
-use Rattle.std.proofs.Common.{ℕ}
 use Rattle.trdp_dataset.specs.Configs.{ConfigModel}
 use Rattle.trdp_daemon.specs.Daemons.{HasServed}
-use Rattle.trdp_program.specs.Attending.{WritesLines}
+use Rattle.trdp_program.proofs.AttendLemmas.{LinesSoFar}
 use Rattle.trdp_program.proofs.attend.attend_lines.Given as goal
 
--- a daemon that has served goes on to serve, and lines of its totals were written
+-- a daemon that had taken no turn has served up to the latest line
 abbrev pub invariant-loop-line : goal.invariant-loop-line
 invariant-loop-line g l = (config : ConfigModel) (wire : g.row.L.Denot) (clock : g.row.C.Denot)
-    (n : ℕ) → HasServed g.L.Wire.takings g.L.Wire.gives g.C.Clock.readings config wire clock n
-    l.fn.daemon
-    → ((m : ℕ) × HasServed g.L.Wire.takings g.L.Wire.gives g.C.Clock.readings config wire clock m
-    l.daemon)
-    × WritesLines config (g.W.Write.contents l.fn.writer) (g.W.Write.contents l.writer)
+    → HasServed g.L.Wire.takings g.L.Wire.gives g.C.Clock.readings config wire clock 0 l.fn.daemon
+    → LinesSoFar g.L.Wire.takings g.L.Wire.gives g.C.Clock.readings config wire clock l.fn.step
+    l._line l.until (g.W.Write.contents l.fn.writer) (g.W.Write.contents l.writer) l.daemon
