@@ -20,8 +20,8 @@ enum Said {
     Bad(LineFault),
 }
 
-/// What was read.
-fn said(read: &Result<Line, LineFault>) -> Said {
+/// What it was read as.
+fn comes_to(read: &Result<Line, LineFault>) -> Said {
     match read {
         Ok(line) => match line.event() {
             None => Said::Nothing,
@@ -56,12 +56,12 @@ fn a_line_says_its_event(rt: HostRuntime) -> Result<(), Fail> {
         same(
             &rt,
             *line,
-            said(&read_line(rt.alloc(), line.as_bytes())),
+            comes_to(&read_line(rt.alloc(), line.as_bytes())),
             *wanted,
         );
     }
     let long = vec![in rt.alloc(); b'x'; LINE_MAX + 1]?;
-    let found = said(&read_line(rt.alloc(), &long));
+    let found = comes_to(&read_line(rt.alloc(), &long));
     same(&rt, "a long line", found, Said::Bad(LineFault::TooLong));
     Ok(())
 }
@@ -69,10 +69,10 @@ fn a_line_says_its_event(rt: HostRuntime) -> Result<(), Fail> {
 #[test]
 fn a_datagram_says_its_event(rt: HostRuntime) {
     let alloc = rt.alloc();
-    let found = said(&read_operator(alloc, b"topology 8 0\r\n"));
+    let found = comes_to(&read_operator(alloc, b"topology 8 0\r\n"));
     same(&rt, "topology", found, Said::Topology(8, 0));
-    let found = said(&read_operator(alloc, b"moment 1"));
+    let found = comes_to(&read_operator(alloc, b"moment 1"));
     same(&rt, "moment", found, Said::Bad(LineFault::Unknown));
-    let found = said(&read_control(alloc, 0, b"get 1"));
+    let found = comes_to(&read_control(alloc, 0, b"get 1"));
     same(&rt, "get", found, Said::Get(0, 1));
 }
