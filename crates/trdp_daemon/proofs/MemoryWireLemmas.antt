@@ -3,14 +3,15 @@
 -- By cases: the wire has room for one thing more, or the call fails and is counted.
 use Rattle.std.proofs.Common.{◌≡◌, ◌==◌, ◌&&◌, ◌||◌, ◌<◌, ◌+◌, ◌-◌, ◌^◌, zero, suc}
 use Rattle.std.proofs.Common.{ℕ, Bool, true, false, nat_lt, if◌then◌else◌, List, []}
-use Rattle.std.proofs.Common.{◌∷◌, ◌++◌, refl, sym, ◌∙◌, ap, arith, length, eqb-true}
+use Rattle.std.proofs.Common.{Option, ◌∷◌, ◌++◌, refl, sym, ◌∙◌, ap, arith, length, eqb-true}
 use Rattle.trdp_daemon.specs.declared.port.Port.{Port}
 use Rattle.trdp_daemon.specs.Counting.{has_failed}
 use Rattle.trdp_daemon.specs.MemoryWires.{ArrivalModel, MemoryWireState, with_arrival}
 use Rattle.trdp_daemon.specs.MemoryWires.{is_failing, takes_at, failure_after, arrival_for}
 use Rattle.trdp_daemon.specs.MemoryWires.{next_take_fails, next_arrival, is_give_beyond}
 use Rattle.trdp_daemon.specs.MemoryWires.{next_give_fails, one_more_if, after_take, after_give}
-use Rattle.trdp_daemon.specs.MemoryWires.{after_rest}
+use Rattle.trdp_daemon.specs.MemoryWires.{after_rest, refusal_behind}
+use Rattle.trdp_daemon.specs.declared.refusal.Refusal.{Refusal}
 use Rattle.trdp_daemon.specs.declared.rows.Rest.{Rest}
 use Rattle.trdp_daemon.specs.Told.{Arrived, Taking, Give}
 
@@ -125,16 +126,26 @@ fails_beyond w bytes failed beyond is =
     and_true true = refl
     and_true false = refl
 
-pub give_beyond : (w : MemoryWireState) (give : Give) (failures : ℕ)
+pub give_beyond : (w : MemoryWireState) (give : Give) (failures : ℕ) (refusal : Option Refusal)
     → is_give_beyond w (length give.offer.bytes) ≡ true
-    → failures ≡ one_more_if give.failed w.failures
-    → (let x : MemoryWireState = record w { tells = false; failures = failures } in x)
-    ≡ after_give w give
+    → failures ≡ one_more_if give.failed w.failures → refusal ≡ refusal_behind w give
+    → (let x : MemoryWireState =
+    record w { tells = false; failures = failures; refusal = refusal } in x) ≡ after_give w give
 unfolding after_give
-give_beyond w give failures beyond is =
-    ap (λ n. let x : MemoryWireState = record w { tells = false; failures = n } in x) is
-    ∙ by_true (is_give_beyond w (length give.offer.bytes)) (let x : MemoryWireState =
-    record w { tells = false; failures = one_more_if give.failed w.failures } in x) _ beyond
+give_beyond w give failures refusal beyond is kept =
+    let whole : (let x : MemoryWireState =
+    record w { tells = false; failures = failures; refusal = refusal } in x)
+    ≡ (let x : MemoryWireState = record w {
+      tells = false;
+      failures = one_more_if give.failed w.failures;
+      refusal = refusal_behind w give;
+    } in x) = cc in
+    whole ∙ by_true (is_give_beyond w (length give.offer.bytes)) (let x : MemoryWireState =
+    record w {
+      tells = false;
+      failures = one_more_if give.failed w.failures;
+      refusal = refusal_behind w give;
+    } in x) _ beyond
 
 -- a give within them
 pub fails_within : (w : MemoryWireState) (bytes : ℕ) (fails failed : Bool) → is_give_beyond w bytes
@@ -147,25 +158,29 @@ fails_within w bytes fails failed within which is =
     && (b || is_failing w.laid_down.failing_gives (length w.gives + 1))) (sym within)
 
 pub give_within : (w : MemoryWireState) (give : Give) (gives : List Give)
-    (failures room byte_room : ℕ) → is_give_beyond w (length give.offer.bytes) ≡ false
+    (failures room byte_room : ℕ) (refusal : Option Refusal)
+    → is_give_beyond w (length give.offer.bytes) ≡ false
     → gives ≡ w.gives ++ give ∷ [] → failures ≡ one_more_if give.failed w.failures
-    → room ≡ w.give_room - 1 → byte_room ≡ w.byte_room - length give.offer.bytes
+    → refusal ≡ refusal_behind w give → room ≡ w.give_room - 1 → byte_room ≡ w.byte_room - length give.offer.bytes
     → (let x : MemoryWireState = record w {
       gives = gives;
       failures = failures;
+      refusal = refusal;
       give_room = room;
       byte_room = byte_room;
     } in x) ≡ after_give w give
 unfolding after_give
-give_within w give gives failures room byte_room within more is less fewer =
+give_within w give gives failures room byte_room refusal within more is kept less fewer =
     let whole : (let x : MemoryWireState = record w {
       gives = gives;
       failures = failures;
+      refusal = refusal;
       give_room = room;
       byte_room = byte_room;
     } in x) ≡ (let x : MemoryWireState = record w {
       gives = w.gives ++ give ∷ [];
       failures = one_more_if give.failed w.failures;
+      refusal = refusal_behind w give;
       give_room =
           w.give_room - 1;
       byte_room = w.byte_room - length give.offer.bytes;
@@ -174,6 +189,7 @@ give_within w give gives failures room byte_room within more is less fewer =
     record w {
       gives = w.gives ++ give ∷ [];
       failures = one_more_if give.failed w.failures;
+      refusal = refusal_behind w give;
       give_room = w.give_room - 1;
       byte_room = w.byte_room - length give.offer.bytes;
     } in

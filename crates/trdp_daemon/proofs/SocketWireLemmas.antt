@@ -9,10 +9,11 @@ use Rattle.std.specs.Prelude.{is_err}
 use Rattle.trdp_base.specs.declared.place.Place.{Place}
 use Rattle.trdp_daemon.specs.declared.fault.WireFault.{WireFault}
 use Rattle.trdp_daemon.specs.declared.port.Port.{Port}
-use Rattle.trdp_daemon.specs.declared.sockets.SocketFault.{SocketFault}
+use Rattle.trdp_daemon.specs.declared.socket_fault.SocketFault.{SocketFault}
+use Rattle.trdp_daemon.specs.declared.refusal.Refusal.{Refusal}
 use Rattle.trdp_daemon.specs.Counting.{has_failed}
 use Rattle.trdp_daemon.specs.MemoryWires.{failure_after, one_more_if}
-use Rattle.trdp_daemon.specs.Sockets.{SocketCall, TakesFrom, GivesFrom, Waits, socket_of}
+use Rattle.trdp_daemon.specs.Sockets.{SocketCall, TakesFrom, GivesFrom, Waits, socket_of, fault_of}
 use Rattle.trdp_daemon.specs.SocketWires.{TakesAtSocket, GivesAtSocket, handed_in, is_answer}
 use Rattle.trdp_daemon.specs.SocketWires.{waits_of}
 use Rattle.trdp_daemon.specs.Told.{TellsMore, Arrived, Failed, Nothing, Came, arrived_in}
@@ -116,18 +117,19 @@ took_failure port room got fault counted result n m h at is same fails count tol
 
 -- a give that went well
 pub gave : (old new : Option (List SocketCall)) (port : Port) (s : ℕ) (to : Place)
-    (bytes : List ℕ) (got : Result (Unit {0}) SocketFault) (n : ℕ)
-    → s ≡ socket_of port → false ≡ is_err got
-    → TellsMore old new (GivesFrom s to bytes (is_err got) ∷ [])
-    → GivesAtSocket old new port to bytes (Ok tt) n n
+    (bytes : List ℕ) (got : Result (Unit {0}) SocketFault) (n : ℕ) (refusal : Option Refusal)
+    → s ≡ socket_of port → fault_of got ≡ None
+    → TellsMore old new (GivesFrom s to bytes (fault_of got) ∷ [])
+    → GivesAtSocket old new port to bytes (Ok tt) n n refusal refusal
 unfolding one_more_if
-gave old new port s to bytes got n at well told = record {
-  failed = false;
-  asked = subst (λ (b : Bool). TellsMore old new (GivesFrom (socket_of port) to bytes b ∷ []))
-      (sym well)
-      (subst (λ (i : ℕ). TellsMore old new (GivesFrom i to bytes (is_err got) ∷ [])) at told);
+gave old new port s to bytes got n refusal at well told = record {
+  fault = None;
+  asked = subst (λ (f : Option SocketFault).
+      TellsMore old new (GivesFrom (socket_of port) to bytes f ∷ [])) well
+      (subst (λ (i : ℕ). TellsMore old new (GivesFrom i to bytes (fault_of got) ∷ [])) at told);
   answer = refl;
   counted = refl;
+  kept = refl;
 }
 
 below_true : (a b : ℕ) → a < b → nat_lt a b ≡ true

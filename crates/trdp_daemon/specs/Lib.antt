@@ -7,6 +7,7 @@ pub mod MemorySockets
 pub mod MemoryWires
 pub mod Openings
 pub mod Ports
+pub mod Refusals
 pub mod Resting
 pub mod Rows
 pub mod RunClocks

@@ -1,11 +1,14 @@
 -- What sockets in memory remember of their calls.
-use Rattle.std.specs.Prelude.{◌≡◌, List, [], ◌∷◌, map, false, Option, Some, None}
-use Rattle.std.specs.Prelude.{Result, Ok, Err}
+use Rattle.std.specs.Prelude.{◌≡◌, ◌==◌, List, [], ◌∷◌, map}
+use Rattle.std.specs.Prelude.{Option, Some, None, Result, Ok, Err}
 use Rattle.std.specs.declared.alloc.AllocError.{AllocError}
+use Rattle.trdp_base.specs.declared.place.Ip.{Ip}
 use Rattle.trdp_daemon.specs.declared.memory_sockets.MemorySockets.{MemorySockets}
 use Rattle.trdp_daemon.specs.declared.memory_sockets.SocketRow.{SocketRow}
 use Rattle.trdp_daemon.specs.declared.memory_sockets.SocketRow.TheVariants as row
+use Rattle.trdp_daemon.specs.declared.socket_fault.SocketFault.{SocketFault}
 use Rattle.trdp_daemon.specs.MemoryWires.{told}
+use Rattle.trdp_daemon.specs.Refusals.{no_way_if}
 use Rattle.trdp_daemon.specs.Sockets.{SocketCall, Binds, TakesFrom, GivesFrom, Watches, Waits}
 use Rattle.trdp_daemon.specs.Told.{TellsMore, Nothing, Came}
 
@@ -15,9 +18,15 @@ call_of (row.Bound socket place) = Binds socket place None
 call_of (row.Taken socket room None) = TakesFrom socket room Nothing
 call_of (row.Taken socket room (Some found)) =
     TakesFrom socket room (Came found.0 found.1.items)
-call_of (row.Given socket to bytes) = GivesFrom socket to bytes.items false
+call_of (row.Given socket to bytes) = GivesFrom socket to bytes.items None
+call_of (row.Refused socket to bytes fault) = GivesFrom socket to bytes.items (Some fault)
 call_of (row.Watched socket) = Watches socket None
 call_of (row.Waited millis) = Waits millis
+
+-- the fault of a give for an address, where no way leads to this one
+abbrev pub give_fault : Option Ip → Ip → Option SocketFault
+give_fault None ip = None
+give_fault (Some far) ip = no_way_if (far.0 == ip.0)
 
 -- what they tell
 abbrev pub told_calls : MemorySockets → Option (List SocketCall)

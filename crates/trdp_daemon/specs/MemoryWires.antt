@@ -5,9 +5,11 @@ use Rattle.std.specs.Prelude.{take, drop, length}
 use Rattle.std.specs.List.{find, list_any, count_by}
 use Rattle.trdp_base.specs.declared.place.Place.{Place}
 use Rattle.trdp_daemon.specs.declared.port.Port.{Port}
+use Rattle.trdp_daemon.specs.declared.refusal.Refusal.{Refusal}
 use Rattle.trdp_daemon.specs.declared.rows.Rest.{Rest}
 use Rattle.trdp_daemon.specs.Counting.{has_failed}
 use Rattle.trdp_daemon.specs.Ports.{is_port}
+use Rattle.trdp_daemon.specs.Refusals.{no_way_if, refusal_after}
 use Rattle.trdp_daemon.specs.Told.{Arrived, Failed, Nothing, Came, Taking, Give}
 
 -- a datagram that was laid down: the port that it arrives at, at which take there, counted from 1,
@@ -26,8 +28,8 @@ pub record LaidDown : Type 0 where
   pub failing_gives : List ℕ
 
 -- a wire in memory: what was laid down, its takes, gives and rests within its rooms, whether it
--- tells takes and gives, how often it failed, and how many more takes, gives, bytes of gives and
--- rests find room
+-- tells takes and gives, how often it failed, the latest give that it refused, and how many more
+-- takes, gives, bytes of gives and rests find room
 pub record MemoryWireState : Type 0 where
   pub laid_down : LaidDown
   pub takings : List Taking
@@ -35,6 +37,7 @@ pub record MemoryWireState : Type 0 where
   pub rests : List Rest
   pub tells : Bool
   pub failures : ℕ
+  pub refusal : Option Refusal
   pub take_room : ℕ
   pub give_room : ℕ
   pub byte_room : ℕ
@@ -135,14 +138,24 @@ after_take wire taking = if wire.take_room == 0
       take_room = wire.take_room - 1;
     }
 
+-- the latest refusal of a wire after a give: this one, if it failed
+abbrev pub refusal_behind : MemoryWireState → Give → Option Refusal
+refusal_behind wire give =
+    refusal_after give.offer.port give.offer.to (no_way_if give.failed) wire.refusal
+
 -- a wire after a give; beyond its rooms it isn't remembered, and the wire tells nothing from then
 -- on
 unfoldable pub after_give : MemoryWireState → Give → MemoryWireState
 after_give wire give = if is_give_beyond wire (length give.offer.bytes)
-    then record wire { tells = false; failures = one_more_if give.failed wire.failures }
+    then record wire {
+      tells = false;
+      failures = one_more_if give.failed wire.failures;
+      refusal = refusal_behind wire give;
+    }
     else record wire {
       gives = wire.gives ++ give ∷ [];
       failures = one_more_if give.failed wire.failures;
+      refusal = refusal_behind wire give;
       give_room = wire.give_room - 1;
       byte_room = wire.byte_room - length give.offer.bytes;
     }

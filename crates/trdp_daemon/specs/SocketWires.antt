@@ -1,14 +1,17 @@
 -- What a wire over sockets makes of its calls.
 use Rattle.std.specs.Prelude.{◌≡◌, ℕ, ◌-◌, ◌/◌, ◌^◌, nat_lt, List, [], ◌∷◌, length, codes}
-use Rattle.std.specs.Prelude.{Bool, true, false, ◌&&◌, ◌||◌, ◌==◌, if◌then◌else◌, Option, Result}
-use Rattle.std.specs.Prelude.{is_err}
+use Rattle.std.specs.Prelude.{Bool, true, false, ◌&&◌, ◌||◌, ◌==◌, if◌then◌else◌}
+use Rattle.std.specs.Prelude.{Option, is_some, Result, is_err}
 use Rattle.std.specs.List.{starts_with}
 use Rattle.trdp_base.specs.declared.place.Place.{Place}
 use Rattle.trdp_daemon.specs.declared.fault.WireFault.{WireFault}
 use Rattle.trdp_daemon.specs.declared.port.Port.{Port}
 use Rattle.trdp_daemon.specs.declared.port.Port.TheVariants.{Pd, Md, Operator, Control}
+use Rattle.trdp_daemon.specs.declared.refusal.Refusal.{Refusal}
+use Rattle.trdp_daemon.specs.declared.socket_fault.SocketFault.{SocketFault}
 use Rattle.trdp_daemon.specs.Counting.{has_failed}
 use Rattle.trdp_daemon.specs.MemoryWires.{failure_after, one_more_if}
+use Rattle.trdp_daemon.specs.Refusals.{refusal_after}
 use Rattle.trdp_daemon.specs.Sockets.{SocketCall, TakesFrom, GivesFrom, Waits, socket_of}
 use Rattle.trdp_daemon.specs.Told.{TellsMore, Arrived, Failed, Nothing, Came, arrived_in}
 
@@ -54,14 +57,16 @@ pub record TakesAtSocket (old new : Option (List SocketCall)) (port : Port) (roo
   pub noted : heard_then ≡ heard || is_heard arrived
 
 -- one give was made, from the port's socket, of these bytes to that place, and it answers whether
--- that failed, unless the count of failures is at its last value
+-- that was refused, unless the count of failures is at its last value; the latest refusal is then
+-- this one, if it was
 pub record GivesAtSocket (old new : Option (List SocketCall)) (port : Port) (to : Place)
     (bytes : List ℕ) (result : Result (Unit {0}) WireFault) (failures failures_then : ℕ)
-    : Type 0 where
-  pub failed : Bool
-  pub asked : TellsMore old new (GivesFrom (socket_of port) to bytes failed ∷ [])
-  pub answer : is_err result ≡ failed && nat_lt failures (2 ^ 64 - 1)
+    (refusal refusal_then : Option Refusal) : Type 0 where
+  pub fault : Option SocketFault
+  pub asked : TellsMore old new (GivesFrom (socket_of port) to bytes fault ∷ [])
+  pub answer : is_err result ≡ is_some fault && nat_lt failures (2 ^ 64 - 1)
   pub counted : failures_then ≡ one_more_if (is_err result) failures
+  pub kept : refusal_then ≡ refusal_after port to fault refusal
 
 -- the waits of a rest of at most so many microseconds: none where something was heard since the
 -- rest before, since more may be there; else one of whole milliseconds, which ends some 200

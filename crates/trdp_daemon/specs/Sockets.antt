@@ -1,21 +1,22 @@
 -- What is asked of the datagram sockets of a system.
 use Rattle.std.specs.Prelude.{◌≡◌, ℕ, ◌+◌, List, [], ◌∷◌, ◌++◌, map, Option, Some, None}
-use Rattle.std.specs.Prelude.{Bool, Result, Ok, Err}
+use Rattle.std.specs.Prelude.{Result, Ok, Err}
 use Rattle.trdp_base.specs.declared.place.Place.{Place}
 use Rattle.trdp_dataset.specs.Configs.{ConfigModel}
 use Rattle.trdp_daemon.specs.declared.bind_fault.BindFault.{BindFault}
 use Rattle.trdp_daemon.specs.declared.port.Port.{Port}
 use Rattle.trdp_daemon.specs.declared.port.Port.TheVariants.{Pd, Md, Operator, Control}
+use Rattle.trdp_daemon.specs.declared.socket_fault.SocketFault.{SocketFault}
 use Rattle.trdp_daemon.specs.Ports.{ports_of, place_of_port}
 use Rattle.trdp_daemon.specs.Told.{TellsMore, Arrived}
 
 -- one call, with its answer: a socket is bound at a place; with room for so many bytes, what was
--- taken from it; what was given to it, and whether it failed; a wait ends when a datagram comes
--- there; and a wait, of at most so many milliseconds
+-- taken from it; what was given to it, and the fault if it refused that; a wait ends when a
+-- datagram comes there; and a wait, of at most so many milliseconds
 pub data SocketCall : Type 0 where
   Binds : (socket : ℕ) (place : Place) (fault : Option BindFault) → SocketCall
   TakesFrom : (socket room : ℕ) (arrived : Arrived) → SocketCall
-  GivesFrom : (socket : ℕ) (to : Place) (bytes : List ℕ) (failed : Bool) → SocketCall
+  GivesFrom : (socket : ℕ) (to : Place) (bytes : List ℕ) (fault : Option SocketFault) → SocketCall
   Watches : (socket : ℕ) (fault : Option BindFault) → SocketCall
   Waits : (millis : ℕ) → SocketCall
 
@@ -28,7 +29,7 @@ fault_of (Err fault) = Some fault
 abbrev pub refused : BindFault → SocketCall → SocketCall
 refused fault (Binds socket place answer) = Binds socket place (Some fault)
 refused fault (TakesFrom socket room arrived) = TakesFrom socket room arrived
-refused fault (GivesFrom socket to bytes failed) = GivesFrom socket to bytes failed
+refused fault (GivesFrom socket to bytes answer) = GivesFrom socket to bytes answer
 refused fault (Watches socket answer) = Watches socket (Some fault)
 refused fault (Waits millis) = Waits millis
 

@@ -28,13 +28,13 @@
 //! What the wires make of these is proved for all sockets that tell what was asked of them: which
 //! sockets are bound, where and in which order, and with which fault that ends; that a take and a
 //! give are one call each, at the socket of their port; which datagrams aren't handed in; when a
-//! failure is counted; which sockets a wait watches, when a rest waits, and how long. So is how
-//! [`RunClock`] makes numbers of the moments that it is told. What is left to the system is one
-//! function a call in [`SystemSockets`], and the one reading in [`RunClock`]: that a socket is
-//! bound where it is asked for and never waits, that what came is taken whole and what is given is
-//! sent, that a wait ends when a datagram comes, and that the moment is now. The system tells
-//! nothing of it, so a system at which nothing ever comes meets the contracts, as a network may be
-//! so; the tests over loopback try it. [`MemorySockets`] tell, and are for tests.
+//! failure is counted; which refusal is kept; which sockets a wait watches, when a rest waits, and
+//! how long. So is how [`RunClock`] makes numbers of the moments that it is told. What is left to
+//! the system is one function a call in [`SystemSockets`], and the one reading in [`RunClock`]:
+//! that a socket is bound where it is asked for and never waits, that what came is taken whole and
+//! what is given is sent, that a wait ends when a datagram comes, and that the moment is now. The
+//! system tells nothing of it, so a system at which nothing ever comes meets the contracts, as a
+//! network may be so; the tests over loopback try it. [`MemorySockets`] tell, and are for tests.
 #![tactic(auto)]
 
 mod answer;
@@ -53,11 +53,13 @@ mod offers;
 mod opening;
 mod port;
 mod ports;
+mod refusal;
 mod resting_wire;
 mod rows;
 mod run_clock;
 mod seats;
 mod service;
+mod socket_fault;
 mod sockets;
 mod system_sockets;
 mod telling;
@@ -75,10 +77,12 @@ pub use memory_sockets::{MemorySockets, SocketRow};
 pub use memory_wire::MemoryWire;
 pub use offers::Offers;
 pub use port::Port;
+pub use refusal::Refusal;
 pub use resting_wire::RestingWire;
 pub use rows::Rest;
 pub use run_clock::RunClock;
-pub use sockets::{SocketFault, Sockets};
+pub use socket_fault::SocketFault;
+pub use sockets::Sockets;
 pub use system_sockets::SystemSockets;
 pub use totals::Totals;
 pub use udp_wire::UdpWire;

@@ -1,16 +1,17 @@
 //! Sockets in memory, for tests.
 
-ghost use Rattle.std.specs.Prelude.{◌≡◌, ◌≤◌, ◌∷◌, [], length, map, false, IfOk, IfSome};
-ghost use Rattle.std.specs.Prelude.{Some};
-ghost use Rattle.trdp_daemon.specs.MemorySockets.{Notes, call_of, told_calls};
-ghost use Rattle.trdp_daemon.specs.Sockets.{GivesFrom, TakesFrom};
+ghost use Rattle.std.specs.Prelude.{◌≡◌, ◌≤◌, ◌∷◌, [], length, map, IfOk, IfSome};
+ghost use Rattle.std.specs.Prelude.{Some, None};
+ghost use Rattle.trdp_daemon.specs.MemorySockets.{Notes, call_of, give_fault, told_calls};
+ghost use Rattle.trdp_daemon.specs.Sockets.{GivesFrom, TakesFrom, fault_of};
 ghost use Rattle.trdp_daemon.specs.Told.{TellsMore, arrival_in};
 
 use crate::arrivals::fill;
 use crate::bind_fault::BindFault;
-use crate::sockets::{SocketFault, Sockets};
+use crate::socket_fault::{NO_WAY, SocketFault};
+use crate::sockets::Sockets;
 use std::alloc::{AllocError, Global};
-use trdp_base::Place;
+use trdp_base::{Ip, Place};
 
 /// One call of sockets in memory; the first number is the socket's.
 #[derive(Debug, PartialEq, Eq, Drop)]
@@ -22,6 +23,8 @@ pub enum SocketRow {
     Taken(usize, usize, Option<(Place, Vec<u8>)>),
     /// These bytes were given to it, for a place.
     Given(usize, Place, Vec<u8>),
+    /// These bytes were given to it, for a place, and it refused them.
+    Refused(usize, Place, Vec<u8>, SocketFault),
     /// It was watched.
     Watched(usize),
     /// A wait, of so many milliseconds.
@@ -39,8 +42,9 @@ struct SocketArrival {
     bytes: Vec<u8>,
 }
 
-/// Sockets in memory, which refuse nothing: datagrams are laid down for them, and they remember
-/// what was asked. They tell it, until memory is wanting; after that they tell nothing.
+/// Sockets in memory: datagrams are laid down for them, and they remember what was asked. They
+/// tell it, until memory is wanting; after that they tell nothing. They refuse nothing but what is
+/// given for an address that was cut off.
 #[derive(Drop)]
 pub struct MemorySockets {
     /// What their lists take memory from.
@@ -49,6 +53,8 @@ pub struct MemorySockets {
     arrivals: Vec<SocketArrival>,
     /// What was asked, in order.
     rows: Vec<SocketRow>,
+    /// The address to which no way leads; None where ways lead to all.
+    far: Option<Ip>,
     /// Whether all is told.
     tells: bool,
 }
@@ -56,12 +62,14 @@ pub struct MemorySockets {
 impl MemorySockets {
     /// Sockets that nothing was asked of.
     pub fn new(alloc: Global) -> MemorySockets
-        ensures { told_calls result ≡ Some [] }
+        ensures calls { told_calls result ≡ Some [] }
+        ensures far { result.far ≡ None }
     {
         MemorySockets {
             alloc,
             arrivals: Vec::new(alloc),
             rows: Vec::new(alloc),
+            far: None,
             tells: true,
         }
     }
@@ -82,6 +90,14 @@ impl MemorySockets {
         Ok(())
     }
 
+    /// From now on no way leads to this address, and to no other: what is given for it is refused.
+    pub fn cut_off(&mut self, far: Ip)
+        ensures calls { told_calls self.new ≡ told_calls self.old }
+        ensures far { self.new.far ≡ Some far }
+    {
+        self.far = Some(far);
+    }
+
     /// What was asked, in order, until memory was wanting.
     pub fn rows(&self) -> &[SocketRow]
         ensures { IfSome (told_calls self.now) (λ calls. calls ≡ map call_of result.now) }
@@ -99,6 +115,19 @@ impl MemorySockets {
         let arrival = self.arrivals.remove(index);
         let len = fill(room, &arrival.bytes);
         Some((arrival.from, len))
+    }
+
+    /// Whether a way leads to an address.
+    ///
+    /// # Errors
+    /// What the system says where none does.
+    fn way_to(&self, ip: Ip) -> Result<(), SocketFault>
+        ensures { fault_of result ≡ give_fault self.now.far ip }
+    {
+        match self.far {
+            Some(far) if far == ip => Err(NO_WAY),
+            _ => Ok(()),
+        }
     }
 
     /// Remembers a call, unless there is no memory for it.
@@ -135,10 +164,15 @@ impl Sockets for MemorySockets {
         Ok(found)
     }
 
-    fn give(&mut self, socket: usize, to: Place, bytes: &[u8]) -> Result<(), SocketFault> {
-        let row = given(self.alloc, socket, to, bytes);
+    fn give(&mut self, socket: usize, to: Place, bytes: &[u8]) -> Result<(), SocketFault>
+        ensures told { TellsMore (told_calls self.old) (told_calls self.new)
+            (GivesFrom socket to bytes.now (fault_of result) ∷ []) }
+        ensures refused { fault_of result ≡ give_fault self.old.far to.ip }
+    {
+        let answer = self.way_to(to.ip);
+        let row = given(self.alloc, socket, to, bytes, answer);
         self.note(row);
-        Ok(())
+        answer
     }
 
     fn watch(&mut self, _alloc: Global, socket: usize) -> Result<(), BindFault> {
@@ -175,13 +209,23 @@ fn taken(
     }
 }
 
-/// A give of these bytes.
+/// A give of these bytes that was answered so.
 ///
 /// # Errors
 /// Want of memory for them.
-fn given(alloc: Global, socket: usize, to: Place, bytes: &[u8]) -> Result<SocketRow, AllocError>
-    ensures { IfOk result (λ row. call_of row ≡ GivesFrom socket to bytes.now false) }
+fn given(
+    alloc: Global,
+    socket: usize,
+    to: Place,
+    bytes: &[u8],
+    answer: Result<(), SocketFault>,
+) -> Result<SocketRow, AllocError>
+    ensures { IfOk result (λ row. call_of row
+        ≡ GivesFrom socket to bytes.now (fault_of answer)) }
 {
     let bytes = bytes.to_vec(alloc)?;
-    Ok(SocketRow::Given(socket, to, bytes))
+    match answer {
+        Ok(()) => Ok(SocketRow::Given(socket, to, bytes)),
+        Err(fault) => Ok(SocketRow::Refused(socket, to, bytes, fault)),
+    }
 }

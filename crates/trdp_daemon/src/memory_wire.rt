@@ -10,6 +10,7 @@ use crate::arrivals::{Arrival, answer_take, failing_take, is_failing, takes_at};
 use crate::fault::{WireFault, fail};
 use crate::offers::Offers;
 use crate::port::Port;
+use crate::refusal::{Refusal, keep_refusal};
 use crate::rows::{GiveRow, Rest, TakeRow};
 use crate::wire::Wire;
 use std::alloc::{AllocError, Global};
@@ -43,6 +44,8 @@ pub struct MemoryWire {
     byte_room: usize,
     /// How often it has failed, at most 2^64 - 1.
     failures: u64,
+    /// The latest give at which it failed; None before the first.
+    refusal: Option<Refusal>,
     /// Whether it tells its takes and gives: no call was beyond its rooms.
     tells: bool,
 }
@@ -65,6 +68,7 @@ impl Model for MemoryWire {
       rests = w.rested.items;
       tells = w.tells;
       failures = w.failures;
+      refusal = w.refusal;
       take_room = vec_capacity w.taken - vec_len w.taken;
       give_room = vec_capacity w.given - vec_len w.given;
       byte_room = w.byte_room;
@@ -78,7 +82,7 @@ impl Model for MemoryWire {
 
 impl MemoryWire {
     ghost use Rattle.std.specs.Prelude.{◌≡◌, [], IfOk, OnOk, OnErr, map};
-    ghost use Rattle.std.specs.Prelude.{true, false, ◌<◌, ◌≤◌};
+    ghost use Rattle.std.specs.Prelude.{true, false, ◌<◌, ◌≤◌, None};
     ghost use Rattle.std.specs.List.{flat_map};
     ghost use Rattle.trdp_daemon.specs.MemoryWires.{nothing_laid_down, with_arrival};
     ghost use Rattle.trdp_daemon.specs.MemoryWires.{is_give_beyond, with_failing_give};
@@ -101,6 +105,7 @@ impl MemoryWire {
         ensures rests { IfOk result (λ wire. wire.rests ≡ []) }
         ensures tells { IfOk result (λ wire. wire.tells ≡ true) }
         ensures failures { IfOk result (λ wire. wire.failures ≡ 0) }
+        ensures refusal { IfOk result (λ wire. wire.refusal ≡ None) }
         ensures take_room { IfOk result (λ wire. wire.take_room ≡ takes) }
         ensures give_room { IfOk result (λ wire. wire.give_room ≡ gives) }
         ensures byte_room { IfOk result (λ wire. wire.byte_room ≡ bytes) }
@@ -121,6 +126,7 @@ impl MemoryWire {
             rested,
             byte_room: bytes,
             failures: 0,
+            refusal: None,
             tells: true,
         })
     }
@@ -269,10 +275,13 @@ impl Wire for MemoryWire {
     {
         if self.is_give_beyond(bytes.len()) {
             self.tells = false;
-            return fail(&mut self.failures);
+            let result = fail(&mut self.failures);
+            keep_refusal(&mut self.refusal, port, to, result);
+            return result;
         }
         let fails = is_failing(&self.failing_gives, self.given.len() + 1);
         let result = fail_if(fails, &mut self.failures);
+        keep_refusal(&mut self.refusal, port, to, result);
         let row = GiveRow {
             port,
             to,
@@ -300,6 +309,12 @@ impl Wire for MemoryWire {
 
     fn failures(&self) -> u64 {
         self.failures
+    }
+
+    fn refusal(&self) -> Option<Refusal>
+        ensures { result ≡ self.now.refusal }
+    {
+        self.refusal
     }
 }
 

@@ -10,6 +10,7 @@ use crate::bind_fault::BindFault;
 use crate::fault::WireFault;
 use crate::opening::bind_and_watch_ports;
 use crate::port::Port;
+use crate::refusal::Refusal;
 use crate::sockets::Sockets;
 use crate::system_sockets::SystemSockets;
 use crate::udp_wire::UdpWire;
@@ -47,6 +48,7 @@ impl<'a, R: Net> RestingWire<SystemSockets<'a, R>> {
         config: &NodeConfig,
     ) -> Result<RestingWire<SystemSockets<'a, R>>, BindFault>
         ensures failures { IfOk result (λ wire. wire.wire.failures ≡ 0) }
+        ensures refusal { IfOk result (λ wire. wire.wire.refusal ≡ None) }
     {
         match RestingWire::open(alloc, SystemSockets::new(rt), config) {
             Ok(wire) => Ok(wire),
@@ -74,6 +76,7 @@ impl<S: Sockets> RestingWire<S> {
             (S.calls sockets) (S.calls back.1)) }
         ensures failures { IfOk result (λ wire. wire.wire.failures ≡ 0) }
         ensures heard { IfOk result (λ wire. wire.wire.heard ≡ false) }
+        ensures refusal { IfOk result (λ wire. wire.wire.refusal ≡ None) }
     {
         match bind_and_watch_ports(&mut sockets, alloc, config) {
             Ok(()) => Ok(RestingWire {
@@ -105,6 +108,7 @@ impl<S: Sockets> Wire for RestingWire<S> {
             (S.calls self.new.wire.sockets) port room.new result
             self.old.wire.failures self.new.wire.failures
             self.old.wire.heard self.new.wire.heard }
+        ensures refusal { self.new.wire.refusal ≡ self.old.wire.refusal }
     {
         self.wire.take(port, room)
     }
@@ -113,7 +117,8 @@ impl<S: Sockets> Wire for RestingWire<S> {
         ensures fault { OnErr result (self.old.wire.failures < self.new.wire.failures) }
         ensures gives { GivesAtSocket (S.calls self.old.wire.sockets)
             (S.calls self.new.wire.sockets) port to bytes.now result
-            self.old.wire.failures self.new.wire.failures }
+            self.old.wire.failures self.new.wire.failures
+            self.old.wire.refusal self.new.wire.refusal }
         ensures heard { self.new.wire.heard ≡ self.old.wire.heard }
     {
         self.wire.give(port, to, bytes)
@@ -124,6 +129,7 @@ impl<S: Sockets> Wire for RestingWire<S> {
         ensures waits { TellsMore (S.calls self.old.wire.sockets) (S.calls self.new.wire.sockets)
             (waits_of self.old.wire.heard most) }
         ensures forgotten { self.new.wire.heard ≡ false }
+        ensures refusal { self.new.wire.refusal ≡ self.old.wire.refusal }
     {
         // The system tells what comes, and not what is there: a wait begins only where each port
         // had nothing since the rest before.
@@ -138,6 +144,12 @@ impl<S: Sockets> Wire for RestingWire<S> {
 
     fn failures(&self) -> u64 {
         self.wire.failures()
+    }
+
+    fn refusal(&self) -> Option<Refusal>
+        ensures { result ≡ self.now.wire.refusal }
+    {
+        self.wire.refusal()
     }
 }
 

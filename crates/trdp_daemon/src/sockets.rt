@@ -1,18 +1,13 @@
 //! What a wire takes datagrams from and gives them to.
 
-ghost use Rattle.std.specs.Prelude.{[], ◌∷◌, ◌≤◌, length, IfOk, IfSome, is_err};
+ghost use Rattle.std.specs.Prelude.{[], ◌∷◌, ◌≤◌, length, IfOk, IfSome};
 ghost use Rattle.trdp_daemon.specs.Sockets.{Binds, TakesFrom, GivesFrom, Watches, Waits, fault_of};
 ghost use Rattle.trdp_daemon.specs.Told.{TellsMore, arrived_in};
 
 use crate::bind_fault::BindFault;
+use crate::socket_fault::SocketFault;
 use std::alloc::Global;
-use thiserror::Error;
 use trdp_base::Place;
-
-/// A socket couldn't take or give a datagram.
-#[derive(Clone, Copy, Debug, PartialEq, Eq, Error)]
-#[error("a socket couldn't take or give a datagram")]
-pub struct SocketFault;
 
 /// The datagram sockets of a system. Who binds one gives it a number, and calls it by that
 /// (profile). No call waits but `wait`. They may tell what was asked of them.
@@ -51,7 +46,7 @@ pub trait Sockets {
     /// `SocketFault`, where the system refuses it.
     fn give(&mut self, socket: usize, to: Place, bytes: &[u8]) -> Result<(), SocketFault>
         ensures { TellsMore (calls self.old) (calls self.new)
-            (GivesFrom socket to bytes.now (is_err result) ∷ []) };
+            (GivesFrom socket to bytes.now (fault_of result) ∷ []) };
 
     /// From now on a wait ends when a datagram comes at a socket.
     ///

@@ -4,12 +4,14 @@
 //! more than what names its arguments and its answer. They are tested over loopback.
 
 ghost use Rattle.std.specs.Prelude.{◌≡◌, ◌*◌};
-ghost use Rattle.std.specs.IoError.{error_kind};
+ghost use Rattle.std.specs.IoError.{error_kind, raw_os_error};
 ghost use Rattle.std.specs.Duration.{as_nanos};
 ghost use Rattle.trdp_daemon.specs.SystemSockets.{fault_of_kind, place_at, received_of, sent_of};
+ghost use Rattle.trdp_daemon.specs.SystemSockets.{socket_fault};
 
 use crate::bind_fault::BindFault;
-use crate::sockets::{SocketFault, Sockets};
+use crate::socket_fault::SocketFault;
+use crate::sockets::Sockets;
 use mio::unix::SourceFd;
 use mio::{Events, Interest, Poll, Token};
 use std::alloc::Global;
@@ -87,7 +89,7 @@ impl<'a, R: Net> Sockets for SystemSockets<'a, R> {
 
     fn give(&mut self, socket: usize, to: Place, bytes: &[u8]) -> Result<(), SocketFault> {
         let Some(Some(socket)) = self.sockets.get(socket) else {
-            return Err(SocketFault);
+            return Err(SocketFault { code: None });
         };
         let sent = socket.send_to(bytes, SocketAddr::V4(address_of(to)));
         sent_whole(sent, bytes.len())
@@ -164,7 +166,7 @@ fn received(found: io::Result<(usize, SocketAddr)>) -> Result<Option<(Place, usi
         Ok((_, SocketAddr::V6(_))) => Ok(None),
         Err(error) => match error.kind() {
             io::ErrorKind::WouldBlock => Ok(None),
-            _ => Err(SocketFault),
+            _ => Err(socket_fault(&error)),
         },
     }
 }
@@ -178,10 +180,19 @@ fn sent_whole(sent: io::Result<usize>, len: usize) -> Result<(), SocketFault>
             if count == len {
                 Ok(())
             } else {
-                Err(SocketFault)
+                Err(SocketFault { code: None })
             }
         }
-        Err(_) => Err(SocketFault),
+        Err(error) => Err(socket_fault(&error)),
+    }
+}
+
+/// A system's error as the fault of a socket.
+fn socket_fault(error: &io::Error) -> SocketFault
+    ensures { result ≡ socket_fault (raw_os_error error.now) }
+{
+    SocketFault {
+        code: error.raw_os_error(),
     }
 }
 

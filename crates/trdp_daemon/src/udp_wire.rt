@@ -10,6 +10,7 @@ use crate::bind_fault::BindFault;
 use crate::fault::{WireFault, fail};
 use crate::opening::bind_ports;
 use crate::port::Port;
+use crate::refusal::Refusal;
 use crate::seats::socket_of;
 use crate::sockets::Sockets;
 use crate::system_sockets::SystemSockets;
@@ -35,6 +36,8 @@ pub struct UdpWire<S> {
     pub(crate) failures: u64,
     /// Whether something came or failed at a take since this was asked the last time.
     pub(crate) heard: bool,
+    /// The latest give that was refused; None before the first.
+    pub(crate) refusal: Option<Refusal>,
 }
 
 impl<'a, R: Net> UdpWire<SystemSockets<'a, R>> {
@@ -47,6 +50,7 @@ impl<'a, R: Net> UdpWire<SystemSockets<'a, R>> {
     /// else `Bind`.
     pub fn bind(rt: &'a R, config: &NodeConfig) -> Result<UdpWire<SystemSockets<'a, R>>, BindFault>
         ensures failures { IfOk result (λ wire. wire.failures ≡ 0) }
+        ensures refusal { IfOk result (λ wire. wire.refusal ≡ None) }
     {
         match UdpWire::open(SystemSockets::new(rt), config) {
             Ok(wire) => Ok(wire),
@@ -69,6 +73,7 @@ impl<S: Sockets> UdpWire<S> {
             (S.calls sockets) (S.calls back.1)) }
         ensures failures { IfOk result (λ wire. wire.failures ≡ 0) }
         ensures heard { IfOk result (λ wire. wire.heard ≡ false) }
+        ensures refusal { IfOk result (λ wire. wire.refusal ≡ None) }
     {
         match bind_ports(&mut sockets, config) {
             Ok(()) => Ok(UdpWire::over(sockets)),
@@ -88,11 +93,13 @@ impl<S: Sockets> UdpWire<S> {
         ensures sockets { result.sockets ≡ sockets }
         ensures failures { result.failures ≡ 0 }
         ensures heard { result.heard ≡ false }
+        ensures refusal { result.refusal ≡ None }
     {
         UdpWire {
             sockets,
             failures: 0,
             heard: false,
+            refusal: None,
         }
     }
 
@@ -102,6 +109,7 @@ impl<S: Sockets> UdpWire<S> {
         ensures forgotten { self.new.heard ≡ false }
         ensures sockets { self.new.sockets ≡ self.old.sockets }
         ensures failures { self.new.failures ≡ self.old.failures }
+        ensures refusal { self.new.refusal ≡ self.old.refusal }
     {
         let heard = self.heard;
         self.heard = false;
@@ -122,6 +130,7 @@ impl<S: Sockets> Wire for UdpWire<S> {
         ensures takes { TakesAtSocket (S.calls self.old.sockets) (S.calls self.new.sockets)
             port room.new result self.old.failures self.new.failures
             self.old.heard self.new.heard }
+        ensures refusal { self.new.refusal ≡ self.old.refusal }
     {
         match self.sockets.take(socket_of(port), room) {
             Ok(None) => Ok(None),
@@ -146,12 +155,16 @@ impl<S: Sockets> Wire for UdpWire<S> {
     fn give(&mut self, port: Port, to: Place, bytes: &[u8]) -> Result<(), WireFault>
         ensures fault { OnErr result (self.old.failures < self.new.failures) }
         ensures gives { GivesAtSocket (S.calls self.old.sockets) (S.calls self.new.sockets)
-            port to bytes.now result self.old.failures self.new.failures }
+            port to bytes.now result self.old.failures self.new.failures
+            self.old.refusal self.new.refusal }
         ensures heard { self.new.heard ≡ self.old.heard }
     {
         match self.sockets.give(socket_of(port), to, bytes) {
             Ok(()) => Ok(()),
-            Err(_) => fail(&mut self.failures),
+            Err(fault) => {
+                self.refusal = Some(Refusal { port, to, fault });
+                fail(&mut self.failures)
+            }
         }
     }
 
@@ -161,6 +174,12 @@ impl<S: Sockets> Wire for UdpWire<S> {
 
     fn failures(&self) -> u64 {
         self.failures
+    }
+
+    fn refusal(&self) -> Option<Refusal>
+        ensures { result ≡ self.now.refusal }
+    {
+        self.refusal
     }
 }
 

@@ -5,6 +5,7 @@ ghost use Rattle.trdp_daemon.specs.Told.{TellsMore, give_of, taking_of};
 
 use crate::fault::WireFault;
 use crate::port::Port;
+use crate::refusal::Refusal;
 use trdp_base::Place;
 
 /// A wire at the ports of a node. A take and a give never wait; only a rest may. It may tell what
@@ -57,4 +58,9 @@ pub trait Wire {
     /// How often the wire has failed; it stops at 2^64 - 1.
     fn failures(&self) -> u64
         ensures { result ≡ faults self.now };
+
+    /// The latest give that was refused; None before the first, and where this wire keeps none.
+    fn refusal(&self) -> Option<Refusal> {
+        None
+    }
 }

@@ -1,11 +1,14 @@
-//! Wires over sockets in memory: which sockets are bound and watched, and what a few calls ask of
-//! them.
+//! Wires over sockets in memory: which sockets are bound and watched, what a few calls ask of them,
+//! and which of the gives that they refuse a wire keeps.
 
 use crate::same::same;
 use std::alloc::Global;
 use std::process::Abort;
+use std::test::Fail;
 use trdp_base::{Ip, Place};
-use trdp_daemon::{MemorySockets, Port, RestingWire, SocketRow, UdpWire, Wire};
+use trdp_daemon::{
+    MemorySockets, Port, Refusal, RestingWire, SocketFault, SocketRow, UdpWire, Wire, WireFault,
+};
 use trdp_dataset::NodeConfig;
 
 /// A node with an operator's port, one slot, and a spare port for the second of two that may be
@@ -53,6 +56,61 @@ const PEER: Place = Place {
     ip: Ip(0x0a00_0002),
     port: 9000,
 };
+
+/// Where no way leads to.
+const FAR: Place = Place {
+    ip: Ip(0x0a00_0003),
+    port: 9000,
+};
+
+/// One give.
+struct Give {
+    /// The port that it leaves from.
+    port: Port,
+    /// Where it goes.
+    to: Place,
+    /// What the wire answers.
+    answer: Result<(), WireFault>,
+    /// The port of the latest give that was refused, behind this one; None before the first.
+    refused: Option<Port>,
+}
+
+/// A give that goes, one for which no way is there, one that goes, and again one without a way.
+static GIVES: [Give; 4] = [
+    Give {
+        port: Port::Pd,
+        to: PEER,
+        answer: Ok(()),
+        refused: None,
+    },
+    Give {
+        port: Port::Md,
+        to: FAR,
+        answer: Err(WireFault),
+        refused: Some(Port::Md),
+    },
+    Give {
+        port: Port::Operator,
+        to: PEER,
+        answer: Ok(()),
+        refused: Some(Port::Md),
+    },
+    Give {
+        port: Port::Control(0),
+        to: FAR,
+        answer: Err(WireFault),
+        refused: Some(Port::Control(0)),
+    },
+];
+
+/// The refusal of a give where no way leads to; 101 is the system's ENETUNREACH.
+fn without_way(port: Port) -> Refusal {
+    Refusal {
+        port,
+        to: FAR,
+        fault: SocketFault { code: Some(101) },
+    }
+}
 
 /// At which sockets `uses` takes and gives, and how many bytes each datagram has.
 const USES: [(usize, usize); 5] = [(0, 0), (1, 16), (2, 16), (3, 5), (1, 7)];
@@ -190,4 +248,49 @@ fn a_wire_that_rests_waits_at_its_sockets(rt: HostRuntime) {
         Some(mut wire) => works_and_rests(&rt, &mut wire),
         None => assert!(rt; false, "no memory"),
     }
+}
+
+/// What a wire answers to gives, and the latest refusal that it keeps behind each.
+fn keeps_refusals<W: Wire>(rt: &(impl Abort + AllocGlobal), wire: &mut W) {
+    same(rt, "before the first give", wire.refusal(), None);
+    for (i, give) in GIVES.iter().enumerate() {
+        let answer = wire.give(give.port, give.to, b"data");
+        same(rt, i, answer, give.answer);
+        same(rt, i, wire.refusal(), give.refused.map(without_way));
+    }
+}
+
+/// A wire that rests, over sockets from which no way leads to one address; None for want of memory.
+fn cut_off(alloc: Global) -> Option<RestingWire<MemorySockets>> {
+    let config = config(alloc)?;
+    let mut sockets = MemorySockets::new(alloc);
+    sockets.cut_off(FAR.ip);
+    RestingWire::open(alloc, sockets, &config).ok()
+}
+
+#[test]
+fn a_wire_keeps_its_latest_refusal(rt: HostRuntime) {
+    match cut_off(rt.alloc()) {
+        Some(mut wire) => keeps_refusals(&rt, &mut wire),
+        None => assert!(rt; false, "no memory"),
+    }
+}
+
+#[test]
+fn a_fault_is_shown_as_the_system_calls_it(rt: HostRuntime) -> Result<(), Fail> {
+    let told = format!(in rt.alloc(); "{}", SocketFault { code: Some(101) })?;
+    same(
+        &rt,
+        "101",
+        told.as_str(),
+        "Network is unreachable (os error 101)",
+    );
+    let cut = format!(in rt.alloc(); "{}", SocketFault { code: None })?;
+    same(
+        &rt,
+        "none",
+        cut.as_str(),
+        "the system did not send it whole",
+    );
+    Ok(())
 }

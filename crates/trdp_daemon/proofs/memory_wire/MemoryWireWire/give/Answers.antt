@@ -15,17 +15,18 @@ returns-then-is_give_beyond-clause-fails c =
     let n = length c.args.bytes.now in
     let beyond : is_give_beyond w n ≡ true = ap (λ x. is_give_beyond x n) c.self.view_is
     ∙ sym c.is_give_beyond.ensures.beyond ∙ c.if-is_give_beyond.true in
-    fails_beyond w n (is_err c.fail.result) beyond c.fail.ensures.fails
+    fails_beyond w n (is_err c.fail-result.result) beyond c.fail-result.ensures.fails
     ∙ ap (λ x. next_give_fails x n) c.self.view_is
 
 pub returns-then-is_give_beyond-clause-after : goal.returns-then-is_give_beyond-clause-after
 returns-then-is_give_beyond-clause-after c =
     let w = the_view c.self.inside in
     let n = length c.args.bytes.now in
-    let give = give_of c.args.port c.args.to c.args.bytes.now c.fail.result in
+    let give = give_of c.args.port c.args.to c.args.bytes.now c.fail-result.result in
     let beyond : is_give_beyond w n ≡ true = ap (λ x. is_give_beyond x n) c.self.view_is
     ∙ sym c.is_give_beyond.ensures.beyond ∙ c.if-is_give_beyond.true in
-    give_beyond w give c.fail.new.failures beyond c.fail.ensures.count
+    give_beyond w give c.fail-result.new.failures c.keep_refusal.new.refusal beyond
+    c.fail-result.ensures.count c.keep_refusal.ensures
     ∙ ap (λ x. after_give x give) c.self.view_is
 
 pub returns-clause-fails : goal.returns-clause-fails
@@ -57,6 +58,7 @@ returns-clause-after c =
     record { offer = offer_to c.args.port c.args.to c.args.bytes.now; failed = b } in g) ∷ [])
     c.is_err.ensures.value in
     give_within w give _ c.fail_if-result.new.failures
-    _ _ within more c.fail_if-result.ensures.count
+    _ _ c.keep_refusal-2.new.refusal within more c.fail_if-result.ensures.count
+    c.keep_refusal-2.ensures
     (omega (arith, c.push_give.ensures.given_len, c.push_give.ensures.given_capacity)) refl
     ∙ ap (λ x. after_give x give) c.self.view_is

@@ -1,0 +1,21 @@
+-- The latest give that a wire refused.
+use Rattle.std.specs.Prelude.{Bool, if◌then◌else◌, pos, Option, Some, None}
+use Rattle.trdp_base.specs.declared.place.Place.{Place}
+use Rattle.trdp_daemon.specs.declared.port.Port.{Port}
+use Rattle.trdp_daemon.specs.declared.refusal.Refusal.{Refusal}
+use Rattle.trdp_daemon.specs.declared.socket_fault.SocketFault.{SocketFault}
+
+-- the latest refusal behind a give at a port, for a place, that came to this fault or to none
+abbrev pub refusal_after : Port → Place → Option SocketFault → Option Refusal → Option Refusal
+refusal_after port to None refusal = refusal
+refusal_after port to (Some fault) refusal =
+    Some (record { port = port; to = to; fault = fault })
+
+-- why a wire and sockets in memory refuse a give: as if no way led to its network, which is the
+-- system's error 101
+abbrev pub no_way : SocketFault
+no_way = record { code = Some (pos 101) }
+
+-- the fault of a give that is refused so, or not
+abbrev pub no_way_if : Bool → Option SocketFault
+no_way_if refused = if refused then Some no_way else None
