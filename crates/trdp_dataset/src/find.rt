@@ -1,122 +1,174 @@
-//! Where in a file a fault is.
+//! All faults of a file.
 
 use crate::fault::ConfigFault;
-use crate::key::Key;
-use crate::misfit::find_in_datasets;
+use crate::finding::{Cause, Finding};
+use crate::key::{Key, Wanted};
+use crate::misfit::push_misfits;
 use crate::place::{DatasetName, Place, node_in};
 use crate::position::{DATASET_KEYS, ELEMENT_KEYS, NODE_KEYS, SLOT_KEYS, members_at, value_at};
+use crate::value::items;
 use std::alloc::{AllocError, Global};
-use std::fmt;
-use toml::Table;
+use toml::{Table, Value};
 
-/// A place of a file that has a fault.
-#[derive(Clone, Copy)]
-pub(crate) struct Spot {
-    /// The table.
-    pub(crate) place: Place,
-    /// The key at which it is; None where it isn't at one.
-    pub(crate) key: Option<Key>,
-}
-
-impl fmt::Display for Spot {
-    fn fmt<W: fmt::Write>(&self, f: &mut fmt::Formatter<W>) -> fmt::Result {
-        let place = self.place;
-        match self.key {
-            Some(key) => write!(f, "{place}, key {key}"),
-            None => write!(f, "{place}"),
-        }
-    }
-}
-
-/// Where a file has a fault, the first place in the order in which faults are looked for; None
-/// where it has none of that kind.
+/// The faults of a file, in the order in which faults are looked for.
 ///
 /// # Errors
 /// Want of memory.
-pub(crate) fn find_fault(
-    alloc: Global,
-    top: &Table,
-    fault: ConfigFault,
-) -> Result<Option<Spot>, AllocError> {
-    match find_at_keys(top, fault) {
-        Some(spot) => Ok(Some(spot)),
-        None => find_in_datasets(alloc, top, fault),
-    }
+pub(crate) fn find_all(alloc: Global, top: &Table) -> Result<Vec<Finding<'_>>, AllocError> {
+    let mut found = Vec::new(alloc);
+    push_node(&mut found, top)?;
+    push_slots(&mut found, top)?;
+    push_dataset_tables(&mut found, top)?;
+    push_elements(&mut found, top)?;
+    push_misfits(alloc, &mut found, top)?;
+    Ok(found)
 }
 
-/// The first key of a file that has the fault.
-fn find_at_keys(top: &Table, fault: ConfigFault) -> Option<Spot> {
-    find_in_node(top, fault)
-        .or(find_in_slots(top, fault))
-        .or(find_in_dataset_tables(top, fault))
-        .or(find_in_elements(top, fault))
-}
-
-/// The first of some keys of a table that has the fault.
-fn find_in_table(table: &Table, place: Place, keys: &[Key], fault: ConfigFault) -> Option<Spot> {
+/// Adds the faults at some keys of a table.
+///
+/// # Errors
+/// Want of memory.
+fn push_table<'a>(
+    found: &mut Vec<Finding<'a>>,
+    table: &'a Table,
+    place: Place,
+    keys: &[Key],
+) -> Result<(), AllocError> {
     for key in keys {
-        if key.fault(value_at(table, *key)) == Some(fault) {
-            return Some(Spot {
-                place,
-                key: Some(*key),
-            });
+        let value = value_at(table, *key);
+        if let Some(fault) = key.fault(value) {
+            push_key(found, fault, place, *key, value)?;
         }
     }
-    None
+    Ok(())
 }
 
-/// The first key of the node that has the fault.
-fn find_in_node(top: &Table, fault: ConfigFault) -> Option<Spot> {
-    let found = find_in_table(top, Place::Root, &[Key::Node], fault);
+/// Adds the faults at a key that has one.
+///
+/// # Errors
+/// Want of memory.
+fn push_key<'a>(
+    found: &mut Vec<Finding<'a>>,
+    fault: ConfigFault,
+    place: Place,
+    key: Key,
+    value: Option<&'a Value>,
+) -> Result<(), AllocError> {
+    let cause = match (value, key.wanted()) {
+        (None, _) => Cause::Absent(key),
+        (Some(value), Wanted::Numbers(most, ..)) if value.is_array() => {
+            return push_members(found, place, key, most, items(value));
+        }
+        (Some(value), Wanted::Tables(most)) if fault == ConfigFault::TooMany => {
+            Cause::TooMany(key, items(value).len(), most)
+        }
+        (Some(value), _) => Cause::Unwanted(key, value),
+    };
+    found.push(Finding {
+        fault,
+        place,
+        cause,
+    })?;
+    Ok(())
+}
+
+/// Adds the faults of an array of numbers, of which at most so many are wanted.
+///
+/// # Errors
+/// Want of memory.
+fn push_members<'a>(
+    found: &mut Vec<Finding<'a>>,
+    place: Place,
+    key: Key,
+    most: u16,
+    members: &'a [Value],
+) -> Result<(), AllocError> {
+    for (index, member) in members.iter().enumerate() {
+        if key.wanted().member(member).is_none() {
+            found.push(Finding {
+                fault: ConfigFault::WrongType(key),
+                place,
+                cause: Cause::UnwantedMember(key, index, member),
+            })?;
+        }
+    }
+    if members.len() > usize::from(most) {
+        found.push(Finding {
+            fault: ConfigFault::TooMany,
+            place,
+            cause: Cause::TooMany(key, members.len(), most),
+        })?;
+    }
+    Ok(())
+}
+
+/// Adds the faults at the keys of the node.
+///
+/// # Errors
+/// Want of memory.
+fn push_node<'a>(found: &mut Vec<Finding<'a>>, top: &'a Table) -> Result<(), AllocError> {
+    push_table(found, top, Place::Root, &[Key::Node])?;
     match node_in(top) {
-        Some(node) => found.or(find_in_table(node, Place::Node, &NODE_KEYS, fault)),
-        None => found,
+        Some(node) => push_table(found, node, Place::Node, &NODE_KEYS),
+        None => Ok(()),
     }
 }
 
-/// The first key of the slots that has the fault.
-fn find_in_slots(top: &Table, fault: ConfigFault) -> Option<Spot> {
-    let mut found = find_in_table(top, Place::Root, &[Key::Slot], fault);
+/// Adds the faults at the keys of the slots.
+///
+/// # Errors
+/// Want of memory.
+fn push_slots<'a>(found: &mut Vec<Finding<'a>>, top: &'a Table) -> Result<(), AllocError> {
+    push_table(found, top, Place::Root, &[Key::Slot])?;
     for (slot, member) in members_at(top, Key::Slot).iter().enumerate() {
         if let Some(table) = member.as_table() {
-            found = found.or(find_in_table(table, Place::Slot(slot), &SLOT_KEYS, fault));
+            push_table(found, table, Place::Slot(slot), &SLOT_KEYS)?;
         }
     }
-    found
+    Ok(())
 }
 
-/// The first key of the datasets that has the fault, those of their elements left out.
-fn find_in_dataset_tables(top: &Table, fault: ConfigFault) -> Option<Spot> {
-    let mut found = find_in_table(top, Place::Root, &[Key::Dataset], fault);
+/// Adds the faults at the keys of the datasets, those of their elements left out.
+///
+/// # Errors
+/// Want of memory.
+fn push_dataset_tables<'a>(found: &mut Vec<Finding<'a>>, top: &'a Table) -> Result<(), AllocError> {
+    push_table(found, top, Place::Root, &[Key::Dataset])?;
     for (index, member) in members_at(top, Key::Dataset).iter().enumerate() {
         if let Some(table) = member.as_table() {
             let place = Place::Dataset(DatasetName::of(table, index));
-            found = found.or(find_in_table(table, place, &DATASET_KEYS, fault));
+            push_table(found, table, place, &DATASET_KEYS)?;
         }
     }
-    found
+    Ok(())
 }
 
-/// The first key of the elements of all datasets that has the fault.
-fn find_in_elements(top: &Table, fault: ConfigFault) -> Option<Spot> {
-    let mut found = None;
+/// Adds the faults at the keys of the elements of all datasets.
+///
+/// # Errors
+/// Want of memory.
+fn push_elements<'a>(found: &mut Vec<Finding<'a>>, top: &'a Table) -> Result<(), AllocError> {
     for (index, member) in members_at(top, Key::Dataset).iter().enumerate() {
         if let Some(table) = member.as_table() {
-            let name = DatasetName::of(table, index);
-            found = found.or(find_in_elements_of(table, name, fault));
+            push_elements_of(found, table, DatasetName::of(table, index))?;
         }
     }
-    found
+    Ok(())
 }
 
-/// The first key of the elements of a dataset that has the fault.
-fn find_in_elements_of(dataset: &Table, name: DatasetName, fault: ConfigFault) -> Option<Spot> {
-    let mut found = None;
+/// Adds the faults at the keys of the elements of a dataset.
+///
+/// # Errors
+/// Want of memory.
+fn push_elements_of<'a>(
+    found: &mut Vec<Finding<'a>>,
+    dataset: &'a Table,
+    name: DatasetName,
+) -> Result<(), AllocError> {
     for (index, member) in members_at(dataset, Key::Elements).iter().enumerate() {
         if let Some(table) = member.as_table() {
-            let place = Place::Element(name, index);
-            found = found.or(find_in_table(table, place, &ELEMENT_KEYS, fault));
+            push_table(found, table, Place::Element(name, index), &ELEMENT_KEYS)?;
         }
     }
-    found
+    Ok(())
 }

@@ -1,40 +1,45 @@
 //! The tables of a configuration file, as they are named to its author.
 
 use crate::key::Key;
-use crate::position::value_at;
+use crate::position::{members_at, value_at};
 use crate::read::identifier_of;
+use crate::value::items;
 use std::fmt;
-use toml::Table;
+use toml::{Table, Value};
+
+/// The key of the root at which the clients have what the node takes no notice of: the dataset of
+/// each comId.
+pub(crate) const TELEGRAM_KEY: &str = "telegram";
 
 /// A dataset of a file, by its name.
 #[derive(Clone, Copy)]
-pub(crate) enum DatasetName {
-    /// By its identifier.
-    Id(u32),
-    /// By its index among the datasets of the file, from 0: it has no identifier.
-    Index(usize),
+pub(crate) struct DatasetName {
+    /// Its index among the datasets of the file, from 0.
+    pub(crate) index: usize,
+    /// Its identifier; None where it has none, and its index is its name.
+    id: Option<u32>,
 }
 
 impl DatasetName {
     /// The name of the dataset that a table is, at an index among the datasets of the file.
     pub(crate) fn of(table: &Table, index: usize) -> Self {
-        match identifier_of(table) {
-            Some(id) => DatasetName::Id(id),
-            None => DatasetName::Index(index),
+        DatasetName {
+            index,
+            id: identifier_of(table),
         }
     }
 }
 
 impl fmt::Display for DatasetName {
     fn fmt<W: fmt::Write>(&self, f: &mut fmt::Formatter<W>) -> fmt::Result {
-        match *self {
-            DatasetName::Id(id) => write!(f, "dataset {id}"),
-            DatasetName::Index(index) => write!(f, "the dataset at index {index}"),
+        match self.id {
+            Some(id) => write!(f, "dataset {id}"),
+            None => write!(f, "the dataset at index {}", self.index),
         }
     }
 }
 
-/// A table of a file. Slots, elements and indexes count from 0.
+/// A table of a file. Slots, elements, telegrams and indexes count from 0.
 #[derive(Clone, Copy)]
 pub(crate) enum Place {
     /// The file's root.
@@ -47,6 +52,22 @@ pub(crate) enum Place {
     Dataset(DatasetName),
     /// The table of an element of a dataset, by its index there.
     Element(DatasetName, usize),
+    /// The table of a telegram, by its index.
+    Telegram(usize),
+}
+
+impl Place {
+    /// The table at the place in the first lines of a file; None where it isn't there yet.
+    pub(crate) fn table_in(self, top: &Table) -> Option<&Table> {
+        match self {
+            Place::Root => Some(top),
+            Place::Node => node_in(top),
+            Place::Slot(slot) => members_at(top, Key::Slot).get(slot)?.as_table(),
+            Place::Dataset(name) => dataset_in(top, name),
+            Place::Element(name, index) => element_in(top, name, index),
+            Place::Telegram(index) => telegrams_in(top).get(index)?.as_table(),
+        }
+    }
 }
 
 impl fmt::Display for Place {
@@ -57,6 +78,7 @@ impl fmt::Display for Place {
             Place::Slot(slot) => write!(f, "slot {slot}"),
             Place::Dataset(dataset) => write!(f, "{dataset}"),
             Place::Element(dataset, index) => write!(f, "{dataset}, element {index}"),
+            Place::Telegram(index) => write!(f, "telegram {index}"),
         }
     }
 }
@@ -64,4 +86,23 @@ impl fmt::Display for Place {
 /// The table of the node, if there is one.
 pub(crate) fn node_in(top: &Table) -> Option<&Table> {
     value_at(top, Key::Node)?.as_table()
+}
+
+/// The table of a dataset, if it is there.
+fn dataset_in(top: &Table, name: DatasetName) -> Option<&Table> {
+    members_at(top, Key::Dataset).get(name.index)?.as_table()
+}
+
+/// The table of an element, if it is there.
+fn element_in(top: &Table, name: DatasetName, index: usize) -> Option<&Table> {
+    let dataset = dataset_in(top, name)?;
+    members_at(dataset, Key::Elements).get(index)?.as_table()
+}
+
+/// The members of the array of telegrams; none where there is no array.
+pub(crate) fn telegrams_in(top: &Table) -> &[Value] {
+    match top.get(TELEGRAM_KEY) {
+        Some(value) => items(value),
+        None => &[],
+    }
 }

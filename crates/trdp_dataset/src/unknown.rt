@@ -1,7 +1,7 @@
 //! Keys of a file that mean nothing.
 
 use crate::key::Key;
-use crate::place::{DatasetName, Place, node_in};
+use crate::place::{DatasetName, Place, TELEGRAM_KEY, node_in};
 use crate::position::{DATASET_KEYS, ELEMENT_KEYS, NODE_KEYS, SLOT_KEYS, members_at};
 use std::alloc::AllocError;
 use std::fmt::Write;
@@ -9,10 +9,6 @@ use toml::Table;
 
 /// The keys of the root.
 const ROOT_KEYS: [Key; 3] = [Key::Node, Key::Slot, Key::Dataset];
-
-/// The key of the root at which the clients have what the node takes no notice of: the dataset of
-/// each comId.
-const CLIENTS_KEY: &str = "telegram";
 
 /// Adds a warning for each key of a file that means nothing.
 ///
@@ -47,7 +43,7 @@ fn push_unknown_in(
 
 /// Whether a name is one of the keys of a table, or at the root the one of the clients.
 fn is_known(place: Place, keys: &[Key], name: &str) -> bool {
-    let is_clients = matches!(place, Place::Root) && name == CLIENTS_KEY;
+    let is_clients = matches!(place, Place::Root) && name == TELEGRAM_KEY;
     is_clients || keys.iter().any(|key| key.text() == name)
 }
 

@@ -1,24 +1,32 @@
-//! What a file's author is told of it: where its fault is, and which of its keys mean nothing.
+//! What a file's author is told of it: what is wrong with it, which of its keys mean nothing, and
+//! which of its telegrams can't be meant.
 
+use crate::config::NodeConfig;
 use crate::fault::ConfigFault;
-use crate::find::find_fault;
+use crate::telegram::push_telegrams;
+use crate::told::push_faults;
 use crate::unknown::push_unknown;
 use std::alloc::{AllocError, Global};
 use std::fmt::Write;
 
-/// Where a configuration (TOML) has this fault, in a line; of a file that is no TOML what is wrong
-/// with it, and in which line. Nothing where it has no such fault.
+/// What is wrong with a configuration (TOML): each of its faults in a line, with the line of the
+/// file, the place and the key there, its value, and what is wanted. The first one that is this
+/// fault comes first, and then the others in the order of their lines. Of a file that is no TOML it
+/// is what is wrong with it, and in which line; of a want of memory nothing.
+///
+/// A line of the file is that on which the statement begins, as `element = [`. To find some hundreds
+/// of them in a file of some thousands takes a second or two at most; the faults of a file in which
+/// there is more to look for have no line behind these, and stand at the end.
 ///
 /// # Errors
 /// Want of memory.
 pub fn fault_place(alloc: Global, config: &[u8], fault: ConfigFault) -> Result<String, AllocError> {
     let mut text = String::new(alloc);
+    if fault == ConfigFault::OutOfMemory {
+        return Ok(text);
+    }
     match toml::table_from_slice(alloc, config) {
-        Ok(top) => {
-            if let Some(spot) = find_fault(alloc, &top, fault)? {
-                writeln!(text, "at {spot}")?;
-            }
-        }
+        Ok(top) => push_faults(alloc, &mut text, config, &top, fault)?,
         Err(error) if error.is_memory() => return Err(AllocError),
         Err(error) => write!(text, "{error}")?,
     }
@@ -34,6 +42,25 @@ pub fn unknown_keys(alloc: Global, config: &[u8]) -> Result<String, AllocError> 
     let mut text = String::new(alloc);
     match toml::table_from_slice(alloc, config) {
         Ok(top) => push_unknown(&mut text, &top)?,
+        Err(error) if error.is_memory() => return Err(AllocError),
+        Err(_) => {}
+    }
+    Ok(text)
+}
+
+/// Which telegrams of a configuration (TOML) can't be meant, in a line each: those whose dataset
+/// isn't there or whose comId an earlier one has. `taken` is what the bytes mean.
+///
+/// # Errors
+/// Want of memory.
+pub fn telegram_doubts(
+    alloc: Global,
+    config: &[u8],
+    taken: &NodeConfig,
+) -> Result<String, AllocError> {
+    let mut text = String::new(alloc);
+    match toml::table_from_slice(alloc, config) {
+        Ok(top) => push_telegrams(alloc, &mut text, config, &top, taken.registry())?,
         Err(error) if error.is_memory() => return Err(AllocError),
         Err(_) => {}
     }

@@ -1,9 +1,9 @@
 //! What there is to say of a configuration, in words: what it means, what its author may not have
-//! meant, where its fault is, and which of its ports the system refuses.
+//! meant, what is wrong with it, and which of its ports the system refuses.
 //!
 //! ```text
 //! let text = report(alloc, config, &taken)?;              // node 10.0.0.1: process data at ..
-//! let text = fault_place(alloc, config, fault)?;          // at node, key address
+//! let text = fault_place(alloc, config, fault)?;          // line 4, node: pd_port = 0: a ..
 //! let text = refused_ports(rt, alloc, &taken)?;           // port 10.0.0.1:17224: ..
 //! ```
 //!
@@ -13,6 +13,7 @@
 #![tactic(auto)]
 
 mod meaning;
+mod ports;
 mod refused;
 mod warnings;
 mod words;
@@ -20,5 +21,5 @@ mod words;
 pub use refused::refused_ports;
 pub use words::report;
 
-// Where its fault is, so that a program names this crate alone.
+// What is wrong with it, so that a program names this crate alone.
 pub use trdp_dataset::fault_place;

@@ -1,14 +1,14 @@
 //! Which port of a node the system refuses.
 
-use crate::meaning::shown;
+use crate::ports::{collision_at, ports_of};
 use std::alloc::{AllocError, Global};
 use std::fmt::Write;
-use std::net::{Net, SocketAddr, SocketAddrV4, UdpSocket};
-use trdp_base::Ip;
+use std::net::{Net, SocketAddr, UdpSocket};
 use trdp_dataset::NodeConfig;
 
-/// A line for each port of a node that the system refuses, with its reason. It asks for each of
-/// them once more, and for none twice, and gives them back.
+/// A line for each port of a node that the system refuses, with its reason. Of a port that is named
+/// before, which it would refuse too, it tells by which keys. It asks for each other one once more,
+/// and gives them back.
 ///
 /// # Errors
 /// Want of memory.
@@ -18,48 +18,24 @@ pub fn refused_ports<R: Net>(
     config: &NodeConfig,
 ) -> Result<String, AllocError> {
     let mut text = String::new(alloc);
-    // Held until all are asked for, so that a port which is named twice is refused.
-    let mut held = Vec::new(alloc);
-    for place in places_of(alloc, config)? {
-        match UdpSocket::bind(rt, SocketAddr::V4(place)) {
-            Ok(socket) => held.push(socket)?,
-            Err(error) => writeln!(text, "port {place}: {error}")?,
+    let ports = ports_of(alloc, config)?;
+    for (index, port) in ports.iter().enumerate() {
+        let place = port.place();
+        match collision_at(&ports, index) {
+            Some(both) => writeln!(text, "port {place}: {both} it")?,
+            None => push_refusal(rt, &mut text, SocketAddr::V4(place))?,
         }
     }
     Ok(text)
 }
 
-/// The places of a node's ports, in the order in which they are bound.
+/// Adds a line for a port if the system refuses it.
 ///
 /// # Errors
 /// Want of memory.
-fn places_of(alloc: Global, config: &NodeConfig) -> Result<Vec<SocketAddrV4>, AllocError> {
-    let mut places = Vec::new(alloc);
-    push_place(&mut places, config.address(), config.pd_port())?;
-    push_place(&mut places, config.address(), config.md_port())?;
-    let controls = config.control_address();
-    push_place(&mut places, controls, config.operator_port())?;
-    for slot in 0..config.slots() {
-        push_place(
-            &mut places,
-            controls,
-            config.control_port(slot).unwrap_or(0),
-        )?;
+fn push_refusal<R: Net>(rt: &R, text: &mut String, place: SocketAddr) -> Result<(), AllocError> {
+    match UdpSocket::bind(rt, place) {
+        Ok(_) => Ok(()),
+        Err(error) => writeln!(text, "port {place}: {error}"),
     }
-    for added in 0..config.spare_control_ports() {
-        let port = config.spare_control_port(added).unwrap_or(0);
-        push_place(&mut places, controls, port)?;
-    }
-    Ok(places)
-}
-
-/// Adds the place of a port, unless its number is 0.
-///
-/// # Errors
-/// Want of memory.
-fn push_place(places: &mut Vec<SocketAddrV4>, ip: Ip, port: u16) -> Result<(), AllocError> {
-    if port != 0 {
-        places.push(SocketAddrV4::new(shown(ip), port))?;
-    }
-    Ok(())
 }

@@ -1,7 +1,8 @@
 //! What the author of a configuration may not have meant.
 
 use crate::meaning::shown;
-use std::alloc::AllocError;
+use crate::ports::{collision_at, ports_of};
+use std::alloc::{AllocError, Global};
 use std::fmt::Write;
 use std::net::Ipv4Addr;
 use trdp_base::Quotas;
@@ -12,11 +13,16 @@ use trdp_head::PD_PAYLOAD_MAX;
 ///
 /// # Errors
 /// Want of memory.
-pub(crate) fn push_warnings(text: &mut String, config: &NodeConfig) -> Result<(), AllocError> {
+pub(crate) fn push_warnings(
+    alloc: Global,
+    text: &mut String,
+    config: &NodeConfig,
+) -> Result<(), AllocError> {
     push_address(text, "address", shown(config.address()))?;
     if has_control_port(config) {
         push_control_address(text, config)?;
     }
+    push_collisions(alloc, text, config)?;
     for slot in 0..config.slots() {
         push_empty_slot(text, config, slot)?;
     }
@@ -81,6 +87,25 @@ fn push_control_address(text: &mut String, config: &NodeConfig) -> Result<(), Al
          empty one too, takes a slot's indications, and his lines are its calls; control_address = \
          \"127.0.0.1\" keeps him out"
     )
+}
+
+/// Adds a warning for each port that is named before.
+///
+/// # Errors
+/// Want of memory.
+fn push_collisions(
+    alloc: Global,
+    text: &mut String,
+    config: &NodeConfig,
+) -> Result<(), AllocError> {
+    let ports = ports_of(alloc, config)?;
+    for index in 0..ports.len() {
+        if let Some(both) = collision_at(&ports, index) {
+            let (address, port) = (both.address(), both.port());
+            writeln!(text, "warning: {both} port {port} at {address}")?;
+        }
+    }
+    Ok(())
 }
 
 /// Adds a warning where a slot can hold nothing.

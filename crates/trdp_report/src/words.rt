@@ -3,7 +3,7 @@
 use crate::meaning::push_meaning;
 use crate::warnings::push_warnings;
 use std::alloc::{AllocError, Global};
-use trdp_dataset::{NodeConfig, unknown_keys};
+use trdp_dataset::{NodeConfig, telegram_doubts, unknown_keys};
 
 /// What a configuration (TOML) means, and what its author may not have meant, in lines. `taken` is
 /// what the bytes mean.
@@ -14,6 +14,7 @@ pub fn report(alloc: Global, config: &[u8], taken: &NodeConfig) -> Result<String
     let mut text = String::new(alloc);
     push_meaning(&mut text, taken)?;
     text.push_str(&unknown_keys(alloc, config)?)?;
-    push_warnings(&mut text, taken)?;
+    text.push_str(&telegram_doubts(alloc, config, taken)?)?;
+    push_warnings(alloc, &mut text, taken)?;
     Ok(text)
 }

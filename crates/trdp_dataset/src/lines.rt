@@ -1,0 +1,207 @@
+//! The lines of a file on which its statements begin.
+//!
+//! What `toml` reads has no lines. So the file is read again and again, up to the ends of some of
+//! its statements: a statement that brings something begins on the line behind the longest text
+//! that is TOML and lacks it.
+
+use crate::place::Place;
+use crate::value::items;
+use std::alloc::{AllocError, Global};
+use toml::Table;
+
+/// How many bytes are read in all, at most: a second's worth or two.
+const READ_MAX: usize = 48 << 20;
+
+/// Something of a file that a statement brings.
+#[derive(Clone, Copy)]
+pub(crate) struct Spot {
+    /// The table.
+    pub(crate) place: Place,
+    /// The key of the table; None where it is the table itself.
+    pub(crate) key: Option<&'static str>,
+    /// How many members the array at the key has then, at least.
+    pub(crate) members: usize,
+}
+
+impl Spot {
+    /// Whether it is in the first lines of a file.
+    fn is_in(self, top: &Table) -> bool {
+        match (self.place.table_in(top), self.key) {
+            (Some(table), Some(key)) => match table.get(key) {
+                Some(value) => items(value).len() >= self.members,
+                None => false,
+            },
+            (Some(_), None) => true,
+            (None, _) => false,
+        }
+    }
+}
+
+/// A statement of a file, an empty one too.
+#[derive(Clone, Copy)]
+struct Statement {
+    /// The line on which it begins, from 1.
+    line: usize,
+    /// How many bytes the file has up to its end.
+    end: usize,
+}
+
+/// The lines of a file, and how much of it may be read for more of them.
+#[derive(Drop)]
+pub(crate) struct Lines<'a> {
+    /// Where the statements are kept.
+    alloc: Global,
+    /// The file.
+    file: &'a [u8],
+    /// Its statements in order, as far as they were found.
+    statements: Vec<Statement>,
+    /// The index of the statement that was found last; what is asked for next is mostly near it.
+    last: usize,
+    /// How many bytes may still be read.
+    left: usize,
+}
+
+impl<'a> Lines<'a> {
+    /// The lines of a file that is TOML.
+    ///
+    /// # Errors
+    /// Want of memory.
+    pub(crate) fn new(alloc: Global, file: &'a [u8]) -> Result<Self, AllocError> {
+        let mut lines = Lines {
+            alloc,
+            file,
+            statements: Vec::new(alloc),
+            last: 0,
+            left: READ_MAX,
+        };
+        lines.find_statements()?;
+        Ok(lines)
+    }
+
+    /// The line, from 1, on which the statement begins that brings something; None where the file
+    /// lacks it, or where [`READ_MAX`] bytes were read before it was found.
+    ///
+    /// # Errors
+    /// Want of memory.
+    pub(crate) fn line_of(&mut self, spot: Spot) -> Result<Option<usize>, AllocError> {
+        if let (Place::Root, None) = (spot.place, spot.key) {
+            return Ok(Some(1));
+        }
+        let (low, high) = self.bounds(spot)?;
+        let index = self.first_with(spot, low, high)?;
+        if self.left == 0 {
+            return Ok(None);
+        }
+        self.last = index;
+        Ok(self.statements.get(index).map(|it| it.line))
+    }
+
+    /// Finds the statements: each ends with the first line up to which it is TOML by itself.
+    ///
+    /// # Errors
+    /// Want of memory.
+    fn find_statements(&mut self) -> Result<(), AllocError> {
+        let mut begin = 0usize;
+        let mut line = 1usize;
+        for (index, end) in line_ends(self.alloc, self.file)?.into_iter().enumerate() {
+            if self.read(begin, end)?.is_some() {
+                self.statements.push(Statement { line, end })?;
+                begin = end;
+                line = index.saturating_add(2);
+            }
+        }
+        Ok(())
+    }
+
+    /// Two statements, by their indexes: the first that is known to bring something, or the number
+    /// of all, and the first that may. They are sought from the last one on.
+    ///
+    /// # Errors
+    /// Want of memory.
+    fn bounds(&mut self, spot: Spot) -> Result<(usize, usize), AllocError> {
+        let before = self.last.saturating_sub(1);
+        if self.last > 0 && self.has(before, spot)? {
+            return Ok((0, before));
+        }
+        let mut low = self.last;
+        let mut step = 1usize;
+        for _doubling in 0..64u8 {
+            let probe = low.saturating_add(step.saturating_sub(1));
+            if probe >= self.statements.len() {
+                break;
+            }
+            if self.has(probe, spot)? {
+                return Ok((low, probe));
+            }
+            low = probe.saturating_add(1);
+            step = step.saturating_mul(2);
+        }
+        Ok((low, self.statements.len()))
+    }
+
+    /// The index of the first statement that brings something, from `low` to `high`.
+    ///
+    /// # Errors
+    /// Want of memory.
+    fn first_with(&mut self, spot: Spot, low: usize, high: usize) -> Result<usize, AllocError> {
+        let mut low = low;
+        let mut high = high;
+        for _halving in 0..64u8 {
+            if low >= high {
+                break;
+            }
+            let middle = low.saturating_add(high.saturating_sub(low) / 2);
+            if self.has(middle, spot)? {
+                high = middle;
+            } else {
+                low = middle.saturating_add(1);
+            }
+        }
+        Ok(high)
+    }
+
+    /// Whether something is there at the end of a statement.
+    ///
+    /// # Errors
+    /// Want of memory.
+    fn has(&mut self, index: usize, spot: Spot) -> Result<bool, AllocError> {
+        let end = self.statements.get(index).map_or(0, |it| it.end);
+        match self.read(0, end)? {
+            Some(top) => Ok(spot.is_in(&top)),
+            None => Ok(false),
+        }
+    }
+
+    /// Reads some bytes of the file; None where they are no TOML, or may not be read any more.
+    ///
+    /// # Errors
+    /// Want of memory.
+    fn read(&mut self, begin: usize, end: usize) -> Result<Option<Table>, AllocError> {
+        let Some(bytes) = self.file.get(begin..end) else {
+            return Ok(None);
+        };
+        self.left = self.left.saturating_sub(bytes.len());
+        if self.left == 0 {
+            return Ok(None);
+        }
+        match toml::table_from_slice(self.alloc, bytes) {
+            Ok(top) => Ok(Some(top)),
+            Err(error) if error.is_memory() => Err(AllocError),
+            Err(_) => Ok(None),
+        }
+    }
+}
+
+/// How many bytes a file has up to the end of each line.
+///
+/// # Errors
+/// Want of memory.
+fn line_ends(alloc: Global, file: &[u8]) -> Result<Vec<usize>, AllocError> {
+    let mut ends = Vec::new(alloc);
+    let mut end = 0usize;
+    for line in file.split_inclusive(|byte| *byte == b'\n') {
+        end = end.saturating_add(line.len());
+        ends.push(end)?;
+    }
+    Ok(ends)
+}

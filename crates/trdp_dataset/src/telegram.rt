@@ -1,0 +1,161 @@
+//! What the clients read of a file, and the node takes no notice of: the dataset of each comId.
+
+use crate::lines::{Lines, Spot};
+use crate::place::{Place, TELEGRAM_KEY, telegrams_in};
+use crate::registry::Registry;
+use crate::sentence::{push_place, push_value};
+use std::alloc::{AllocError, Global};
+use std::collections::BTreeMap;
+use toml::{Table, Value};
+
+/// The key of a telegram's comId.
+const COM_ID_KEY: &str = "com_id";
+
+/// The key of a telegram's dataset; 0 stands for bytes.
+const DATASET_KEY: &str = "dataset";
+
+/// A key of a telegram that its author may not have meant.
+#[derive(Clone, Copy)]
+struct Doubt<'a> {
+    /// The table.
+    place: Place,
+    /// The key.
+    key: &'static str,
+    /// Its value.
+    value: &'a Value,
+    /// What there is to say of it.
+    words: &'static str,
+}
+
+/// Adds a warning for each telegram whose dataset isn't there or whose comId an earlier one has.
+///
+/// # Errors
+/// Want of memory.
+pub(crate) fn push_telegrams(
+    alloc: Global,
+    text: &mut String,
+    file: &[u8],
+    top: &Table,
+    registry: &Registry,
+) -> Result<(), AllocError> {
+    let doubts = doubts_of(alloc, top, registry)?;
+    if doubts.is_empty() {
+        return Ok(());
+    }
+    let mut lines = Lines::new(alloc, file)?;
+    for doubt in &doubts {
+        let line = lines.line_of(Spot {
+            place: doubt.place,
+            key: Some(doubt.key),
+            members: 0,
+        })?;
+        text.push_str("warning: ")?;
+        push_place(text, line, doubt.place)?;
+        push_value(alloc, text, doubt.key, doubt.value)?;
+        text.push_str(doubt.words)?;
+        text.push_str("\n")?;
+    }
+    Ok(())
+}
+
+/// The keys of telegrams that their author may not have meant.
+///
+/// # Errors
+/// Want of memory.
+fn doubts_of<'a>(
+    alloc: Global,
+    top: &'a Table,
+    registry: &Registry,
+) -> Result<Vec<Doubt<'a>>, AllocError> {
+    let mut doubts = Vec::new(alloc);
+    push_bracket(&mut doubts, top)?;
+    let mut seen = BTreeMap::new(alloc);
+    for (index, member) in telegrams_in(top).iter().enumerate() {
+        if let Some(table) = member.as_table() {
+            push_com_id(&mut doubts, &mut seen, table, index)?;
+            push_dataset(&mut doubts, registry, table, index)?;
+        }
+    }
+    Ok(doubts)
+}
+
+/// Adds the telegrams where they are one table, and no array of tables.
+///
+/// # Errors
+/// Want of memory.
+fn push_bracket<'a>(doubts: &mut Vec<Doubt<'a>>, top: &'a Table) -> Result<(), AllocError> {
+    if let Some(value) = top.get(TELEGRAM_KEY) {
+        if value.is_table() {
+            doubts.push(Doubt {
+                place: Place::Root,
+                key: TELEGRAM_KEY,
+                value,
+                words: "[[telegram]] is wanted, with two brackets",
+            })?;
+        }
+    }
+    Ok(())
+}
+
+/// Adds the comId of a telegram where an earlier one has it; `seen` has the earlier ones with their
+/// indexes.
+///
+/// # Errors
+/// Want of memory.
+fn push_com_id<'a>(
+    doubts: &mut Vec<Doubt<'a>>,
+    seen: &mut BTreeMap<i64, usize>,
+    telegram: &'a Table,
+    index: usize,
+) -> Result<(), AllocError> {
+    let Some(value) = telegram.get(COM_ID_KEY) else {
+        return Ok(());
+    };
+    let Some(com_id) = value.as_integer() else {
+        return Ok(());
+    };
+    if seen.insert(com_id, index)?.is_some() {
+        doubts.push(Doubt {
+            place: Place::Telegram(index),
+            key: COM_ID_KEY,
+            value,
+            words: "an earlier telegram has the same",
+        })?;
+    }
+    Ok(())
+}
+
+/// Adds the dataset of a telegram where it isn't there.
+///
+/// # Errors
+/// Want of memory.
+fn push_dataset<'a>(
+    doubts: &mut Vec<Doubt<'a>>,
+    registry: &Registry,
+    telegram: &'a Table,
+    index: usize,
+) -> Result<(), AllocError> {
+    if let Some(value) = telegram.get(DATASET_KEY) {
+        if !is_there(registry, value) {
+            doubts.push(Doubt {
+                place: Place::Telegram(index),
+                key: DATASET_KEY,
+                value,
+                words: "no dataset has this identifier",
+            })?;
+        }
+    }
+    Ok(())
+}
+
+/// Whether a value is the identifier of a dataset, or the 0 that stands for bytes.
+fn is_there(registry: &Registry, value: &Value) -> bool {
+    match value.as_integer() {
+        Some(0) => true,
+        Some(number) => match u32::try_from(number) {
+            Ok(id) => registry.elements(id).is_some(),
+            Err(_) => false,
+        },
+        None => false,
+    }
+}

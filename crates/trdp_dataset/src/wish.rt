@@ -1,0 +1,124 @@
+//! What is wanted in place of a value.
+
+use crate::key::{Key, Wanted};
+use crate::value::items;
+use std::alloc::AllocError;
+use std::fmt::Write;
+use toml::Value;
+
+/// The names of the types.
+const TYPE_NAMES: [&str; 15] = [
+    "BOOL8",
+    "BITSET8",
+    "CHAR8",
+    "UTF16",
+    "INT8",
+    "INT16",
+    "INT32",
+    "INT64",
+    "UINT8",
+    "UINT16",
+    "UINT32",
+    "UINT64",
+    "TIMEDATE32",
+    "TIMEDATE48",
+    "TIMEDATE64",
+];
+
+/// The names of the types that are left out.
+const REAL_NAMES: [&str; 2] = ["REAL32", "REAL64"];
+
+/// The numbers of the types that are left out.
+const REAL_NUMBERS: [i64; 2] = [12, 13];
+
+/// Adds what a key wants in place of the value that it has.
+///
+/// # Errors
+/// Want of memory.
+pub(crate) fn push_wish(text: &mut String, key: Key, value: &Value) -> Result<(), AllocError> {
+    match key.wanted() {
+        Wanted::Table if value.is_array() => write!(text, "[{key}] is wanted, with one bracket"),
+        Wanted::Table => write!(text, "[{key}] is wanted, a table"),
+        Wanted::Tables(_) => push_tables_wish(text, key, value),
+        Wanted::Address => text.push_str("an IPv4 address as \"10.0.0.1\" is wanted"),
+        Wanted::Number(least, most) => write!(text, "a number of {least} to {most}"),
+        Wanted::Numbers(_, least, most) => {
+            write!(text, "an array of numbers of {least} to {most}")
+        }
+        Wanted::Quota(most) => write!(text, "a number of 0 to {most}"),
+        Wanted::Identifier(least, most) => write!(text, "a number of {least} to {most}"),
+        Wanted::Kind => push_kind_wish(text, value),
+    }
+}
+
+/// Adds what a key that wants an array of numbers wants in place of a member.
+///
+/// # Errors
+/// Want of memory.
+pub(crate) fn push_member_wish(text: &mut String, key: Key) -> Result<(), AllocError> {
+    match key.wanted() {
+        Wanted::Numbers(_, least, most) => write!(text, "a number of {least} to {most}"),
+        _ => Ok(()),
+    }
+}
+
+/// Adds what a key that wants an array of tables wants in place of the value that it has.
+///
+/// # Errors
+/// Want of memory.
+fn push_tables_wish(text: &mut String, key: Key, value: &Value) -> Result<(), AllocError> {
+    if value.is_array() && items(value).is_empty() {
+        text.push_str("one at least is wanted")
+    } else if key == Key::Elements {
+        text.push_str("an array of tables is wanted, as [{ type = 8 }]")
+    } else {
+        write!(text, "[[{key}]] is wanted, with two brackets")
+    }
+}
+
+/// Adds which type is wanted in place of a value.
+///
+/// # Errors
+/// Want of memory.
+fn push_kind_wish(text: &mut String, value: &Value) -> Result<(), AllocError> {
+    if is_meant_as_real(value) {
+        text.push_str("real numbers are left out")
+    } else if let Some(name) = name_among(&TYPE_NAMES, value) {
+        write!(text, "{name} is wanted")
+    } else {
+        push_kinds(text)
+    }
+}
+
+/// Adds which types there are.
+///
+/// # Errors
+/// Want of memory.
+fn push_kinds(text: &mut String) -> Result<(), AllocError> {
+    text.push_str("a type is ")?;
+    for name in &TYPE_NAMES {
+        write!(text, "{name}, ")?;
+    }
+    text.push_str("the number of one of these, or the identifier of a dataset")?;
+    match Key::DatasetId.wanted() {
+        Wanted::Identifier(least, most) => write!(text, ", {least} to {most}"),
+        _ => Ok(()),
+    }
+}
+
+/// Whether a value is meant as the type of a real number.
+fn is_meant_as_real(value: &Value) -> bool {
+    match value.as_integer() {
+        Some(number) => REAL_NUMBERS.contains(&number),
+        None => name_among(&REAL_NAMES, value).is_some(),
+    }
+}
+
+/// The name that a value is but for small letters, and blanks before and behind.
+fn name_among(names: &[&'static str], value: &Value) -> Option<&'static str> {
+    let text = value.as_str()?.trim();
+    names
+        .iter()
+        .copied()
+        .find(|name| name.eq_ignore_ascii_case(text))
+}
