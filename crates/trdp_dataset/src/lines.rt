@@ -1,16 +1,17 @@
 //! The lines of a file on which its statements begin.
 //!
-//! What `toml` reads has no lines. So the file is read again and again, up to the ends of some of
-//! its statements: a statement that brings something begins on the line behind the longest text
-//! that is TOML and lacks it.
+//! What `toml` reads has no lines. So the file is read in parts: a statement ends with the first
+//! line up to which it is TOML by itself, and the one that brings something is the last one of the
+//! shortest front of the file that has it.
 
 use crate::place::Place;
 use crate::value::items;
 use std::alloc::{AllocError, Global};
 use toml::Table;
 
-/// How many bytes are read in all, at most: a second's worth or two.
-const READ_MAX: usize = 48 << 20;
+/// How many bytes are read for the ends of the statements, and how many to find what they bring: at
+/// most a second's worth of each.
+const READ_MAX: usize = 24 << 20;
 
 /// Something of a file that a statement brings.
 #[derive(Clone, Copy)]
@@ -46,6 +47,15 @@ struct Statement {
     end: usize,
 }
 
+/// A front of a file.
+#[derive(Drop)]
+struct Front {
+    /// The index of its last statement.
+    index: usize,
+    /// What it has.
+    top: Table,
+}
+
 /// The lines of a file, and how much of it may be read for more of them.
 #[derive(Drop)]
 pub(crate) struct Lines<'a> {
@@ -57,6 +67,11 @@ pub(crate) struct Lines<'a> {
     statements: Vec<Statement>,
     /// The index of the statement that was found last; what is asked for next is mostly near it.
     last: usize,
+    /// The last front that lacked what was sought, so that it needn't be read again; None where
+    /// there was none.
+    lacking: Option<Front>,
+    /// The last front that had what was sought; None where there was none.
+    having: Option<Front>,
     /// How many bytes may still be read.
     left: usize,
 }
@@ -72,14 +87,17 @@ impl<'a> Lines<'a> {
             file,
             statements: Vec::new(alloc),
             last: 0,
+            lacking: None,
+            having: None,
             left: READ_MAX,
         };
         lines.find_statements()?;
+        lines.left = READ_MAX;
         Ok(lines)
     }
 
     /// The line, from 1, on which the statement begins that brings something; None where the file
-    /// lacks it, or where [`READ_MAX`] bytes were read before it was found.
+    /// lacks it, or where too much would have to be read to find it.
     ///
     /// # Errors
     /// Want of memory.
@@ -104,13 +122,21 @@ impl<'a> Lines<'a> {
         let mut begin = 0usize;
         let mut line = 1usize;
         for (index, end) in line_ends(self.alloc, self.file)?.into_iter().enumerate() {
-            if self.read(begin, end)?.is_some() {
+            if self.may_end(end) && self.read(begin, end)?.is_some() {
                 self.statements.push(Statement { line, end })?;
                 begin = end;
                 line = index.saturating_add(2);
             }
         }
         Ok(())
+    }
+
+    /// Whether a statement may end before the line that begins behind so many bytes. None begins as
+    /// the lines of an array of tables do, which spares most of what would be read in vain.
+    fn may_end(&self, end: usize) -> bool {
+        let behind = self.file.get(end..).unwrap_or(&[]);
+        let first = behind.iter().find(|byte| !matches!(**byte, b' ' | b'\t'));
+        !matches!(first, Some(b'{' | b'}' | b']' | b','))
     }
 
     /// Two statements, by their indexes: the first that is known to bring something, or the number
@@ -165,11 +191,24 @@ impl<'a> Lines<'a> {
     /// # Errors
     /// Want of memory.
     fn has(&mut self, index: usize, spot: Spot) -> Result<bool, AllocError> {
-        let end = self.statements.get(index).map_or(0, |it| it.end);
-        match self.read(0, end)? {
-            Some(top) => Ok(spot.is_in(&top)),
-            None => Ok(false),
+        for front in [&self.lacking, &self.having] {
+            if let Some(front) = front {
+                if front.index == index {
+                    return Ok(spot.is_in(&front.top));
+                }
+            }
         }
+        let end = self.statements.get(index).map_or(0, |it| it.end);
+        let Some(top) = self.read(0, end)? else {
+            return Ok(false);
+        };
+        let is_there = spot.is_in(&top);
+        if is_there {
+            self.having = Some(Front { index, top });
+        } else {
+            self.lacking = Some(Front { index, top });
+        }
+        Ok(is_there)
     }
 
     /// Reads some bytes of the file; None where they are no TOML, or may not be read any more.
