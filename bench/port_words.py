@@ -35,7 +35,6 @@ node {home}: process data at port {pd}, message data at port {md}
 operator at {kept}:{operator}
 slot 0 at {kept}:{control}: 0 publishers, 0 subscriptions, 0 requesters, 0 listeners, 1 callers, 0 repliers
 slots that are added have, at {kept}, the ports {spare} 0 {last}
-bind fault
 """
 USUAL = {"home": HOME, "kept": KEPT, "pd": PD, "md": MD, "operator": OPERATOR, "control": CONTROL, "spare": SPARE, "last": LAST}
 Place = tuple[str, int]
@@ -50,10 +49,18 @@ CASES: list[tuple[list[Place], dict[str, str | int], list[Place]]] = [
     ([(KEPT, LAST), (HOME, PD), (KEPT, CONTROL)], {}, [(HOME, PD), (KEPT, CONTROL), (KEPT, LAST)]),
     # What is held at the other one of the two addresses hinders nothing.
     ([(KEPT, PD), (KEPT, MD), (HOME, OPERATOR), (HOME, CONTROL), (HOME, SPARE), (HOME, LAST), (KEPT, SPARE)], {}, [(KEPT, SPARE)]),
-    # Ports that are named twice.
-    ([], {"md": PD}, [(HOME, PD)]),
-    ([], {"kept": HOME, "control": MD, "last": SPARE}, [(HOME, MD), (HOME, SPARE)]),
 ]
+# What others hold and is refused, what differs from the usual configuration, and the places that two keys name, with both keys.
+TWICE: list[tuple[list[Place], dict[str, str | int], list[tuple[Place, str]]]] = [
+    ([], {"md": PD}, [((HOME, PD), "pd_port and md_port")]),
+    ([(HOME, PD)], {"md": PD}, [((HOME, PD), "pd_port and md_port")]),
+    ([], {"kept": HOME, "control": MD, "last": SPARE},
+     [((HOME, MD), "md_port and slot 0, control_port"), ((HOME, SPARE), "spare_control_ports[0] and spare_control_ports[2]")]),
+    ([], {"operator": SPARE, "last": SPARE},
+     [((KEPT, SPARE), "operator_port and spare_control_ports[0]"), ((KEPT, SPARE), "operator_port and spare_control_ports[2]")]),
+    ([], {"home": "0.0.0.0", "operator": MD}, [((KEPT, MD), "md_port and operator_port")]),
+]
+EVERYWHERE = "warning: address is 0.0.0.0: its ports are at every interface, and a telegram counts as sent to 0.0.0.0\n"
 
 
 def said(program: str, config: str) -> tuple[int, str, str]:
@@ -67,10 +74,14 @@ def said(program: str, config: str) -> tuple[int, str, str]:
         return ran.returncode, ran.stdout, ran.stderr
 
 
-def differs(program: str, held: list[Place], other: dict[str, str | int], refused: list[Place]) -> bool:
+def differs(program: str, held: list[Place], other: dict[str, str | int], refused: list[Place],
+            twice: list[tuple[Place, str]]) -> bool:
     """Whether something else is said where others hold these ports; tells it."""
     keys = {**USUAL, **other}
-    wanted = MEANT.format(**keys) + "".join(f"port {ip}:{port}: Address already in use (os error 98)\n" for ip, port in refused)
+    wanted = MEANT.format(**keys) + (EVERYWHERE if keys["home"] == "0.0.0.0" else "")
+    wanted += "".join(f"warning: {both} both name port {port} at {ip}\n" for (ip, port), both in twice) + "bind fault\n"
+    wanted += "".join(f"port {ip}:{port}: Address already in use (os error 98)\n" for ip, port in refused)
+    wanted += "".join(f"port {ip}:{port}: {both} both name it\n" for (ip, port), both in twice)
     with contextlib.ExitStack() as stack:
         for place in held:
             stack.enter_context(socket.socket(socket.AF_INET, socket.SOCK_DGRAM)).bind(place)
@@ -82,8 +93,10 @@ def differs(program: str, held: list[Place], other: dict[str, str | int], refuse
 
 def main(words: list[str]) -> int:
     program = words[0] if words else f"{TOP}/crates/trdpd/out/trdpd"
-    differ = sum(differs(program, *case) for case in CASES)
-    print(f"{len(CASES)} configurations, {differ} differ")
+    cases = [(held, other, refused, []) for held, other, refused in CASES]
+    cases += [(held, other, held, twice) for held, other, twice in TWICE]
+    differ = sum(differs(program, *case) for case in cases)
+    print(f"{len(cases)} configurations, {differ} differ")
     return 1 if differ else 0
 
 
