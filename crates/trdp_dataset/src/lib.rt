@@ -12,13 +12,13 @@
 //! ```
 //!
 //! What a file means, and which fault it has, are functions of the table that its text is; the
-//! table is `toml`'s to read. Where in the file the fault is [`fault_place`] tells, and what of it
-//! means nothing [`unknown_keys`].
+//! table is `toml`'s to read. All faults of the file, with their lines, [`fault_place`] tells, what
+//! of it means nothing [`unknown_keys`], and which telegrams can't be meant [`telegram_doubts`].
 //!
 //! What no contract can say is that memory is there: a reader that always answers `OutOfMemory`
 //! meets its contract, and the tests show that a good file is taken and a broken one gets its
-//! fault. The sentence of a fault is covered by tests alone, and so are the words of `fault_place`
-//! and `unknown_keys`, which have no clauses.
+//! fault. The sentence of a fault is covered by tests alone, and so are the words of `fault_place`,
+//! `unknown_keys` and `telegram_doubts`, which have no clauses.
 #![tactic(auto)]
 
 mod check;
