@@ -38,6 +38,8 @@ def limits(slots, datasets, elements, depth, size):
 
 
 KINDS = ("publishers", "subscriptions", "requesters", "listeners", "callers", "repliers")
+TYPES = ("BOOL8", "BITSET8", "CHAR8", "UTF16", "INT8", "INT16", "INT32", "INT64", "UINT8", "UINT16", "UINT32", "UINT64", "TIMEDATE32",
+         "TIMEDATE48", "TIMEDATE64")
 DEEP = "datasets nest deeper than 5 in it, or in a circle"
 # Long configurations that aren't taken: what is said of each.
 FAULTS = [
@@ -51,6 +53,8 @@ FAULTS = [
     (limits(16, 256, 257, 5, 65388), "TooMany", "line 902, dataset 31: element has 257 members: 256 are the most"),
     (limits(16, 256, 256, 6, 65388), "TooDeep", f"line 894, dataset 105: {DEEP}"),
     (limits(16, 256, 256, 5, 65389), "TooBig", "line 897, dataset 4294967295: its zero value takes 65389 bytes: 65388 are the most"),
+    (GOOD + dataset(1001, *(f"'{it.lower()}'" for it in TYPES)), "BadId",
+     *(f"line 7, dataset 1001, element {it}: type = \"{name.lower()}\": {name} is wanted" for it, name in enumerate(TYPES))),
     (GOOD + "".join(dataset(1000 + it, *["'uint8'"] * 256) for it in range(8)), "BadId",
      *(f"line {7 + 3 * (it // 256)}, dataset {1000 + it // 256}, element {it % 256}: type = \"uint8\": UINT8 is wanted"
        for it in range(2048))),
@@ -60,8 +64,7 @@ FAULTS = [
 NAMES = {
     "$NODE": 'node = { address = "10.0.0.1" }',
     "$SLOT": "slot = [{ callers = 1 }]",
-    "$TYPES": "a type is BOOL8, BITSET8, CHAR8, UTF16, INT8, INT16, INT32, INT64, UINT8, UINT16, UINT32, UINT64, TIMEDATE32, TIMEDATE48, "
-              "TIMEDATE64, the number of one of these, or the identifier of a dataset, 31 to 4294967295",
+    "$TYPES": f"a type is {', '.join(TYPES)}, the number of one of these, or the identifier of a dataset, 31 to 4294967295",
 }
 
 # What is said of configurations that are taken.
@@ -111,6 +114,7 @@ WORDS = [
      MEANT.replace("10.0.0.1", "0.0.0.0").replace(", no control port", " at 127.0.0.1:17224")
      + "warning: address is 0.0.0.0: its ports are at every interface, and a telegram counts as sent to 0.0.0.0\n"
      "warning: pd_port and slot 0, control_port both name port 17224 at 127.0.0.1\n"),
+    (GOOD + dataset(1001, *map(repr, TYPES)), MEANT + "dataset 1001: elements 15, bytes 53\n"),
     (GOOD + chain(5), MEANT + "".join(f"dataset {it}: elements 1, bytes 1\n" for it in range(1000, 1005))),
     (GOOD + dataset(1001, 8, "9, size = 0", 15), MEANT + "dataset 1001: elements 3, bytes 7 and more\n"),
     (GOOD + dataset(1001, "11, size = 180"),

@@ -1,7 +1,7 @@
 //! What is wanted in place of a value.
 
 use crate::key::{Key, Wanted};
-use crate::value::items;
+use crate::value::{is_real, items};
 use std::alloc::AllocError;
 use std::fmt::Write;
 use toml::Value;
@@ -27,9 +27,6 @@ const TYPE_NAMES: [&str; 15] = [
 
 /// The names of the types that are left out.
 const REAL_NAMES: [&str; 2] = ["REAL32", "REAL64"];
-
-/// The numbers of the types that are left out.
-const REAL_NUMBERS: [i64; 2] = [12, 13];
 
 /// Adds what a key wants in place of the value that it has.
 ///
@@ -108,10 +105,7 @@ fn push_kinds(text: &mut String) -> Result<(), AllocError> {
 
 /// Whether a value is meant as the type of a real number.
 fn is_meant_as_real(value: &Value) -> bool {
-    match value.as_integer() {
-        Some(number) => REAL_NUMBERS.contains(&number),
-        None => name_among(&REAL_NAMES, value).is_some(),
-    }
+    is_real(value) || name_among(&REAL_NAMES, value).is_some()
 }
 
 /// The name that a value is but for small letters, and blanks before and behind.
