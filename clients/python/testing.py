@@ -32,11 +32,20 @@ def wait_until(is_so: Callable[[], bool], seconds: float = 5) -> None:
         time.sleep(0.002)
 
 
-class Daemon:
-    """A daemon of a configuration, as a process."""
+# Of a daemon's stream: it goes to a file.
+FILE = -1
 
-    def __init__(self, config: str, folder: str | None = None, words: Sequence[str] = ()) -> None:
+
+class Daemon:
+    """A daemon of a configuration, as a process.
+
+    `output` and `errors` are the descriptors of its streams: by default a file of both, and None where it has none.
+    """
+
+    def __init__(self, config: str, folder: str | None = None, words: Sequence[str] = (), output: int | None = FILE,
+                 errors: int | None = FILE) -> None:
         self.words = words
+        self.streams = output, errors
         self.folder = tempfile.TemporaryDirectory() if folder is None else None
         self.path = pathlib.Path(self.folder.name if self.folder else str(folder)) / "node.toml"
         self.path.write_text(config)
@@ -61,9 +70,11 @@ class Daemon:
         """Starts it, and waits until it has its ports."""
         # What it says goes to a file: a pipe that nobody reads would fill.
         errors = self.path.with_suffix(".errors")
+        closed = " ".join(f"{number}>&-" for number, it in enumerate(self.streams, 1) if it is None)
         with open(errors, "wb") as out:
-            line = [PROGRAM, "daemon", str(self.path), *self.words]
-            self.process = subprocess.Popen(line, stdout=out, stderr=out)
+            output, error = (out.fileno() if it in (FILE, None) else it for it in self.streams)
+            line = ["sh", "-c", f'exec "$0" "$@" {closed}', PROGRAM, "daemon", str(self.path), *self.words]
+            self.process = subprocess.Popen(line[3 * (not closed):], stdout=output, stderr=error)
         wait_until(lambda: self.process.poll() is not None or self._has_ports(), seconds=20)
         if self.process.poll() is not None:
             raise RuntimeError(f"the daemon ended: {errors.read_text()}")

@@ -1,32 +1,51 @@
 -- The lines of totals that a service writes which goes on.
 -- For `attend_over` and `attend_lines`.
 -- By a loop's invariant: the turns so far are those up to the latest line.
-use Rattle.std.proofs.Common.{◌≡◌, ◌+◌, ◌-◌, ◌^◌, min, ℕ, suc, List, [], ◌∷◌, ◌++◌, Option, refl}
-use Rattle.std.proofs.Common.{sym, ◌∙◌, ap, subst, arith, length, map, take, Result, Ok, Err}
-use Rattle.std.proofs.Common.{IfErr, OnOk, IsErrAnd}
-use Rattle.std.specs.Io.KnownBytes.{Appends}
-use Rattle.std.proofs.KnownBytes.{Keeps-refl, Appends-nil, Appends-trans, Appends-kept}
-use Rattle.std.proofs.Math.Seq.{take-append-add}
+use Rattle.std.proofs.Common.{◌≡◌, ◌+◌, ◌-◌, ◌^◌, ◌==◌, min, ℕ, suc, Bool, not, false, List, []}
+use Rattle.std.proofs.Common.{◌∷◌, ◌++◌, Option, Some, None, refl, sym, ◌∙◌, ap, subst, arith}
+use Rattle.std.proofs.Common.{length, map, take}
+use Rattle.std.proofs.Common.{append_assoc, append-nil, Result, Ok, Err, IfErr, OnOk}
+use Rattle.std.proofs.Common.{IsErrAnd}
 use Rattle.trdp_dataset.specs.Configs.{ConfigModel}
-use Rattle.trdp_daemon.specs.Told.{Taking, Give}
+use Rattle.trdp_daemon.specs.Told.{Taking, Give, TellsMore}
 use Rattle.trdp_daemon.specs.Daemons.{DaemonState, HasServed}
-use Rattle.trdp_daemon.specs.Resting.{EndsAt, ServesUntil, last_reading}
 use Rattle.trdp_daemon.specs.Turns.{Turn, offers_of}
 use Rattle.trdp_program.specs.declared.faults.ServeFault.{ServeFault}
 use Rattle.trdp_program.specs.declared.faults.ServeFault.TheVariants.{Bind, Write, OutOfMemory}
-use Rattle.trdp_program.specs.Serving.{AreTotals, WritesTotals, FailsToWrite}
-use Rattle.trdp_program.specs.Attending.{TotalsLine, turns_of, text_of_line, text_of_lines}
-use Rattle.trdp_program.specs.Attending.{line_due, WritesLines, WritesAllLines, WritesUpTo}
-use Rattle.trdp_program.specs.Attending.{HasServedLines, WritesLinesOver, FailsOver, WritesBut}
+use Rattle.trdp_program.specs.Serving.{AreTotals}
+use Rattle.trdp_program.specs.Streams.{Attempt, attempt, written_by, is_cut_behind, line_end}
+use Rattle.trdp_program.specs.Attending.{TotalsLine, turns_of, line_due, bytes_of_line}
+use Rattle.trdp_program.specs.Attending.{text_of_line}
+use Rattle.trdp_program.specs.Attending.{EndsWhenDue, ServesUntilDue, HasServedLines}
+use Rattle.trdp_program.specs.Attending.{WritesAllLines, WritesUpTo, WritesLinesOver, FailsOver}
 
--- so many lines, and when the next one is due
-pub record LinesSoFar {W C : Type 0} (takings_in : W → Option (List Taking))
-    (gives_in : W → Option (List Give)) (readings_in : C → Option (List ℕ))
-    (config : ConfigModel) (wire : W) (clock : C) (step n until : ℕ)
-    (old new : Option (List ℕ)) (daemon : DaemonState W C) : Type 0 where
-  pub over : WritesLinesOver takings_in gives_in readings_in config wire clock step n
-      old new daemon
-  pub due : until ≡ line_due step (turns_of over.lines)
+-- nothing was added
+pub adds_none : {X : Type 0} (told : Option (List X)) → TellsMore told told []
+adds_none None = tt
+adds_none (Some told) = sym (append-nil told)
+
+-- what was added, and then what was added to that
+pub adds_both : {X : Type 0} (a b c : Option (List X)) (xs ys : List X) → TellsMore a b xs
+    → TellsMore b c ys → TellsMore a c (xs ++ ys)
+adds_both a b None xs ys p q = tt
+adds_both a None (Some c) xs ys p q = absurd q
+adds_both None (Some b) (Some c) xs ys p q = absurd p
+adds_both (Some a) (Some b) (Some c) xs ys p q =
+    q ∙ ap (λ l. l ++ ys) p ∙ append_assoc a xs ys
+
+-- what a stream has by some attempts and one more
+written_more : (before : List Attempt) (bytes : List ℕ) (count : ℕ)
+    → written_by (before ++ attempt bytes count ∷ []) ≡ written_by before ++ take count bytes
+written_more [] bytes count = append-nil (take count bytes)
+written_more (one ∷ before) bytes count =
+    ap (λ l. take one.count one.bytes ++ l) (written_more before bytes count)
+    ∙ sym (append_assoc (take one.count one.bytes) (written_by before) (take count bytes))
+
+-- whether a line is cut behind some bytes and some more
+cut_both : (before : Bool) (bytes more : List ℕ)
+    → is_cut_behind before (bytes ++ more) ≡ is_cut_behind (is_cut_behind before bytes) more
+cut_both before [] more = refl
+cut_both before (byte ∷ bytes) more = cut_both (not (byte == 10)) bytes more
 
 -- the totals of a daemon that has served are those of its turns
 totals_served : {W C : Type 0} {takings_in : W → Option (List Taking)}
@@ -48,34 +67,37 @@ none_mapped f (x ∷ xs) none = absurd (cc)
 pub lines_none : {W C : Type 0} {takings_in : W → Option (List Taking)}
     {gives_in : W → Option (List Give)} {readings_in : C → Option (List ℕ)}
     {config : ConfigModel} {wire : W} {clock : C} {daemon : DaemonState W C}
-    (step : ℕ) (told : Option (List ℕ)) → step ≡ min (0 + step) (2 ^ 64 - 1)
+    (step due : ℕ) (is_cut : Bool) (told : Option (List Attempt))
+    → due ≡ min (0 + step) (2 ^ 64 - 1) → is_cut ≡ false
     → HasServed takings_in gives_in readings_in config wire clock 0 daemon
-    → LinesSoFar takings_in gives_in readings_in config wire clock step 0 step told told daemon
-lines_none {config = config} step told due p =
+    → WritesLinesOver takings_in gives_in readings_in config wire clock step 0 due is_cut told told
+    daemon
+lines_none {config = config} step due is_cut told due_is whole p =
     let turns : p.turns ≡ [] = none_in p.turns p.count in
     record {
-      over = record {
-        lines = [];
-        served = record {
-          n = 0;
-          served = p;
-          turns_are = turns;
-          gives_are = none_mapped (λ give. give.offer) p.gives
-              (p.offers ∙ ap (offers_of config) turns);
-          are_lines = tt;
-        };
-        count = refl;
-        written = Appends-nil told;
+      lines = [];
+      served = record {
+        n = 0;
+        served = p;
+        turns_are = turns;
+        gives_are = none_mapped (λ give. give.offer) p.gives
+            (p.offers ∙ ap (offers_of config) turns);
+        are_lines = tt;
       };
-      due = due;
+      count = refl;
+      attempts = [];
+      are_attempts = refl;
+      told = adds_none told;
+      due_is = due_is;
+      is_cut_is = whole;
     }
 
 -- the line of a daemon that has served on until it was due
 abbrev pub next_line : {W C : Type 0} {takings_in : W → Option (List Taking)}
     {gives_in : W → Option (List Give)} {readings_in : C → Option (List ℕ)}
-    {config : ConfigModel} {wire : W} {clock : C} {n until reading : ℕ} {turns : List Turn}
+    {config : ConfigModel} {wire : W} {clock : C} {due reading : ℕ} {turns : List Turn}
     {gives : List Give} {daemon : DaemonState W C}
-    → ServesUntil takings_in gives_in readings_in config wire clock n turns gives until reading
+    → ServesUntilDue takings_in gives_in readings_in config wire clock turns gives due reading
     daemon → TotalsLine
 next_line {daemon = daemon} p =
     record { turns = p.served.turns; gives = p.served.gives; totals = daemon.totals }
@@ -83,15 +105,15 @@ next_line {daemon = daemon} p =
 -- the turns up to that line
 served_next : {W C : Type 0} {takings_in : W → Option (List Taking)}
     {gives_in : W → Option (List Give)} {readings_in : C → Option (List ℕ)}
-    {config : ConfigModel} {wire : W} {clock : C} {step until reading : ℕ}
+    {config : ConfigModel} {wire : W} {clock : C} {step due reading : ℕ}
     {lines : List TotalsLine} {daemon next : DaemonState W C}
     (p : HasServedLines takings_in gives_in readings_in config wire clock step lines daemon)
-    (q : ServesUntil takings_in gives_in readings_in config wire clock p.n
-    p.served.turns p.served.gives until reading next) → until ≡ line_due step (turns_of lines)
+    (q : ServesUntilDue takings_in gives_in readings_in config wire clock
+    p.served.turns p.served.gives due reading next) → due ≡ line_due step (turns_of lines)
     → HasServedLines takings_in gives_in readings_in config wire clock step (next_line q ∷ lines)
     next
 served_next p q due = record {
-  n = p.n + q.m;
+  n = q.n;
   served = q.served;
   turns_are = refl;
   gives_are = refl;
@@ -101,7 +123,7 @@ served_next p q due = record {
       more_gives = q.more_gives;
       turns_are = q.turns_are ∙ ap (λ l. l ++ q.more) p.turns_are;
       gives_are = q.gives_are ∙ ap (λ l. l ++ q.more_gives) p.gives_are;
-      ends = subst (λ (t : ℕ). EndsAt t q.more) due q.ends;
+      ends = subst (λ (t : ℕ). EndsWhenDue t q.more) due q.ends;
       counted = totals_served q.served;
     },
     p.are_lines,
@@ -111,91 +133,111 @@ served_next p q due = record {
 -- one more line
 pub lines_more : {W C : Type 0} {takings_in : W → Option (List Taking)}
     {gives_in : W → Option (List Give)} {readings_in : C → Option (List ℕ)}
-    {config : ConfigModel} {wire : W} {clock : C} {step n until reading next_due : ℕ}
-    {a b c : Option (List ℕ)} {daemon next : DaemonState W C}
-    (p : LinesSoFar takings_in gives_in readings_in config wire clock step n until a b daemon)
-    → ServesUntil takings_in gives_in readings_in config wire clock p.over.served.n
-    p.over.served.served.turns p.over.served.served.gives until reading next
-    → next_due ≡ min (reading + step) (2 ^ 64 - 1) → WritesTotals next.totals b c
-    → LinesSoFar takings_in gives_in readings_in config wire clock step (n + 1) next_due a c next
-lines_more {step = step} {n = n} {a = a} {b} {c} p q due line =
-    let lines = p.over.lines in
-    let count : suc (length lines) ≡ n + 1 = omega (arith, p.over.count) in
+    {config : ConfigModel} {wire : W} {clock : C} {step n due reading next_due : ℕ}
+    {is_cut is_cut_then : Bool} {bytes : List ℕ} {a b c : Option (List Attempt)}
+    {daemon next : DaemonState W C} (count : ℕ)
+    (p : WritesLinesOver takings_in gives_in readings_in config wire clock step n due is_cut a b
+    daemon)
+    → ServesUntilDue takings_in gives_in readings_in config wire clock
+    p.served.served.turns p.served.served.gives due reading next
+    → bytes ≡ line_end is_cut ++ text_of_line next.totals
+    → TellsMore b c (attempt bytes count ∷ [])
+    → is_cut_then ≡ is_cut_behind is_cut (take count bytes)
+    → next_due ≡ min (reading + step) (2 ^ 64 - 1)
+    → WritesLinesOver takings_in gives_in readings_in config wire clock step (n + 1) next_due
+    is_cut_then a c next
+lines_more {step = step} {n = n} {is_cut = is_cut} {is_cut_then} {bytes} {a} {b} {c}
+    {next = next} count p q bytes_are told cut due =
+    let line = next_line q in
+    let one_more : suc (length p.lines) ≡ n + 1 = omega (arith, p.count) in
+    let whole : bytes ≡ bytes_of_line p.attempts line =
+    bytes_are ∙ ap (λ f. line_end f ++ text_of_line next.totals) p.is_cut_is in
     record {
-      over = record {
-        lines = next_line q ∷ lines;
-        served = served_next p.over.served q p.due;
-        count = count;
-        written = Appends-trans a b c (text_of_lines lines) (text_of_line (next_line q))
-            p.over.written line;
-      };
-      due = due ∙ ap (λ r. min (r + step) (2 ^ 64 - 1)) q.reading_is;
+      lines = line ∷ p.lines;
+      served = served_next p.served q p.due_is;
+      count = one_more;
+      attempts = p.attempts ++ attempt bytes count ∷ [];
+      are_attempts = (
+        p.attempts,
+        count,
+        p.are_attempts,
+        ap (λ l. p.attempts ++ attempt l count ∷ []) whole,
+      );
+      told = adds_both a b c p.attempts (attempt bytes count ∷ []) p.told told;
+      due_is = due ∙ ap (λ r. min (r + step) (2 ^ 64 - 1)) q.reading_is;
+      is_cut_is = cut ∙ ap (λ f. is_cut_behind f (take count bytes)) p.is_cut_is
+          ∙ sym (ap (is_cut_behind false) (written_more p.attempts bytes count)
+          ∙ cut_both false (written_by p.attempts) (take count bytes));
     }
 
--- what was written where a line came to a fault
-written_but : (fault : ServeFault) (line : TotalsLine) (lines : List TotalsLine)
-    (a b c : Option (List ℕ)) → Appends a b (text_of_lines lines)
-    → FailsToWrite fault line.totals b c → WritesBut fault line lines a c
-written_but Bind line lines a b c before fails = absurd fails
-written_but OutOfMemory line lines a b c before kept =
-    Appends-kept a b c (text_of_lines lines) before kept
-written_but Write line lines a b c before front =
-    let earlier = text_of_lines lines in
-    let text = text_of_line line in (
-      length earlier + front.0,
-      subst (λ (l : List ℕ). Appends a c l) (sym (take-append-add earlier text front.0))
-          (Appends-trans a b c earlier (take front.0 text) before front.1),
-    )
-
--- a line that came to a fault
+-- a line for which memory was wanting
 pub lines_fail : {W C : Type 0} {takings_in : W → Option (List Taking)}
     {gives_in : W → Option (List Give)} {readings_in : C → Option (List ℕ)}
-    {config : ConfigModel} {wire : W} {clock : C} {step n until reading : ℕ}
-    {a b c : Option (List ℕ)} {daemon next : DaemonState W C} (fault : ServeFault)
-    (p : LinesSoFar takings_in gives_in readings_in config wire clock step n until a b daemon)
-    → ServesUntil takings_in gives_in readings_in config wire clock p.over.served.n
-    p.over.served.served.turns p.over.served.served.gives until reading next
-    → FailsToWrite fault next.totals b c
+    {config : ConfigModel} {wire : W} {clock : C} {step n due reading : ℕ} {is_cut : Bool}
+    {a b c : Option (List Attempt)} {daemon next : DaemonState W C} {fault : ServeFault}
+    (p : WritesLinesOver takings_in gives_in readings_in config wire clock step n due is_cut a b
+    daemon)
+    → ServesUntilDue takings_in gives_in readings_in config wire clock
+    p.served.served.turns p.served.served.gives due reading next
+    → fault ≡ OutOfMemory → c ≡ b
     → FailsOver takings_in gives_in readings_in config wire clock step a c next fault
-lines_fail {a = a} {b} {c} fault p q fails = record {
+lines_fail {a = a} p q is kept = record {
+  fault_is = is;
   line = next_line q;
-  earlier = p.over.lines;
-  served = served_next p.over.served q p.due;
-  written = written_but fault (next_line q) p.over.lines a b c p.over.written fails;
+  earlier = p.lines;
+  served = served_next p.served q p.due_is;
+  attempts = p.attempts;
+  are_attempts = p.are_attempts;
+  told = subst (λ (l : Option (List Attempt)). TellsMore a l p.attempts) (sym kept) p.told;
 }
 
 -- all lines, of whatever wire and clock
 pub all_lines : {W C : Type 0} {takings_in : W → Option (List Taking)}
     {gives_in : W → Option (List Give)} {readings_in : C → Option (List ℕ)}
-    {config : ConfigModel} {wire : W} {clock : C} {step : ℕ} {a b : Option (List ℕ)}
-    {daemon : DaemonState W C}
-    → WritesLinesOver takings_in gives_in readings_in config wire clock step (2 ^ 64 - 1)
+    {config : ConfigModel} {wire : W} {clock : C} {step due : ℕ} {is_cut : Bool}
+    {a b : Option (List Attempt)} {daemon : DaemonState W C}
+    → WritesLinesOver takings_in gives_in readings_in config wire clock step (2 ^ 64 - 1) due is_cut
     a b daemon → WritesAllLines config step a b
 all_lines p = record {
-  all = record { lines = p.lines; are_lines = p.served.are_lines; written = p.written };
+  all = record {
+    lines = p.lines;
+    are_lines = p.served.are_lines;
+    attempts = p.attempts;
+    are_attempts = p.are_attempts;
+    told = p.told;
+  };
   count = p.count;
 }
 
 -- lines up to a fault, of whatever wire and clock
 pub lines_up_to : {W C : Type 0} {takings_in : W → Option (List Taking)}
     {gives_in : W → Option (List Give)} {readings_in : C → Option (List ℕ)}
-    {config : ConfigModel} {wire : W} {clock : C} {step : ℕ} {a b : Option (List ℕ)}
+    {config : ConfigModel} {wire : W} {clock : C} {step : ℕ} {a b : Option (List Attempt)}
     {daemon : DaemonState W C} (fault : ServeFault)
     → FailsOver takings_in gives_in readings_in config wire clock step a b daemon fault
     → WritesUpTo fault config step a b
-lines_up_to Bind p = absurd p.written
-lines_up_to OutOfMemory p =
-    record { lines = p.earlier; are_lines = p.served.are_lines.1; written = p.written }
-lines_up_to Write p =
-    record { lines = p.line ∷ p.earlier; are_lines = p.served.are_lines; written = p.written }
+lines_up_to Bind p = let is = p.fault_is in absurd (cc)
+lines_up_to Write p = let is = p.fault_is in absurd (cc)
+lines_up_to OutOfMemory p = record {
+  lines = p.earlier;
+  are_lines = p.served.are_lines.1;
+  attempts = p.attempts;
+  are_attempts = p.are_attempts;
+  told = p.told;
+}
 
 -- nothing was written before the first line
-pub early_end : (fault : ServeFault) (config : ConfigModel) (step : ℕ) (told : Option (List ℕ))
-    → (fault ≡ Write → ⊥) → WritesUpTo fault config step told told
-early_end Bind config step told early = Keeps-refl told
-early_end OutOfMemory config step told early =
-    record { lines = []; are_lines = tt; written = Appends-nil told }
+pub early_end : (fault : ServeFault) (config : ConfigModel) (step : ℕ)
+    (told : Option (List Attempt)) → (fault ≡ Write → ⊥) → WritesUpTo fault config step told told
+early_end Bind config step told early = adds_none told
 early_end Write config step told early = absurd (early refl)
+early_end OutOfMemory config step told early = record {
+  lines = [];
+  are_lines = tt;
+  attempts = [];
+  are_attempts = refl;
+  told = adds_none told;
+}
 
 -- what holds of a fault holds of a result that has it
 pub when_err : {X : Type 0} (result : Result X ServeFault) (fault : ServeFault)

@@ -1,3 +1,5 @@
 pub mod FaultLineLemmas
+pub mod StreamLemmas
+pub mod LookLemmas
 pub mod AttendLemmas
 pub mod ServeLemmas

@@ -1,17 +1,16 @@
 -- What it comes to when the program serves a node that goes on.
-use Rattle.std.specs.Prelude.{◌≡◌, ◌⊎◌, ℕ, ◌+◌, ◌*◌, ◌-◌, ◌^◌, ◌==◌, min, if◌then◌else◌}
-use Rattle.std.specs.Prelude.{List, [], ◌∷◌, ◌++◌, codes, length, Option, Ok}
-use Rattle.std.specs.Io.KnownBytes.{Appends, Keeps}
+use Rattle.std.specs.Prelude.{◌≡◌, ◌⊎◌, ℕ, ◌+◌, ◌*◌, ◌-◌, ◌^◌, ◌≤◌, ◌==◌, min, if◌then◌else◌}
+use Rattle.std.specs.Prelude.{Bool, false, List, [], ◌∷◌, ◌++◌, codes, length, Option, Ok}
 use Rattle.trdp_dataset.specs.Configs.{ConfigModel, ReadsToml, config_of}
 use Rattle.trdp_daemon.specs.declared.totals.Totals.{Totals}
-use Rattle.trdp_daemon.specs.Told.{Taking, Give}
+use Rattle.trdp_daemon.specs.Told.{Taking, Give, TellsMore}
 use Rattle.trdp_daemon.specs.Daemons.{DaemonState, HasServed}
-use Rattle.trdp_daemon.specs.Resting.{EndsAt, last_reading}
+use Rattle.trdp_daemon.specs.Resting.{AreEarly, last_reading}
 use Rattle.trdp_daemon.specs.Turns.{Turn}
-use Rattle.trdp_script.specs.Writes.{PartlyWrites}
 use Rattle.trdp_program.specs.Checking.{RefusesConfig}
 use Rattle.trdp_program.specs.Faults.{TellsFault, TellsText, text_of_serve_fault}
 use Rattle.trdp_program.specs.Serving.{AreTotals, text_of_totals}
+use Rattle.trdp_program.specs.Streams.{Attempt, attempt, written_by, is_cut_behind, line_end}
 use Rattle.trdp_program.specs.declared.faults.ServeFault.{ServeFault}
 use Rattle.trdp_program.specs.declared.faults.ServeFault.TheVariants.{Bind, Write, OutOfMemory}
 
@@ -37,17 +36,35 @@ gives_of [] = []
 gives_of (line ∷ earlier) = line.gives
 
 -- the text of a line
-abbrev pub text_of_line : TotalsLine → List ℕ
-text_of_line line = text_of_totals line.totals ++ codes "\n"
-
--- the text of lines, of which the latest stands first
-abbrev pub text_of_lines : List TotalsLine → List ℕ
-text_of_lines [] = []
-text_of_lines (line ∷ earlier) = text_of_lines earlier ++ text_of_line line
+abbrev pub text_of_line : Totals → List ℕ
+text_of_line totals = text_of_totals totals ++ codes "\n"
 
 -- the reading of the clock at which a line is due behind these turns: a step behind the last one
 abbrev pub line_due : ℕ → List Turn → ℕ
 line_due step turns = min (last_reading turns + step) (2 ^ 64 - 1)
+
+-- the last of these turns is the first of them that begins at the reading `due` of the clock or
+-- later; or there are 2^64 - 1 or more, all of which begin before
+pub record EndsWhenDue (due : ℕ) (turns : List Turn) : Type 0 where
+  pub early : List Turn
+  pub are_early : AreEarly due early
+  pub last : ((turn : Turn) × (turns ≡ early ++ turn ∷ []) × (due ≤ turn.reading))
+      ⊎ ((turns ≡ early) × (2 ^ 64 - 1 ≤ length early))
+
+-- a daemon that had taken these turns with these gives since it was made has taken more, which end
+-- so, the last of them at `reading`
+pub record ServesUntilDue {W C : Type 0} (takings_in : W → Option (List Taking))
+    (gives_in : W → Option (List Give)) (readings_in : C → Option (List ℕ))
+    (config : ConfigModel) (wire : W) (clock : C) (turns : List Turn) (gives : List Give)
+    (due reading : ℕ) (daemon : DaemonState W C) : Type 0 where
+  pub n : ℕ
+  pub served : HasServed takings_in gives_in readings_in config wire clock n daemon
+  pub more : List Turn
+  pub more_gives : List Give
+  pub turns_are : served.turns ≡ turns ++ more
+  pub gives_are : served.gives ≡ gives ++ more_gives
+  pub ends : EndsWhenDue due more
+  pub reading_is : reading ≡ last_reading served.turns
 
 -- a line of a node of that configuration, behind these turns and their gives: it comes with the
 -- first turn that begins a step or more behind the last of these
@@ -57,7 +74,7 @@ pub record IsNextLine (config : ConfigModel) (step : ℕ) (turns : List Turn) (g
   pub more_gives : List Give
   pub turns_are : line.turns ≡ turns ++ more
   pub gives_are : line.gives ≡ gives ++ more_gives
-  pub ends : EndsAt (line_due step turns) more
+  pub ends : EndsWhenDue (line_due step turns) more
   pub counted : AreTotals config line.turns line.gives line.totals
 
 -- these are lines of one node of that configuration, from its first turn on, the latest first
@@ -67,31 +84,41 @@ AreLines config step (line ∷ earlier) =
     IsNextLine config step (turns_of earlier) (gives_of earlier) line
     × AreLines config step earlier
 
--- such lines were written, and nothing else
-pub record WritesLines (config : ConfigModel) (step : ℕ) (old new : Option (List ℕ))
+-- what the stream is asked to take for a line, where it took these before: the end of a line that
+-- was cut, and then the whole line
+abbrev pub bytes_of_line : List Attempt → TotalsLine → List ℕ
+bytes_of_line before line =
+    line_end (is_cut_behind false (written_by before)) ++ text_of_line line.totals
+
+-- a stream was asked to take each of these lines once, in their order, of which the latest stands
+-- first; and nothing else. A line that it didn't take is left out
+abbrev pub AttemptsLines : List TotalsLine → List Attempt → Type 0
+AttemptsLines [] attempts = attempts ≡ []
+AttemptsLines (line ∷ earlier) attempts =
+    (before : List Attempt) × (count : ℕ) × AttemptsLines earlier before
+    × (attempts ≡ before ++ attempt (bytes_of_line before line) count ∷ [])
+
+-- a stream was asked to take such lines, and nothing else
+pub record WritesLines (config : ConfigModel) (step : ℕ) (old new : Option (List Attempt))
     : Type 0 where
   pub lines : List TotalsLine
   pub are_lines : AreLines config step lines
-  pub written : Appends old new (text_of_lines lines)
+  pub attempts : List Attempt
+  pub are_attempts : AttemptsLines lines attempts
+  pub told : TellsMore old new attempts
 
--- as many such lines were written as can be counted
-pub record WritesAllLines (config : ConfigModel) (step : ℕ) (old new : Option (List ℕ))
+-- it was asked to take as many as can be counted
+pub record WritesAllLines (config : ConfigModel) (step : ℕ) (old new : Option (List Attempt))
     : Type 0 where
   pub all : WritesLines config step old new
   pub count : length all.lines ≡ 2 ^ 64 - 1
 
--- a front of such lines was written
-pub record WritesFrontOfLines (config : ConfigModel) (step : ℕ) (old new : Option (List ℕ))
-    : Type 0 where
-  pub lines : List TotalsLine
-  pub are_lines : AreLines config step lines
-  pub written : PartlyWrites old new (text_of_lines lines)
-
 -- what a service has written that ends with this fault
-abbrev pub WritesUpTo : ServeFault → ConfigModel → ℕ → Option (List ℕ) → Option (List ℕ) → Type 0
-WritesUpTo Bind config step old new = Keeps old new
+abbrev pub WritesUpTo : ServeFault → ConfigModel → ℕ → Option (List Attempt)
+    → Option (List Attempt) → Type 0
+WritesUpTo Bind config step old new = TellsMore old new []
+WritesUpTo Write config step old new = ⊥
 WritesUpTo OutOfMemory config step old new = WritesLines config step old new
-WritesUpTo Write config step old new = WritesFrontOfLines config step old new
 
 -- a daemon of this configuration has served since it was made with this wire and this clock, which
 -- tell what they do by these functions: its turns are those up to the latest of these lines
@@ -105,63 +132,67 @@ pub record HasServedLines {W C : Type 0} (takings_in : W → Option (List Taking
   pub gives_are : served.gives ≡ gives_of lines
   pub are_lines : AreLines config step lines
 
--- such a daemon has served, and n lines were written
+-- such a daemon has served, and a stream was asked to take n lines; the next one is due at `due`,
+-- and the latest is cut or isn't
 pub record WritesLinesOver {W C : Type 0} (takings_in : W → Option (List Taking))
     (gives_in : W → Option (List Give)) (readings_in : C → Option (List ℕ))
-    (config : ConfigModel) (wire : W) (clock : C) (step n : ℕ) (old new : Option (List ℕ))
-    (daemon : DaemonState W C) : Type 0 where
+    (config : ConfigModel) (wire : W) (clock : C) (step n due : ℕ) (is_cut : Bool)
+    (old new : Option (List Attempt)) (daemon : DaemonState W C) : Type 0 where
   pub lines : List TotalsLine
   pub served : HasServedLines takings_in gives_in readings_in config wire clock step lines daemon
   pub count : length lines ≡ n
-  pub written : Appends old new (text_of_lines lines)
+  pub attempts : List Attempt
+  pub are_attempts : AttemptsLines lines attempts
+  pub told : TellsMore old new attempts
+  pub due_is : due ≡ line_due step (turns_of lines)
+  pub is_cut_is : is_cut ≡ is_cut_behind false (written_by attempts)
 
--- at the latest of these lines the service came to this fault: where the output can't be written a
--- front of all was written, and else those before it
-abbrev pub WritesBut : ServeFault → TotalsLine → List TotalsLine → Option (List ℕ)
-    → Option (List ℕ) → Type 0
-WritesBut Bind line earlier old new = ⊥
-WritesBut OutOfMemory line earlier old new = Appends old new (text_of_lines earlier)
-WritesBut Write line earlier old new = PartlyWrites old new (text_of_lines (line ∷ earlier))
-
--- such a daemon has served up to a line that came to this fault
+-- such a daemon has served up to a line for which memory was wanting: a stream was asked to take
+-- those before it
 pub record FailsOver {W C : Type 0} (takings_in : W → Option (List Taking))
     (gives_in : W → Option (List Give)) (readings_in : C → Option (List ℕ))
-    (config : ConfigModel) (wire : W) (clock : C) (step : ℕ) (old new : Option (List ℕ))
+    (config : ConfigModel) (wire : W) (clock : C) (step : ℕ) (old new : Option (List Attempt))
     (daemon : DaemonState W C) (fault : ServeFault) : Type 0 where
+  pub fault_is : fault ≡ OutOfMemory
   pub line : TotalsLine
   pub earlier : List TotalsLine
   pub served : HasServedLines takings_in gives_in readings_in config wire clock step
       (line ∷ earlier) daemon
-  pub written : WritesBut fault line earlier old new
+  pub attempts : List Attempt
+  pub are_attempts : AttemptsLines earlier attempts
+  pub told : TellsMore old new attempts
 
--- as many lines were written as can be counted: the status is 0, and the error stream is told
--- nothing
-pub record AttendsToEnd (config : ConfigModel) (step : ℕ)
-    (old new errors errors_then : Option (List ℕ)) (status : ℕ) : Type 0 where
+-- as many lines were offered as can be counted: the status is 0, and the error stream is told of
+-- what was lost
+pub record AttendsToEnd (config : ConfigModel) (step : ℕ) (old new : Option (List Attempt))
+    (errors errors_then : Option (List ℕ)) (status : ℕ) : Type 0 where
   pub status_is : status ≡ 0
   pub written : WritesAllLines config step old new
-  pub faultless : Keeps errors errors_then
+  pub losses : TellsText errors errors_then
 
--- the service came to a fault: the status is 4, and the error stream is told the fault
-pub record FailsToAttend (config : ConfigModel) (step : ℕ)
-    (old new errors errors_then : Option (List ℕ)) (status : ℕ) : Type 0 where
+-- the service came to a fault: the status is 4, and the error stream is told of what was lost, and
+-- then the fault
+pub record FailsToAttend (config : ConfigModel) (step : ℕ) (old new : Option (List Attempt))
+    (errors errors_then : Option (List ℕ)) (status : ℕ) : Type 0 where
   pub fault : ServeFault
   pub status_is : status ≡ 4
   pub written : WritesUpTo fault config step old new
-  pub told : TellsFault (text_of_serve_fault fault) errors errors_then
+  pub before : Option (List ℕ)
+  pub losses : TellsText errors before
+  pub told : TellsFault (text_of_serve_fault fault) before errors_then
 
--- a service of a node that goes on: what the writer and the error stream had before and have after
--- it, and the status
-abbrev pub Attends : ConfigModel → ℕ → Option (List ℕ) → Option (List ℕ) → Option (List ℕ)
-    → Option (List ℕ) → ℕ → Type 0
+-- a service of a node that goes on: what the writer was asked to take and what the error stream had
+-- before and after it, and the status
+abbrev pub Attends : ConfigModel → ℕ → Option (List Attempt) → Option (List Attempt)
+    → Option (List ℕ) → Option (List ℕ) → ℕ → Type 0
 Attends config step old new errors errors_then status =
     AttendsToEnd config step old new errors errors_then status
     ⊎ FailsToAttend config step old new errors errors_then status
 
 -- the bytes are a configuration, whose node was served; the error stream was told some text before
 -- that and some behind it
-pub record AttendsConfig (bytes : List ℕ) (step : ℕ)
-    (old new errors errors_then : Option (List ℕ)) (status : ℕ) : Type 0 where
+pub record AttendsConfig (bytes : List ℕ) (step : ℕ) (old new : Option (List Attempt))
+    (errors errors_then : Option (List ℕ)) (status : ℕ) : Type 0 where
   pub config : ConfigModel
   pub is : ReadsToml config_of bytes (Ok config)
   pub before : Option (List ℕ)
@@ -170,10 +201,11 @@ pub record AttendsConfig (bytes : List ℕ) (step : ℕ)
   pub attends : Attends config step old new before behind status
   pub more : TellsText behind errors_then
 
--- a service that goes on over these bytes of a configuration: what the writer and the error stream
--- had before and have after it, and the status
-abbrev pub AttendsProgram : List ℕ → ℕ → Option (List ℕ) → Option (List ℕ) → Option (List ℕ)
-    → Option (List ℕ) → ℕ → Type 0
+-- a service that goes on over these bytes of a configuration: what the writer was asked to take and
+-- what the error stream had before and after it, and the status. Where the bytes are none, the
+-- writer was asked for nothing
+abbrev pub AttendsProgram : List ℕ → ℕ → Option (List Attempt) → Option (List Attempt)
+    → Option (List ℕ) → Option (List ℕ) → ℕ → Type 0
 AttendsProgram bytes step old new errors errors_then status =
-    RefusesConfig bytes old new errors errors_then status
+    (RefusesConfig bytes errors errors_then status × (new ≡ old))
     ⊎ AttendsConfig bytes step old new errors errors_then status

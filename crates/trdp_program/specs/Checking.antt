@@ -9,14 +9,13 @@ use Rattle.trdp_program.specs.Programs.{IsConfigFault}
 use Rattle.trdp_program.specs.declared.faults.ServeFault.{ServeFault}
 use Rattle.trdp_program.specs.declared.faults.ServeFault.TheVariants.{Bind}
 
--- the bytes are no configuration, or memory ran out while they were read: the status is 1, nothing
--- was written, and the first line that the error stream is told is the fault's
-pub record RefusesConfig (bytes : List ℕ) (old new errors errors_then : Option (List ℕ))
-    (status : ℕ) : Type 0 where
+-- the bytes are no configuration, or memory ran out while they were read: the status is 1, and the
+-- first line that the error stream is told is the fault's
+pub record RefusesConfig (bytes : List ℕ) (errors errors_then : Option (List ℕ)) (status : ℕ)
+    : Type 0 where
   pub fault : ConfigFault
   pub is : IsConfigFault bytes fault
   pub status_is : status ≡ 1
-  pub quiet : Keeps old new
   pub told : TellsFaultFirst (text_of_config_fault fault) errors errors_then
 
 -- the bytes are a configuration: the status is 0, some text was written, and the error stream is
@@ -42,10 +41,10 @@ pub record FailsToReport (bytes : List ℕ) (old new errors errors_then : Option
   pub told : TellsFault (text_of_serve_fault fault) errors errors_then
 
 -- a check of these bytes as a configuration: what the writer and the error stream had before and
--- have after it, and the status
+-- have after it, and the status. Where the bytes are none, nothing was written
 abbrev pub ChecksProgram : List ℕ → Option (List ℕ) → Option (List ℕ) → Option (List ℕ)
     → Option (List ℕ) → ℕ → Type 0
 ChecksProgram bytes old new errors errors_then status =
-    RefusesConfig bytes old new errors errors_then status
+    (RefusesConfig bytes errors errors_then status × Keeps old new)
     ⊎ ReportsConfig bytes old new errors errors_then status
     ⊎ FailsToReport bytes old new errors errors_then status

@@ -4,3 +4,4 @@ pub mod ConfigNames
 pub mod Faults
 pub mod Programs
 pub mod Serving
+pub mod Streams

@@ -17,8 +17,8 @@ use trdp_script::write_whole;
 
 /// Says what a configuration (TOML) means and what its author may not have meant, on the writer,
 /// and answers the exit status: 0, or 1 where it isn't taken, with its fault on `errors` and behind
-/// it where that is, or 4 where the writer fails or memory is wanting, with a line on `errors`
-/// (profile).
+/// it each fault of the file, or 4 where the writer fails or memory is wanting, with a line on
+/// `errors` (profile).
 pub fn check_program<W: Write, E: Write>(
     alloc: Global,
     config: &[u8],

@@ -1,13 +1,13 @@
 //! A service that goes on, with words about its configuration.
 
 ghost use Rattle.std.specs.Prelude.{◌≡◌, ◌⊎◌};
-ghost use Rattle.std.specs.Io.KnownBytes.{Keeps};
 ghost use Rattle.trdp_program.specs.Attending.{AttendsProgram, step_of};
 ghost use Rattle.trdp_program.specs.Faults.{TellsText};
 ghost use Rattle.trdp_program.specs.Programs.{IsConfig};
 
 use crate::attend::attend_config;
 use crate::program::CONFIG_STATUS;
+use crate::stream::Stream;
 use crate::told::{tell_config_fault, tell_text};
 use std::io::Write;
 use std::net::Net;
@@ -17,19 +17,21 @@ use trdp_report::{refused_ports, report};
 
 /// Serves a node of that configuration (TOML) over the system's sockets until the program is
 /// stopped: binds its UDP ports, and takes turns with rests between them. The line of its totals so
-/// far goes to the writer with the first turn that begins so many seconds behind that of the line
-/// before, or behind the clock's first reading; never where the number is 0. It ends by itself at a
-/// fault, and after 2^64 - 1 lines: the exit status is 1 where the configuration isn't taken, 4
-/// after another fault, and else 0. A fault gives one line on `errors`, or a front of it where
-/// `errors` fails (profile).
+/// far is offered to the writer with the first turn that begins so many seconds behind that of the
+/// line before, or behind the clock's first reading; never where the number is 0. It ends by itself
+/// where a port isn't bound or memory is wanting, and after 2^64 - 1 lines: the exit status is 1
+/// where the configuration isn't taken, 4 after another fault, and else 0. A fault gives a line on
+/// `errors`, or a front of it where `errors` fails. What becomes of either stream ends nothing
+/// (profile).
 ///
 /// The configuration is looked at first, and then the ports are bound: where it isn't taken,
 /// nothing is written.
 ///
-/// On `errors` stands before what the configuration means and what its author may not have meant.
-/// Behind the fault's line stands where the fault is, where the configuration isn't taken, and else
+/// On `errors` stands before what the configuration means and what its author may not have meant,
+/// and while it serves at most once a second what the network refused, and why.
+/// Behind the fault's line stands each fault of a configuration that isn't taken, and else
 /// which ports the system refuses, and why (profile).
-pub fn report_daemon<H: Net + Clock + AllocGlobal, W: Write, E: Write>(
+pub fn report_daemon<H: Net + Clock + AllocGlobal, W: Stream, E: Write>(
     rt: &H,
     config: &[u8],
     seconds: u32,
@@ -39,9 +41,9 @@ pub fn report_daemon<H: Net + Clock + AllocGlobal, W: Write, E: Write>(
     ensures status { (result ≡ 0) ⊎ (result ≡ 1) ⊎ (result ≡ 4) }
     ensures config { (result ≡ 1) ⊎ IsConfig config.now }
     ensures attends { AttendsProgram config.now (step_of seconds)
-        (W.contents writer.old) (W.contents writer.new)
+        (W.attempts writer.old) (W.attempts writer.new)
         (E.contents errors.old) (E.contents errors.new) result }
-    ensures quiet { result ≡ 1 → Keeps (W.contents writer.old) (W.contents writer.new) }
+    ensures quiet { result ≡ 1 → W.attempts writer.new ≡ W.attempts writer.old }
 {
     let alloc = rt.alloc();
     match NodeConfig::from_toml(alloc, config) {

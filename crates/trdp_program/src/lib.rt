@@ -9,31 +9,33 @@
 //! ```
 //!
 //! The configuration is looked at first, as bytes of TOML. The exit status is
-//! - 0 at the script's end, after the last turn, and after 2^64 - 1 lines of totals, which a service
-//!   that goes on hardly comes to;
+//! - 0 at the script's end, after the last turn, and after 2^64 - 1 lines of totals, to which a
+//!   service that goes on hardly comes;
 //! - 1 where the configuration isn't taken, with `config fault NAME` on `errors`. Behind the name
 //!   stands the key of a Missing or WrongType and the number of a dataset for NoDataset;
 //! - 3 for a bad line, with `line N fault NAME`;
 //! - 4 after a `read fault`, a `write fault` or a `memory fault`, and after a `bind fault`, where
-//!   the system refuses a port.
+//!   the system refuses a port. A service that goes on knows no `write fault`.
 //!
 //! What a script gives, and where it stops, is the contract of `trdp_script::run_script`, which
 //! `run_program` repeats with the exit status. What the totals count is the contract of
 //! `trdp_daemon::Daemon::run`: for any wire and clock they are those of so many turns over them,
 //! and `serve_program` repeats this with the exit status and the line. What the system's sockets
 //! took and gave no contract tells, so of them it says only that the totals are those of so many
-//! turns. `report_daemon` writes lines of totals and nothing else, and a front of them where the
-//! writer fails. Each line is behind more turns of one node: it comes with the first that begins a
-//! step behind the turn of the line before. Over a wire and a clock that tell, these are the turns
-//! that they tell of (the private `attend_lines`). No contract says that the outside works: each of
-//! the four that answers 1 at once meets its contract, as if memory had run out while the
-//! configuration was read.
+//! turns. `report_daemon` asks its output, a [`Stream`], to take lines of totals, each once, and
+//! nothing else: what the output doesn't take is left out, and a line that was cut is ended before
+//! the next. Each line is behind more turns of one node: it comes with the first that begins a step
+//! behind the turn of the line before. Over a wire and a clock that tell, these are the turns that
+//! they tell of (the private `attend_lines`). No contract says that the outside works: each of the
+//! four that answers 1 at once meets its contract, as if memory had run out while the configuration
+//! was read. What the system says to a write no contract can say either: [`Ready`] asks it before
+//! each one whether it would wait, and is tested over pipes and devices that are full or gone.
 //!
-//! On `errors` stands nothing at 0, and else a front of the fault's line. A check says in a second
-//! line behind it where the fault is. A service that goes on has words before its fault and behind
-//! it; where the configuration isn't taken, the fault's line is the first. The words themselves are
-//! no contract's matter: a text that is left out, or another in its place, breaks none. The tests
-//! refuse both.
+//! On `errors` stands nothing at 0, and else a front of the fault's line. A check says behind it
+//! where each fault is. A service that goes on has words before its fault and behind it, and lines
+//! of what the network refused; where the configuration isn't taken, the fault's line is the first.
+//! The words themselves are no contract's matter: a text that is left out, or another in its place,
+//! breaks none. The tests refuse both.
 #![tactic(auto)]
 
 mod attend;
@@ -41,9 +43,12 @@ mod check;
 mod config_names;
 mod daemon;
 mod faults;
+mod losses;
 mod program;
 mod serve;
+mod stream;
 mod told;
+mod totals_log;
 
 pub use check::check_program;
 pub use config_names::ConfigFaultText;
@@ -51,3 +56,4 @@ pub use daemon::report_daemon;
 pub use faults::{ScriptFaultText, script_status};
 pub use program::{CONFIG_STATUS, run_program};
 pub use serve::serve_program;
+pub use stream::{Ready, Stream};

@@ -100,11 +100,7 @@ fn serve_over<L: Wire + Drop, C: trdp_daemon::Clock + Drop>(
 ///
 /// # Errors
 /// `Write` where the writer fails, and `OutOfMemory`.
-pub(crate) fn write_totals<W: Write>(
-    alloc: Global,
-    totals: Totals,
-    writer: &mut W,
-) -> Result<(), ServeFault>
+fn write_totals<W: Write>(alloc: Global, totals: Totals, writer: &mut W) -> Result<(), ServeFault>
     ensures ok { OnOk result (WritesTotals totals (W.contents writer.old) (W.contents writer.new)) }
     ensures err { IfErr result (λ fault. FailsToWrite fault totals
         (W.contents writer.old) (W.contents writer.new)) }
@@ -147,7 +143,7 @@ pub(crate) fn bind_fault(fault: BindFault) -> ServeFault
 /// The totals of a service as the program prints them (profile): `taken T offered O lost L unread
 /// U memory M`. To show them takes no memory.
 #[derive(Clone, Copy)]
-struct TotalsText(Totals);
+pub(crate) struct TotalsText(pub(crate) Totals);
 
 impl fmt::Display for TotalsText {
     ghost use Rattle.std.specs.Prelude.{Some};

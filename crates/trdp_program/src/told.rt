@@ -32,7 +32,7 @@ pub(crate) fn tell_fault<F: Display + Drop, E: Write>(fault: F, errors: &mut E) 
     }
 }
 
-/// Tells a fault of a configuration, and behind its line where it is.
+/// Tells a fault of a configuration, and behind its line each fault of the file.
 pub(crate) fn tell_config_fault<E: Write>(
     alloc: Global,
     config: &[u8],

@@ -4,6 +4,12 @@
 use clap::{Arg, ArgAction, ArgMatches, Command, Error, value_parser};
 use std::alloc::{AllocError, Global};
 
+/// What stands below the help.
+const EXAMPLE: &str = "Example, with a configuration of this project:\n  \
+     trdpd check examples/control/door.toml\n  \
+     trdpd daemon examples/control/door.toml --totals 60\n\n\
+     The manual page: man trdpd, or man docs/trdpd.1 in the project's folder";
+
 /// What the program is asked to do.
 pub enum Task<'a> {
     /// To say what a configuration means.
@@ -81,12 +87,10 @@ fn path_of<'a>(words: Option<&ArgMatches<'a>>) -> &'a str {
 /// The words that are understood.
 fn command<'a>(alloc: Global) -> Result<Command<'a>, AllocError> {
     let check = Command::new(alloc, "check")
-        .about("Says what the configuration means, or where its fault is")
+        .about("Say what a configuration means, or what is wrong with it")
         .arg(config(alloc))?;
     let run = Command::new(alloc, "run")
-        .about(
-            "Runs the script at standard input and writes what the node gives to standard output",
-        )
+        .about("Play the script at standard input; print what the node gives")
         .arg(config(alloc))?;
     let turns = Arg::new(alloc, "turns")
         .long("turns")
@@ -96,11 +100,12 @@ fn command<'a>(alloc: Global) -> Result<Command<'a>, AllocError> {
         .value_parser(value_parser!(u32))
         .help("How many turns to take");
     let serve = Command::new(alloc, "serve")
-        .about("Serves the node at its UDP ports and writes how many datagrams came and went")
+        .about("Serve the node for N turns without a rest; print its totals")
         .arg(config(alloc))?
         .arg(turns)?;
     Command::new(alloc, "trdpd")
-        .about("A communication node for the Train Real-time Data Protocol")
+        .about("A communication node for the Train Real-time Data Protocol (TRDP, IEC 61375-2-3)")
+        .after_help(EXAMPLE)
         .subcommand_required(true)
         .subcommand(check)?
         .subcommand(run)?
@@ -115,11 +120,9 @@ fn daemon<'a>(alloc: Global) -> Result<Command<'a>, AllocError> {
         .value_name("SECONDS")
         .action(ArgAction::Set)
         .value_parser(value_parser!(u32))
-        .help("How many seconds lie between two lines that say how many datagrams came and went");
+        .help("How many seconds lie between two lines of totals [default: 0, no line]");
     Command::new(alloc, "daemon")
-        .about(
-            "Serves the node at its UDP ports until it is stopped, and rests while nothing is due",
-        )
+        .about("Serve the node at its UDP ports until it is stopped")
         .arg(config(alloc))?
         .arg(totals)
 }
@@ -128,5 +131,5 @@ fn daemon<'a>(alloc: Global) -> Result<Command<'a>, AllocError> {
 fn config<'a>(alloc: Global) -> Arg<'a> {
     Arg::new(alloc, "CONFIG")
         .required(true)
-        .help("The node's configuration file")
+        .help("The node's configuration, a file of TOML")
 }

@@ -16,19 +16,21 @@
 //! `trdpd daemon CONFIG` does the same until it is stopped: between two turns it rests until a
 //! datagram comes or something is due. With `--totals SECONDS` the line of its totals so far goes
 //! to standard output with the first turn that begins so many seconds behind that of the line
-//! before. It begins with the words of a check, on standard error.
+//! before. It begins with the words of a check, on standard error, and tells there at most once a
+//! second what the network refused. Nothing that becomes of these two streams stops it: what one
+//! doesn't take at once is left out.
 //!
 //! The exit status is
 //! - 0 at the script's end, after the last turn, and for a configuration without a fault;
 //! - 1 where the configuration isn't taken, with `config fault NAME` on standard error. Behind
 //!   the name stands the key of a Missing or WrongType and the number of a dataset for NoDataset;
-//!   a check and a daemon say in a second line where the fault is.
+//!   a check and a daemon say behind that line where each fault is, and what is wanted there.
 //!   A file that can't be read is `config fault Unreadable`, and want of memory while it is read
-//!   `config fault OutOfMemory`;
+//!   `config fault OutOfMemory`; a check and a daemon say in a second line which file, and why;
 //! - 2 for other words, with the usage;
 //! - 3 for a bad line, with `line N fault NAME`;
 //! - 4 after a `read fault`, a `write fault` or a `memory fault`, and after a `bind fault`, where
-//!   the system refuses a port.
+//!   the system refuses a port. A daemon knows no `write fault`.
 //!
 //! What it does in each case, with the exit status, is the contract of `trdp_program`'s
 //! `run_program`, `serve_program`, `check_program` and `report_daemon`: but for the words of a
@@ -47,8 +49,8 @@ use std::process::ExitCode;
 use std::{env, fs, io};
 use trdp_dataset::ConfigFault;
 use trdp_program::{
-    CONFIG_STATUS, ConfigFaultText, ScriptFaultText, check_program, report_daemon, run_program,
-    script_status, serve_program,
+    CONFIG_STATUS, ConfigFaultText, Ready, ScriptFaultText, check_program, report_daemon,
+    run_program, script_status, serve_program,
 };
 use trdp_script::ScriptFault;
 
@@ -80,7 +82,7 @@ fn status(rt: &HostRuntime) -> u8 {
 
 /// Says what the configuration of a file means, and answers the exit status.
 fn check_file(rt: &HostRuntime, path: &str) -> u8 {
-    match read_file(rt, path) {
+    match read_file_or_say_why(rt, path) {
         Some(config) => check_program(rt.alloc(), &config, &mut rt.stdout(), &mut rt.stderr()),
         None => CONFIG_STATUS,
     }
@@ -110,25 +112,50 @@ fn serve_file(rt: &HostRuntime, path: &str, turns: u32) -> u8 {
 }
 
 /// Serves the configuration of a file until the program is stopped, and answers the exit status.
+/// Neither standard output nor standard error can make it wait.
 fn attend_file(rt: &HostRuntime, path: &str, seconds: u32) -> u8 {
-    match read_file(rt, path) {
-        Some(config) => report_daemon(rt, &config, seconds, &mut rt.stdout(), &mut rt.stderr()),
+    match read_file_or_say_why(rt, path) {
+        Some(config) => report_daemon(
+            rt,
+            &config,
+            seconds,
+            &mut Ready::output(rt.stdout()),
+            &mut Ready::error(rt.stderr()),
+        ),
         None => CONFIG_STATUS,
     }
 }
 
-/// Reads the configuration's file, or tells why that can't be done.
+/// Reads the configuration's file, or tells that this can't be done.
 fn read_file(rt: &HostRuntime, path: &str) -> Option<Vec<u8>> {
     match fs::read(rt, path) {
         Ok(config) => Some(config),
-        Err(error) if error.kind() == io::ErrorKind::OutOfMemory => {
-            tell(rt, ConfigFaultText(ConfigFault::OutOfMemory));
+        Err(error) => {
+            tell_unread(rt, &error);
             None
         }
-        Err(_) => {
-            tell(rt, "config fault Unreadable");
+    }
+}
+
+/// Reads the configuration's file, or tells that this can't be done, and in a second line why.
+fn read_file_or_say_why(rt: &HostRuntime, path: &str) -> Option<Vec<u8>> {
+    match fs::read(rt, path) {
+        Ok(config) => Some(config),
+        Err(error) => {
+            tell_unread(rt, &error);
+            // What standard error does with the text changes nothing.
+            let _ = eprintln!(rt; "{path}: {error}");
             None
         }
+    }
+}
+
+/// Tells in a line that a configuration's file can't be read.
+fn tell_unread(rt: &HostRuntime, error: &io::Error) {
+    if error.kind() == io::ErrorKind::OutOfMemory {
+        tell(rt, ConfigFaultText(ConfigFault::OutOfMemory));
+    } else {
+        tell(rt, "config fault Unreadable");
     }
 }
 

@@ -1,22 +1,23 @@
-use Rattle.std.proofs.Common.{◌-◌, ◌^◌}
+use Rattle.std.proofs.Common.{◌-◌, ◌^◌, ℕ, Bool}
 use Rattle.trdp_program.specs.Attending.{FailsOver, WritesAllLines, WritesLinesOver, WritesUpTo}
 use Rattle.trdp_program.proofs.AttendLemmas.{all_lines, lines_up_to, on_ok, on_err}
 use Rattle.trdp_program.proofs.attend.attend_over.Goals as goal
 
 pub returns-in-Ok-clause-ok : goal.returns-in-Ok-clause-ok
 returns-in-Ok-clause-ok g c =
-    let old = g.W.Write.contents c.args.writer.now in
-    let new = g.W.Write.contents c.attend_lines.new.writer in
+    let old = g.W.Stream.attempts c.args.writer.now in
+    let new = g.W.Stream.attempts c.attend_lines.new.writer in
     on_ok c.attend_lines.result
-    (WritesLinesOver g.L.Wire.takings g.L.Wire.gives g.C.Clock.readings c.args.config
-    c.args.wire c.args.clock c.args.step (2 ^ 64 - 1) old new c.attend_lines.new.daemon)
-    (WritesAllLines c.args.config c.args.step old new) (λ p. all_lines p)
+    ((due : ℕ) × (is_cut : Bool) × WritesLinesOver g.L.Wire.takings g.L.Wire.gives
+    g.C.Clock.readings c.args.config c.args.wire c.args.clock c.args.step (2 ^ 64 - 1) due is_cut
+    old new c.attend_lines.new.daemon)
+    (WritesAllLines c.args.config c.args.step old new) (λ p. all_lines p.2)
     (c.attend_lines.ensures.ok c.args.config c.args.wire c.args.clock c.in-Ok.ensures.served)
 
 pub returns-in-Ok-clause-err : goal.returns-in-Ok-clause-err
 returns-in-Ok-clause-err g c =
-    let old = g.W.Write.contents c.args.writer.now in
-    let new = g.W.Write.contents c.attend_lines.new.writer in
+    let old = g.W.Stream.attempts c.args.writer.now in
+    let new = g.W.Stream.attempts c.attend_lines.new.writer in
     on_err c.attend_lines.result
     (FailsOver g.L.Wire.takings g.L.Wire.gives g.C.Clock.readings c.args.config
     c.args.wire c.args.clock c.args.step old new c.attend_lines.new.daemon)
