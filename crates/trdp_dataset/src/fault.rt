@@ -53,7 +53,7 @@ pub enum ConfigFault {
 }
 
 impl ConfigFault {
-    /// The number of the fault in the order of the faults, 1 to 12. A variant that carries something
+    /// The number of the fault in the order of the faults, 1 to 12. A variant that carries a value
     /// can have no number of its own in the enum, so this says it.
     pub fn rank(self) -> u8
         ensures value { result ≡ rank self }
