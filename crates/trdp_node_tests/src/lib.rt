@@ -33,6 +33,8 @@ mod sockets;
 #[cfg(test)]
 mod spare_port;
 #[cfg(test)]
+mod totals;
+#[cfg(test)]
 mod turns;
 #[cfg(test)]
 mod two_slots;

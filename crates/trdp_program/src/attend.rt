@@ -85,28 +85,29 @@ fn attend_over<L: Wire + Drop, C: trdp_daemon::Clock + Drop, W: Stream, E: Write
     ensures losses { TellsText (E.contents errors.old) (E.contents errors.new) }
 {
     match Daemon::new(alloc, config, wire, clock) {
-        Ok(mut daemon) => attend_lines(alloc, &mut daemon, step, writer, errors),
+        Ok(mut daemon) => attend_lines(alloc, &mut daemon, step, u64::MAX, writer, errors),
         Err(_) => Err(ServeFault::OutOfMemory),
     }
 }
 
 /// Attends to a node that has taken no turn, and offers the writer the line of its totals with the
 /// first turn that begins a step of so many microseconds behind that of the line before, or behind
-/// 0. A line that the writer doesn't take is left out.
+/// 0, until so many lines were offered. A line that the writer doesn't take is left out.
 ///
 /// # Errors
-/// `OutOfMemory`.
-fn attend_lines<L: Wire, C: trdp_daemon::Clock, W: Stream, E: Write>(
+/// `OutOfMemory`, where there is none for a line.
+pub fn attend_lines<L: Wire, C: trdp_daemon::Clock, W: Stream, E: Write>(
     alloc: Global,
     daemon: &mut Daemon<L, C>,
     step: u64,
+    lines: u64,
     writer: &mut W,
     errors: &mut E,
 ) -> Result<(), ServeFault>
     ensures ok { (config : ConfigModel) (wire : L) (clock : C)
         → HasServed L.takings L.gives C.readings config wire clock 0 daemon.old
         → OnOk result ((due : ℕ) × (is_cut : Bool) × WritesLinesOver L.takings L.gives C.readings
-        config wire clock step (2 ^ 64 - 1) due is_cut
+        config wire clock step lines due is_cut
         (W.attempts writer.old) (W.attempts writer.new) daemon.new) }
     ensures err { (config : ConfigModel) (wire : L) (clock : C)
         → HasServed L.takings L.gives C.readings config wire clock 0 daemon.old
@@ -116,7 +117,7 @@ fn attend_lines<L: Wire, C: trdp_daemon::Clock, W: Stream, E: Write>(
 {
     let mut log = TotalsLog::new(step);
     let mut losses = Losses::new();
-    for _line in 0..u64::MAX {
+    for _line in 0..lines {
         let reading = attend_until(daemon, log.due(), &mut losses, errors);
         log.write(alloc, reading, daemon.totals(), writer)?;
     }
@@ -174,126 +175,5 @@ fn bind<'a, H: Net + AllocGlobal>(
     match RestingWire::bind(rt, rt.alloc(), config) {
         Ok(wire) => Ok(wire),
         Err(fault) => Err(bind_fault(fault)),
-    }
-}
-
-#[cfg(test)]
-mod tests {
-    use super::*;
-    use trdp_base::{Ip, Place};
-    use trdp_daemon::{MemoryClock, MemoryWire, Port};
-
-    /// A node of one slot.
-    const NODE: &[u8] = b"[node]\naddress = \"10.0.0.1\"\n[[slot]]\n";
-
-    /// Where the datagrams come from.
-    const SENDER: Place = Place {
-        ip: Ip(0x0a00_0002),
-        port: 17224,
-    };
-
-    /// The readings of a clock that comes on time.
-    const STEADY: [u64; 6] = [0, 999_999, 1_000_000, 1_999_999, 2_000_000, 3_000_000];
-
-    /// The readings of a clock that jumps ten minutes.
-    const JUMP: [u64; 6] = [
-        0,
-        600_000_000,
-        600_500_000,
-        601_000_000,
-        601_500_000,
-        602_000_000,
-    ];
-
-    /// A stream in memory.
-    #[derive(Drop)]
-    struct Page {
-        /// What it took.
-        text: Vec<u8>,
-        /// How many bytes it takes at the next writes, the latest of which comes first; all behind
-        /// them.
-        counts: Vec<usize>,
-    }
-
-    impl Stream for Page {
-        ghost use Rattle.std.specs.Prelude.{None};
-
-        ghost attempts = { λ _. None };
-
-        fn try_write(&mut self, bytes: &[u8]) -> usize {
-            let count = self.counts.pop().unwrap_or(bytes.len()).min(bytes.len());
-            let (taken, _) = bytes.split_at(count);
-            match self.text.extend_from_slice(taken) {
-                Ok(()) => count,
-                Err(_) => 0,
-            }
-        }
-    }
-
-    /// A daemon of that node at whose first six turns, whose clock reads these, a datagram comes
-    /// each.
-    fn daemon_at(alloc: Global, readings: &[u64]) -> Option<Daemon<MemoryWire, MemoryClock>> {
-        let config = NodeConfig::from_toml(alloc, NODE).ok()?;
-        let mut wire = MemoryWire::new(alloc, 100, 0, 0).ok()?;
-        for take in 1..7usize {
-            wire.arrive(Port::Pd, take, SENDER, b"x").ok()?;
-        }
-        let clock = MemoryClock::new(alloc, readings).ok()?;
-        Daemon::new(alloc, config, wire, clock).ok()
-    }
-
-    /// Attends to the node up to its second line, where the clock reads these, with a line every
-    /// second, and answers what a stream took that takes so many bytes at each write.
-    fn page_of(alloc: Global, readings: &[u64], counts: &[usize]) -> Option<Page> {
-        let mut daemon = daemon_at(alloc, readings)?;
-        let mut page = Page {
-            text: Vec::new(alloc),
-            counts: Vec::new(alloc),
-        };
-        for count in counts.iter().rev() {
-            page.counts.push(*count).ok()?;
-        }
-        let mut log = TotalsLog::new(step_of(1));
-        let mut losses = Losses::new();
-        let mut room = [0; 10];
-        let mut errors = room.as_mut_slice();
-        for _line in 0..2 {
-            let reading = attend_until(&mut daemon, log.due(), &mut losses, &mut errors);
-            log.write(alloc, reading, daemon.totals(), &mut page).ok()?;
-        }
-        Some(page)
-    }
-
-    /// A line that isn't taken is left out, and one that was cut is ended before the next.
-    #[test]
-    fn each_line_is_whole_cut_or_left_out(rt: HostRuntime) {
-        let rows: [([u64; 6], &[usize], &[u8]); 4] = [
-            (
-                STEADY,
-                &[],
-                b"taken 3 offered 0 lost 0 unread 0 memory 0\n\
-                taken 5 offered 0 lost 0 unread 0 memory 0\n",
-            ),
-            (
-                JUMP,
-                &[],
-                b"taken 2 offered 0 lost 0 unread 0 memory 0\n\
-                taken 4 offered 0 lost 0 unread 0 memory 0\n",
-            ),
-            (
-                STEADY,
-                &[0],
-                b"taken 5 offered 0 lost 0 unread 0 memory 0\n",
-            ),
-            (
-                STEADY,
-                &[7],
-                b"taken 3\ntaken 5 offered 0 lost 0 unread 0 memory 0\n",
-            ),
-        ];
-        for (readings, counts, text) in rows {
-            let page = page_of(rt.alloc(), &readings, counts);
-            assert!(rt; matches!(&page, Some(page) if page.text.as_slice() == text));
-        }
     }
 }

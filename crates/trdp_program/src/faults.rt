@@ -47,7 +47,7 @@ pub(crate) const SERVE_FAULT_STATUS: u8 = 4;
 /// Why a service comes to no good end. As the program prints it (profile) it is `bind fault`,
 /// `write fault` or `memory fault`; to show it takes no memory.
 #[derive(Clone, Copy, Debug, PartialEq, Eq)]
-pub(crate) enum ServeFault {
+pub enum ServeFault {
     /// The system refuses one of the ports.
     Bind,
     /// The output can't be written.

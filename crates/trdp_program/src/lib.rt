@@ -26,7 +26,7 @@
 //! nothing else: what the output doesn't take is left out, and a line that was cut is ended before
 //! the next. Each line is behind more turns of one node: it comes with the first that begins a step
 //! behind the turn of the line before. Over a wire and a clock that tell, these are the turns that
-//! they tell of (the private `attend_lines`). No contract says that the outside works: each of the
+//! they tell of ([`attend_lines`]). No contract says that the outside works: each of the
 //! four that answers 1 at once meets its contract, as if memory had run out while the configuration
 //! was read. What the system says to a write no contract can say either: [`Ready`] asks it before
 //! each one whether it would wait, and is tested over pipes and devices that are full or gone.
@@ -50,10 +50,11 @@ mod stream;
 mod told;
 mod totals_log;
 
+pub use attend::attend_lines;
 pub use check::check_program;
 pub use config_names::ConfigFaultText;
 pub use daemon::report_daemon;
-pub use faults::{ScriptFaultText, script_status};
+pub use faults::{ScriptFaultText, ServeFault, script_status};
 pub use program::{CONFIG_STATUS, run_program};
 pub use serve::serve_program;
 pub use stream::{Ready, Stream};

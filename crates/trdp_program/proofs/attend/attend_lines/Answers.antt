@@ -63,7 +63,7 @@ returns-in_err-write-clause-losses g c =
 
 pub returns-clause-ok : goal.returns-clause-ok
 returns-clause-ok g c = λ config wire clock served.
-    let all : c.loop-line._line ≡ 2 ^ 64 - 1 =
+    let all : c.loop-line._line ≡ c.args.lines =
     omega (arith, c.loop-line-test.false, c.loop-line.auto._line-end) in (
       c.loop-line.log.due,
       c.loop-line.log.is_cut,
