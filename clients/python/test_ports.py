@@ -187,11 +187,9 @@ class Ends(unittest.TestCase):
         self.assertEqual((status, output), (4, ""))
         self.assertIn("\nbind fault\n", errors)
 
-    def test_a_writer_that_fails_ends_the_service(self) -> None:
+    def test_a_writer_that_fails_ends_a_service_of_turns(self) -> None:
         with open("/dev/full", "w") as full:
-            for words in (("serve", "--turns", "0"), ("daemon", "--totals", "1")):
-                status, _, errors = self.ends(node(control(0)), *words, stdout=full)
-                self.assertEqual((status, errors.splitlines()[-1]), (4, "write fault"))
+            self.assertEqual(self.ends(node(control(0)), "serve", "--turns", "0", stdout=full), (4, None, "write fault\n"))
 
     def test_a_fault_that_cannot_be_told_keeps_its_status(self) -> None:
         with open("/dev/full", "w") as full:
