@@ -58,7 +58,7 @@ concerns_messages (ConfirmCall handle place status) = true
 concerns_messages (AbortCall handle) = true
 concerns_messages _ = false
 
--- the call makes an object, or sends a message without one
+-- the call makes an object, sends a message without one, or ends all
 abbrev pub concerns_no_object : CallModel → Bool
 concerns_no_object call = not (concerns_data call || answers_request call || concerns_messages call)
 

@@ -127,7 +127,7 @@ fn asked_of<'a>(call: &Call<'a>) -> Option<(u32, Asked<'a>)>
     asked_of_messages(call)
 }
 
-/// Serves a call of slot `s` that concerns no object that there is, and records its answer.
+/// Serves a call of slot `s` that concerns no single object, and records its answer.
 ///
 /// # Errors
 /// Want of memory for a new object; nothing has changed.
@@ -166,6 +166,10 @@ fn serve_slot(
         Call::Request { terms, payload } => {
             request(store, s, &terms, payload, setting, out)?;
             return Ok(());
+        }
+        Call::Reset => {
+            store.reset(s);
+            PlainAnswer::Done
         }
         _ => return Ok(()),
     };

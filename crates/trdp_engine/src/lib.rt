@@ -43,9 +43,9 @@ pub use node::Node;
 // What callers pass in and get back, and the laws of the rules, so that a program names this crate
 // alone.
 pub use trdp_model::{
-    Answer, Call, Event, Indication, Message, NodeFault, PeekFault, Protocol, Record, Refusal,
-    Reply, SLOTS_MAX, ValueFault, What, error_telegrams_are_inert, malformed_datagrams_are_inert,
-    requests_are_for_listeners, same_view, view_drops_nothing,
+    Answer, Call, Event, Indication, Kind, Message, NodeFault, PeekFault, Protocol, Record,
+    Refusal, Reply, SLOTS_MAX, ValueFault, What, error_telegrams_are_inert,
+    malformed_datagrams_are_inert, requests_are_for_listeners, same_view, view_drops_nothing,
 };
 pub use trdp_outbox::Outbox;
 

@@ -3,3 +3,4 @@ pub mod RankLemmas
 pub mod RowLemmas
 pub mod SearchLemmas
 pub mod RunLemmas
+pub mod SlotLemmas

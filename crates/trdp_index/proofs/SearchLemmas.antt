@@ -1,9 +1,10 @@
 -- What the row of an index in the list tells of all rows.
--- For `index_of`, `is_below` and `place_for`, and for `remove` of both indexes.
+-- For `index_of`, `is_below`, `place_for`, `remove` of both indexes, and the store above.
 -- By: rows rise, so one that isn't below a rank has none behind it that is.
-use Rattle.std.proofs.Common.{◌≡◌, ℕ, zero, suc, ◌<◌, List, [], ◌∷◌, length, take, drop}
-use Rattle.std.proofs.Common.{Some, true, false, refl, ◌∙◌, sym, ap, subst, arith}
+use Rattle.std.proofs.Common.{◌≡◌, ℕ, zero, suc, ◌+◌, ◌<◌, List, [], ◌∷◌, length, take, drop}
+use Rattle.std.proofs.Common.{Some, Bool, true, false, refl, ◌∙◌, sym, ap, subst, arith}
 use Rattle.std.specs.Prelude.{slice_get, option_map, insert, remove, is_some}
+use Rattle.std.proofs.lemmas.Bool.{false≢true}
 use Rattle.std.proofs.lemmas.Option.{none-some, same_Some}
 use Rattle.trdp_index.specs.declared.rank.Rank.{Rank}
 use Rattle.trdp_index.specs.Ranks.{is_before, is_same}
@@ -134,3 +135,23 @@ module _ {Row : Type 0} (rank_of : Row → Rank) where
   pub has_found : (rank : Rank) (rows : List Row) (n : ℕ)
       → IsIndexOf rank_of rank rows n → has_row rank_of rank rows ≡ true
   has_found rank rows n index = ap is_some (sym index.found) ∙ is_some_get n rows index.within
+
+  -- there is one row fewer without that of a rank which is there
+  pub length-without_rank : (rank : Rank) (rows : List Row) → IsRising rank_of rows
+      → has_row rank_of rank rows ≡ true
+      → length rows ≡ length (without_rank rank_of rank rows) + 1
+  length-without_rank rank [] rising has = absurd (false≢true has)
+  length-without_rank rank (row ∷ rows) rising has =
+      either (is_same (rank_of row) rank) refl has (length-without_rank rank rows rising.1)
+    where
+      either : (b : Bool) → is_same (rank_of row) rank ≡ b
+          → has_row rank_of rank (row ∷ rows) ≡ true
+          → (has_row rank_of rank rows ≡ true
+          → length rows ≡ length (without_rank rank_of rank rows) + 1)
+          → length (row ∷ rows) ≡ length (without_rank rank_of rank (row ∷ rows)) + 1
+      either true is has rest =
+          let after = AllAfter-same (rank_of row) rank rows is rising.0 in
+          rw is (omega (arith, ap length (absent_after rank rows after).others))
+      either false is has rest =
+          let fewer = rest (rw is at has) in
+          rw is (omega (arith, fewer))

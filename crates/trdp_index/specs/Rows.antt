@@ -1,5 +1,5 @@
 -- Sets of rows, as lists in the order of their ranks.
-use Rattle.std.specs.Prelude.{◌≡◌, List, [], ◌∷◌, Option, Bool, true, false, not}
+use Rattle.std.specs.Prelude.{◌≡◌, ℕ, ◌==◌, List, [], ◌∷◌, Option, Bool, true, false, not}
 use Rattle.std.specs.Prelude.{if◌then◌else◌, find, filter, is_some}
 use Rattle.trdp_index.specs.declared.rank.Rank.{Rank}
 use Rattle.trdp_index.specs.Ranks.{is_before, is_same}
@@ -46,3 +46,7 @@ with_row rank_of row (other ∷ others) =
 -- the rows but that of a rank
 abbrev pub without_rank : {Row : Type 0} → (Row → Rank) → Rank → List Row → List Row
 without_rank rank_of rank rows = filter (λ row. not (is_same (rank_of row) rank)) rows
+
+-- the rows but those of a slot
+abbrev pub without_slot : {Row : Type 0} → (Row → Rank) → ℕ → List Row → List Row
+without_slot rank_of slot rows = filter (λ row. not ((rank_of row).slot == slot)) rows

@@ -2,14 +2,14 @@
 
 ghost use Rattle.std.specs.Prelude.{◌≡◌, ℕ, ◌+◌, ◌*◌, ◌^◌, ◌<◌, ◌≤◌, length, max, false};
 ghost use Rattle.std.specs.Prelude.{Option, if◌then◌else◌, IfOk, OnOk, OnErr, IsOk};
-ghost use Rattle.trdp_index.specs.Rows.{IsRising, with_row, without_rank};
+ghost use Rattle.trdp_index.specs.Rows.{IsRising, with_row, without_rank, without_slot};
 ghost use Rattle.trdp_index.specs.ComRows.{com_rank, com_row_rank, is_same_com};
 ghost use Rattle.trdp_index.specs.ComRows.{run_of, has_com_row};
 ghost use Rattle.trdp_index.specs.ComIndexes.{empty_com_index};
 
 use crate::com_row::{ComRow, com_end, com_rank, com_start};
 use crate::ranked::Ranked;
-use crate::row_list::put_in;
+use crate::row_list::{put_in, take_out};
 use crate::search::{index_of, lower_bound, place_for};
 use std::alloc::{AllocError, Global};
 use std::marker::Model;
@@ -125,6 +125,17 @@ impl ComIndex {
             }
             None => false,
         }
+    }
+
+    /// Takes away the rows of a slot, and no others, also in the run of each comId, and of any. It
+    /// goes through the rows once.
+    pub fn remove_slot(&mut self, slot: u16)
+        ensures rows { self.new
+            ≡ record self.old { rows = without_slot com_row_rank slot self.old.rows } }
+        ensures runs { (com_id : Option ℕ) → run_of com_id self.new.rows
+            ≡ without_slot com_row_rank slot (run_of com_id self.old.rows) }
+    {
+        take_out(&mut self.rows, slot);
     }
 
     /// The rows of a comId, or of any, by slot and handle. It adds its comparisons of two rows to

@@ -1,16 +1,16 @@
 //! The index by session.
 
-ghost use Rattle.std.specs.Prelude.{◌≡◌, ℕ, ◌+◌, ◌<◌, ◌≤◌, length, max, Some, None};
+ghost use Rattle.std.specs.Prelude.{◌≡◌, ◌==◌, ℕ, ◌+◌, ◌<◌, ◌≤◌, length, max, Some, None};
 ghost use Rattle.std.specs.Prelude.{if◌then◌else◌, IfOk, OnOk, OnErr, IsOk, is_some};
 ghost use Rattle.trdp_base.specs.declared.session.SessionId.{SessionId};
 ghost use Rattle.trdp_index.specs.declared.session_row.Role.{Role};
 ghost use Rattle.trdp_index.specs.Ranks.{is_same};
-ghost use Rattle.trdp_index.specs.Rows.{IsRising, with_row, without_rank};
+ghost use Rattle.trdp_index.specs.Rows.{IsRising, with_row, without_rank, without_slot};
 ghost use Rattle.trdp_index.specs.SessionRows.{session_rank, session_row_rank};
 ghost use Rattle.trdp_index.specs.SessionRows.{session_row, session_key};
 ghost use Rattle.trdp_index.specs.SessionIndexes.{empty_session_index};
 
-use crate::row_list::put_in;
+use crate::row_list::{put_in, take_out};
 use crate::search::{index_of, place_for};
 use crate::session_row::{Role, SessionRow, session_rank};
 use std::alloc::{AllocError, Global};
@@ -141,6 +141,18 @@ impl SessionIndex {
             }
             None => false,
         }
+    }
+
+    /// Takes away the keys of a slot's objects, in all sessions and both roles, and no others. It
+    /// goes through the rows once.
+    pub fn remove_slot(&mut self, slot: u16)
+        ensures rows { self.new
+            ≡ record self.old { rows = without_slot session_row_rank slot self.old.rows } }
+        ensures keys { (other : SessionId) (t : ℕ) (its : Role)
+            → session_key other t its self.new.rows
+            ≡ (if t == slot then None else session_key other t its self.old.rows) }
+    {
+        take_out(&mut self.rows, slot);
     }
 
     /// What holds of every index: a law for callers, which does nothing when it runs. The rows rise

@@ -26,7 +26,7 @@ use Rattle.trdp_model.specs.Events.{CallModel, PublishCall, PutCall, UnpublishCa
 use Rattle.trdp_model.specs.Events.{SubscribeCall, GetCall, UnsubscribeCall, OpenPullCall}
 use Rattle.trdp_model.specs.Events.{PullCall, ClosePullCall, ListenCall, UnlistenCall}
 use Rattle.trdp_model.specs.Events.{NotifyCall, RequestCall, ReplyCall, QueryCall}
-use Rattle.trdp_model.specs.Events.{ReplyErrorCall, ConfirmCall, AbortCall, CallIs}
+use Rattle.trdp_model.specs.Events.{ReplyErrorCall, ConfirmCall, AbortCall, ResetCall, CallIs}
 use Rattle.trdp_model.specs.Calls.{subscribe_refusal, puts, ends, shows}
 use Rattle.trdp_model.specs.Calls.{at_entry, at_object, told_unless, called}
 use Rattle.trdp_model.specs.Openings.{opening_refusal}
@@ -183,6 +183,7 @@ called_fits setup slot globals (ConfirmCall handle place status) sound all = at_
     slot handle (confirms handle place status) (confirms_fits setup handle place status) all
 called_fits setup slot globals (AbortCall handle) sound all =
     at_object_fits setup slot handle aborts (aborts_fits setup) all
+called_fits setup slot globals ResetCall sound all = tt
 
 -- a value handed over as an item
 pub valued_fits : (setup : NodeSetup) (slot : SlotState) (handle : ℕ) (item : ItemModel)

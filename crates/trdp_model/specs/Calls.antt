@@ -31,14 +31,14 @@ use Rattle.trdp_model.specs.declared.look.LookFault.TheVariants.{WrongKind as No
 use Rattle.trdp_model.specs.Looks.{as_subscription}
 use Rattle.trdp_model.specs.Configs.{NodeSetup, is_dataset, zero_size_of, is_fitting}
 use Rattle.trdp_model.specs.Records.{Content, AnswerModel, DoneIs, ValueIs, RefusedIs, Answers}
-use Rattle.trdp_model.specs.Slots.{Entry, SlotState, Outcome, entry_under}
+use Rattle.trdp_model.specs.Slots.{Entry, SlotState, Outcome, entry_under, emptied}
 use Rattle.trdp_model.specs.Openings.{refused, opening_refusal, opened_unless, opened_with}
 use Rattle.trdp_model.specs.Acts.{Act, answers, refuses, acted}
 use Rattle.trdp_model.specs.Events.{CallModel, PublishCall, PutCall, UnpublishCall, SubscribeCall}
 use Rattle.trdp_model.specs.Events.{GetCall, UnsubscribeCall, OpenPullCall, PullCall}
 use Rattle.trdp_model.specs.Events.{ClosePullCall, ListenCall, UnlistenCall, NotifyCall}
 use Rattle.trdp_model.specs.Events.{RequestCall, ReplyCall, QueryCall, ReplyErrorCall}
-use Rattle.trdp_model.specs.Events.{ConfirmCall, AbortCall}
+use Rattle.trdp_model.specs.Events.{ConfirmCall, AbortCall, ResetCall}
 use Rattle.trdp_model.specs.Pulls.{pulls}
 use Rattle.trdp_model.specs.Notices.{notify_refusal, notice}
 use Rattle.trdp_model.specs.Requests.{request_refusal, request_sent}
@@ -161,3 +161,4 @@ called setup slot globals (ReplyErrorCall handle com_id status) =
 called setup slot globals (ConfirmCall handle place status) =
     at_object slot handle (confirms handle place status)
 called setup slot globals (AbortCall handle) = at_object slot handle aborts
+called setup slot globals ResetCall = told_unless None (emptied slot) []

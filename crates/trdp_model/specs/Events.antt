@@ -14,7 +14,7 @@ use Rattle.trdp_model.specs.declared.event.Call.TheVariants.{Publish, Put, Unpub
 use Rattle.trdp_model.specs.declared.event.Call.TheVariants.{Get, Unsubscribe, OpenPull, Pull}
 use Rattle.trdp_model.specs.declared.event.Call.TheVariants.{ClosePull, Listen, Unlisten}
 use Rattle.trdp_model.specs.declared.event.Call.TheVariants.{Notify, Request, Reply, Query}
-use Rattle.trdp_model.specs.declared.event.Call.TheVariants.{ReplyError, Confirm, Abort}
+use Rattle.trdp_model.specs.declared.event.Call.TheVariants.{ReplyError, Confirm, Abort, Reset}
 use Rattle.trdp_model.specs.declared.event.Event.{Event}
 use Rattle.trdp_model.specs.declared.event.Event.TheVariants.{Moment, Topology, Role, Datagram}
 use Rattle.trdp_model.specs.declared.event.Event.TheVariants.{Call, AddSlot}
@@ -39,6 +39,7 @@ pub data CallModel : Type 0 where
   ReplyErrorCall : (handle com_id : ℕ) (status : ℤ) → CallModel
   ConfirmCall : (handle : ℕ) (place : Place) (status : ℤ) → CallModel
   AbortCall : (handle : ℕ) → CallModel
+  ResetCall : CallModel
 
 -- one event of a node
 pub data EventModel : Type 0 where
@@ -70,6 +71,7 @@ call_model (Query handle com_id status timeout payload) =
 call_model (ReplyError handle com_id status) = ReplyErrorCall handle com_id status
 call_model (Confirm handle place status) = ConfirmCall handle place status
 call_model (Abort handle) = AbortCall handle
+call_model Reset = ResetCall
 
 -- an event, apart from where its bytes lie
 abbrev pub event_model : Event → EventModel

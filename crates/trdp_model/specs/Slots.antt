@@ -38,6 +38,10 @@ unchanged slot = record { slot = slot; records = [] }
 abbrev pub empty_slot : List ℕ → SlotState
 empty_slot quotas = record { quotas = quotas; next = 1; objects = [] }
 
+-- a slot that begins anew: it has no objects, and its next handle goes on
+abbrev pub emptied : SlotState → SlotState
+emptied slot = record slot { objects = [] }
+
 -- how many objects are of a kind, and so count for its quota
 abbrev pub kind_count : Kind → List Entry → ℕ
 kind_count kind objects = count_by (λ entry. is_same_kind (kind_of entry.object) kind) objects

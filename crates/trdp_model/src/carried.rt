@@ -128,6 +128,7 @@ impl<'a> Call<'a> {
                 status,
             },
             Call::Abort { handle } => Call::Abort { handle },
+            Call::Reset => Call::Reset,
         }
     }
 }

@@ -177,6 +177,9 @@ pub enum Call<'a> {
     Abort {
         handle: u32,
     },
+    /// Lets the slot begin anew: all its objects end, and its next handle goes on. Nothing is sent,
+    /// and nothing told but that it is done. It is never refused.
+    Reset,
 }
 
 /// One event, the atomic step of a node (profile).

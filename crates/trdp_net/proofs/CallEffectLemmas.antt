@@ -42,7 +42,7 @@ use Rattle.trdp_model.specs.Events.{CallModel, PublishCall, PutCall, UnpublishCa
 use Rattle.trdp_model.specs.Events.{GetCall, UnsubscribeCall, OpenPullCall, PullCall}
 use Rattle.trdp_model.specs.Events.{ClosePullCall, ListenCall, UnlistenCall, NotifyCall}
 use Rattle.trdp_model.specs.Events.{RequestCall, ReplyCall, QueryCall, ReplyErrorCall}
-use Rattle.trdp_model.specs.Events.{ConfirmCall, AbortCall}
+use Rattle.trdp_model.specs.Events.{ConfirmCall, AbortCall, ResetCall}
 use Rattle.trdp_model.specs.Events.{CallIs}
 use Rattle.trdp_net.specs.Networks.{Move, place_of}
 use Rattle.trdp_net.specs.Provenance.{Gives, IsNotified, IsRequested}
@@ -259,3 +259,5 @@ called_kept past m s slot setup globals (ConfirmCall handle place status) event 
 called_kept past m s slot setup globals (AbortCall handle) event fits slot_is typed kept given =
     at_handle_kept past m s slot handle aborts slot_is typed kept
     (λ x x_fits was held by. abort_kept past m (spot m.node s handle) x was) given
+called_kept past m s slot setup globals ResetCall event fits slot_is typed kept given =
+    record { objects = tt; tells = (tt, tt) }

@@ -26,7 +26,7 @@ use Rattle.trdp_model.specs.declared.fault.Refusal.{Refusal}
 use Rattle.trdp_model.specs.Configs.{NodeSetup, zero_size_of}
 use Rattle.trdp_model.specs.Records.{Content}
 use Rattle.trdp_model.specs.Acts.{Act, entry_left}
-use Rattle.trdp_model.specs.Slots.{Entry, SlotState, Outcome, unchanged}
+use Rattle.trdp_model.specs.Slots.{Entry, SlotState, Outcome, unchanged, emptied}
 use Rattle.trdp_model.specs.Openings.{opening_refusal}
 use Rattle.trdp_model.specs.Notices.{notify_refusal, notice}
 use Rattle.trdp_model.specs.Requests.{has_session, request_refusal, request_sent, asked_unless}
@@ -43,7 +43,8 @@ use Rattle.trdp_model.specs.Events.{CallModel, PublishCall, PutCall, UnpublishCa
 use Rattle.trdp_model.specs.Events.{GetCall, UnsubscribeCall, OpenPullCall, PullCall}
 use Rattle.trdp_model.specs.Events.{ClosePullCall, ListenCall, UnlistenCall, NotifyCall}
 use Rattle.trdp_model.specs.Events.{RequestCall, ReplyCall, QueryCall, ReplyErrorCall}
-use Rattle.trdp_model.specs.Events.{ConfirmCall, AbortCall, EventModel, MomentIs, TopologyIs}
+use Rattle.trdp_model.specs.Events.{ConfirmCall, AbortCall, ResetCall}
+use Rattle.trdp_model.specs.Events.{EventModel, MomentIs, TopologyIs}
 use Rattle.trdp_model.specs.Events.{RoleIs, DatagramIs, CallIs}
 use Rattle.trdp_model.specs.Events.{AddSlotIs}
 use Rattle.trdp_model.specs.Alone.{plain_effect}
@@ -357,6 +358,14 @@ called_heard old slot setup globals (ConfirmCall handle place status) h =
     (confirms_quiet (old handle) handle place status) h
 called_heard old slot setup globals (AbortCall handle) h =
     at_handle_heard old slot handle aborts (aborts_quiet (old handle)) h
+called_heard old slot setup globals ResetCall h =
+    quiet_outcome old (told_unless None (emptied slot) []) (λ n. refl) (record {
+      only = tt;
+      below = tt;
+      fresh = h.fresh;
+      covers = tt;
+      distinct = h.distinct;
+    })
 
 -- at any event
 pub effect_heard : (old : ℕ → List Place) (setup : NodeSetup) (s : ℕ) (slot : SlotState)

@@ -16,7 +16,7 @@ use Rattle.trdp_model.specs.Events.{UnsubscribeCall}
 use Rattle.trdp_model.specs.Events.{PullCall, ClosePullCall, ListenCall, UnlistenCall, NotifyCall}
 use Rattle.trdp_model.specs.Events.{RequestCall, ReplyCall, QueryCall, ReplyErrorCall}
 use Rattle.trdp_model.specs.Events.{ConfirmCall}
-use Rattle.trdp_model.specs.Events.{AbortCall}
+use Rattle.trdp_model.specs.Events.{AbortCall, ResetCall}
 use Rattle.trdp_model.specs.Events.{AddSlotIs}
 use Rattle.trdp_model.specs.Alone.{opened_by}
 use Rattle.trdp_model.specs.Slots.{Entry, SlotState}
@@ -71,6 +71,7 @@ call_typed (QueryCall handle com_id status timeout payload) fits = fits
 call_typed (ReplyErrorCall handle com_id status) fits = fits
 call_typed (ConfirmCall handle place status) fits = fits
 call_typed (AbortCall handle) fits = fits
+call_typed ResetCall fits = fits
 
 event_typed : (event : EventModel) → IsTypedEvent event → SendsTyped event
 event_typed (MomentIs t) fits = tt

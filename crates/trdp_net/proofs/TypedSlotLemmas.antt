@@ -50,7 +50,8 @@ use Rattle.trdp_model.specs.Events.{CallModel, PublishCall, PutCall, UnpublishCa
 use Rattle.trdp_model.specs.Events.{GetCall, UnsubscribeCall, OpenPullCall, PullCall}
 use Rattle.trdp_model.specs.Events.{ClosePullCall, ListenCall, UnlistenCall, NotifyCall}
 use Rattle.trdp_model.specs.Events.{RequestCall, ReplyCall, QueryCall, ReplyErrorCall}
-use Rattle.trdp_model.specs.Events.{ConfirmCall, AbortCall, EventModel, MomentIs, TopologyIs}
+use Rattle.trdp_model.specs.Events.{ConfirmCall, AbortCall, ResetCall}
+use Rattle.trdp_model.specs.Events.{EventModel, MomentIs, TopologyIs}
 use Rattle.trdp_model.specs.Events.{RoleIs, DatagramIs, CallIs}
 use Rattle.trdp_model.specs.Events.{AddSlotIs}
 use Rattle.trdp_model.specs.Alone.{plain_effect}
@@ -255,6 +256,7 @@ called_typed slot setup globals (ConfirmCall handle place status) c fits =
     (λ x x_fits. confirms_typed handle place status x c x_fits)
 called_typed slot setup globals (AbortCall handle) c fits =
     at_handle_typed slot handle aborts fits aborts_typed
+called_typed slot setup globals ResetCall c fits = record { objects = tt; sends = (tt, tt) }
 
 -- a telegram with a header whose fields fit
 abbrev pub IsTypedTelegram : TelegramModel → Type 0

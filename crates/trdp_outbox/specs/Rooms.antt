@@ -14,7 +14,7 @@ use Rattle.trdp_model.specs.Kinds.{kind_of}
 use Rattle.trdp_outbox.specs.declared.room.Room.{Room}
 use Rattle.trdp_model.specs.Events.{CallModel, PublishCall, SubscribeCall, NotifyCall}
 use Rattle.trdp_model.specs.Events.{RequestCall, ReplyCall, QueryCall, ReplyErrorCall}
-use Rattle.trdp_model.specs.Events.{ConfirmCall}
+use Rattle.trdp_model.specs.Events.{ConfirmCall, ResetCall}
 use Rattle.trdp_model.specs.Events.{EventModel, MomentIs, TopologyIs, RoleIs, DatagramIs, CallIs}
 use Rattle.trdp_model.specs.Events.{AddSlotIs}
 use Rattle.trdp_model.specs.Slots.{Entry, SlotState}
@@ -91,6 +91,10 @@ message_room n = record {
 abbrev pub confirm_room : Room
 confirm_room = record { rows = 3; bytes = md_length_of 0 }
 
+-- room for a plain answer, which has no bytes
+abbrev pub plain_room : Room
+plain_room = record { rows = 1; bytes = 0 }
+
 -- room for the records of a call
 abbrev pub call_room : CallModel → Room
 call_room (NotifyCall terms payload) = message_room (length payload)
@@ -99,6 +103,7 @@ call_room (ReplyCall handle com_id status payload) = message_room (length payloa
 call_room (QueryCall handle com_id status timeout payload) = message_room (length payload)
 call_room (ReplyErrorCall handle com_id status) = message_room 0
 call_room (ConfirmCall handle place status) = confirm_room
+call_room ResetCall = plain_room
 call_room _ = answer_room
 
 -- the calls that make a publisher, a subscription or a caller, which need memory for its value or

@@ -72,6 +72,7 @@ impl Room {
             Call::Query { payload, .. } => Room::of_message(payload.len()),
             Call::ReplyError { .. } => Room::of_message(0),
             Call::Confirm { .. } => Room::of_confirmation(),
+            Call::Reset => Room { rows: 1, bytes: 0 },
             // A pull has two records, and the longest value is longer than a pull request.
             _ => Room {
                 rows: 2,

@@ -15,7 +15,7 @@ use Rattle.trdp_model.specs.Events.{CallModel, PublishCall, PutCall, UnpublishCa
 use Rattle.trdp_model.specs.Events.{GetCall, UnsubscribeCall, OpenPullCall, PullCall}
 use Rattle.trdp_model.specs.Events.{ClosePullCall, ListenCall, UnlistenCall, NotifyCall}
 use Rattle.trdp_model.specs.Events.{RequestCall, ReplyCall, QueryCall, ReplyErrorCall}
-use Rattle.trdp_model.specs.Events.{ConfirmCall, AbortCall}
+use Rattle.trdp_model.specs.Events.{ConfirmCall, AbortCall, ResetCall}
 use Rattle.trdp_model.specs.Events.{EventModel, MomentIs, TopologyIs, RoleIs, DatagramIs, CallIs}
 use Rattle.trdp_model.specs.Events.{AddSlotIs}
 use Rattle.trdp_model.specs.declared.record.Protocol.{Protocol}
@@ -294,6 +294,10 @@ confirm_form =
 abbrev pub abort_form : LineForm
 abort_form = handle_form (codes "abort") (λ handle. AbortCall handle)
 
+-- call SLOT reset
+abbrev pub reset_form : LineForm
+reset_form = call_form (codes "reset") [] (λ slot. CallIs slot ResetCall)
+
 -- addslot PUBLISHERS SUBSCRIPTIONS REQUESTERS LISTENERS CALLERS REPLIERS
 abbrev pub add_slot_form : LineForm
 add_slot_form = record {
@@ -308,7 +312,7 @@ forms =
     moment_form ∷ topology_form ∷ role_form ∷ pd_form ∷ md_form ∷ publish_form ∷ put_form
     ∷ unpublish_form ∷ subscribe_form ∷ get_form ∷ unsubscribe_form ∷ open_pull_form ∷ pull_form
     ∷ close_pull_form ∷ listen_form ∷ unlisten_form ∷ notify_form ∷ request_form ∷ reply_form
-    ∷ query_form ∷ reply_error_form ∷ confirm_form ∷ abort_form ∷ add_slot_form ∷ []
+    ∷ query_form ∷ reply_error_form ∷ confirm_form ∷ abort_form ∷ reset_form ∷ add_slot_form ∷ []
 
 -- whether the keywords stand among the words where they are to stand
 unfoldable pub has_keywords : List Part → List (List ℕ) → Bool

@@ -12,8 +12,8 @@ ghost use Rattle.std.specs.Str.{bytes_eq};
 use crate::fault::LineFault;
 use crate::read::{
     read_add_slot, read_close_pull, read_datagram, read_get, read_moment, read_open_pull,
-    read_publish, read_pull, read_put, read_role, read_subscribe, read_topology, read_unpublish,
-    read_unsubscribe,
+    read_publish, read_pull, read_put, read_reset, read_role, read_subscribe, read_topology,
+    read_unpublish, read_unsubscribe,
 };
 use crate::read_message::{read_listen, read_notify, read_unlisten};
 use crate::read_session::{
@@ -87,6 +87,7 @@ fn read_call<'b>(buffer: &'b mut Vec<u8>, words: Words<'_, '_>) -> Result<Event<
         own if is_word(own, b"replyerror") => read_reply_error(words),
         own if is_word(own, b"confirm") => read_confirm(words),
         own if is_word(own, b"abort") => read_abort(words),
+        own if is_word(own, b"reset") => read_reset(words),
         _ => Err(LineFault::Unknown),
     }
 }

@@ -6,7 +6,7 @@ ghost use Rattle.trdp_script.specs.Forms.{handle_form, datagram_form, moment_for
 ghost use Rattle.trdp_script.specs.Forms.{topology_form, role_form, put_form, publish_form};
 ghost use Rattle.trdp_script.specs.Forms.{subscribe_form, open_pull_form, unpublish_form};
 ghost use Rattle.trdp_script.specs.Forms.{get_form, unsubscribe_form, pull_form, close_pull_form};
-ghost use Rattle.trdp_script.specs.Forms.{behaviour_of, add_slot_form};
+ghost use Rattle.trdp_script.specs.Forms.{behaviour_of, add_slot_form, reset_form};
 ghost use Rattle.trdp_script.specs.Lines.{ReadsEvent, form_says};
 ghost use Rattle.trdp_script.specs.WordsLeft.{words_left};
 
@@ -229,6 +229,18 @@ pub(crate) fn read_close_pull<'b>(words: Words<'_, '_>) -> Result<Event<'b>, Lin
 {
     let (slot, handle) = slot_and_handle(words)?;
     let call = Call::ClosePull { handle };
+    Ok(Event::Call { slot, call })
+}
+
+/// `call SLOT reset`
+#[tactic(auto, unfolding(crate::specs::Lines::form_says))]
+pub(crate) fn read_reset<'b>(mut words: Words<'_, '_>) -> Result<Event<'b>, LineFault>
+    ensures { ReadsEvent (form_says reset_form (words_left words.entry)) result }
+{
+    words.expect(3)?;
+    words.next_word();
+    let slot = words.next_u16().ok_or(LineFault::BadWord)?;
+    let call = Call::Reset;
     Ok(Event::Call { slot, call })
 }
 

@@ -3,3 +3,4 @@ pub mod Added
 pub mod Removed
 pub mod Kept
 pub mod Counts
+pub mod Emptied

@@ -4,5 +4,6 @@ pub mod Grown
 pub mod Added
 pub mod Removed
 pub mod Changed
+pub mod Emptied
 pub mod Rooms
 pub mod Over

@@ -15,9 +15,9 @@
 //! ```
 //!
 //! No contract can say how often a body looks: to ask twice for what is due next, or for its room,
-//! is as good as once, and so is to dismiss an object from the schedule twice, though the
-//! comparisons of one call alone are told then. Nor that memory is there: an [`Store::open_slot`]
-//! that is always refused meets its contract.
+//! is as good as once, and so is to dismiss an object from the schedule twice, or to empty a slot
+//! twice, though the comparisons of one call alone are told then. Nor that memory is there: an
+//! [`Store::open_slot`] that is always refused meets its contract.
 #![tactic(auto)]
 
 mod by_com;

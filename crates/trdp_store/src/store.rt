@@ -46,6 +46,7 @@ use trdp_table::{Table, TableFault};
 
 mod added;
 mod reads;
+mod reset;
 
 /// The objects of all slots of a node, as its table has them, an index of those that telegrams of
 /// a comId may be for, one of those that are in a session, and when each is due.

@@ -90,6 +90,10 @@ abbrev pub without_handle : ℕ → SlotTable → SlotTable
 without_handle handle slot =
     record slot { objects = filter (λ keyed. not (keyed.handle == handle)) slot.objects }
 
+-- a slot without objects, whose next handle stays
+abbrev pub without_objects : SlotTable → SlotTable
+without_objects slot = record slot { objects = [] }
+
 -- a slot whose next handle is at least this
 abbrev pub with_next : ℕ → SlotTable → SlotTable
 with_next next slot = record slot { next = max slot.next next }

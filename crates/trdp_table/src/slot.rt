@@ -1,9 +1,12 @@
 //! The handles of one slot.
 
-ghost use Rattle.std.specs.Prelude.{◌≡◌, ◌≤◌, length, None, IfOk, IfSome, slice_get};
+ghost use Rattle.std.specs.Prelude.{◌≡◌, ◌≤◌, length, None, IfOk, IfSome, slice_get, slice_index};
+ghost use Rattle.trdp_base.specs.QuotaLimits.{quota_limit};
+ghost use Rattle.trdp_model.specs.Kinds.{kind_index};
 ghost use Rattle.trdp_table.specs.Tables.{last_handle, all_quotas};
 ghost use Rattle.trdp_table.specs.TableLaws.{AreLimited, object_limit};
 ghost use Rattle.trdp_table.specs.Entries.{opened_entries, refusal_of, entry_of, key_of};
+ghost use Rattle.trdp_table.specs.Entries.{entries_of};
 ghost use Rattle.trdp_table.specs.Entries.{with_entry, without_entry, with_next_handle};
 ghost use Rattle.trdp_table.specs.SlotKept.{IsIndexOfHandle};
 
@@ -108,6 +111,16 @@ impl Slot {
     {
         let index = self.index_of(handle)?;
         self.entry_at(index).map(|entry| entry.key)
+    }
+
+    /// How many objects of a kind it has, and how many it may have, at most 256.
+    pub fn usage(&self, kind: Kind) -> (u16, u16)
+        ensures count { result.0 ≡ entries_of kind self.now.entries }
+        ensures quota { result.1 ≡ slice_index self.now.quotas (kind_index kind) }
+        ensures full { result.0 ≤ result.1 }
+        ensures within { result.1 ≤ quota_limit }
+    {
+        (self.counts.get(kind), self.quotas.get(kind.index()))
     }
 
     /// Why it takes no further object of a kind: its quota is used up, or its handles are.

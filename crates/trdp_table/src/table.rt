@@ -2,17 +2,19 @@
 
 ghost use Rattle.std.specs.Prelude.{◌≡◌, ℕ, ◌+◌, ◌<◌, ◌≤◌, ◌↔◌, [], ◌∷◌, ◌++◌, length, map};
 ghost use Rattle.std.specs.Prelude.{sum_by, All, Some, None, Err, IfOk, IfErr, OnOk, OnErr};
-ghost use Rattle.std.specs.Prelude.{IfSome, is_some, slice_get, option_map, option_copied};
+ghost use Rattle.std.specs.Prelude.{IfSome, is_some, slice_get, slice_index, option_map};
+ghost use Rattle.std.specs.Prelude.{option_copied};
 ghost use Rattle.std.specs.Option.{option_copied_mut};
 ghost use Rattle.std.specs.Borrow.{sem};
 ghost use Rattle.trdp_model.specs.declared.any_object.AnyObject.{AnyObject};
 ghost use Rattle.trdp_model.specs.declared.kind.Kind.{Kind};
-ghost use Rattle.trdp_model.specs.Kinds.{kind_of};
+ghost use Rattle.trdp_base.specs.QuotaLimits.{quota_limit};
+ghost use Rattle.trdp_model.specs.Kinds.{kind_index, kind_of};
 ghost use Rattle.trdp_table.specs.Tables.{Keyed, opened_slot, slot_in, all_quotas};
 ghost use Rattle.trdp_model.specs.Slots.{slot_limit};
 ghost use Rattle.trdp_table.specs.Tables.{all_objects, by_handle, by_key, refusal, Adds};
 ghost use Rattle.trdp_table.specs.Tables.{changed_at, without_handle, with_next, exchanged};
-ghost use Rattle.trdp_table.specs.Tables.{room_of};
+ghost use Rattle.trdp_table.specs.Tables.{count_of, room_of};
 ghost use Rattle.trdp_table.specs.Tables.{with_other_by_handle};
 ghost use Rattle.trdp_table.specs.TableLaws.{AreLimited, object_limit, IsTable};
 ghost use Rattle.trdp_table.specs.Entries.{opened_entries};
@@ -208,6 +210,17 @@ impl Table {
         ensures { result ≡ refusal (slot_in slot self.now) kind }
     {
         self.slots[usize::from(slot)].refuses(kind)
+    }
+
+    /// How many objects of a kind a slot has, and how many it may have, at most 256.
+    pub fn usage(&self, slot: u16, kind: Kind) -> (u16, u16)
+        requires { slot < length self.now }
+        ensures count { result.0 ≡ count_of kind (slot_in slot self.now).objects }
+        ensures quota { result.1 ≡ slice_index (slot_in slot self.now).quotas (kind_index kind) }
+        ensures full { result.0 ≤ result.1 }
+        ensures within { result.1 ≤ quota_limit }
+    {
+        self.slots[usize::from(slot)].usage(kind)
     }
 
     /// Adds an object that the slot doesn't refuse, and answers its handle.

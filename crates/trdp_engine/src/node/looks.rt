@@ -1,7 +1,10 @@
 //! What a node shows: its slots, its subscriptions, and what an event cost.
 
-ghost use Rattle.std.specs.Prelude.{◌≡◌, ◌≤◌, ◌∷◌, [], length, slice_get};
-ghost use Rattle.trdp_model.specs.Slots.{slot_limit};
+ghost use Rattle.std.specs.Prelude.{◌≡◌, ◌<◌, ◌≤◌, ◌∷◌, [], length, slice_get, slice_index};
+ghost use Rattle.std.specs.Prelude.{slice_index_or};
+ghost use Rattle.trdp_base.specs.QuotaLimits.{quota_limit};
+ghost use Rattle.trdp_model.specs.Kinds.{kind_index};
+ghost use Rattle.trdp_model.specs.Slots.{empty_slot, kind_count, slot_limit};
 ghost use Rattle.trdp_model.specs.Configs.{setup_of};
 ghost use Rattle.trdp_model.specs.NodeModels.{IsNextDue};
 ghost use Rattle.trdp_model.specs.Peeks.{peeked, peek_in};
@@ -11,7 +14,7 @@ use crate::node::Node;
 use std::alloc::Global;
 use trdp_calls::{item_shown, subscription_at};
 use trdp_marshal::Item;
-use trdp_model::{PeekFault, ValueFault};
+use trdp_model::{Kind, PeekFault, ValueFault};
 use trdp_pd::Peek;
 
 impl Node {
@@ -21,6 +24,20 @@ impl Node {
         ensures within { result ≤ slot_limit }
     {
         self.store.slots()
+    }
+
+    /// How many objects of a kind a slot has, and how many it may have, at most 256.
+    pub fn usage(&self, slot: u16, kind: Kind) -> (u16, u16)
+        requires { slot < length self.now.slots }
+        ensures count { result.0
+            ≡ kind_count kind (slice_index_or self.now.slots slot (empty_slot [])).objects }
+        ensures quota { result.1
+            ≡ slice_index (slice_index_or self.now.slots slot (empty_slot [])).quotas
+            (kind_index kind) }
+        ensures full { result.0 ≤ result.1 }
+        ensures within { result.1 ≤ quota_limit }
+    {
+        self.store.usage(slot, kind)
     }
 
     /// The least moment by which something is due, in microseconds: until then nothing happens by

@@ -1,5 +1,5 @@
 -- Facts on the forms of a line.
--- For `read_words`, `read_event`, `read_control_event` and `read_operator_event`.
+-- For `read_words`, `read_event`, `read_control_event` and `read_operator`.
 -- By: the keywords of a form, and the number of its words, show in the first 15 words of a line.
 use Rattle.std.proofs.Common.{◌≡◌, ℕ, zero, suc, ◌<◌, ◌≤◌, ◌&&◌, Bool, true, false, List, []}
 use Rattle.std.proofs.Common.{◌∷◌, length, take, Some, Result, refl, ap, arith, subst}
@@ -85,7 +85,7 @@ abbrev pub have_fewer : ℕ → List LineForm → Bool
 have_fewer n known = list_all (λ form. nat_lt (length form.parts) n) known
 
 -- forms say the same of the first words, if these are more than any of them has parts
-forms_say : (known : List LineForm) (n : ℕ) (words : List (List ℕ)) → have_fewer n known ≡ true
+pub forms_say : (known : List LineForm) (n : ℕ) (words : List (List ℕ)) → have_fewer n known ≡ true
     → say_among known (take n words) ≡ say_among known words
 unfolding say_among
 forms_say [] n words few = refl

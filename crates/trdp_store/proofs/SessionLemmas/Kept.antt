@@ -1,5 +1,5 @@
 -- The index by session stays the image of the callers and repliers, as they come, change and go.
--- For `Store::new`, `add`, `act` and `remove`.
+-- For `Store::new`, `add`, `act` and `remove`, and for `SessionLemmas.Emptied`.
 -- By induction on the objects of the one slot that changes; other slots keep their keys.
 use Rattle.std.proofs.Common.{◌≡◌, ◌≢◌, ℕ, zero, suc, ◌+◌, ◌<◌, ◌≤◌, List, [], ◌∷◌, ◌++◌}
 use Rattle.std.proofs.Common.{length, map, set, filter, not, Option, Some, None, Bool, true}
@@ -38,7 +38,7 @@ use Rattle.trdp_store.proofs.SessionLemmas.Keys.{without_apart, without_found, w
 
 -- The objects of one slot.
 
-elsewhere : (table : TableState) (rows rows_then : List SessionRow) (s t : ℕ) (x : SlotTable)
+pub elsewhere : (table : TableState) (rows rows_then : List SessionRow) (s t : ℕ) (x : SlotTable)
     → t ≢ s → ((own : SessionId × Role) → session_key own.0 t own.1 rows_then
     ≡ session_key own.0 t own.1 rows) → AreInSession t (slot_in t table).objects rows
     → AreInSession t (slot_in t (set table s x)).objects rows_then
@@ -50,7 +50,7 @@ elsewhere table rows rows_then s t x apart same are =
     subst (λ (y : SlotTable). AreInSession t y.objects rows_then)
     (sym (get_or-set_other table s t x (opened_slot []) apart)) moved
 
-here : (table : TableState) (rows : List SessionRow) (s : ℕ) (x : SlotTable) → s < length table
+pub here : (table : TableState) (rows : List SessionRow) (s : ℕ) (x : SlotTable) → s < length table
     → AreInSession s x.objects rows → AreInSession s (slot_in s (set table s x)).objects rows
 here table rows s x lt are =
     subst (λ (y : SlotTable). AreInSession s y.objects rows)
@@ -112,7 +112,7 @@ with_one s next key object es rows rows_then below are fresh keys = record {
         }
         either false is at = old k own (rw is at at)
 
-without_one : (s h : ℕ) (es : List Keyed) (rows rows_then : List SessionRow) → AreAlone es
+pub without_one : (s h : ℕ) (es : List Keyed) (rows rows_then : List SessionRow) → AreAlone es
     → AreInSession s es rows → ((own : SessionId × Role) → session_key own.0 s own.1 rows_then
     ≡ key_without (session_found (by_handle h es)) s own s (session_key own.0 s own.1 rows))
     → AreInSession s (filter (λ keyed. not (keyed.handle == h)) es) rows_then

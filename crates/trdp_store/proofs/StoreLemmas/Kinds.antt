@@ -1,6 +1,6 @@
 -- Each object stays of the kind that the table notes of it, so that the table counts for quotas
 -- what the slots' model counts.
--- For `Store::new`, `add`, `act`, `remove` and `refuses`.
+-- For `Store::new`, `add`, `act`, `remove`, `reset`, `refuses` and `usage`.
 -- By: an act keeps an object's kind, and a new object is noted under its own.
 use Rattle.std.proofs.Common.{◌≡◌, ℕ, zero, suc, ◌<◌, List, [], ◌∷◌, ◌++◌, length, map}
 use Rattle.std.proofs.Common.{filter, not, Some, None, Bool, true, false, cond}
@@ -18,6 +18,7 @@ use Rattle.trdp_model.specs.Kinds.{kind_of, kind_index, is_same_kind}
 use Rattle.trdp_table.specs.Tables.{Keyed, SlotTable, TableState, opened_slot, slot_in, by_handle}
 use Rattle.trdp_table.specs.Tables.{count_of as keyed_count, refusal, last_handle, new_object}
 use Rattle.trdp_table.specs.Tables.{with_object as with_keyed, without_handle, changed_at, Adds}
+use Rattle.trdp_table.specs.Tables.{without_objects}
 use Rattle.trdp_table.specs.Tables.{exchanged, other_by_handle, with_other_by_handle}
 use Rattle.trdp_table.specs.TableLaws.{AllAbove, HandlesRise, IsTable}
 use Rattle.trdp_model.specs.declared.fault.Refusal.TheVariants.{Quota, Exhausted}
@@ -41,6 +42,11 @@ counted_alike kind (k ∷ ks) are =
     (entry_of_keyed k) (map entry_of_keyed ks) in
     let same = ap (λ (of : Kind). cond {A = ℕ} (is_same_kind of kind) 1 0) are.0 in
     omega (arith, noted, is, same, counted_alike kind ks are.1)
+
+-- the table counts the objects of a slot's kind as the slot's model does
+pub slot_counted : (table : TableState) (s : ℕ) (kind : Kind) → AllOfKind table
+    → keyed_count kind (slot_in s table).objects ≡ kind_count kind (slot_at s table).objects
+slot_counted table s kind are = counted_alike kind (slot_in s table).objects (are s)
 
 -- the table refuses a new object where the slot's model does
 pub refused_alike : (table : TableState) (s : ℕ) (kind : Kind) → AllOfKind table
@@ -133,6 +139,11 @@ pub removed_kinds : (table : TableState) (s h : ℕ)
 removed_kinds table s h lt are =
     changed_kinds table s (without_handle h) lt are
     (of_kind-without h (slot_in s table).objects (are s))
+
+-- a slot without objects has none of another kind
+pub emptied_kinds : (table : TableState) (s : ℕ)
+    → s < length table → AllOfKind table → AllOfKind (changed_at s without_objects table)
+emptied_kinds table s lt are = changed_kinds table s without_objects lt are tt
 
 -- an object that was reached by its handle becomes another one of its kind
 pub reached_kinds : (table : TableState) (s h key : ℕ) (object object_then : AnyObject)

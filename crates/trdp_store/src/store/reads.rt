@@ -1,10 +1,12 @@
 //! What a store shows: its slots, the keys of their objects, and when something is due next.
 
 ghost use Rattle.std.specs.Prelude.{◌≡◌, ℕ, ◌<◌, ◌≤◌, length, Some};
-ghost use Rattle.std.specs.Prelude.{slice_get, option_map};
+ghost use Rattle.std.specs.Prelude.{slice_get, slice_index, option_map};
+ghost use Rattle.trdp_base.specs.QuotaLimits.{quota_limit};
 ghost use Rattle.trdp_model.specs.declared.any_object.AnyObject.{AnyObject};
 ghost use Rattle.trdp_table.specs.Tables.{Keyed, refusal, slot_in, all_objects};
-ghost use Rattle.trdp_model.specs.Slots.{slot_limit};
+ghost use Rattle.trdp_model.specs.Kinds.{kind_index};
+ghost use Rattle.trdp_model.specs.Slots.{kind_count, slot_limit};
 ghost use Rattle.trdp_table.specs.Tables.{by_handle, by_key, changed_at};
 ghost use Rattle.trdp_table.specs.Tables.{exchanged, with_other_by_handle};
 ghost use Rattle.trdp_table.specs.TableLaws.{IsTable};
@@ -57,6 +59,17 @@ impl Store {
             ≡ opening_refusal (slot_at slot self.now) kind }
     {
         self.table.refuses(slot, kind)
+    }
+
+    /// How many objects of a kind a slot has, and how many it may have, at most 256.
+    pub fn usage(&self, slot: u16, kind: Kind) -> (u16, u16)
+        requires { slot < length self.now }
+        ensures count { result.0 ≡ kind_count kind (slot_at slot self.now).objects }
+        ensures quota { result.1 ≡ slice_index (slot_at slot self.now).quotas (kind_index kind) }
+        ensures full { result.0 ≤ result.1 }
+        ensures within { result.1 ≤ quota_limit }
+    {
+        self.table.usage(slot, kind)
     }
 
     /// What holds of every store: a law, which does nothing when it runs. It is that of the table.
