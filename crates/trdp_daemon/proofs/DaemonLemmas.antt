@@ -14,13 +14,14 @@ use Rattle.trdp_daemon.specs.declared.service.Service.{Service}
 use Rattle.trdp_daemon.specs.Told.{TellsMore, Taking, Give}
 use Rattle.trdp_daemon.specs.Counting.{no_totals, totals_after}
 use Rattle.trdp_daemon.specs.Daemons.{DaemonState, TakesTurns, HasServed, opened_daemon}
-use Rattle.trdp_daemon.specs.Effects.{ServiceState, Telling, then_effect}
-use Rattle.trdp_daemon.specs.Links.{Carries}
+use Rattle.trdp_daemon.specs.Effects.{ServiceState, then_effect}
 use Rattle.trdp_daemon.specs.Ports.{ports_of}
 use Rattle.trdp_daemon.specs.Services.{TakesTurn, service_state}
 use Rattle.trdp_daemon.specs.Turns.{AllTakeAt, TurnTakesAt, takings_of, turn_effect, turns_effect}
 use Rattle.trdp_daemon.specs.Turns.{opened_service}
-use Rattle.trdp_daemon.proofs.LinkLemmas.{adds_none, adds_both, totals_both}
+use Rattle.trdp_daemon.proofs.CountedLemmas.{gives_length, turns_counted_both}
+use Rattle.trdp_daemon.proofs.CountedLemmas.{turns_counted_from}
+use Rattle.trdp_daemon.proofs.LinkLemmas.{adds_none, adds_both, carries_as, totals_both}
 use Rattle.trdp_daemon.proofs.TellingLemmas.{both_silence}
 use Rattle.trdp_daemon.proofs.TurnLemmas.{turns_append, all_both}
 
@@ -41,15 +42,13 @@ unfoldable pub one_turn : {W C : Type 0} {takings_in : W → Option (List Taking
     → TellsMore (readings_in x) (readings_in y) (reading ∷ [])
     → TakesTurn takings_in gives_in s t a b ports reading
     → TakesTurns takings_in gives_in readings_in 1 (daemon_of s a x) (daemon_of t b y)
+unfolding carries_as
 one_turn {W} {C} {takings_in} {gives_in} {readings_in} s
     t a b x y ports reading named config read p =
     let taken : takings_of p.turn ≡ flat_map takings_of (p.turn ∷ []) =
     sym (append-nil (takings_of p.turn)) ∙ sym (flat_map-cons takings_of p.turn []) in
     let telling = (turn_effect (service_state s) p.turn).telling in
-    let whole = subst (λ (e : Telling). Carries
-    takings_in gives_in a b (flat_map takings_of (p.turn ∷ [])) e) (sym (both_silence telling))
-    (subst (λ (l : List Taking). Carries takings_in gives_in a b l telling)
-    taken p.comes.carried) in
+    let whole = carries_as p.comes.carried taken (sym (both_silence telling)) in
     record {
       turns = p.turn ∷ [];
       gives = whole.gives;
@@ -67,6 +66,7 @@ one_turn {W} {C} {takings_in} {gives_in} {readings_in} s
       service = p.comes.service_is;
       config = config;
       totals = whole.totals;
+      counted = (p.counted, tt);
     }
 
 -- no turn
@@ -85,6 +85,7 @@ no_turns takings_in gives_in readings_in d = record {
   service = refl;
   config = refl;
   totals = refl;
+  counted = tt;
 }
 
 -- turns after turns
@@ -129,6 +130,9 @@ turns_both {W} {C} {takings_in} {gives_in} {readings_in} {m} {n} {a} {b} {c} p q
           ∙ ap (λ e. e.telling.offers) all;
       service = q.service ∙ ap (λ e. e.service) same ∙ ap (λ e. e.service) all;
       config = q.config ∙ p.config;
+      counted = turns_counted_both a.totals a.service p.turns q.turns p.gives q.gives
+          (gives_length p.gives first.telling.offers p.offers)
+          p.counted (turns_counted_from q.turns q.gives p.service p.totals q.counted);
       totals = q.totals ∙ ap (λ t. totals_after
           t takings_then q.gives (turns_effect b.service q.turns).telling.missed) p.totals
           ∙ totals_both a.totals takings takings_then
@@ -159,6 +163,7 @@ served p = record {
   service = p.service;
   config_is = p.config;
   totals = p.totals;
+  counted = p.counted;
 }
 
 unfoldable pub from_first : {W C : Type 0} {takings_in : W → Option (List Taking)}
@@ -178,6 +183,7 @@ from_first p = record {
   service = p.service;
   config = p.config_is;
   totals = p.totals;
+  counted = p.counted;
 }
 
 unfoldable pub served_on : {W C : Type 0} {takings_in : W → Option (List Taking)}

@@ -13,9 +13,9 @@ use Rattle.trdp_model.specs.NodeModels.{NodeModel}
 use Rattle.trdp_model.specs.Slots.{empty_slot}
 use Rattle.trdp_daemon.specs.declared.port.Port.{Port}
 use Rattle.trdp_daemon.specs.declared.port.Port.TheVariants.{Pd, Md, Operator, Control}
-use Rattle.trdp_daemon.specs.Effects.{ServiceState, event_effect}
+use Rattle.trdp_daemon.specs.Effects.{ServiceState}
 use Rattle.trdp_daemon.specs.Ports.{port_unless_0, control_numbers, control_ports, ports_of}
-use Rattle.trdp_daemon.specs.Turns.{Visit, visit_effect, Turn, turn_effect, moment_of, is_there}
+use Rattle.trdp_daemon.specs.Turns.{Visit, visit_effect, Turn, turn_effect, moment_effect, is_there}
 use Rattle.trdp_daemon.specs.Turns.{port_and_room, with_room, TakesFirst, TakesAt, TakesAtEach}
 use Rattle.trdp_daemon.specs.Turns.{AllTakeAt, opened_service}
 use Rattle.trdp_daemon.proofs.ControlPortLemmas.{numbers_count}
@@ -106,7 +106,7 @@ pub turns_take_each : (config : ConfigModel) (s : ServiceState) (turns : List Tu
     → All (TakesAtEach (ports_of config)) turns
 turns_take_each config s [] enough takes = All-nil (TakesAtEach (ports_of config))
 turns_take_each config s (turn ∷ turns) enough (here, takes) =
-    let behind = (event_effect s (moment_of s.node turn.reading) turn.loss).service in
+    let behind = (moment_effect s turn).service in
     let same : length s.node.slots ≤ length behind.node.slots = moment_keeps s turn in
     let later = (turn_effect s turn).service in
     let as_many : length s.node.slots ≤ length later.node.slots = turn_keeps s turn in

@@ -8,10 +8,12 @@ pub mod VisitLemmas
 pub mod TurnLemmas
 pub mod EachPortLemmas
 pub mod DaemonLemmas
+pub mod ResetLemmas
 pub mod RestLemmas
 pub mod SocketLemmas
 pub mod SocketWireLemmas
 pub mod ControlPortLemmas
+pub mod CountedLemmas
 pub mod GiveRowLemmas
 pub mod LossLemmas
 pub mod TakeRowLemmas

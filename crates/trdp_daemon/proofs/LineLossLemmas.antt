@@ -20,16 +20,19 @@ use Rattle.trdp_model.specs.Records.{Content, labelled}
 use Rattle.trdp_model.specs.Slots.{SlotState}
 use Rattle.trdp_script.specs.declared.fault.LineFault.{LineFault}
 use Rattle.trdp_script.specs.EventBytes.{carries_bytes}
+use Rattle.trdp_script.specs.PortLines.{OperatorSays, Orders, Asks}
 use Rattle.trdp_script.specs.PortLines.{control_line_of, operator_line_of}
-use Rattle.trdp_script.proofs.ReadLemmas.Ports.{IsOperators, operators_line}
+use Rattle.trdp_script.proofs.ReadLemmas.Ports.{IsOperators}
+use Rattle.trdp_script.proofs.ReadLemmas.OperatorLines.{SaysOperators, operators_line}
 use Rattle.trdp_model.specs.NodeModels.{node_after}
 use Rattle.trdp_daemon.specs.declared.port.Port.TheVariants.{Operator, Control}
+use Rattle.trdp_daemon.specs.declared.totals.Totals.{Totals}
 use Rattle.trdp_daemon.specs.Effects.{ServiceState, Loss, LineLost, EventLost, TextsLost}
 use Rattle.trdp_daemon.specs.Effects.{event_effect, event_records, event_taken, missing}
 use Rattle.trdp_daemon.specs.Effects.{records_telling, records_unless, slots_records}
 use Rattle.trdp_daemon.specs.Effects.{telling_only, then_effect}
-use Rattle.trdp_daemon.specs.Visits.{control_effect, control_event, datagram_effect}
-use Rattle.trdp_daemon.specs.Visits.{operator_answer, operator_effect, operator_event, with_place}
+use Rattle.trdp_daemon.specs.Visits.{OpensNoSlot, control_effect, control_event, datagram_effect}
+use Rattle.trdp_daemon.specs.Visits.{operator_answer, operator_effect, operator_event, heard_from}
 use Rattle.trdp_daemon.proofs.ServiceLemmas.{operator_not_lost}
 use Rattle.trdp_daemon.proofs.TurnLemmas.{effect_of}
 
@@ -85,8 +88,8 @@ untold_taken : (s : ServiceState) (event : EventModel) (marks : List Bool)
     → event_records s.node event ≡ [] → event_taken s event marks ≡ event_taken s event []
 untold_taken s event marks none =
     let after : ServiceState = record s { node = node_after s.node event } in
-    ap (λ l. effect_of after (records_telling s.places marks l)) none
-    ∙ ap (λ l. effect_of after (records_telling s.places [] l)) (sym none)
+    ap (λ l. effect_of after (records_telling s.contacts marks l)) none
+    ∙ ap (λ l. effect_of after (records_telling s.contacts [] l)) (sym none)
 
 operator_event_sure : (s : ServiceState) (from : Place) (event : EventModel) (loss : Loss)
     → IsOperators (Ok (Some event)) → opened_by event ≡ []
@@ -99,38 +102,41 @@ operator_event_sure s from event (TextsLost marks) of none =
     ap (λ e. then_effect e (λ after. telling_only after (operator_answer s from event)))
     (untold_taken s event marks (operators_untold s.node event of none))
 
-operator_sure : (s : ServiceState) (from : Place) (line : Result (Option EventModel) LineFault)
-    (loss : Loss) → IsOperators line
-    → IfOk line (λ event. IfSome event (λ event. opened_by event ≡ []))
-    → operator_effect s from line loss ≡ operator_effect s from line (TextsLost [])
+operator_sure : (s : ServiceState) (from : Place) (totals : Totals)
+    (line : Result (Option OperatorSays) LineFault) (loss : Loss) → SaysOperators line
+    → IfOk line (λ line. IfSome line OpensNoSlot)
+    → operator_effect s from totals line loss ≡ operator_effect s from totals line (TextsLost [])
 unfolding operator_effect
-operator_sure s from (Err fault) loss of none = refl
-operator_sure s from (Ok None) loss of none = refl
-operator_sure s from (Ok (Some event)) loss of none =
+operator_sure s from totals (Err fault) loss of none = refl
+operator_sure s from totals (Ok None) loss of none = refl
+operator_sure s from totals (Ok (Some (Orders event))) loss of none =
     operator_event_sure s from event loss of none
+operator_sure s from totals (Ok (Some (Asks question))) loss of none = refl
 
 -- nothing is lost of what comes to the operator's port, but the opening of a slot
-pub operator_line_sure : (s : ServiceState) (from : Place) (bytes : List ℕ) (loss : Loss)
-    → IfOk (operator_line_of bytes) (λ event. IfSome event (λ event. opened_by event ≡ []))
-    → datagram_effect s Operator from bytes loss
-    ≡ datagram_effect s Operator from bytes (TextsLost [])
+pub operator_line_sure : (s : ServiceState) (totals : Totals) (from : Place) (bytes : List ℕ)
+    (loss : Loss) → IfOk (operator_line_of bytes) (λ line. IfSome line OpensNoSlot)
+    → datagram_effect s totals Operator from bytes loss
+    ≡ datagram_effect s totals Operator from bytes (TextsLost [])
 unfolding datagram_effect
-operator_line_sure s from bytes loss none =
-    operator_sure s from (operator_line_of bytes) loss (operators_line bytes) none
+operator_line_sure s totals from bytes loss none =
+    operator_sure s from totals (operator_line_of bytes) loss (operators_line bytes) none
 
-operator_read : (s : ServiceState) (from : Place) (line : Result (Option EventModel) LineFault)
-    → operator_effect s from line LineLost ≡ operator_effect s from line (TextsLost [])
+operator_read : (s : ServiceState) (from : Place) (totals : Totals)
+    (line : Result (Option OperatorSays) LineFault) → operator_effect s from totals line LineLost
+    ≡ operator_effect s from totals line (TextsLost [])
 unfolding operator_effect operator_event
-operator_read s from (Err fault) = refl
-operator_read s from (Ok None) = refl
-operator_read s from (Ok (Some event)) = refl
+operator_read s from totals (Err fault) = refl
+operator_read s from totals (Ok None) = refl
+operator_read s from totals (Ok (Some (Orders event))) = refl
+operator_read s from totals (Ok (Some (Asks question))) = refl
 
 -- and its line is always read
-pub operator_line_read : (s : ServiceState) (from : Place) (bytes : List ℕ)
-    → datagram_effect s Operator from bytes LineLost
-    ≡ datagram_effect s Operator from bytes (TextsLost [])
+pub operator_line_read : (s : ServiceState) (totals : Totals) (from : Place) (bytes : List ℕ)
+    → datagram_effect s totals Operator from bytes LineLost
+    ≡ datagram_effect s totals Operator from bytes (TextsLost [])
 unfolding datagram_effect
-operator_line_read s from bytes = operator_read s from (operator_line_of bytes)
+operator_line_read s totals from bytes = operator_read s from totals (operator_line_of bytes)
 
 control_sure : (s : ServiceState) (slot : ℕ) (from : Place)
     (line : Result (Option EventModel) LineFault)
@@ -141,13 +147,13 @@ control_sure s slot from (Err fault) none = refl
 control_sure s slot from (Ok None) none = refl
 control_sure s slot from (Ok (Some event)) none =
     ap (λ b. if b then telling_only s missing
-    else event_effect (with_place s slot from) event (TextsLost [])) none
+    else event_effect (heard_from s slot from) event (TextsLost [])) none
 
 -- a control line is read that carries no bytes
-pub control_line_sure : (s : ServiceState) (slot : ℕ) (from : Place) (bytes : List ℕ)
-    → IfOk (control_line_of slot bytes) (λ event. carries_bytes event ≡ false)
-    → datagram_effect s (Control slot) from bytes LineLost
-    ≡ datagram_effect s (Control slot) from bytes (TextsLost [])
+pub control_line_sure : (s : ServiceState) (totals : Totals) (slot : ℕ) (from : Place)
+    (bytes : List ℕ) → IfOk (control_line_of slot bytes) (λ event. carries_bytes event ≡ false)
+    → datagram_effect s totals (Control slot) from bytes LineLost
+    ≡ datagram_effect s totals (Control slot) from bytes (TextsLost [])
 unfolding datagram_effect
-control_line_sure s slot from bytes none =
+control_line_sure s totals slot from bytes none =
     control_sure s slot from (control_line_of slot bytes) none

@@ -3,7 +3,7 @@
 -- By: what is carried by two things one after another is both of it, in that order.
 use Rattle.std.proofs.Common.{◌≡◌, zero, suc, ◌+◌, ◌-◌, ◌^◌, min, ℕ, Bool, List, []}
 use Rattle.std.proofs.Common.{◌++◌, length, map, Option, Some, None, refl, sym, ◌∙◌}
-use Rattle.std.proofs.Common.{ap, arith, append_assoc, append-nil, length-append}
+use Rattle.std.proofs.Common.{ap, subst, arith, append_assoc, append-nil, length-append}
 use Rattle.std.specs.Prelude.{filter}
 use Rattle.std.proofs.lemmas.List.{map-append}
 use Rattle.std.proofs.lemmas.List.Elements.{filter-append}
@@ -64,7 +64,7 @@ carries_none takings_in gives_in l = record {
 }
 
 -- one thing after another
-pub carries_both : {W : Type 0} {takings_in : W → Option (List Taking)}
+unfoldable pub carries_both : {W : Type 0} {takings_in : W → Option (List Taking)}
     {gives_in : W → Option (List Give)} {a b c : Link W} {ts us : List Taking} {x y : Telling}
     → Carries takings_in gives_in a b ts x → Carries takings_in gives_in b c us y
     → Carries takings_in gives_in a c (ts ++ us) (both x y)
@@ -78,4 +78,19 @@ carries_both {W} {takings_in} {gives_in} {a} {b} {c} {ts} {us} {x} {y} p q = rec
       (gives_in c.wire) p.gives q.gives p.given q.given;
   totals = q.totals ∙ ap (λ t. totals_after t us q.gives y.missed) p.totals
       ∙ totals_both a.totals ts us p.gives q.gives x.missed y.missed;
+}
+
+-- the same takes and telling
+unfoldable pub carries_as : {W : Type 0} {takings_in : W → Option (List Taking)}
+    {gives_in : W → Option (List Give)} {a b : Link W} {ts us : List Taking} {x y : Telling}
+    → Carries takings_in gives_in a b ts x → ts ≡ us → x ≡ y
+    → Carries takings_in gives_in a b us y
+carries_as {W} {takings_in} {gives_in} {a} {b} {ts} {us} {x} {y} p takes is = record {
+  gives = p.gives;
+  offers = p.offers ∙ ap (λ t. t.offers) is;
+  takes = subst (λ (l : List Taking). TellsMore (takings_in a.wire) (takings_in b.wire) l)
+      takes p.takes;
+  given = p.given;
+  totals = p.totals ∙ ap (λ l. totals_after a.totals l p.gives x.missed) takes
+      ∙ ap (λ t. totals_after a.totals us p.gives t.missed) is;
 }

@@ -8,10 +8,13 @@ use Rattle.trdp_model.specs.Events.{EventModel}
 use Rattle.trdp_model.specs.Records.{RecordModel, Content, Answers, Indicates, Sends}
 use Rattle.trdp_script.specs.EventBytes.{carries_bytes}
 use Rattle.trdp_script.specs.declared.fault.LineFault.{LineFault}
+use Rattle.trdp_script.specs.PortLines.{OperatorSays, Orders, Asks}
 use Rattle.trdp_script.specs.PortLines.{control_line_of, operator_line_of}
 use Rattle.trdp_script.specs.RecordText.{text_of_record}
 use Rattle.trdp_daemon.specs.declared.port.Port.{Port}
 use Rattle.trdp_daemon.specs.declared.port.Port.TheVariants.{Pd, Md, Operator, Control}
+use Rattle.trdp_daemon.specs.declared.contact.Contact.{Contact}
+use Rattle.trdp_daemon.specs.declared.totals.Totals.{Totals}
 use Rattle.trdp_daemon.specs.Told.{Arrived, Failed, Nothing, Came}
 use Rattle.trdp_daemon.specs.Effects.{both, text_telling, control_place, content_telling}
 use Rattle.trdp_daemon.specs.Effects.{record_telling, is_first_lost, later_marks, records_telling}
@@ -19,10 +22,10 @@ use Rattle.trdp_daemon.specs.Effects.{event_records, ServiceState, Loss, LineLos
 use Rattle.trdp_daemon.specs.Effects.{TextsLost, then_effect, telling_only, event_effect}
 use Rattle.trdp_daemon.specs.Effects.{event_taken, Effect, may_take_memory, missing}
 use Rattle.trdp_daemon.specs.Visits.{operator_answer, operator_taken, operator_event}
-use Rattle.trdp_daemon.specs.Visits.{operator_effect, with_place, control_event}
+use Rattle.trdp_daemon.specs.Visits.{operator_effect, heard_from, control_event}
 use Rattle.trdp_daemon.specs.Visits.{control_effect, datagram_effect, taking_effect}
 use Rattle.trdp_daemon.specs.Turns.{Visit, visit_effect, visits_effect, Turn, turn_effect}
-use Rattle.trdp_daemon.specs.Turns.{turns_effect, moment_of, unlost, unlost_visit}
+use Rattle.trdp_daemon.specs.Turns.{begun, moment_effect, turns_effect, moment_of, unlost, unlost_visit}
 use Rattle.trdp_daemon.proofs.TurnLemmas.{effect_of}
 
 text_kept : (slot : ℕ) (to : Option Place) (lost : Bool) (text : List ℕ)
@@ -33,28 +36,28 @@ text_kept slot None lost text none = refl
 text_kept slot (Some to) true text none = absurd (omega (arith, none))
 text_kept slot (Some to) false text none = refl
 
-record_kept : (places : List (Option Place)) (lost : Bool) (r : RecordModel) (content : Content)
-    → (content_telling places lost r content).missed ≡ 0
-    → content_telling places lost r content ≡ content_telling places false r content
+record_kept : (contacts : List (Option Contact)) (lost : Bool) (r : RecordModel) (content : Content)
+    → (content_telling contacts lost r content).missed ≡ 0
+    → content_telling contacts lost r content ≡ content_telling contacts false r content
 unfolding content_telling
-record_kept places lost r (Answers answer) none =
-    text_kept r.slot (control_place places r.slot) lost (text_of_record r) none
-record_kept places lost r (Indicates indication) none =
-    text_kept r.slot (control_place places r.slot) lost (text_of_record r) none
-record_kept places lost r (Sends protocol to telegram) none = refl
+record_kept contacts lost r (Answers answer) none =
+    text_kept r.slot (control_place contacts r.slot) lost (text_of_record r) none
+record_kept contacts lost r (Indicates indication) none =
+    text_kept r.slot (control_place contacts r.slot) lost (text_of_record r) none
+record_kept contacts lost r (Sends protocol to telegram) none = refl
 
-records_kept : (places : List (Option Place)) (marks : List Bool) (records : List RecordModel)
-    → (records_telling places marks records).missed ≡ 0
-    → records_telling places marks records ≡ records_telling places [] records
-records_kept places marks [] none = refl
-records_kept places marks (r ∷ records) none =
-    let first : (record_telling places (is_first_lost marks) r).missed ≡ 0 = omega (arith, none) in
-    let rest : (records_telling places (later_marks marks) records).missed ≡ 0 =
+records_kept : (contacts : List (Option Contact)) (marks : List Bool) (records : List RecordModel)
+    → (records_telling contacts marks records).missed ≡ 0
+    → records_telling contacts marks records ≡ records_telling contacts [] records
+records_kept contacts marks [] none = refl
+records_kept contacts marks (r ∷ records) none =
+    let first : (record_telling contacts (is_first_lost marks) r).missed ≡ 0 = omega (arith, none) in
+    let rest : (records_telling contacts (later_marks marks) records).missed ≡ 0 =
     omega (arith, none) in
-    ap (λ t. both t (records_telling places (later_marks marks) records))
-    (record_kept places (is_first_lost marks) r r.content first)
-    ∙ ap (λ t. both (record_telling places false r) t)
-    (records_kept places (later_marks marks) records rest)
+    ap (λ t. both t (records_telling contacts (later_marks marks) records))
+    (record_kept contacts (is_first_lost marks) r r.content first)
+    ∙ ap (λ t. both (record_telling contacts false r) t)
+    (records_kept contacts (later_marks marks) records rest)
 
 lost_kept : (b : Bool) (s : ServiceState) (effect : Effect)
     → (if b then telling_only s missing else effect).telling.missed ≡ 0
@@ -72,7 +75,7 @@ event_kept s event EventLost none =
     lost_kept (may_take_memory s.node event) s (event_taken s event []) none
 event_kept s event (TextsLost marks) none =
     ap (effect_of (event_effect s event (TextsLost marks)).service)
-    (records_kept s.places marks (event_records s.node event) none)
+    (records_kept s.contacts marks (event_records s.node event) none)
 
 operator_event_kept : (s : ServiceState) (from : Place) (event : EventModel) (loss : Loss)
     → (operator_event s from event loss).telling.missed ≡ 0
@@ -86,13 +89,16 @@ operator_event_kept s from event (TextsLost marks) none =
     ap (λ e. then_effect e (λ after. telling_only after (operator_answer s from event)))
     (event_kept s event (TextsLost marks) first)
 
-operator_kept : (s : ServiceState) (from : Place) (line : Result (Option EventModel) LineFault)
-    (loss : Loss) → (operator_effect s from line loss).telling.missed ≡ 0
-    → operator_effect s from line loss ≡ operator_effect s from line (TextsLost [])
+operator_kept : (s : ServiceState) (from : Place) (totals : Totals)
+    (line : Result (Option OperatorSays) LineFault) (loss : Loss)
+    → (operator_effect s from totals line loss).telling.missed ≡ 0
+    → operator_effect s from totals line loss ≡ operator_effect s from totals line (TextsLost [])
 unfolding operator_effect
-operator_kept s from (Err fault) loss none = refl
-operator_kept s from (Ok None) loss none = refl
-operator_kept s from (Ok (Some event)) loss none = operator_event_kept s from event loss none
+operator_kept s from totals (Err fault) loss none = refl
+operator_kept s from totals (Ok None) loss none = refl
+operator_kept s from totals (Ok (Some (Orders event))) loss none =
+    operator_event_kept s from event loss none
+operator_kept s from totals (Ok (Some (Asks question))) loss none = refl
 
 control_event_kept : (s : ServiceState) (slot : ℕ) (from : Place) (event : EventModel) (loss : Loss)
     → (control_event s slot from event loss).telling.missed ≡ 0
@@ -100,11 +106,11 @@ control_event_kept : (s : ServiceState) (slot : ℕ) (from : Place) (event : Eve
 unfolding control_event
 control_event_kept s slot from event LineLost none =
     lost_kept (carries_bytes (Some event)) s
-    (event_effect (with_place s slot from) event (TextsLost [])) none
+    (event_effect (heard_from s slot from) event (TextsLost [])) none
 control_event_kept s slot from event EventLost none =
-    event_kept (with_place s slot from) event EventLost none
+    event_kept (heard_from s slot from) event EventLost none
 control_event_kept s slot from event (TextsLost marks) none =
-    event_kept (with_place s slot from) event (TextsLost marks) none
+    event_kept (heard_from s slot from) event (TextsLost marks) none
 
 control_kept : (s : ServiceState) (slot : ℕ) (from : Place)
     (line : Result (Option EventModel) LineFault) (loss : Loss)
@@ -116,24 +122,27 @@ control_kept s slot from (Ok None) loss none = refl
 control_kept s slot from (Ok (Some event)) loss none =
     control_event_kept s slot from event loss none
 
-datagram_kept : (s : ServiceState) (port : Port) (from : Place) (bytes : List ℕ) (loss : Loss)
-    → (datagram_effect s port from bytes loss).telling.missed ≡ 0
-    → datagram_effect s port from bytes loss ≡ datagram_effect s port from bytes (TextsLost [])
+datagram_kept : (s : ServiceState) (totals : Totals) (port : Port) (from : Place) (bytes : List ℕ)
+    (loss : Loss) → (datagram_effect s totals port from bytes loss).telling.missed ≡ 0
+    → datagram_effect s totals port from bytes loss
+    ≡ datagram_effect s totals port from bytes (TextsLost [])
 unfolding datagram_effect
-datagram_kept s Pd from bytes loss none = event_kept s _ loss none
-datagram_kept s Md from bytes loss none = event_kept s _ loss none
-datagram_kept s Operator from bytes loss none =
-    operator_kept s from (operator_line_of bytes) loss none
-datagram_kept s (Control slot) from bytes loss none =
+datagram_kept s totals Pd from bytes loss none = event_kept s _ loss none
+datagram_kept s totals Md from bytes loss none = event_kept s _ loss none
+datagram_kept s totals Operator from bytes loss none =
+    operator_kept s from totals (operator_line_of bytes) loss none
+datagram_kept s totals (Control slot) from bytes loss none =
     control_kept s slot from (control_line_of slot bytes) loss none
 
-taking_kept : (s : ServiceState) (port : Port) (arrived : Arrived) (loss : Loss)
-    → (taking_effect s port arrived loss).telling.missed ≡ 0
-    → taking_effect s port arrived loss ≡ taking_effect s port arrived (TextsLost [])
+taking_kept : (s : ServiceState) (totals : Totals) (port : Port) (arrived : Arrived) (loss : Loss)
+    → (taking_effect s totals port arrived loss).telling.missed ≡ 0
+    → taking_effect s totals port arrived loss
+    ≡ taking_effect s totals port arrived (TextsLost [])
 unfolding taking_effect
-taking_kept s port Failed loss none = refl
-taking_kept s port Nothing loss none = refl
-taking_kept s port (Came from bytes) loss none = datagram_kept s port from bytes loss none
+taking_kept s totals port Failed loss none = refl
+taking_kept s totals port Nothing loss none = refl
+taking_kept s totals port (Came from bytes) loss none =
+    datagram_kept s totals port from bytes loss none
 
 visits_kept : (s : ServiceState) (visits : List Visit) → (visits_effect s visits).telling.missed ≡ 0
     → visits_effect s visits ≡ visits_effect s (map unlost_visit visits)
@@ -145,18 +154,18 @@ visits_kept s (visit ∷ visits) none =
     ap (λ e. effect_of e.service (both first.telling e.telling))
     (visits_kept first.service visits rest)
     ∙ ap (λ e. then_effect e (λ after. visits_effect after (map unlost_visit visits)))
-    (taking_kept s visit.taking.port visit.taking.arrived visit.loss here)
+    (taking_kept s visit.totals visit.taking.port visit.taking.arrived visit.loss here)
 
 turn_kept : (s : ServiceState) (turn : Turn) → (turn_effect s turn).telling.missed ≡ 0
     → turn_effect s turn ≡ turn_effect s (unlost turn)
 turn_kept s turn none =
-    let first = event_effect s (moment_of s.node turn.reading) turn.loss in
+    let first = moment_effect s turn in
     let here : first.telling.missed ≡ 0 = omega (arith, none) in
     let rest : (visits_effect first.service turn.visits).telling.missed ≡ 0 = omega (arith, none) in
     ap (λ e. effect_of e.service (both first.telling e.telling))
     (visits_kept first.service turn.visits rest)
     ∙ ap (λ e. then_effect e (λ after. visits_effect after (map unlost_visit turn.visits)))
-    (event_kept s (moment_of s.node turn.reading) turn.loss here)
+    (event_kept (begun s turn.reading) (moment_of s.node turn.reading) turn.loss here)
 
 pub turns_kept : (s : ServiceState) (turns : List Turn) → (turns_effect s turns).telling.missed ≡ 0
     → turns_effect s turns ≡ turns_effect s (map unlost turns)

@@ -13,18 +13,20 @@ use Rattle.trdp_model.specs.Events.{EventModel}
 use Rattle.trdp_model.specs.NodeModels.{NodeModel}
 use Rattle.trdp_model.specs.Slots.{SlotState}
 use Rattle.trdp_script.specs.EventBytes.{carries_bytes}
+use Rattle.trdp_script.specs.PortLines.{OperatorSays, Orders, Asks}
 use Rattle.trdp_script.specs.PortLines.{control_line_of, operator_line_of}
 use Rattle.trdp_model.specs.NodeModels.{node_unless, slots_after}
 use Rattle.trdp_script.specs.declared.fault.LineFault.{LineFault}
 use Rattle.trdp_daemon.specs.declared.port.Port.{Port}
 use Rattle.trdp_daemon.specs.declared.port.Port.TheVariants.{Pd, Md, Operator, Control}
+use Rattle.trdp_daemon.specs.declared.totals.Totals.{Totals}
 use Rattle.trdp_daemon.specs.Told.{Arrived, Failed, Nothing, Came}
 use Rattle.trdp_daemon.specs.Effects.{ServiceState, Effect, Loss, LineLost, EventLost, TextsLost}
 use Rattle.trdp_daemon.specs.Effects.{event_effect, event_taken, may_take_memory, missing}
 use Rattle.trdp_daemon.specs.Effects.{telling_only}
 use Rattle.trdp_daemon.specs.Turns.{Visit, visit_effect, visits_effect, Turn, turn_effect}
-use Rattle.trdp_daemon.specs.Turns.{moment_of}
-use Rattle.trdp_daemon.specs.Visits.{operator_event, operator_effect, operator_taken, with_place}
+use Rattle.trdp_daemon.specs.Turns.{begun, moment_effect, moment_of}
+use Rattle.trdp_daemon.specs.Visits.{operator_event, operator_effect, operator_taken, heard_from}
 use Rattle.trdp_daemon.specs.Visits.{control_event, control_effect, datagram_effect, taking_effect}
 
 -- the slots that are there stay
@@ -76,23 +78,25 @@ operator_event_keeps s from event EventLost = lost_keeps (may_take_memory s.node
     (operator_taken s from event []) (event_keeps s event (TextsLost []))
 operator_event_keeps s from event (TextsLost marks) = event_keeps s event (TextsLost marks)
 
-operator_keeps : (s : ServiceState) (from : Place) (line : Result (Option EventModel) LineFault)
-    (loss : Loss) → KeepsSlots s (operator_effect s from line loss)
+operator_keeps : (s : ServiceState) (from : Place) (totals : Totals)
+    (line : Result (Option OperatorSays) LineFault) (loss : Loss)
+    → KeepsSlots s (operator_effect s from totals line loss)
 unfolding operator_effect
-operator_keeps s from (Err fault) loss = omega arith
-operator_keeps s from (Ok None) loss = omega arith
-operator_keeps s from (Ok (Some event)) loss = operator_event_keeps s from event loss
+operator_keeps s from totals (Err fault) loss = omega arith
+operator_keeps s from totals (Ok None) loss = omega arith
+operator_keeps s from totals (Ok (Some (Orders event))) loss = operator_event_keeps s from event loss
+operator_keeps s from totals (Ok (Some (Asks question))) loss = omega arith
 
 control_event_keeps : (s : ServiceState) (slot : ℕ) (from : Place) (event : EventModel)
     (loss : Loss) → KeepsSlots s (control_event s slot from event loss)
 unfolding control_event
 control_event_keeps s slot from event LineLost = lost_keeps (carries_bytes (Some event)) s
-    (event_effect (with_place s slot from) event (TextsLost []))
-    (event_keeps (with_place s slot from) event (TextsLost []))
+    (event_effect (heard_from s slot from) event (TextsLost []))
+    (event_keeps (heard_from s slot from) event (TextsLost []))
 control_event_keeps s slot from event EventLost =
-    event_keeps (with_place s slot from) event EventLost
+    event_keeps (heard_from s slot from) event EventLost
 control_event_keeps s slot from event (TextsLost marks) =
-    event_keeps (with_place s slot from) event (TextsLost marks)
+    event_keeps (heard_from s slot from) event (TextsLost marks)
 
 control_keeps : (s : ServiceState) (slot : ℕ) (from : Place)
     (line : Result (Option EventModel) LineFault) (loss : Loss)
@@ -102,25 +106,26 @@ control_keeps s slot from (Err fault) loss = omega arith
 control_keeps s slot from (Ok None) loss = omega arith
 control_keeps s slot from (Ok (Some event)) loss = control_event_keeps s slot from event loss
 
-datagram_keeps : (s : ServiceState) (port : Port) (from : Place) (bytes : List ℕ) (loss : Loss)
-    → KeepsSlots s (datagram_effect s port from bytes loss)
+datagram_keeps : (s : ServiceState) (totals : Totals) (port : Port) (from : Place)
+    (bytes : List ℕ) (loss : Loss) → KeepsSlots s (datagram_effect s totals port from bytes loss)
 unfolding datagram_effect
-datagram_keeps s Pd from bytes loss = event_keeps s _ loss
-datagram_keeps s Md from bytes loss = event_keeps s _ loss
-datagram_keeps s Operator from bytes loss =
-    operator_keeps s from (operator_line_of bytes) loss
-datagram_keeps s (Control slot) from bytes loss =
+datagram_keeps s totals Pd from bytes loss = event_keeps s _ loss
+datagram_keeps s totals Md from bytes loss = event_keeps s _ loss
+datagram_keeps s totals Operator from bytes loss =
+    operator_keeps s from totals (operator_line_of bytes) loss
+datagram_keeps s totals (Control slot) from bytes loss =
     control_keeps s slot from (control_line_of slot bytes) loss
 
-taking_keeps : (s : ServiceState) (port : Port) (arrived : Arrived) (loss : Loss)
-    → KeepsSlots s (taking_effect s port arrived loss)
+taking_keeps : (s : ServiceState) (totals : Totals) (port : Port) (arrived : Arrived) (loss : Loss)
+    → KeepsSlots s (taking_effect s totals port arrived loss)
 unfolding taking_effect
-taking_keeps s port Failed loss = omega arith
-taking_keeps s port Nothing loss = omega arith
-taking_keeps s port (Came from bytes) loss = datagram_keeps s port from bytes loss
+taking_keeps s totals port Failed loss = omega arith
+taking_keeps s totals port Nothing loss = omega arith
+taking_keeps s totals port (Came from bytes) loss = datagram_keeps s totals port from bytes loss
 
 pub visit_keeps : (s : ServiceState) (visit : Visit) → KeepsSlots s (visit_effect s visit)
-visit_keeps s visit = taking_keeps s visit.taking.port visit.taking.arrived visit.loss
+visit_keeps s visit =
+    taking_keeps s visit.totals visit.taking.port visit.taking.arrived visit.loss
 
 visits_keep : (s : ServiceState) (visits : List Visit) → KeepsSlots s (visits_effect s visits)
 visits_keep s [] = omega arith
@@ -128,13 +133,14 @@ visits_keep s (visit ∷ visits) =
     omega (arith, visits_keep (visit_effect s visit).service visits, visit_keeps s visit)
 
 pub moment_keeps : (s : ServiceState) (turn : Turn)
-    → KeepsSlots s (event_effect s (moment_of s.node turn.reading) turn.loss)
-moment_keeps s turn = event_keeps s (moment_of s.node turn.reading) turn.loss
+    → KeepsSlots s (moment_effect s turn)
+moment_keeps s turn =
+    event_keeps (begun s turn.reading) (moment_of s.node turn.reading) turn.loss
 
 pub turn_keeps : (s : ServiceState) (turn : Turn) → KeepsSlots s (turn_effect s turn)
 turn_keeps s turn =
     omega (
       arith,
-      visits_keep (event_effect s (moment_of s.node turn.reading) turn.loss).service turn.visits,
+      visits_keep (moment_effect s turn).service turn.visits,
       moment_keeps s turn,
     )

@@ -83,6 +83,7 @@ turns_rest {W} {C} {takings_in} {gives_in} {readings_in} {n} {a} {b} {c} p q = r
   service = q.service ∙ p.service;
   config = ap (λ s. s.node.config) q.service ∙ p.config;
   totals = q.totals ∙ p.totals;
+  counted = p.counted;
 }
 
 -- so many early turns, each with a rest behind it, and the reading of the last

@@ -2,10 +2,11 @@
 -- For `take_event` and `take_operator`, and for `lost_only_where_memory_is_taken`.
 -- By cases: the node takes the event, refuses it, or has no memory for it.
 use Rattle.std.proofs.Common.{◌≡◌, ℕ, List, [], Option, refl, sym, ◌∙◌, ap, subst}
-use Rattle.std.proofs.Common.{Bool, true, false, if◌then◌else◌, length}
+use Rattle.std.proofs.Common.{Bool, true, false, not, if◌then◌else◌, length}
 use Rattle.trdp_base.specs.declared.place.Place.{Place}
 use Rattle.trdp_model.specs.Events.{EventModel, MomentIs, TopologyIs, RoleIs, DatagramIs, CallIs}
 use Rattle.trdp_model.specs.Events.{AddSlotIs}
+use Rattle.trdp_model.specs.Events.{ResetCall}
 use Rattle.trdp_model.specs.NodeModels.{NodeModel}
 use Rattle.trdp_engine.specs.NodeStates.{uncounted}
 use Rattle.trdp_model.specs.NodeModels.{MayTakeMemory, due_in}
@@ -15,11 +16,12 @@ use Rattle.trdp_model.specs.Alone.{refused_as}
 use Rattle.trdp_model.specs.NodeModels.{node_after}
 use Rattle.trdp_outbox.specs.SlotOrder.{by_slot, slots_end, slots_from}
 use Rattle.trdp_outbox.proofs.SlotOrderLemmas.Slots.{from_zero}
+use Rattle.trdp_daemon.specs.declared.contact.Contact.{Contact}
 use Rattle.trdp_daemon.specs.declared.link.Link.{Link}
 use Rattle.trdp_daemon.specs.declared.service.Service.{Service}
 use Rattle.trdp_daemon.specs.Told.{Taking, Give}
 use Rattle.trdp_daemon.specs.Effects.{ServiceState, Effect, Loss, LineLost, EventLost, TextsLost}
-use Rattle.trdp_daemon.specs.Effects.{event_effect, texts_lost}
+use Rattle.trdp_daemon.specs.Effects.{event_effect, is_reset, texts_lost}
 use Rattle.trdp_daemon.specs.Effects.{event_records, event_taken, lost_or, may_take_memory}
 use Rattle.trdp_daemon.specs.Effects.{missing, offering, records_telling, telling_only}
 use Rattle.trdp_daemon.specs.Links.{Carries}
@@ -38,24 +40,32 @@ no_records records none =
 -- an event was taken, or refused, and its records were told
 pub records_told : {W : Type 0} {takings_in : W → Option (List Taking)}
     {gives_in : W → Option (List Give)} {a b : Link W} (old new : Service)
-    (event : EventModel) (places : List (Option Place)) (records : List RecordModel)
+    (event : EventModel) (contacts : List (Option Contact)) (records : List RecordModel)
     → uncounted new.node ≡ node_after (uncounted old.node) event
-    → new.places.items ≡ old.places.items
-    → places ≡ old.places.items → records ≡ event_records (uncounted old.node) event
-    → Tells takings_in gives_in places a b records
+    → new.contacts.items ≡ old.contacts.items → new.reading ≡ old.reading
+    → contacts ≡ old.contacts.items → records ≡ event_records (uncounted old.node) event
+    → Tells takings_in gives_in contacts a b records
     → ComesTold takings_in gives_in old new a b event
 unfolding event_effect
 records_told {W} {takings_in} {gives_in} {a} {b} old
-    new event places records node kept same all told = record {
+    new event contacts records node kept read same all told = record {
       marks = told.marks;
       comes = record {
         service_is = ap (λ n. let s : ServiceState =
-            record { node = n; places = new.places.items } in s) node
-            ∙ ap (λ l. let s : ServiceState =
-            record { node = node_after (uncounted old.node) event; places = l } in s) kept;
-        carried = subst (λ (l : List RecordModel).
-            Carries takings_in gives_in a b [] (records_telling old.places.items told.marks l)) all
-            (subst (λ (l : List (Option Place)). Carries
+            record { node = n; contacts = new.contacts.items; reading = new.reading } in s) node
+            ∙ ap (λ l. let s : ServiceState = record {
+              node = node_after (uncounted old.node) event;
+              contacts = l;
+              reading = new.reading;
+            } in s) kept
+            ∙ ap (λ r. let s : ServiceState = record {
+              node = node_after (uncounted old.node) event;
+              contacts = old.contacts.items;
+              reading = r;
+            } in s) read;
+        carried = subst (λ (l : List RecordModel). Carries
+            takings_in gives_in a b [] (records_telling old.contacts.items told.marks l)) all
+            (subst (λ (l : List (Option Contact)). Carries
             takings_in gives_in a b [] (records_telling l told.marks records)) same told.carried);
       };
     }
@@ -68,30 +78,35 @@ comes_told told = record { loss = TextsLost told.marks; comes = told.comes }
 
 -- memory may be wanting for an event
 pub wanting : (node : NodeModel) (event : EventModel)
-    → MayTakeMemory node event → may_take_memory node event ≡ true
+    → MayTakeMemory node event → is_reset event ≡ false → may_take_memory node event ≡ true
 unfolding may_take_memory
-wanting node (MomentIs t) may = lt-ltb 0 (due_in t node.slots) may
-wanting node (TopologyIs topo) may = absurd may
-wanting node (RoleIs group leader) may = absurd may
-wanting node (DatagramIs protocol src dst bytes) may = may
-wanting node (CallIs s call) may = refl
-wanting node (AddSlotIs quotas) may = refl
+wanting node (MomentIs t) may other = lt-ltb 0 (due_in t node.slots) may
+wanting node (TopologyIs topo) may other = absurd may
+wanting node (RoleIs group leader) may other = absurd may
+wanting node (DatagramIs protocol src dst bytes) may other = may
+wanting node (CallIs s call) may other = ap not other
+wanting node (AddSlotIs quotas) may other = refl
+
+not_true : (b : Bool) → not b ≡ true → b ≡ false
+not_true true is = absurd (cc)
+not_true false is = refl
 
 pub is_wanting : (node : NodeModel) (event : EventModel)
-    → may_take_memory node event ≡ true → MayTakeMemory node event
+    → may_take_memory node event ≡ true → MayTakeMemory node event × (is_reset event ≡ false)
 unfolding may_take_memory
-is_wanting node (MomentIs t) may = ltb-true 0 (due_in t node.slots) may
+is_wanting node (MomentIs t) may = (ltb-true 0 (due_in t node.slots) may, refl)
 is_wanting node (TopologyIs topo) may = absurd (cc)
 is_wanting node (RoleIs group leader) may = absurd (cc)
-is_wanting node (DatagramIs protocol src dst bytes) may = may
-is_wanting node (CallIs s call) may = tt
-is_wanting node (AddSlotIs quotas) may = tt
+is_wanting node (DatagramIs protocol src dst bytes) may = (may, refl)
+is_wanting node (CallIs s call) may = (tt, not_true (is_reset (CallIs s call)) may)
+is_wanting node (AddSlotIs quotas) may = (tt, refl)
 
 -- an event is lost there
 lost_there : (s : ServiceState) (event : EventModel) (effect : Effect)
-    → MayTakeMemory s.node event → telling_only s missing ≡ lost_or s event effect
-lost_there s event effect may =
-    ap (λ b. if b then telling_only s missing else effect) (sym (wanting s.node event may))
+    → MayTakeMemory s.node event → is_reset event ≡ false
+    → telling_only s missing ≡ lost_or s event effect
+lost_there s event effect may other =
+    ap (λ b. if b then telling_only s missing else effect) (sym (wanting s.node event may other))
 
 -- and nowhere else
 not_lost : (s : ServiceState) (event : EventModel) (effect : Effect)
@@ -99,7 +114,7 @@ not_lost : (s : ServiceState) (event : EventModel) (effect : Effect)
 not_lost s event effect never = by_test (may_take_memory s.node event) refl
   where
     by_test : (may : Bool) → may_take_memory s.node event ≡ may → lost_or s event effect ≡ effect
-    by_test true is = absurd (never (is_wanting s.node event is))
+    by_test true is = absurd (never (is_wanting s.node event is).0)
     by_test false is = ap (λ b. if b then telling_only s missing else effect) is
 
 pub event_not_lost : (s : ServiceState) (event : EventModel) (loss : Loss)
@@ -110,35 +125,54 @@ event_not_lost s event LineLost never = not_lost s event (event_taken s event []
 event_not_lost s event EventLost never = not_lost s event (event_taken s event []) never
 event_not_lost s event (TextsLost marks) never = refl
 
+-- nor is a reset
+pub reset_not_lost : (s : ServiceState) (slot : ℕ) (loss : Loss)
+    → event_effect s (CallIs slot ResetCall) loss
+    ≡ event_taken s (CallIs slot ResetCall) (texts_lost loss)
+unfolding event_effect may_take_memory
+reset_not_lost s slot LineLost = refl
+reset_not_lost s slot EventLost = refl
+reset_not_lost s slot (TextsLost marks) = refl
+
 pub operator_not_lost : (s : ServiceState) (from : Place) (event : EventModel)
     → (MayTakeMemory s.node event → ⊥)
     → operator_event s from event EventLost ≡ operator_taken s from event []
 unfolding operator_event
 operator_not_lost s from event never = not_lost s event (operator_taken s from event []) never
 
+-- the parts of a service say its state
+pub same_state : (old new : Service) → new.node ≡ old.node
+    → new.contacts.items ≡ old.contacts.items → new.reading ≡ old.reading
+    → service_state new ≡ service_state old
+same_state old new node kept read =
+    ap (λ n. let s : ServiceState =
+    record { node = uncounted n; contacts = new.contacts.items; reading = new.reading } in s) node
+    ∙ ap (λ l. let s : ServiceState =
+    record { node = uncounted old.node; contacts = l; reading = new.reading } in s) kept
+    ∙ ap (λ r. let s : ServiceState =
+    record { node = uncounted old.node; contacts = old.contacts.items; reading = r } in s) read
+
 -- an event was lost
 pub missed :
     {W : Type 0} {takings_in : W → Option (List Taking)} {gives_in : W → Option (List Give)}
-    {a b : Link W} (old new : Service) → new.node ≡ old.node → new.places.items ≡ old.places.items
+    {a b : Link W} (old new : Service)
+    → new.node ≡ old.node → new.contacts.items ≡ old.contacts.items → new.reading ≡ old.reading
     → Carries takings_in gives_in a b [] missing
     → Comes takings_in gives_in old new a b [] (telling_only (service_state old) missing)
-missed old new node kept carried = record {
-  service_is = ap (λ n. let s : ServiceState =
-      record { node = uncounted n; places = new.places.items } in s) node
-      ∙ ap (λ l. let s : ServiceState = record { node = uncounted old.node; places = l } in s) kept;
-  carried = carried;
-}
+missed old new node kept read carried =
+    record { service_is = same_state old new node kept read; carried = carried }
 
 pub comes_lost : {W : Type 0} {takings_in : W → Option (List Taking)}
     {gives_in : W → Option (List Give)} {a b : Link W} (old new : Service) (event : EventModel)
-    → MayTakeMemory (uncounted old.node) event
+    → MayTakeMemory (uncounted old.node) event → is_reset event ≡ false
     → Comes takings_in gives_in old new a b [] (telling_only (service_state old) missing)
     → ComesWith takings_in gives_in old new a b (event_effect (service_state old) event)
 unfolding event_effect
-comes_lost {W} {takings_in} {gives_in} {a} {b} old new event may lost = record {
+comes_lost {W} {takings_in} {gives_in} {a} {b} old new event may other lost = record {
   loss = EventLost;
   comes = subst (λ (e : Effect). Comes takings_in gives_in old new a b [] e)
-      (lost_there (service_state old) event (event_taken (service_state old) event []) may) lost;
+      (lost_there (service_state old) event (event_taken (service_state old) event []) may other)
+      lost;
 }
 
 -- an event of the operator was taken, or refused, its records were told and it was answered
@@ -164,13 +198,13 @@ comes_answered {W} {takings_in} {gives_in} {a} {b} {c} old new event from text s
 pub comes_unanswered :
     {W : Type 0} {takings_in : W → Option (List Taking)} {gives_in : W → Option (List Give)}
     {a b : Link W} (old new : Service) (event : EventModel) (from : Place)
-    → MayTakeMemory (uncounted old.node) event
+    → MayTakeMemory (uncounted old.node) event → is_reset event ≡ false
     → Comes takings_in gives_in old new a b [] (telling_only (service_state old) missing)
     → ComesWith takings_in gives_in old new a b (operator_event (service_state old) from event)
 unfolding operator_event
-comes_unanswered {W} {takings_in} {gives_in} {a} {b} old new event from may lost = record {
+comes_unanswered {W} {takings_in} {gives_in} {a} {b} old new event from may other lost = record {
   loss = EventLost;
   comes = subst (λ (e : Effect). Comes takings_in gives_in old new a b [] e)
-      (lost_there (service_state old) event (operator_taken (service_state old) from event []) may)
-      lost;
+      (lost_there (service_state old) event (operator_taken (service_state old) from event [])
+      may other) lost;
 }

@@ -10,6 +10,7 @@ use Rattle.trdp_model.specs.Records.{RecordModel, Content, Answers, Indicates}
 use Rattle.trdp_model.specs.Records.{Sends, AnswerModel, IndicationModel}
 use Rattle.trdp_script.specs.RecordText.{text_of_record}
 use Rattle.trdp_daemon.specs.declared.port.Port.TheVariants.{Control}
+use Rattle.trdp_daemon.specs.declared.contact.Contact.{Contact}
 use Rattle.trdp_daemon.specs.declared.link.Link.{Link}
 use Rattle.trdp_daemon.specs.Told.{Taking, Give}
 use Rattle.trdp_daemon.specs.Effects.{Telling, silence, both, missing, offering}
@@ -41,45 +42,45 @@ both_assoc x y z =
     ∙ ap (λ n. let t : Telling =
     record { offers = x.offers ++ (y.offers ++ z.offers); missed = n } in t) missed
 
-telling_append : (places : List (Option Place)) (ms ns : List Bool) (rs ss : List RecordModel)
-    → length ms ≡ length rs → records_telling places (ms ++ ns) (rs ++ ss)
-    ≡ both (records_telling places ms rs) (records_telling places ns ss)
-telling_append places [] ns [] ss len = sym (silence_both (records_telling places ns ss))
-telling_append places [] ns (r ∷ rs) ss len = absurd (omega (arith, len))
-telling_append places (m ∷ ms) ns [] ss len = absurd (omega (arith, len))
-telling_append places (m ∷ ms) ns (r ∷ rs) ss len =
+telling_append : (contacts : List (Option Contact)) (ms ns : List Bool) (rs ss : List RecordModel)
+    → length ms ≡ length rs → records_telling contacts (ms ++ ns) (rs ++ ss)
+    ≡ both (records_telling contacts ms rs) (records_telling contacts ns ss)
+telling_append contacts [] ns [] ss len = sym (silence_both (records_telling contacts ns ss))
+telling_append contacts [] ns (r ∷ rs) ss len = absurd (omega (arith, len))
+telling_append contacts (m ∷ ms) ns [] ss len = absurd (omega (arith, len))
+telling_append contacts (m ∷ ms) ns (r ∷ rs) ss len =
     let same : length ms ≡ length rs = omega (arith, len) in
-    ap (λ t. both (record_telling places m r) t) (telling_append places ms ns rs ss same)
-    ∙ sym (both_assoc (record_telling places m r)
-    (records_telling places ms rs) (records_telling places ns ss))
+    ap (λ t. both (record_telling contacts m r) t) (telling_append contacts ms ns rs ss same)
+    ∙ sym (both_assoc (record_telling contacts m r)
+    (records_telling contacts ms rs) (records_telling contacts ns ss))
 
 pub tells_none : {W : Type 0} (takings_in : W → Option (List Taking))
-    (gives_in : W → Option (List Give)) (places : List (Option Place)) (l : Link W)
-    → Tells takings_in gives_in places l l []
-tells_none takings_in gives_in places l =
+    (gives_in : W → Option (List Give)) (contacts : List (Option Contact)) (l : Link W)
+    → Tells takings_in gives_in contacts l l []
+tells_none takings_in gives_in contacts l =
     record { marks = []; each = refl; carried = carries_none takings_in gives_in l }
 
 pub tells_both : {W : Type 0} {takings_in : W → Option (List Taking)}
-    {gives_in : W → Option (List Give)} {places : List (Option Place)}
-    {a b c : Link W} {rs ss : List RecordModel} → Tells takings_in gives_in places a b rs
-    → Tells takings_in gives_in places b c ss → Tells takings_in gives_in places a c (rs ++ ss)
-tells_both {W} {takings_in} {gives_in} {places} {a} {b} {c} {rs} {ss} p q = record {
+    {gives_in : W → Option (List Give)} {contacts : List (Option Contact)}
+    {a b c : Link W} {rs ss : List RecordModel} → Tells takings_in gives_in contacts a b rs
+    → Tells takings_in gives_in contacts b c ss → Tells takings_in gives_in contacts a c (rs ++ ss)
+tells_both {W} {takings_in} {gives_in} {contacts} {a} {b} {c} {rs} {ss} p q = record {
   marks = p.marks ++ q.marks;
   each = length-append p.marks q.marks ∙ ap (λ n. n + length q.marks) p.each
       ∙ ap (λ n. length rs + n) q.each ∙ sym (length-append rs ss);
   carried = subst (λ (t : Telling). Carries takings_in gives_in a c [] t)
-      (sym (telling_append places p.marks q.marks rs ss p.each)) (carries_both p.carried q.carried);
+      (sym (telling_append contacts p.marks q.marks rs ss p.each)) (carries_both p.carried q.carried);
 }
 
 pub tells_one :
     {W : Type 0} {takings_in : W → Option (List Taking)} {gives_in : W → Option (List Give)}
-    {places : List (Option Place)} {a b : Link W} {r : RecordModel}
-    → TellsRecord takings_in gives_in places a b r → Tells takings_in gives_in places a b (r ∷ [])
-tells_one {W} {takings_in} {gives_in} {places} {a} {b} {r} p = record {
+    {contacts : List (Option Contact)} {a b : Link W} {r : RecordModel}
+    → TellsRecord takings_in gives_in contacts a b r → Tells takings_in gives_in contacts a b (r ∷ [])
+tells_one {W} {takings_in} {gives_in} {contacts} {a} {b} {r} p = record {
   marks = p.lost ∷ [];
   each = refl;
   carried = subst (λ (t : Telling). Carries takings_in gives_in a b [] t)
-      (sym (both_silence (record_telling places p.lost r))) p.carried;
+      (sym (both_silence (record_telling contacts p.lost r))) p.carried;
 }
 
 pub text_dropped : {W : Type 0} (takings_in : W → Option (List Taking))
@@ -108,49 +109,49 @@ text_lost {W} {takings_in} {gives_in} {a} {b} slot place to text some carried =
     rw some (record { lost = true; carried = carried })
 
 pub record_sent : {W : Type 0} {takings_in : W → Option (List Taking)}
-    {gives_in : W → Option (List Give)} {a b : Link W} (places : List (Option Place))
+    {gives_in : W → Option (List Give)} {a b : Link W} (contacts : List (Option Contact))
     (r : RecordModel) (protocol : Protocol) (to : Place) (telegram : List ℕ)
     → r.content ≡ Sends protocol to telegram
     → Carries takings_in gives_in a b [] (offering (port_of protocol) to telegram)
-    → TellsRecord takings_in gives_in places a b r
+    → TellsRecord takings_in gives_in contacts a b r
 unfolding content_telling
-record_sent {W} {takings_in} {gives_in} {a} {b} places r protocol to telegram is carried =
+record_sent {W} {takings_in} {gives_in} {a} {b} contacts r protocol to telegram is carried =
     record {
       lost = false;
       carried = subst (λ (x : Content).
-          Carries takings_in gives_in a b [] (content_telling places false r x)) (sym is) carried;
+          Carries takings_in gives_in a b [] (content_telling contacts false r x)) (sym is) carried;
     }
 
 pub record_answered : {W : Type 0} {takings_in : W → Option (List Taking)}
-    {gives_in : W → Option (List Give)} {a b : Link W} (places : List (Option Place))
+    {gives_in : W → Option (List Give)} {a b : Link W} (contacts : List (Option Contact))
     (r : RecordModel) (answer : AnswerModel) → r.content ≡ Answers answer
-    → TellsText takings_in gives_in a b r.slot (control_place places r.slot) (text_of_record r)
-    → TellsRecord takings_in gives_in places a b r
+    → TellsText takings_in gives_in a b r.slot (control_place contacts r.slot) (text_of_record r)
+    → TellsRecord takings_in gives_in contacts a b r
 unfolding content_telling
-record_answered {W} {takings_in} {gives_in} {a} {b} places r answer is told =
+record_answered {W} {takings_in} {gives_in} {a} {b} contacts r answer is told =
     record {
       lost = told.lost;
       carried = subst (λ (x : Content). Carries
-          takings_in gives_in a b [] (content_telling places told.lost r x)) (sym is) told.carried;
+          takings_in gives_in a b [] (content_telling contacts told.lost r x)) (sym is) told.carried;
     }
 
 pub record_indicated : {W : Type 0} {takings_in : W → Option (List Taking)}
-    {gives_in : W → Option (List Give)} {a b : Link W} (places : List (Option Place))
+    {gives_in : W → Option (List Give)} {a b : Link W} (contacts : List (Option Contact))
     (r : RecordModel) (indication : IndicationModel) → r.content ≡ Indicates indication
-    → TellsText takings_in gives_in a b r.slot (control_place places r.slot) (text_of_record r)
-    → TellsRecord takings_in gives_in places a b r
+    → TellsText takings_in gives_in a b r.slot (control_place contacts r.slot) (text_of_record r)
+    → TellsRecord takings_in gives_in contacts a b r
 unfolding content_telling
-record_indicated {W} {takings_in} {gives_in} {a} {b} places r indication is told =
+record_indicated {W} {takings_in} {gives_in} {a} {b} contacts r indication is told =
     record {
       lost = told.lost;
       carried = subst (λ (x : Content). Carries
-          takings_in gives_in a b [] (content_telling places told.lost r x)) (sym is) told.carried;
+          takings_in gives_in a b [] (content_telling contacts told.lost r x)) (sym is) told.carried;
     }
 
 -- one more record is told
 pub tells_more : {W : Type 0} {takings_in : W → Option (List Taking)}
-    {gives_in : W → Option (List Give)} {places : List (Option Place)}
+    {gives_in : W → Option (List Give)} {contacts : List (Option Contact)}
     {a b c : Link W} {rs : List RecordModel} {r : RecordModel}
-    → Tells takings_in gives_in places a b rs → TellsRecord takings_in gives_in places b c r
-    → Tells takings_in gives_in places a c (rs ++ r ∷ [])
+    → Tells takings_in gives_in contacts a b rs → TellsRecord takings_in gives_in contacts b c r
+    → Tells takings_in gives_in contacts a c (rs ++ r ∷ [])
 tells_more p q = tells_both p (tells_one q)

@@ -2,11 +2,12 @@
 -- For `Service::visit` and `Daemon::timed_turn`, and for the daemon's turns.
 -- By induction on the visits: a turn is a moment and then the takes at each port.
 use Rattle.std.proofs.Common.{◌≡◌, ◌+◌, ℕ, Bool, true, false, List, [], ◌∷◌, ◌++◌, Option}
-use Rattle.std.proofs.Common.{refl, sym, ◌∙◌, ap, subst, map, take, length}
+use Rattle.std.proofs.Common.{refl, sym, ◌∙◌, ap, subst, take, length}
 use Rattle.std.specs.Prelude.{nat_lt}
 use Rattle.std.proofs.lemmas.List.{map-append}
 use Rattle.trdp_engine.specs.NodeStates.{uncounted}
 use Rattle.trdp_daemon.specs.declared.link.Link.{Link}
+use Rattle.trdp_model.specs.Events.{EventModel}
 use Rattle.trdp_model.specs.NodeModels.{NodeModel}
 use Rattle.trdp_daemon.specs.declared.port.Port.{Port}
 use Rattle.trdp_daemon.specs.declared.port.Port.TheVariants.{Pd, Md, Operator, Control}
@@ -14,12 +15,14 @@ use Rattle.trdp_daemon.specs.declared.service.Service.{Service}
 use Rattle.trdp_daemon.specs.Told.{Taking, Give}
 use Rattle.trdp_daemon.specs.Effects.{ServiceState, Effect, Telling, both}
 use Rattle.trdp_daemon.specs.Effects.{still, then_effect, event_effect}
-use Rattle.trdp_daemon.specs.Links.{Carries}
 use Rattle.trdp_daemon.specs.Services.{Comes, ComesWith, TakesOnce, TakesAtPorts, TakesTurn}
 use Rattle.trdp_daemon.specs.Services.{service_state}
 use Rattle.trdp_daemon.specs.Turns.{Visit, visit_effect, visits_effect, Turn, is_there, TakesFirst}
+use Rattle.trdp_daemon.specs.Turns.{begun, moment_effect}
 use Rattle.trdp_daemon.specs.Turns.{turn_effect, turns_effect, moment_of, TakesAt, AllTakeAt}
-use Rattle.trdp_daemon.proofs.LinkLemmas.{carries_none, carries_both}
+use Rattle.trdp_daemon.proofs.CountedLemmas.{counted_from, given_length, moment_counted}
+use Rattle.trdp_daemon.proofs.CountedLemmas.{visits_counted_both}
+use Rattle.trdp_daemon.proofs.LinkLemmas.{carries_as, carries_none, carries_both}
 use Rattle.trdp_daemon.proofs.TellingLemmas.{both_assoc, both_silence, silence_both}
 
 abbrev pub effect_of : ServiceState → Telling → Effect
@@ -52,8 +55,18 @@ turns_append s (x ∷ xs) ys =
     ap (λ e. effect_of e.service (both first.telling e.telling)) later
     ∙ sym (then_assoc first (λ after. turns_effect after xs) (λ after. turns_effect after ys))
 
+-- what comes to the same takes and effect
+unfoldable comes_as : {W : Type 0} {takings_in : W → Option (List Taking)}
+    {gives_in : W → Option (List Give)} {s t : Service} {a b : Link W} {ts us : List Taking}
+    {e f : Effect} → Comes takings_in gives_in s t a b ts e → ts ≡ us → e ≡ f
+    → Comes takings_in gives_in s t a b us f
+comes_as p takes is = record {
+  service_is = p.service_is ∙ ap (λ e. e.service) is;
+  carried = carries_as p.carried takes (ap (λ e. e.telling) is);
+}
+
 -- what comes one after another
-pub comes_both : {W : Type 0} {takings_in : W → Option (List Taking)}
+unfoldable pub comes_both : {W : Type 0} {takings_in : W → Option (List Taking)}
     {gives_in : W → Option (List Give)} {r s t : Service} {a b c : Link W}
     {ts us : List Taking} {e : Effect} (f : ServiceState → Effect)
     → Comes takings_in gives_in r s a b ts e
@@ -61,8 +74,8 @@ pub comes_both : {W : Type 0} {takings_in : W → Option (List Taking)}
     → Comes takings_in gives_in r t a c (ts ++ us) (then_effect e f)
 comes_both {W} {takings_in} {gives_in} {r} {s} {t} {a} {b} {c} {ts} {us} {e} f p q = record {
   service_is = q.service_is ∙ ap (λ x. (f x).service) p.service_is;
-  carried = carries_both p.carried (subst (λ (x : ServiceState).
-      Carries takings_in gives_in b c us (f x).telling) p.service_is q.carried);
+  carried = carries_both p.carried
+      (carries_as q.carried refl (ap (λ x. (f x).telling) p.service_is));
 }
 
 -- takes at a port first, and then at others
@@ -102,6 +115,7 @@ visits_none takings_in gives_in s a = record {
   visits = [];
   takes_at = refl;
   comes = record { service_is = refl; carried = carries_none takings_in gives_in a };
+  counted = tt;
 }
 
 -- what a test has said of whether a port is there, and that port behind it
@@ -140,6 +154,7 @@ port_passed takings_in gives_in s a asks closed =
       visits = [];
       takes_at = rw (asks.1 ∙ closed) refl;
       comes = record { service_is = refl; carried = carries_none takings_in gives_in a };
+      counted = tt;
     })
 
 -- a port that is there
@@ -157,25 +172,27 @@ port_taken {W} {takings_in} {gives_in} {s} {t} {a} {b} {asked} {port} {is} asks 
           (sym (asks.1 ∙ there)) (p.port_is, refl);
       comes = subst (λ (e : Effect). Comes takings_in gives_in s t a b (p.visit.taking ∷ []) e)
           (ap (effect_of effect.service) (sym (both_silence effect.telling))) p.comes;
+      counted = (p.counted, tt);
     })
 
 pub visits_both : {W : Type 0} {takings_in : W → Option (List Taking)}
     {gives_in : W → Option (List Give)} {r s t : Service} {a b c : Link W} {ps qs : List Port}
     → TakesAtPorts takings_in gives_in r s a b ps → TakesAtPorts takings_in gives_in s t b c qs
     → TakesAtPorts takings_in gives_in r t a c (ps ++ qs)
+unfolding comes_as comes_both carries_as carries_both
 visits_both {W} {takings_in} {gives_in} {r} {s} {t} {a} {b} {c} {ps} {qs} p q =
     let first = comes_both {e = visits_effect (service_state r) p.visits}
     (λ after. visits_effect after q.visits) p.comes q.comes in
-    let taken = subst (λ (l : List Taking). Comes takings_in gives_in r t a c l (then_effect
-    (visits_effect (service_state r) p.visits) (λ after. visits_effect after q.visits)))
-    (sym (map-append (λ v. v.taking) p.visits q.visits)) first in
     record {
       visits = p.visits ++ q.visits;
       takes_at = takes_both ps qs (service_state r) p.visits q.visits p.takes_at
           (subst (λ (x : ServiceState). TakesAt qs x q.visits) p.comes.service_is q.takes_at);
-      comes = subst (λ (e : Effect).
-          Comes takings_in gives_in r t a c (map (λ v. v.taking) (p.visits ++ q.visits)) e)
-          (sym (visits_append (service_state r) p.visits q.visits)) taken;
+      comes = comes_as first (sym (map-append (λ v. v.taking) p.visits q.visits))
+          (sym (visits_append (service_state r) p.visits q.visits));
+      counted = visits_counted_both a.totals (service_state r) p.visits q.visits
+          p.comes.carried.gives q.comes.carried.gives
+          (given_length p.comes.carried)
+          p.counted (counted_from q.visits q.comes.carried.gives p.comes.service_is p.comes.carried.totals q.counted);
     }
 
 -- one more port
@@ -193,10 +210,11 @@ visits_next {W} {takings_in} {gives_in} {r} {s} {t} {a} {b} {c} ports i port nex
 pub turn_taken :
     {W : Type 0} {takings_in : W → Option (List Taking)} {gives_in : W → Option (List Give)}
     {r s t : Service} {a b c : Link W} (ports : List Port) (reading : ℕ)
-    → ComesWith takings_in
-    gives_in r s a b (event_effect (service_state r) (moment_of (uncounted r.node) reading))
+    → ComesWith takings_in gives_in r s a b
+    (event_effect (begun (service_state r) reading) (moment_of (uncounted r.node) reading))
     → TakesAtPorts takings_in gives_in s t b c ports
     → TakesTurn takings_in gives_in r t a c ports reading
+unfolding comes_both carries_as carries_both
 turn_taken {W} {takings_in} {gives_in} {r} {s} {t} {a} {b} {c} ports reading p q =
     let turn : Turn = record { reading = reading; loss = p.loss; visits = q.visits } in
     record {
@@ -205,6 +223,26 @@ turn_taken {W} {takings_in} {gives_in} {r} {s} {t} {a} {b} {c} ports reading p q
       takes_at =
           subst (λ (x : ServiceState). TakesAt ports x q.visits) p.comes.service_is q.takes_at;
       comes = comes_both
-          {e = event_effect (service_state r) (moment_of (uncounted r.node) reading) p.loss}
+          {e = moment_effect (service_state r) turn}
           (λ after. visits_effect after q.visits) p.comes q.comes;
+      counted = moment_counted a.totals (service_state r) turn
+          p.comes.carried.gives q.comes.carried.gives (given_length p.comes.carried)
+          (counted_from q.visits q.comes.carried.gives p.comes.service_is p.comes.carried.totals q.counted);
+    }
+
+-- the moment of a turn that was begun
+pub moment_begun : {W : Type 0} {takings_in : W → Option (List Taking)}
+    {gives_in : W → Option (List Give)} {a b : Link W} (old mid new : Service) (state : ServiceState)
+    (event event_then : EventModel) → service_state mid ≡ state → event ≡ event_then
+    → ComesWith takings_in gives_in mid new a b (event_effect (service_state mid) event)
+    → ComesWith takings_in gives_in old new a b (event_effect state event_then)
+moment_begun old mid new state event event_then is same p =
+    let as_well = ap (λ s. event_effect s event p.loss) is
+    ∙ ap (λ e. event_effect state e p.loss) same in
+    record {
+      loss = p.loss;
+      comes = record {
+        service_is = p.comes.service_is ∙ ap (λ e. e.service) as_well;
+        carried = carries_as p.comes.carried refl (ap (λ e. e.telling) as_well);
+      };
     }

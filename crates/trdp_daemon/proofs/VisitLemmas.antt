@@ -2,32 +2,36 @@
 -- For `Service::visit`, `take_operator` and `take_control`.
 -- By cases on the port, and on whether its line was read, skipped or refused.
 use Rattle.std.proofs.Common.{◌≡◌, ℕ, true, List, [], ◌∷◌, Option, Some, None}
-use Rattle.std.proofs.Common.{Result, Ok, Err, refl, sym, ◌∙◌, ap, subst, length, take}
-use Rattle.std.specs.Prelude.{slice_set, option_map}
+use Rattle.std.proofs.Common.{Result, Ok, Err, refl, sym, ◌∙◌, ap, subst, length, map, take}
+use Rattle.std.specs.Prelude.{option_map}
 use Rattle.trdp_base.specs.declared.place.Place.{Place}
 use Rattle.trdp_model.specs.Events.{EventModel, DatagramIs, event_model}
-use Rattle.trdp_engine.specs.NodeStates.{uncounted}
 use Rattle.trdp_model.specs.declared.record.Protocol.TheVariants.{Pd as PdData, Md as MdData}
 use Rattle.trdp_script.specs.declared.fault.LineFault.{LineFault}
 use Rattle.trdp_script.specs.declared.fault.LineFault.TheVariants.{OutOfMemory}
 use Rattle.trdp_model.specs.declared.event.Event.{Event}
 use Rattle.trdp_script.specs.EventBytes.{carries_bytes}
 use Rattle.trdp_script.specs.Lines.{Reads}
+use Rattle.trdp_script.specs.declared.operator_line.OperatorLine.{OperatorLine}
+use Rattle.trdp_script.specs.declared.operator_line.Question.{Question}
+use Rattle.trdp_script.specs.PortLines.{OperatorSays, Orders, Asks, operator_line_model}
 use Rattle.trdp_script.specs.PortLines.{control_line_of, operator_line_of}
 use Rattle.trdp_daemon.specs.declared.link.Link.{Link}
 use Rattle.trdp_daemon.specs.declared.port.Port.{Port}
 use Rattle.trdp_daemon.specs.declared.port.Port.TheVariants.{Pd, Md, Operator, Control}
 use Rattle.trdp_daemon.specs.declared.service.Service.{Service}
+use Rattle.trdp_daemon.specs.declared.totals.Totals.{Totals}
+use Rattle.trdp_daemon.specs.Counting.{totals_after}
 use Rattle.trdp_daemon.specs.Told.{Arrived, Failed, Nothing, Came, Taking, Give}
 use Rattle.trdp_daemon.specs.Effects.{ServiceState, Loss, LineLost, EventLost, TextsLost}
 use Rattle.trdp_daemon.specs.Effects.{Effect, Telling, silence, missing, event_effect, still}
 use Rattle.trdp_daemon.specs.Links.{Carries, IsFound, Takes}
 use Rattle.trdp_daemon.specs.Services.{Comes, ComesWith, TakesOnce, service_state}
 use Rattle.trdp_daemon.specs.Turns.{Visit, udp_room}
-use Rattle.trdp_daemon.specs.Visits.{fault_telling, operator_event, operator_effect}
+use Rattle.trdp_daemon.specs.Visits.{fault_telling, operator_event, operator_effect, question_effect}
 use Rattle.trdp_daemon.specs.Visits.{line_lost_or, control_effect, control_event}
 use Rattle.trdp_daemon.specs.Ports.{place_of_port}
-use Rattle.trdp_daemon.specs.Visits.{datagram_effect, taking_effect, with_place}
+use Rattle.trdp_daemon.specs.Visits.{datagram_effect, taking_effect, heard_from}
 use Rattle.trdp_daemon.proofs.LinkLemmas.{carries_none, carries_both}
 use Rattle.trdp_daemon.proofs.TellingLemmas.{silence_both}
 
@@ -39,6 +43,14 @@ reads_ok (Ok said) read known reads is =
     ap (λ e. let r : Result (Option EventModel) LineFault = Ok e in r)
     (sym reads ∙ ap (option_map event_model) is)
 reads_ok (Err fault) read known reads is = absurd reads
+
+-- what an operator's line that was read means
+pub line_ok : (meaning : Result (Option OperatorSays) LineFault) (read known : Option OperatorLine)
+    → meaning ≡ Ok (option_map operator_line_model read) → read ≡ known
+    → meaning ≡ Ok (option_map operator_line_model known)
+line_ok meaning read known says is =
+    says ∙ ap (λ (l : Option OperatorLine). let r : Result (Option OperatorSays) LineFault =
+    Ok (option_map operator_line_model l) in r) is
 
 -- nothing happened
 nothing_comes : {W : Type 0} (takings_in : W → Option (List Taking))
@@ -60,40 +72,48 @@ refused_telling {W} {takings_in} {gives_in} {a} {b} port from fault lost carried
 
 pub operator_refused : {W : Type 0} {takings_in : W → Option (List Taking)}
     {gives_in : W → Option (List Give)} {a b : Link W} (s : Service) (from : Place)
-    (meaning : Result (Option EventModel) LineFault) (fault : LineFault) → Reads meaning (Err fault)
-    → (fault ≡ OutOfMemory → ⊥)
+    (totals : Totals) (meaning : Result (Option OperatorSays) LineFault) (fault : LineFault)
+    → meaning ≡ Err fault
     → Carries takings_in gives_in a b [] (fault_telling Operator from fault)
-    → ComesWith takings_in gives_in s s a b (operator_effect (service_state s) from meaning)
+    → ComesWith takings_in gives_in s s a b (operator_effect (service_state s) from totals meaning)
 unfolding operator_effect
-operator_refused s from (Ok event) fault reads never carried = absurd (never reads.0)
-operator_refused {W} {takings_in} {gives_in} {a} {b} s from (Err bad) fault reads never carried =
-    record {
+operator_refused s from totals meaning fault is carried =
+    rw is (record {
       loss = TextsLost [];
-      comes = record {
-        service_is = refl;
-        carried = subst (λ (f : LineFault).
-            Carries takings_in gives_in a b [] (fault_telling Operator from f)) reads carried;
-      };
-    }
+      comes = record { service_is = refl; carried = carried };
+    })
 
 pub operator_skipped :
     {W : Type 0} (takings_in : W → Option (List Taking)) (gives_in : W → Option (List Give))
-    (a : Link W) (s : Service) (from : Place) (meaning : Result (Option EventModel) LineFault)
-    → meaning ≡ Ok None
-    → ComesWith takings_in gives_in s s a a (operator_effect (service_state s) from meaning)
+    (a : Link W) (s : Service) (from : Place) (totals : Totals)
+    (meaning : Result (Option OperatorSays) LineFault) → meaning ≡ Ok None
+    → ComesWith takings_in gives_in s s a a (operator_effect (service_state s) from totals meaning)
 unfolding operator_effect
-operator_skipped takings_in gives_in a s from meaning is =
+operator_skipped takings_in gives_in a s from totals meaning is =
     rw is (record { loss = TextsLost []; comes = nothing_comes takings_in gives_in s a })
 
 pub operator_took : {W : Type 0} {takings_in : W → Option (List Taking)}
     {gives_in : W → Option (List Give)} {a b : Link W} (old new : Service)
-    (from : Place) (meaning : Result (Option EventModel) LineFault) (event : EventModel)
-    → meaning ≡ Ok (Some event)
+    (from : Place) (totals : Totals) (meaning : Result (Option OperatorSays) LineFault)
+    (event : EventModel) → meaning ≡ Ok (Some (Orders event))
     → ComesWith takings_in gives_in old new a b (operator_event (service_state old) from event)
-    → ComesWith takings_in gives_in old new a b (operator_effect (service_state old) from meaning)
+    → ComesWith takings_in gives_in old new a b
+    (operator_effect (service_state old) from totals meaning)
 unfolding operator_effect
-operator_took old new from meaning event is comes =
+operator_took old new from totals meaning event is comes =
     rw is (record { loss = comes.loss; comes = comes.comes })
+
+pub operator_asked : {W : Type 0} {takings_in : W → Option (List Taking)}
+    {gives_in : W → Option (List Give)} {a b : Link W} (old new : Service)
+    (from : Place) (totals : Totals) (meaning : Result (Option OperatorSays) LineFault)
+    (question : Question) → meaning ≡ Ok (Some (Asks question))
+    → Comes takings_in gives_in old new a b []
+    (question_effect (service_state old) from totals question)
+    → ComesWith takings_in gives_in old new a b
+    (operator_effect (service_state old) from totals meaning)
+unfolding operator_effect
+operator_asked old new from totals meaning question is comes =
+    rw is (record { loss = TextsLost []; comes = comes })
 
 -- a line that carries bytes was lost
 line_lost : {W : Type 0} {takings_in : W → Option (List Taking)} {gives_in : W → Option (List Give)}
@@ -113,7 +133,7 @@ control_refused s slot from (Ok None) fault reads carried = let none = reads.1 i
 control_refused s slot from (Ok (Some event)) fault reads carried = record {
   loss = LineLost;
   comes = line_lost s event
-      (event_effect (with_place (service_state s) slot from) event (TextsLost [])) reads.1
+      (event_effect (heard_from (service_state s) slot from) event (TextsLost [])) reads.1
       (refused_telling (Control slot) from fault reads.0 carried);
 }
 control_refused {W} {takings_in} {gives_in} {a} {b} s slot from (Err bad) fault reads carried =
@@ -129,7 +149,7 @@ control_refused {W} {takings_in} {gives_in} {a} {b} s slot from (Err bad) fault 
 pub control_skipped : {W : Type 0} (takings_in : W → Option (List Taking))
     (gives_in : W → Option (List Give)) (a : Link W)
     (old new : Service) (slot : ℕ) (from : Place) (meaning : Result (Option EventModel) LineFault)
-    → meaning ≡ Ok None → service_state new ≡ with_place (service_state old) slot from → ComesWith
+    → meaning ≡ Ok None → service_state new ≡ heard_from (service_state old) slot from → ComesWith
     takings_in gives_in old new a a (control_effect (service_state old) slot from meaning)
 unfolding control_effect
 control_skipped takings_in gives_in a old new slot from meaning is placed =
@@ -142,7 +162,7 @@ control_skipped takings_in gives_in a old new slot from meaning is placed =
 event_loss : {W : Type 0} {takings_in : W → Option (List Taking)}
     {gives_in : W → Option (List Give)} {a b : Link W} (old new : Service)
     (s : ServiceState) (slot : ℕ) (from : Place) (event : EventModel) (loss : Loss)
-    → Comes takings_in gives_in old new a b [] (event_effect (with_place s slot from) event loss)
+    → Comes takings_in gives_in old new a b [] (event_effect (heard_from s slot from) event loss)
     → ComesWith takings_in gives_in old new a b (control_event s slot from event)
 unfolding control_event event_effect
 event_loss old new s slot from event LineLost comes = record { loss = EventLost; comes = comes }
@@ -153,14 +173,14 @@ event_loss old new s slot from event (TextsLost marks) comes =
 pub control_took : {W : Type 0} {takings_in : W → Option (List Taking)}
     {gives_in : W → Option (List Give)} {a b : Link W} (old mid new : Service)
     (slot : ℕ) (from : Place) (meaning : Result (Option EventModel) LineFault) (event : EventModel)
-    → meaning ≡ Ok (Some event) → service_state mid ≡ with_place (service_state old) slot from
+    → meaning ≡ Ok (Some event) → service_state mid ≡ heard_from (service_state old) slot from
     → ComesWith takings_in gives_in mid new a b (event_effect (service_state mid) event) → ComesWith
     takings_in gives_in old new a b (control_effect (service_state old) slot from meaning)
 unfolding control_effect
 control_took {W} {takings_in} {gives_in} {a} {b} old
     mid new slot from meaning event is placed comes =
     let here : Comes takings_in gives_in old new
-    a b [] (event_effect (with_place (service_state old) slot from) event comes.loss) = record {
+    a b [] (event_effect (heard_from (service_state old) slot from) event comes.loss) = record {
       service_is = comes.comes.service_is
           ∙ ap (λ s. (event_effect s event comes.loss).service) placed;
       carried = subst (λ (s : ServiceState). Carries takings_in
@@ -171,63 +191,74 @@ control_took {W} {takings_in} {gives_in} {a} {b} old
 
 -- where a port is known
 pub at_pd : {W : Type 0} {takings_in : W → Option (List Taking)} {gives_in : W → Option (List Give)}
-    {a b : Link W} (old new : Service) (port : Port) (from home : Place) (bytes : List ℕ)
+    {a b : Link W} (old new : Service) (totals : Totals) (port : Port) (from home : Place)
+    (bytes : List ℕ)
     → port ≡ Pd → home ≡ place_of_port old.node.config Pd
     → ComesWith takings_in gives_in old new a
     b (event_effect (service_state old) (DatagramIs PdData from home bytes)) → ComesWith takings_in
-    gives_in old new a b (datagram_effect (service_state old) port from bytes)
+    gives_in old new a b (datagram_effect (service_state old) totals port from bytes)
 unfolding datagram_effect
-at_pd {W} {takings_in} {gives_in} {a} {b} old new port from home bytes is own comes =
+at_pd {W} {takings_in} {gives_in} {a} {b} old new totals port from home bytes is own comes =
     let here = subst (λ (p : Place). ComesWith takings_in gives_in old
     new a b (event_effect (service_state old) (DatagramIs PdData from p bytes))) own comes in
     rw is (record { loss = here.loss; comes = here.comes })
 
 pub at_md : {W : Type 0} {takings_in : W → Option (List Taking)} {gives_in : W → Option (List Give)}
-    {a b : Link W} (old new : Service) (port : Port) (from home : Place) (bytes : List ℕ)
+    {a b : Link W} (old new : Service) (totals : Totals) (port : Port) (from home : Place)
+    (bytes : List ℕ)
     → port ≡ Md → home ≡ place_of_port old.node.config Md
     → ComesWith takings_in gives_in old new a
     b (event_effect (service_state old) (DatagramIs MdData from home bytes)) → ComesWith takings_in
-    gives_in old new a b (datagram_effect (service_state old) port from bytes)
+    gives_in old new a b (datagram_effect (service_state old) totals port from bytes)
 unfolding datagram_effect
-at_md {W} {takings_in} {gives_in} {a} {b} old new port from home bytes is own comes =
+at_md {W} {takings_in} {gives_in} {a} {b} old new totals port from home bytes is own comes =
     let here = subst (λ (p : Place). ComesWith takings_in gives_in old
     new a b (event_effect (service_state old) (DatagramIs MdData from p bytes))) own comes in
     rw is (record { loss = here.loss; comes = here.comes })
 
 pub at_operator :
     {W : Type 0} {takings_in : W → Option (List Taking)} {gives_in : W → Option (List Give)}
-    {a b : Link W} (old new : Service) (port : Port) (from : Place) (bytes : List ℕ)
-    → port ≡ Operator → ComesWith takings_in gives_in old new
-    a b (operator_effect (service_state old) from (operator_line_of bytes)) → ComesWith takings_in
-    gives_in old new a b (datagram_effect (service_state old) port from bytes)
+    {a b : Link W} (old new : Service) (totals : Totals) (port : Port) (from : Place)
+    (bytes : List ℕ) → port ≡ Operator → ComesWith takings_in gives_in old new
+    a b (operator_effect (service_state old) from totals (operator_line_of bytes))
+    → ComesWith takings_in
+    gives_in old new a b (datagram_effect (service_state old) totals port from bytes)
 unfolding datagram_effect
-at_operator old new port from bytes is comes =
+at_operator old new totals port from bytes is comes =
     rw is (record { loss = comes.loss; comes = comes.comes })
 
 pub at_control :
     {W : Type 0} {takings_in : W → Option (List Taking)} {gives_in : W → Option (List Give)}
-    {a b : Link W} (old new : Service) (port : Port) (slot : ℕ) (from : Place) (bytes : List ℕ)
-    → port ≡ Control slot → ComesWith takings_in gives_in old
+    {a b : Link W} (old new : Service) (totals : Totals) (port : Port) (slot : ℕ) (from : Place)
+    (bytes : List ℕ) → port ≡ Control slot → ComesWith takings_in gives_in old
     new a b (control_effect (service_state old) slot from (control_line_of slot bytes)) → ComesWith
-    takings_in gives_in old new a b (datagram_effect (service_state old) port from bytes)
+    takings_in gives_in old new a b (datagram_effect (service_state old) totals port from bytes)
 unfolding datagram_effect
-at_control old new port slot from bytes is comes =
+at_control old new totals port slot from bytes is comes =
     rw is (record { loss = comes.loss; comes = comes.comes })
+
+-- where nothing is offered nothing is given
+no_gives : (gives : List Give) → map (λ g. g.offer) gives ≡ [] → gives ≡ []
+no_gives [] none = refl
+no_gives (give ∷ gives) none = absurd (cc)
 
 -- one take, and what came of it
 visited : {W : Type 0} {takings_in : W → Option (List Taking)} {gives_in : W → Option (List Give)}
     {a b c : Link W} (old new : Service) (port : Port) (room : ℕ) (arrived : Arrived)
     → room ≡ udp_room → Carries takings_in gives_in a b (let taking : Taking =
     record { port = port; room = room; arrived = arrived } in taking ∷ []) silence
-    → ComesWith takings_in gives_in old new b c (taking_effect (service_state old) port arrived)
+    → ComesWith takings_in gives_in old new b c
+    (taking_effect (service_state old) b.totals port arrived)
     → TakesOnce takings_in gives_in old new a c port
 visited {W} {takings_in} {gives_in} {a} {b} {c} old new port room arrived whole taken comes =
     let taking : Taking = record { port = port; room = room; arrived = arrived } in
-    let visit : Visit = record { taking = taking; loss = comes.loss } in
-    let telling = (taking_effect (service_state old) port arrived comes.loss).telling in
+    let visit : Visit = record { taking = taking; loss = comes.loss; totals = b.totals } in
+    let telling = (taking_effect (service_state old) b.totals port arrived comes.loss).telling in
     record {
       visit = visit;
       port_is = ap (λ n. (port, n)) whole;
+      counted = taken.totals
+          ∙ ap (λ gs. totals_after a.totals (taking ∷ []) gs 0) (no_gives taken.gives taken.offers);
       comes = record {
         service_is = comes.comes.service_is;
         carried = subst (λ (t : Telling). Carries takings_in gives_in a c (taking ∷ []) t)
@@ -263,7 +294,7 @@ pub visited_datagram : {W : Type 0} {takings_in : W → Option (List Taking)}
     ≡ Some (from, len) → bytes ≡ take len room → length room ≡ udp_room
     → Takes takings_in gives_in a b port found room
     → ComesWith takings_in gives_in old new b
-    c (datagram_effect (service_state old) port from bytes)
+    c (datagram_effect (service_state old) b.totals port from bytes)
     → TakesOnce takings_in gives_in old new a c port
 unfolding taking_effect
 visited_datagram {W} {takings_in} {gives_in} {a} {b} {c} old
@@ -279,17 +310,8 @@ visited_datagram {W} {takings_in} {gives_in} {a} {b} {c} old
     came Nothing is carried = absurd (cc)
     came (Came place whole) (at, all) carried =
         let same = subst (λ (q : Place). ComesWith takings_in
-        gives_in old new b c (datagram_effect (service_state old) port q bytes)) at comes in
+        gives_in old new b c (datagram_effect (service_state old) b.totals port q bytes)) at comes in
         let here = subst (λ (l : List ℕ). ComesWith takings_in gives_in
-        old new b c (datagram_effect (service_state old) port place l)) (front ∙ all) same in
+        old new b c (datagram_effect (service_state old) b.totals port place l)) (front ∙ all) same in
         visited old new port (length room) (Came place whole)
         roomy carried (record { loss = here.loss; comes = here.comes })
-
--- the control place of a slot was set
-pub placed : (old new : Service) (slot : ℕ) (from : Place)
-    → new.node ≡ old.node → new.places.items ≡ slice_set old.places.items slot (Some from)
-    → service_state new ≡ with_place (service_state old) slot from
-placed old new slot from node places =
-    ap (λ n. let s : ServiceState = record { node = uncounted n; places = new.places.items } in
-    s) node
-    ∙ ap (λ l. let s : ServiceState = record { node = uncounted old.node; places = l } in s) places

@@ -1,7 +1,8 @@
 -- What one event gives: the datagrams that are offered, and the entries that are lost for want of
 -- memory.
 use Rattle.std.specs.Prelude.{ℕ, suc, ◌+◌, List, [], ◌∷◌, ◌++◌, Bool, true, false, length}
-use Rattle.std.specs.Prelude.{Option, Some, None, slice_index_or, nat_lt, if◌then◌else◌}
+use Rattle.std.specs.Prelude.{Option, Some, None, option_map, slice_index_or, nat_lt, not}
+use Rattle.std.specs.Prelude.{if◌then◌else◌}
 use Rattle.std.specs.List.{list_any}
 use Rattle.trdp_base.specs.declared.place.Place.{Place}
 use Rattle.trdp_filter.specs.declared.globals.Globals.{Globals}
@@ -12,13 +13,14 @@ use Rattle.trdp_model.specs.Alone.{refused_as, records_after, told_opening}
 use Rattle.trdp_model.specs.Configs.{NodeSetup, setup_of}
 use Rattle.trdp_model.specs.Datagrams.{concerns, telegram_of}
 use Rattle.trdp_model.specs.Events.{EventModel, MomentIs, TopologyIs, RoleIs, DatagramIs, CallIs}
-use Rattle.trdp_model.specs.Events.{AddSlotIs}
+use Rattle.trdp_model.specs.Events.{AddSlotIs, ResetCall}
 use Rattle.trdp_model.specs.NodeModels.{NodeModel}
 use Rattle.trdp_model.specs.NodeModels.{due_in}
 use Rattle.trdp_model.specs.Records.{Content, Answers, Indicates, Sends, RecordModel, labelled}
 use Rattle.trdp_model.specs.Slots.{SlotState}
 use Rattle.trdp_script.specs.RecordText.{text_of_record}
 use Rattle.trdp_model.specs.NodeModels.{node_after}
+use Rattle.trdp_daemon.specs.declared.contact.Contact.{Contact}
 use Rattle.trdp_daemon.specs.declared.port.Port.{Port}
 use Rattle.trdp_daemon.specs.declared.port.Port.TheVariants.{Pd, Md, Control}
 use Rattle.trdp_daemon.specs.Told.{Offer, offer_to}
@@ -56,21 +58,25 @@ abbrev pub port_of : Protocol → Port
 port_of PdData = Pd
 port_of MdData = Md
 
--- the control place of a slot, if it has one
-abbrev pub control_place : List (Option Place) → ℕ → Option Place
-control_place places slot = slice_index_or places slot None
+-- the latest line of a slot, if it had one
+abbrev pub contact_of : List (Option Contact) → ℕ → Option Contact
+contact_of contacts slot = slice_index_or contacts slot None
+
+-- the control place of a slot, if it has one: where its latest line came from
+abbrev pub control_place : List (Option Contact) → ℕ → Option Place
+control_place contacts slot = option_map (λ contact. contact.place) (contact_of contacts slot)
 
 -- a telegram goes where it is sent to; what else a record says goes as its line
-unfoldable pub content_telling : List (Option Place) → Bool → RecordModel → Content → Telling
-content_telling places lost r (Answers answer) =
-    text_telling r.slot (control_place places r.slot) lost (text_of_record r)
-content_telling places lost r (Indicates indication) =
-    text_telling r.slot (control_place places r.slot) lost (text_of_record r)
-content_telling places lost r (Sends protocol to telegram) =
+unfoldable pub content_telling : List (Option Contact) → Bool → RecordModel → Content → Telling
+content_telling contacts lost r (Answers answer) =
+    text_telling r.slot (control_place contacts r.slot) lost (text_of_record r)
+content_telling contacts lost r (Indicates indication) =
+    text_telling r.slot (control_place contacts r.slot) lost (text_of_record r)
+content_telling contacts lost r (Sends protocol to telegram) =
     offering (port_of protocol) to telegram
 
-abbrev pub record_telling : List (Option Place) → Bool → RecordModel → Telling
-record_telling places lost r = content_telling places lost r r.content
+abbrev pub record_telling : List (Option Contact) → Bool → RecordModel → Telling
+record_telling contacts lost r = content_telling contacts lost r r.content
 
 -- whether the first of some records lost its text; past the last mark none did
 abbrev pub is_first_lost : List Bool → Bool
@@ -83,11 +89,11 @@ later_marks [] = []
 later_marks (lost ∷ marks) = marks
 
 -- records one after another, of which the marks say whether the text was lost
-abbrev pub records_telling : List (Option Place) → List Bool → List RecordModel → Telling
-records_telling places marks [] = silence
-records_telling places marks (r ∷ records) =
-    both (record_telling places (is_first_lost marks) r)
-    (records_telling places (later_marks marks) records)
+abbrev pub records_telling : List (Option Contact) → List Bool → List RecordModel → Telling
+records_telling contacts marks [] = silence
+records_telling contacts marks (r ∷ records) =
+    both (record_telling contacts (is_first_lost marks) r)
+    (records_telling contacts (later_marks marks) records)
 
 -- the records that these slots, of which the first has the number s, get at an event that the node
 -- takes: slots rising, each slot's in their order
@@ -110,11 +116,12 @@ abbrev pub event_records : NodeModel → EventModel → List RecordModel
 event_records node event =
     records_unless (refused_as (length node.slots) node.globals event) node event
 
--- a node, and the control place of each of the slots that it may have: where the latest datagram
--- came from that read as a line of the slot; none before the first
+-- a node, the latest line of each of the slots that it may have, none before the first, and the
+-- reading of the clock of the latest turn, 0 before the first
 pub record ServiceState : Type 0 where
   pub node : NodeModel
-  pub places : List (Option Place)
+  pub contacts : List (Option Contact)
+  pub reading : ℕ
 
 -- what was lost for want of memory of a reading of the clock or of a datagram
 pub data Loss : Type 0 where
@@ -148,15 +155,21 @@ then_effect first next = record {
   telling = both first.telling (next first.service).telling;
 }
 
--- whether memory may be wanting for an event: a call, a moment by which something is due, a
--- datagram that concerns a slot, the opening of a slot
+-- a call by which a slot begins anew
+abbrev pub is_reset : EventModel → Bool
+is_reset (CallIs s ResetCall) = true
+is_reset event = false
+
+-- whether memory may be wanting for an event: a call but one by which a slot begins anew, for whose
+-- answer there is room from the start; a moment by which something is due, a datagram that concerns
+-- a slot, the opening of a slot
 unfoldable pub may_take_memory : NodeModel → EventModel → Bool
 may_take_memory node (MomentIs t) = nat_lt 0 (due_in t node.slots)
 may_take_memory node (TopologyIs topo) = false
 may_take_memory node (RoleIs group leader) = false
 may_take_memory node (DatagramIs protocol src dst bytes) =
     list_any (concerns node.globals (telegram_of protocol src dst bytes)) node.slots
-may_take_memory node (CallIs s call) = true
+may_take_memory node (CallIs s call) = not (is_reset (CallIs s call))
 may_take_memory node (AddSlotIs quotas) = true
 
 -- an event is lost where memory may be wanting for it; elsewhere it comes to this effect
@@ -168,7 +181,7 @@ lost_or service event effect =
 abbrev pub event_taken : ServiceState → EventModel → List Bool → Effect
 event_taken service event marks = record {
   service = record service { node = node_after service.node event };
-  telling = records_telling service.places marks (event_records service.node event);
+  telling = records_telling service.contacts marks (event_records service.node event);
 }
 
 -- an event is lost, or the node takes it

@@ -1,3 +1,4 @@
+pub mod Counted
 pub mod Counting
 pub mod Daemons
 pub mod Effects
@@ -7,6 +8,7 @@ pub mod MemorySockets
 pub mod MemoryWires
 pub mod Openings
 pub mod Ports
+pub mod Questions
 pub mod Refusals
 pub mod Resting
 pub mod Rows

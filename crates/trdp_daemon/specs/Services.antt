@@ -1,5 +1,6 @@
 -- A service on its way.
-use Rattle.std.specs.Prelude.{◌≡◌, ℕ, Bool, List, Option, [], ◌∷◌, map}
+use Rattle.std.specs.Prelude.{◌≡◌, ◌<◌, ◌≤◌, ◌+◌, ℕ, Bool, List, Option, [], ◌∷◌, length, map}
+use Rattle.std.specs.Prelude.{vec_capacity}
 use Rattle.trdp_dataset.specs.Configs.{ConfigModel}
 use Rattle.trdp_engine.specs.NodeStates.{uncounted}
 use Rattle.trdp_model.specs.Events.{EventModel}
@@ -11,13 +12,18 @@ use Rattle.trdp_daemon.specs.declared.service.Service.{Service}
 use Rattle.trdp_daemon.specs.Ports.{place_of_port}
 use Rattle.trdp_daemon.specs.Told.{Taking, Give}
 use Rattle.trdp_daemon.specs.Effects.{ServiceState, Effect, Loss, TextsLost, event_effect}
+use Rattle.trdp_daemon.specs.Counted.{TurnCounted, VisitsCounted}
+use Rattle.trdp_daemon.specs.Counting.{totals_after}
 use Rattle.trdp_daemon.specs.Links.{Carries}
+use Rattle.trdp_daemon.specs.Questions.{answer_room}
 use Rattle.trdp_daemon.specs.Turns.{Visit, visit_effect, visits_effect, Turn, takings_of}
 use Rattle.trdp_daemon.specs.Turns.{turn_effect, port_and_room, with_room, TakesAt, TurnTakesAt}
 
--- the node, of which nothing tells what an event cost, and the control places
+-- the node, of which nothing tells what an event cost, its slots' latest lines, and the reading of
+-- the latest turn
 abbrev pub service_state : Service → ServiceState
-service_state s = record { node = uncounted s.node; places = s.places.items }
+service_state s =
+    record { node = uncounted s.node; contacts = s.contacts.items; reading = s.reading }
 
 -- a service and its link after so many takes and this effect
 pub record Comes {W : Type 0} (takings_in : W → Option (List Taking))
@@ -47,6 +53,7 @@ pub record TakesOnce {W : Type 0} (takings_in : W → Option (List Taking))
     (port : Port) : Type 0 where
   pub visit : Visit
   pub port_is : port_and_room visit ≡ with_room port
+  pub counted : visit.totals ≡ totals_after link.totals (visit.taking ∷ []) [] 0
   pub comes : Comes takings_in gives_in old new link link_then (visit.taking ∷ [])
       (visit_effect (service_state old) visit)
 
@@ -59,6 +66,7 @@ pub record TakesAtPorts {W : Type 0} (takings_in : W → Option (List Taking))
   pub takes_at : TakesAt ports (service_state old) visits
   pub comes : Comes takings_in gives_in old new link link_then
       (map (λ visit. visit.taking) visits) (visits_effect (service_state old) visits)
+  pub counted : VisitsCounted link.totals (service_state old) visits comes.carried.gives
 
 -- a turn was taken at this reading of the clock, with takes at those of these ports that are there
 -- when their place in the order comes
@@ -70,12 +78,15 @@ pub record TakesTurn {W : Type 0} (takings_in : W → Option (List Taking))
   pub takes_at : TurnTakesAt ports (service_state old) turn
   pub comes : Comes takings_in gives_in old new link link_then (takings_of turn)
       (turn_effect (service_state old) turn)
+  pub counted : TurnCounted link.totals (service_state old) turn comes.carried.gives
 
 -- the places that datagrams of process data and of message data go to at this node: where the
 -- sockets of these ports are bound
 abbrev pub IsHome : ConfigModel → Home → Type 0
 IsHome config home = (home.pd ≡ place_of_port config Pd) × (home.md ≡ place_of_port config Md)
 
--- telegrams go to where the node's configuration says
+-- telegrams go to where the node's configuration says, and there is room for any answer to the
+-- operator's questions, and for that to a slot that begins anew
 abbrev pub IsSoundService : Service → Type 0
-IsSoundService s = IsHome s.node.config s.home
+IsSoundService s = IsHome s.node.config s.home × (answer_room ≤ vec_capacity s.answer)
+    × (0 < s.resets.row_room + length s.resets.records)

@@ -1,23 +1,26 @@
 -- A daemon's turns.
 use Rattle.std.specs.Prelude.{◌≡◌, ℕ, nat_lt, Bool, true, false, List, [], ◌∷◌, length, map}
 use Rattle.std.specs.Prelude.{Option, None, min, max, replicate}
-use Rattle.trdp_base.specs.declared.place.Place.{Place}
 use Rattle.trdp_base.specs.Moments.{last_moment}
 use Rattle.trdp_dataset.specs.Configs.{ConfigModel}
 use Rattle.trdp_model.specs.Events.{EventModel, MomentIs}
 use Rattle.trdp_model.specs.NodeModels.{NodeModel, opened_model}
 use Rattle.trdp_model.specs.Slots.{slot_limit}
+use Rattle.trdp_daemon.specs.declared.contact.Contact.{Contact}
 use Rattle.trdp_daemon.specs.declared.port.Port.{Port}
 use Rattle.trdp_daemon.specs.declared.port.Port.TheVariants.{Pd, Md, Operator, Control}
+use Rattle.trdp_daemon.specs.declared.totals.Totals.{Totals}
 use Rattle.trdp_daemon.specs.Told.{Taking, Offer}
 use Rattle.trdp_daemon.specs.Effects.{ServiceState, Effect, Loss, TextsLost, still, then_effect}
 use Rattle.trdp_daemon.specs.Effects.{event_effect}
 use Rattle.trdp_daemon.specs.Visits.{taking_effect}
 
--- one take, and what was lost of its datagram
+-- one take, what was lost of its datagram, and what was counted as it was answered, this take with
+-- it
 pub record Visit : Type 0 where
   pub taking : Taking
   pub loss : Loss
+  pub totals : Totals
 
 -- one turn: a reading of the clock, what was lost of its moment, and a take at each port
 pub record Turn : Type 0 where
@@ -31,7 +34,7 @@ moment_of node reading = MomentIs (max node.globals.now (min reading last_moment
 
 abbrev pub visit_effect : ServiceState → Visit → Effect
 visit_effect service visit =
-    taking_effect service visit.taking.port visit.taking.arrived visit.loss
+    taking_effect service visit.totals visit.taking.port visit.taking.arrived visit.loss
 
 -- takes one after another
 abbrev pub visits_effect : ServiceState → List Visit → Effect
@@ -39,11 +42,19 @@ visits_effect service [] = still service
 visits_effect service (visit ∷ visits) =
     then_effect (visit_effect service visit) (λ after. visits_effect after visits)
 
+-- a turn begins at a reading of the clock
+abbrev pub begun : ServiceState → ℕ → ServiceState
+begun service reading = record service { reading = reading }
+
+-- the moment of a turn
+abbrev pub moment_effect : ServiceState → Turn → Effect
+moment_effect service turn = event_effect (begun service turn.reading)
+    (moment_of service.node turn.reading) turn.loss
+
 -- a turn: first the moment, and then each datagram
 abbrev pub turn_effect : ServiceState → Turn → Effect
 turn_effect service turn =
-    then_effect (event_effect service (moment_of service.node turn.reading) turn.loss)
-    (λ after. visits_effect after turn.visits)
+    then_effect (moment_effect service turn) (λ after. visits_effect after turn.visits)
 
 -- turns one after another
 abbrev pub turns_effect : ServiceState → List Turn → Effect
@@ -92,8 +103,8 @@ TakesAt (port ∷ ports) service visits =
 
 -- the same of a turn, behind its moment
 abbrev pub TurnTakesAt : List Port → ServiceState → Turn → Type 0
-TurnTakesAt ports service turn = TakesAt ports
-    (event_effect service (moment_of service.node turn.reading) turn.loss).service turn.visits
+TurnTakesAt ports service turn =
+    TakesAt ports (moment_effect service turn).service turn.visits
 
 -- the same of turns one after another
 abbrev pub AllTakeAt : List Port → ServiceState → List Turn → Type 0
@@ -105,13 +116,14 @@ AllTakeAt ports service (turn ∷ turns) =
 abbrev pub TakesAtEach : List Port → Turn → Type 0
 TakesAtEach ports turn = map port_and_room turn.visits ≡ map with_room ports
 
--- none of the slots that a node may have has a control place
-abbrev pub no_places : List (Option Place)
-no_places = replicate slot_limit None
+-- none of the slots that a node may have had a line
+abbrev pub no_contacts : List (Option Contact)
+no_contacts = replicate slot_limit None
 
--- a node that was just opened, no slot of which has a control place
+-- a node that was just opened, no slot of which had a line
 abbrev pub opened_service : ConfigModel → ServiceState
-opened_service config = record { node = opened_model config; places = no_places }
+opened_service config =
+    record { node = opened_model config; contacts = no_contacts; reading = 0 }
 
 -- all that a daemon of a configuration offers in these turns, its first
 abbrev pub offers_of : ConfigModel → List Turn → List Offer

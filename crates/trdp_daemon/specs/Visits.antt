@@ -1,20 +1,25 @@
 -- What a datagram at one of the ports gives.
-use Rattle.std.specs.Prelude.{ℕ, List, [], ◌++◌, length, codes, slice_set, Bool}
+use Rattle.std.specs.Prelude.{◌≡◌, ℕ, List, [], ◌++◌, length, codes, slice_set, Bool}
 use Rattle.std.specs.Prelude.{Option, Some, None, Result, Ok, Err, if◌then◌else◌}
 use Rattle.trdp_base.specs.declared.place.Place.{Place}
 use Rattle.trdp_model.specs.declared.fault.NodeFault.{NodeFault}
 use Rattle.trdp_model.specs.declared.record.Protocol.TheVariants.{Pd as PdData, Md as MdData}
-use Rattle.trdp_model.specs.Alone.{refused_as}
+use Rattle.trdp_model.specs.Alone.{opened_by, refused_as}
 use Rattle.trdp_model.specs.Events.{EventModel, DatagramIs}
 use Rattle.trdp_script.specs.EventBytes.{carries_bytes}
 use Rattle.trdp_script.specs.declared.fault.LineFault.{LineFault}
 use Rattle.trdp_script.specs.declared.fault.LineFault.TheVariants.{TooLong, Unknown, Count}
 use Rattle.trdp_script.specs.declared.fault.LineFault.TheVariants.{BadWord, OutOfMemory}
 use Rattle.trdp_script.specs.RecordText.{text_of_fault, name_of_line_fault}
+use Rattle.trdp_script.specs.PortLines.{OperatorSays, Orders, Asks}
 use Rattle.trdp_script.specs.PortLines.{control_line_of, operator_line_of}
+use Rattle.trdp_script.specs.declared.operator_line.Question.{Question}
+use Rattle.trdp_daemon.specs.declared.contact.Contact.{Contact}
 use Rattle.trdp_daemon.specs.declared.port.Port.{Port}
 use Rattle.trdp_daemon.specs.declared.port.Port.TheVariants.{Pd, Md, Operator, Control}
+use Rattle.trdp_daemon.specs.declared.totals.Totals.{Totals}
 use Rattle.trdp_daemon.specs.Ports.{place_of_port}
+use Rattle.trdp_daemon.specs.Questions.{text_of_question}
 use Rattle.trdp_daemon.specs.Told.{Arrived, Failed, Nothing, Came}
 use Rattle.trdp_daemon.specs.Effects.{Telling, missing, offering, ServiceState, Effect, still}
 use Rattle.trdp_daemon.specs.Effects.{telling_only, then_effect, event_effect, lost_or}
@@ -57,18 +62,37 @@ operator_event service from event EventLost =
     lost_or service event (operator_taken service from event [])
 operator_event service from event (TextsLost marks) = operator_taken service from event marks
 
--- a datagram at the operator's port: a skipped line has no answer, and isn't lost
-unfoldable pub operator_effect : ServiceState → Place → Result (Option EventModel) LineFault
-    → Loss → Effect
-operator_effect service from (Err fault) loss =
-    telling_only service (fault_telling Operator from fault)
-operator_effect service from (Ok None) loss = still service
-operator_effect service from (Ok (Some event)) loss = operator_event service from event loss
+-- what the operator says opens no slot
+abbrev pub OpensNoSlot : OperatorSays → Type 0
+OpensNoSlot (Orders event) = opened_by event ≡ []
+OpensNoSlot (Asks question) = Unit {0}
 
--- what reads as a line at a slot's control port sets the slot's control place
-abbrev pub with_place : ServiceState → ℕ → Place → ServiceState
-with_place service slot from =
-    record service { places = slice_set service.places slot (Some from) }
+-- a question of the operator is answered, which changes nothing and is never lost
+abbrev pub question_effect : ServiceState → Place → Totals → Question → Effect
+question_effect service from totals question =
+    telling_only service (offering Operator from (text_of_question service totals question))
+
+-- a datagram at the operator's port, where these are the totals: a skipped line has no answer, and
+-- isn't lost
+unfoldable pub operator_effect : ServiceState → Place → Totals
+    → Result (Option OperatorSays) LineFault → Loss → Effect
+operator_effect service from totals (Err fault) loss =
+    telling_only service (fault_telling Operator from fault)
+operator_effect service from totals (Ok None) loss = still service
+operator_effect service from totals (Ok (Some (Orders event))) loss =
+    operator_event service from event loss
+operator_effect service from totals (Ok (Some (Asks question))) loss =
+    question_effect service from totals question
+
+-- a line that comes from there in this turn
+abbrev pub contact_from : ServiceState → Place → Contact
+contact_from service from = record { place = from; reading = service.reading }
+
+-- what reads as a line at a slot's control port is the slot's latest line
+abbrev pub heard_from : ServiceState → ℕ → Place → ServiceState
+heard_from service slot from = record service {
+  contacts = slice_set service.contacts slot (Some (contact_from service from));
+}
 
 -- a line is lost where it carries bytes; elsewhere it comes to this effect
 abbrev pub line_lost_or : ServiceState → EventModel → Effect → Effect
@@ -78,34 +102,35 @@ line_lost_or service event effect =
 -- a call of a slot
 unfoldable pub control_event : ServiceState → ℕ → Place → EventModel → Loss → Effect
 control_event service slot from event LineLost = line_lost_or service event
-    (event_effect (with_place service slot from) event (TextsLost []))
+    (event_effect (heard_from service slot from) event (TextsLost []))
 control_event service slot from event EventLost =
-    event_effect (with_place service slot from) event EventLost
+    event_effect (heard_from service slot from) event EventLost
 control_event service slot from event (TextsLost marks) =
-    event_effect (with_place service slot from) event (TextsLost marks)
+    event_effect (heard_from service slot from) event (TextsLost marks)
 
 -- a datagram at the control port of a slot: a skipped line isn't lost
 unfoldable pub control_effect : ServiceState → ℕ → Place → Result (Option EventModel) LineFault
     → Loss → Effect
 control_effect service slot from (Err fault) loss =
     telling_only service (fault_telling (Control slot) from fault)
-control_effect service slot from (Ok None) loss = still (with_place service slot from)
+control_effect service slot from (Ok None) loss = still (heard_from service slot from)
 control_effect service slot from (Ok (Some event)) loss =
     control_event service slot from event loss
 
--- a datagram at a port
-unfoldable pub datagram_effect : ServiceState → Port → Place → List ℕ → Loss → Effect
-datagram_effect service Pd from bytes loss = event_effect service (DatagramIs PdData from
+-- a datagram at a port, where these are the totals
+unfoldable pub datagram_effect : ServiceState → Totals → Port → Place → List ℕ → Loss → Effect
+datagram_effect service totals Pd from bytes loss = event_effect service (DatagramIs PdData from
     (place_of_port service.node.config Pd) bytes) loss
-datagram_effect service Md from bytes loss = event_effect service (DatagramIs MdData from
+datagram_effect service totals Md from bytes loss = event_effect service (DatagramIs MdData from
     (place_of_port service.node.config Md) bytes) loss
-datagram_effect service Operator from bytes loss =
-    operator_effect service from (operator_line_of bytes) loss
-datagram_effect service (Control slot) from bytes loss =
+datagram_effect service totals Operator from bytes loss =
+    operator_effect service from totals (operator_line_of bytes) loss
+datagram_effect service totals (Control slot) from bytes loss =
     control_effect service slot from (control_line_of slot bytes) loss
 
--- what a take comes to
-unfoldable pub taking_effect : ServiceState → Port → Arrived → Loss → Effect
-taking_effect service port Failed loss = still service
-taking_effect service port Nothing loss = still service
-taking_effect service port (Came from bytes) loss = datagram_effect service port from bytes loss
+-- what a take comes to, where these are the totals
+unfoldable pub taking_effect : ServiceState → Totals → Port → Arrived → Loss → Effect
+taking_effect service totals port Failed loss = still service
+taking_effect service totals port Nothing loss = still service
+taking_effect service totals port (Came from bytes) loss =
+    datagram_effect service totals port from bytes loss

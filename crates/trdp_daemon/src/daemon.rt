@@ -172,6 +172,7 @@ impl<W: Wire, C: Clock> Daemon<W, C> {
         ensures { TakesTurnAt W.takings W.gives C.readings result self.old self.new }
     {
         let reading = self.clock.now();
+        self.service.begin(reading);
         let moment = Event::Moment(moment_of(&self.service.node, reading));
         let _ = self.service.take_event(&moment, &mut self.link);
         for i in 0..self.ports.len() {

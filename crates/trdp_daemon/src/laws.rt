@@ -4,23 +4,25 @@ ghost use Rattle.std.specs.Prelude.{◌≡◌, ◌≤◌, ◌↔◌, ℕ, List, 
 ghost use Rattle.std.specs.Prelude.{IfOk, IfSome};
 ghost use Rattle.trdp_base.specs.declared.place.Place.{Place};
 ghost use Rattle.trdp_dataset.specs.Configs.{ConfigModel};
-ghost use Rattle.trdp_model.specs.Events.{EventModel};
+ghost use Rattle.trdp_model.specs.Events.{EventModel, CallIs, ResetCall};
 ghost use Rattle.trdp_model.specs.NodeModels.{NodeModel};
 ghost use Rattle.trdp_model.specs.NodeModels.{MayTakeMemory};
 ghost use Rattle.trdp_script.specs.EventBytes.{carries_bytes};
 ghost use Rattle.trdp_script.specs.PortLines.{control_line_of, operator_line_of};
-ghost use Rattle.trdp_model.specs.Alone.{opened_by};
 ghost use Rattle.trdp_daemon.specs.declared.port.Port.TheVariants.{Control, Operator};
+ghost use Rattle.trdp_daemon.specs.declared.totals.Totals.{Totals};
 ghost use Rattle.trdp_daemon.specs.Effects.{EventLost, LineLost, Loss, ServiceState, TextsLost};
 ghost use Rattle.trdp_daemon.specs.Effects.{event_effect};
-ghost use Rattle.trdp_daemon.specs.Effects.{event_taken, may_take_memory, texts_lost};
+ghost use Rattle.trdp_daemon.specs.Effects.{event_taken, is_reset, may_take_memory, texts_lost};
 ghost use Rattle.trdp_daemon.specs.Ports.{control_numbers, ports_of};
 ghost use Rattle.trdp_daemon.specs.Turns.{Turn, turns_effect, unlost, AllTakeAt, TakesAtEach};
 ghost use Rattle.trdp_daemon.specs.Turns.{opened_service};
-ghost use Rattle.trdp_daemon.specs.Visits.{datagram_effect, operator_event, operator_taken};
+ghost use Rattle.trdp_daemon.specs.Visits.{OpensNoSlot, datagram_effect, operator_event};
+ghost use Rattle.trdp_daemon.specs.Visits.{operator_taken};
 
 /// Turns in which nothing was counted as lost for want of memory are turns in which nothing was
-/// lost: what they come to and offer follows from the readings and the takes alone.
+/// lost: what they come to and offer follows from the readings, the takes, and what was counted as
+/// each take was answered.
 pub fn nothing_missed()
     ensures { (service : ServiceState) (turns : List Turn)
         → (turns_effect service turns).telling.missed ≡ 0
@@ -32,27 +34,34 @@ pub fn nothing_missed()
 /// its turn. An event of the operator is then taken, and answered. A line may be lost only where it
 /// carries bytes: elsewhere one that is marked as lost comes to what it comes to where it is read.
 /// So no skipped line is lost, and of what comes to the operator's port nothing but the opening of
-/// a slot, which takes memory.
+/// a slot, which takes memory: no question is.
 pub fn lost_only_where_memory_is_taken()
     ensures tested { (node : NodeModel) (event : EventModel)
-        → (may_take_memory node event ≡ true) ↔ MayTakeMemory node event }
+        → (may_take_memory node event ≡ true)
+        ↔ (MayTakeMemory node event × (is_reset event ≡ false)) }
+    ensures reset { (service : ServiceState) (slot : ℕ) (loss : Loss)
+        → event_effect service (CallIs slot ResetCall) loss
+        ≡ event_taken service (CallIs slot ResetCall) (texts_lost loss) }
     ensures event { (service : ServiceState) (event : EventModel) (loss : Loss)
         → ¬ MayTakeMemory service.node event
         → event_effect service event loss ≡ event_taken service event (texts_lost loss) }
     ensures operator { (service : ServiceState) (from : Place) (event : EventModel)
         → ¬ MayTakeMemory service.node event
         → operator_event service from event EventLost ≡ operator_taken service from event [] }
-    ensures operator_read { (service : ServiceState) (from : Place) (bytes : List ℕ)
-        → datagram_effect service Operator from bytes LineLost
-        ≡ datagram_effect service Operator from bytes (TextsLost []) }
-    ensures operator_line { (service : ServiceState) (from : Place) (bytes : List ℕ) (loss : Loss)
-        → IfOk (operator_line_of bytes) (λ event. IfSome event (λ event. opened_by event ≡ []))
-        → datagram_effect service Operator from bytes loss
-        ≡ datagram_effect service Operator from bytes (TextsLost []) }
-    ensures control_line { (service : ServiceState) (slot : ℕ) (from : Place) (bytes : List ℕ)
+    ensures operator_read { (service : ServiceState) (totals : Totals) (from : Place)
+        (bytes : List ℕ)
+        → datagram_effect service totals Operator from bytes LineLost
+        ≡ datagram_effect service totals Operator from bytes (TextsLost []) }
+    ensures operator_line { (service : ServiceState) (totals : Totals) (from : Place)
+        (bytes : List ℕ) (loss : Loss)
+        → IfOk (operator_line_of bytes) (λ line. IfSome line OpensNoSlot)
+        → datagram_effect service totals Operator from bytes loss
+        ≡ datagram_effect service totals Operator from bytes (TextsLost []) }
+    ensures control_line { (service : ServiceState) (totals : Totals) (slot : ℕ) (from : Place)
+        (bytes : List ℕ)
         → IfOk (control_line_of slot bytes) (λ event. carries_bytes event ≡ false)
-        → datagram_effect service (Control slot) from bytes LineLost
-        ≡ datagram_effect service (Control slot) from bytes (TextsLost []) }
+        → datagram_effect service totals (Control slot) from bytes LineLost
+        ≡ datagram_effect service totals (Control slot) from bytes (TextsLost []) }
 {}
 
 /// Where the slots of all control ports of a configuration are open, each turn takes once at each

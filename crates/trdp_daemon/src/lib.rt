@@ -12,6 +12,12 @@
 //! let totals = daemon.run(1_000_000);            // what came, went and was lost in so many turns
 //! ```
 //!
+//! At the operator's port two lines are no events, but questions: `totals` is answered with what
+//! was counted, that line with it, and `slots` with what each slot holds and may hold, and how long
+//! ago its latest line came. An answer changes nothing, and never wants memory; each byte of it
+//! follows from the takes and gives before it and from the readings (`specs/Questions`,
+//! `specs/Counted`).
+//!
 //! What no contract can say is that memory is there: a daemon that loses every text, each line that
 //! carries bytes, and each event for which memory may be wanting, and counts them in `memory`,
 //! meets its contract, and `trdp_node_tests` shows that with ample memory nothing is lost. What
@@ -41,6 +47,7 @@ mod answer;
 mod arrivals;
 mod bind_fault;
 mod clock;
+mod contact;
 mod daemon;
 mod fault;
 mod home;
@@ -53,6 +60,7 @@ mod offers;
 mod opening;
 mod port;
 mod ports;
+mod question;
 mod refusal;
 mod resting_wire;
 mod rows;

@@ -1,47 +1,57 @@
-//! A node, and where its slots' applications are; what a take at one of the ports comes to.
+//! A node, and when and from where its slots were heard; what a take at one of the ports comes to.
 
-ghost use Rattle.std.specs.Prelude.{◌≡◌, ◌∷◌, [], length, slice_set, Some};
-ghost use Rattle.std.specs.Prelude.{IfOk, IfErr, OnOk, OnErr};
+ghost use Rattle.std.specs.Prelude.{◌≡◌, ◌<◌, ◌≤◌, ◌∷◌, [], length, slice_set, Some, false};
+ghost use Rattle.std.specs.Prelude.{IfOk, IfErr, OnOk, OnErr, vec_capacity};
 ghost use Rattle.trdp_model.specs.Alone.{refused_as};
-ghost use Rattle.trdp_model.specs.Events.{event_model};
+ghost use Rattle.trdp_model.specs.Events.{CallIs, ResetCall, event_model};
 ghost use Rattle.trdp_model.specs.NodeModels.{MayTakeMemory};
 ghost use Rattle.trdp_engine.specs.NodeStates.{uncounted};
 ghost use Rattle.trdp_model.specs.NodeModels.{node_after};
-ghost use Rattle.trdp_outbox.specs.SlotOrder.{by_slot};
 ghost use Rattle.trdp_script.specs.PortLines.{control_line_of, operator_line_of};
-ghost use Rattle.trdp_daemon.specs.Effects.{event_effect, event_records, missing, telling_only};
+ghost use Rattle.trdp_daemon.specs.Effects.{event_effect, is_reset, missing};
+ghost use Rattle.trdp_daemon.specs.Effects.{telling_only};
 ghost use Rattle.trdp_daemon.specs.Resting.{IsIdleTime};
 ghost use Rattle.trdp_daemon.specs.Services.{Comes, ComesTold, ComesWith, IsSoundService};
 ghost use Rattle.trdp_daemon.specs.Services.{TakesAtPorts, service_state};
-ghost use Rattle.trdp_daemon.specs.Turns.{no_places, opened_service, udp_room};
-ghost use Rattle.trdp_daemon.specs.Visits.{control_effect, operator_effect};
+ghost use Rattle.trdp_daemon.specs.Questions.{answer_room, text_of_question};
+ghost use Rattle.trdp_daemon.specs.Turns.{begun, no_contacts, opened_service, udp_room};
+ghost use Rattle.trdp_daemon.specs.Visits.{control_effect, heard_from, operator_effect};
+ghost use Rattle.trdp_daemon.specs.Visits.{question_effect};
 
 use crate::answer::{operator_text, refuse};
+use crate::contact::Contact;
 use crate::home::{Home, home_of};
 use crate::link::Link;
 use crate::port::Port;
+use crate::question::{ANSWER_ROOM, put_answer};
 use crate::telling::tell_records;
 use crate::wire::Wire;
 use std::alloc::{AllocError, Global};
 use trdp_base::Place;
 use trdp_dataset::NodeConfig;
-use trdp_engine::{Event, Node, NodeFault, Outbox, Protocol, SLOTS_MAX};
-use trdp_script::{read_control_event, read_operator_event};
+use trdp_engine::{Call, Event, Node, NodeFault, Outbox, Protocol, SLOTS_MAX};
+use trdp_script::{OperatorLine, Question, read_control_event, read_operator};
 
-/// A node, with the control places of its slots and the lists that are used again from event to
-/// event.
+/// A node, with the latest lines of its slots and the lists that are used again from event to event.
 #[derive(Drop)]
 pub(crate) struct Service {
     pub(crate) node: Node,
     /// Where telegrams go to at the node.
     pub(crate) home: Home,
-    /// Where the latest datagram came from that read as a line of the slot, for each of the slots
-    /// that a node has at most; None before the first.
-    pub(crate) places: Vec<Option<Place>>,
+    /// The latest line of the slot, for each of the slots that a node has at most; None before the
+    /// first.
+    pub(crate) contacts: Vec<Option<Contact>>,
+    /// The reading of the clock of the latest turn, in microseconds; 0 before the first.
+    pub(crate) reading: u64,
     /// The records of one event.
     records: Outbox,
+    /// The answer to a slot that began anew. It has room for one from the start, so that no such
+    /// call is ever lost.
+    pub(crate) resets: Outbox,
     /// The line of one record.
     text: Vec<u8>,
+    /// The answer to a question of the operator, with room for any, so that none wants memory.
+    pub(crate) answer: Vec<u8>,
 }
 
 /// Room for a record's line, in bytes: more than the longest of a node.
@@ -59,16 +69,19 @@ impl Service {
     {
         match lists(alloc) {
             Err(_) => Err(config),
-            Ok((places, text)) => {
+            Ok((contacts, text, answer, resets)) => {
                 let home = home_of(&config);
                 match Node::new(alloc, config) {
                     Err(config) => Err(config),
                     Ok(node) => Ok(Service {
                         node,
                         home,
-                        places,
+                        contacts,
+                        reading: 0,
                         records: Outbox::new(alloc),
+                        resets,
                         text,
+                        answer,
                     }),
                 }
             }
@@ -139,23 +152,49 @@ impl Service {
     }
 
     /// Takes a datagram that came to the operator's port. An event's answer goes back behind what
-    /// its records send; one that finds no memory is lost, and has no answer.
+    /// its records send; one that finds no memory is lost, and has no answer. A question is always
+    /// answered.
     fn take_operator<W: Wire>(&mut self, from: Place, bytes: &[u8], link: &mut Link<W>)
         requires sound { IsSoundService self.old }
         ensures sound { IsSoundService self.new }
         ensures config { self.new.node.config ≡ self.old.node.config }
         ensures comes { ComesWith W.takings W.gives self.old self.new link.old link.new
-            (operator_effect (service_state self.old) from (operator_line_of bytes.now)) }
+            (operator_effect (service_state self.old) from link.old.totals
+            (operator_line_of bytes.now)) }
     {
-        match read_operator_event(bytes) {
-            Ok(Some(event)) => {
+        match read_operator(bytes) {
+            Ok(Some(OperatorLine::Event(event))) => {
                 if let Ok(fault) = self.take_event(&event, link) {
                     link.give(Port::Operator, from, operator_text(fault));
                 }
             }
+            Ok(Some(OperatorLine::Question(question))) => {
+                self.answer_question(question, from, link);
+            }
             Ok(None) => {}
             Err(fault) => refuse(Port::Operator, from, fault, link),
         }
+    }
+
+    /// Answers a question of the operator. It takes no memory, and changes nothing.
+    fn answer_question<W: Wire>(&mut self, question: Question, from: Place, link: &mut Link<W>)
+        requires sound { IsSoundService self.old }
+        ensures sound { IsSoundService self.new }
+        ensures node { self.new.node ≡ self.old.node }
+        ensures short { length (text_of_question (service_state self.old) link.old.totals question)
+            ≤ answer_room }
+        ensures comes { Comes W.takings W.gives self.old self.new link.old link.new []
+            (question_effect (service_state self.old) from link.old.totals question) }
+    {
+        put_answer(
+            &mut self.answer,
+            question,
+            link.totals,
+            &self.node,
+            &self.contacts,
+            self.reading,
+        );
+        link.give(Port::Operator, from, &self.answer);
     }
 
     /// Takes a datagram that came to the control port of a slot.
@@ -175,16 +214,15 @@ impl Service {
     {
         match read_control_event(buffer, slot, bytes) {
             Ok(Some(event)) => {
-                self.set_place(slot, from);
+                self.hear(slot, from);
                 let _ = self.take_event(&event, link);
             }
-            Ok(None) => self.set_place(slot, from),
+            Ok(None) => self.hear(slot, from),
             Err(fault) => refuse(Port::Control(slot), from, fault, link),
         }
     }
 
-    /// Gives the node an event, whose records are then the only ones of the outbox, and offers what
-    /// they send. Answers the event's fault, with which the node takes no notice of it, if it has
+    /// Gives the node an event, and offers what its records send. Answers the event's fault, with which the node takes no notice of it, if it has
     /// one.
     ///
     /// # Errors
@@ -206,18 +244,24 @@ impl Service {
             (event_model event.now)) }
         ensures node { OnOk result (uncounted self.new.node
             ≡ node_after (uncounted self.old.node) (event_model event.now)) }
-        ensures records { OnOk result (by_slot self.new.records.records
-            ≡ event_records (uncounted self.old.node) (event_model event.now)) }
         ensures lost { OnErr result (Comes W.takings W.gives self.old self.new link.old link.new []
             (telling_only (service_state self.old) missing)) }
         ensures kept { OnErr result (self.new.node ≡ self.old.node) }
         ensures memory { OnErr result
             (MayTakeMemory (uncounted self.old.node) (event_model event.now)) }
+        ensures reset { OnErr result (is_reset (event_model event.now) ≡ false) }
     {
+        if let Event::Call {
+            slot,
+            call: Call::Reset,
+        } = event
+        {
+            return Ok(self.take_reset(*slot, link));
+        }
         self.records.clear();
         match self.node.step(event, &mut self.records) {
             Ok(()) => {
-                tell_records(&self.records, &self.places, &mut self.text, link);
+                tell_records(&self.records, &self.contacts, &mut self.text, link);
                 Ok(None)
             }
             Err(NodeFault::OutOfMemory) => {
@@ -228,34 +272,83 @@ impl Service {
         }
     }
 
-    /// Sets the control place of a slot, if there is such a slot.
-    fn set_place(&mut self, slot: u16, from: Place)
-        ensures node { self.new.node ≡ self.old.node }
-        ensures home { self.new.home ≡ self.old.home }
-        ensures places { self.new.places.items
-            ≡ slice_set self.old.places.items slot (Some from) }
+    /// Lets a slot begin anew, and offers its answer, for which there always is room. Answers the
+    /// event's fault, with which the node takes no notice of it: that it has no such slot.
+    fn take_reset<W: Wire>(&mut self, slot: u16, link: &mut Link<W>) -> Option<NodeFault>
+        requires sound { IsSoundService self.old }
+        ensures sound { IsSoundService self.new }
+        ensures config { self.new.node.config ≡ self.old.node.config }
+        ensures fault { result
+            ≡ refused_as (length self.old.node.slots) self.old.node.globals
+            (CallIs slot ResetCall) }
+        ensures told { ComesTold W.takings W.gives self.old self.new link.old link.new
+            (CallIs slot ResetCall) }
+        ensures node { uncounted self.new.node
+            ≡ node_after (uncounted self.old.node) (CallIs slot ResetCall) }
     {
-        put_place(&mut self.places, usize::from(slot), from);
+        if usize::from(slot) >= self.node.slots() {
+            return Some(NodeFault::NoSlot);
+        }
+        self.resets.clear();
+        let event = Event::Call {
+            slot,
+            call: Call::Reset,
+        };
+        match self.node.step(&event, &mut self.resets) {
+            Ok(()) => tell_records(&self.resets, &self.contacts, &mut self.text, link),
+            Err(_) => unreachable!(),
+        }
+        None
+    }
+
+    /// Notes a line of a slot, which came from there in this turn, if there is such a slot.
+    fn hear(&mut self, slot: u16, from: Place)
+        requires sound { IsSoundService self.old }
+        ensures sound { IsSoundService self.new }
+        ensures node { self.new.node ≡ self.old.node }
+        ensures heard { service_state self.new ≡ heard_from (service_state self.old) slot from }
+    {
+        let contact = Contact {
+            place: from,
+            reading: self.reading,
+        };
+        note(&mut self.contacts, usize::from(slot), contact);
+    }
+
+    /// Begins a turn at a reading of the clock.
+    pub(crate) fn begin(&mut self, reading: u64)
+        requires sound { IsSoundService self.old }
+        ensures sound { IsSoundService self.new }
+        ensures node { self.new.node ≡ self.old.node }
+        ensures begun { service_state self.new ≡ begun (service_state self.old) reading }
+    {
+        self.reading = reading;
     }
 }
 
-/// No control place for any slot, and room for a line.
+/// No line of any slot, and room for the line of a record, for an answer to the operator, and for
+/// that to a slot that begins anew.
 ///
 /// # Errors
 /// Want of memory for these.
-fn lists(alloc: Global) -> Result<(Vec<Option<Place>>, Vec<u8>), AllocError>
-    ensures { IfOk result (λ made. made.0.items ≡ no_places) }
+fn lists(alloc: Global) -> Result<(Vec<Option<Contact>>, Vec<u8>, Vec<u8>, Outbox), AllocError>
+    ensures contacts { IfOk result (λ made. made.0.items ≡ no_contacts) }
+    ensures answer { IfOk result (λ made. answer_room ≤ vec_capacity made.2) }
+    ensures resets { IfOk result (λ made. 0 < made.3.row_room) }
 {
-    let places = vec![in alloc; None; SLOTS_MAX]?;
+    let contacts = vec![in alloc; None; SLOTS_MAX]?;
     let text = Vec::with_capacity(alloc, TEXT_ROOM)?;
-    Ok((places, text))
+    let answer = Vec::with_capacity(alloc, ANSWER_ROOM)?;
+    let mut resets = Outbox::new(alloc);
+    resets.reserve(1, 0)?;
+    Ok((contacts, text, answer, resets))
 }
 
-/// Sets the place of that index, if there is one.
-fn put_place(places: &mut Vec<Option<Place>>, index: usize, from: Place)
-    ensures { places.new.items ≡ slice_set places.old.items index (Some from) }
+/// Sets the contact of that index, if there is one.
+fn note(contacts: &mut Vec<Option<Contact>>, index: usize, contact: Contact)
+    ensures { contacts.new.items ≡ slice_set contacts.old.items index (Some contact) }
 {
-    if index < places.len() {
-        places[index] = Some(from);
+    if index < contacts.len() {
+        contacts[index] = Some(contact);
     }
 }

@@ -7,6 +7,7 @@ ghost use Rattle.trdp_script.specs.RecordText.{text_of_record};
 ghost use Rattle.trdp_daemon.specs.Effects.{control_place, port_of};
 ghost use Rattle.trdp_daemon.specs.Tellings.{Tells, TellsRecord, TellsText};
 
+use crate::contact::{Contact, contact_of};
 use crate::link::Link;
 use crate::port::Port;
 use crate::wire::Wire;
@@ -17,35 +18,35 @@ use trdp_script::print_record;
 /// Offers what the records send, slot by slot, slots rising, each slot's in their order.
 pub(crate) fn tell_records<W: Wire>(
     records: &Outbox,
-    places: &[Option<Place>],
+    contacts: &[Option<Contact>],
     text: &mut Vec<u8>,
     link: &mut Link<W>,
 )
-    ensures { Tells W.takings W.gives places.now link.old link.new
+    ensures { Tells W.takings W.gives contacts.now link.old link.new
         (by_slot records.now.records) }
 {
     if records.is_empty() {
         return; // most turns of a node at rest: an order of nothing isn't looked for
     }
     for record in records.by_slot() {
-        tell_record(&record, places, text, link);
+        tell_record(&record, contacts, text, link);
     }
 }
 
 /// Offers what a record sends: its telegram, or its line at the slot's control port.
 fn tell_record<W: Wire>(
     record: &Record<'_>,
-    places: &[Option<Place>],
+    contacts: &[Option<Contact>],
     text: &mut Vec<u8>,
     link: &mut Link<W>,
 )
-    ensures { TellsRecord W.takings W.gives places.now link.old link.new
+    ensures { TellsRecord W.takings W.gives contacts.now link.old link.new
         (record_model «record».now) }
 {
     match record.what {
         What::Send { kind, to, telegram } => link.give(port_of(kind), to, telegram),
-        What::Answer(_) => tell_text(record, place_of(places, record.slot), text, link),
-        What::Indication(_) => tell_text(record, place_of(places, record.slot), text, link),
+        What::Answer(_) => tell_text(record, place_of(contacts, record.slot), text, link),
+        What::Indication(_) => tell_text(record, place_of(contacts, record.slot), text, link),
     }
 }
 
@@ -71,11 +72,11 @@ fn tell_text<W: Wire>(
 }
 
 /// The control place of a slot, if it has one.
-fn place_of(places: &[Option<Place>], slot: u16) -> Option<Place>
-    ensures { result ≡ control_place places.now slot }
+fn place_of(contacts: &[Option<Contact>], slot: u16) -> Option<Place>
+    ensures { result ≡ control_place contacts.now slot }
 {
-    match places.get(usize::from(slot)) {
-        Some(place) => *place,
+    match contact_of(contacts, slot) {
+        Some(contact) => Some(contact.place),
         None => None,
     }
 }

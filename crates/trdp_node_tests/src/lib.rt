@@ -23,6 +23,8 @@ mod node;
 #[cfg(test)]
 mod node_bench;
 #[cfg(test)]
+mod questions;
+#[cfg(test)]
 mod refused;
 #[cfg(test)]
 mod resting;

@@ -5,7 +5,9 @@ use std::process::Abort;
 use std::test::Fail;
 use trdp_base::Topo;
 use trdp_engine::{Call, Event};
-use trdp_script::{LINE_MAX, Line, LineFault, read_control, read_line, read_operator};
+use trdp_script::{
+    LINE_MAX, Line, LineFault, OperatorLine, Question, read_control, read_line, read_operator,
+};
 
 /// What a line comes to, as far as these tests look.
 #[derive(Clone, Copy, Debug, PartialEq, Eq)]
@@ -15,6 +17,7 @@ enum Said {
     Topology(u32, u32),
     /// The slot, and the handle.
     Get(u16, u32),
+    Asks(Question),
     /// Any other event.
     Other,
     Bad(LineFault),
@@ -38,6 +41,31 @@ fn comes_to(read: &Result<Line, LineFault>) -> Said {
         Err(fault) => Said::Bad(*fault),
     }
 }
+
+/// What a line of the operator was read as.
+fn operator_says(read: &Result<Option<OperatorLine>, LineFault>) -> Said {
+    match read {
+        Ok(None) => Said::Nothing,
+        Ok(Some(OperatorLine::Event(Event::Topology(topo)))) => {
+            Said::Topology(topo.etb, topo.op_trn)
+        }
+        Ok(Some(OperatorLine::Event(_))) => Said::Other,
+        Ok(Some(OperatorLine::Question(question))) => Said::Asks(*question),
+        Err(fault) => Said::Bad(*fault),
+    }
+}
+
+/// Lines of the operator.
+static OPERATORS: [(&str, Said); 8] = [
+    ("topology 8 0\r\n", Said::Topology(8, 0)),
+    ("role 1 leader", Said::Other),
+    ("totals\n", Said::Asks(Question::Totals)),
+    ("slots", Said::Asks(Question::Slots)),
+    ("slots 1", Said::Bad(LineFault::Count)),
+    ("totals ", Said::Bad(LineFault::Count)),
+    ("moment 1", Said::Bad(LineFault::Unknown)),
+    ("# totals", Said::Nothing),
+];
 
 /// Lines of a script.
 static LINES: [(&str, Said); 7] = [
@@ -68,11 +96,10 @@ fn a_line_says_its_event(rt: HostRuntime) -> Result<(), Fail> {
 
 #[test]
 fn a_datagram_says_its_event(rt: HostRuntime) {
-    let alloc = rt.alloc();
-    let found = comes_to(&read_operator(alloc, b"topology 8 0\r\n"));
-    same(&rt, "topology", found, Said::Topology(8, 0));
-    let found = comes_to(&read_operator(alloc, b"moment 1"));
-    same(&rt, "moment", found, Said::Bad(LineFault::Unknown));
-    let found = comes_to(&read_control(alloc, 0, b"get 1"));
+    let found = comes_to(&read_control(rt.alloc(), 0, b"get 1"));
     same(&rt, "get", found, Said::Get(0, 1));
+    for (line, wanted) in &OPERATORS {
+        let found = operator_says(&read_operator(line.as_bytes()));
+        same(&rt, *line, found, *wanted);
+    }
 }

@@ -53,7 +53,12 @@ totals_served : {W C : Type 0} {takings_in : W → Option (List Taking)}
     {config : ConfigModel} {wire : W} {clock : C} {n : ℕ} {daemon : DaemonState W C}
     (p : HasServed takings_in gives_in readings_in config wire clock n daemon)
     → AreTotals config p.turns p.gives daemon.totals
-totals_served p = record { ports = p.ports; offers = p.offers; totals_are = p.totals }
+totals_served p = record {
+  ports = p.ports;
+  offers = p.offers;
+  totals_are = p.totals;
+  counted = p.counted;
+}
 
 none_in : {X : Type 0} (xs : List X) → length xs ≡ 0 → xs ≡ []
 none_in [] none = refl

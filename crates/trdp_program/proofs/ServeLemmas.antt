@@ -24,6 +24,7 @@ counts_turns p = record {
     ports = p.took.ports;
     offers = p.took.offers;
     totals_are = p.totals_are ∙ p.took.totals;
+    counted = p.took.counted;
   };
 }
 

@@ -5,11 +5,12 @@ use Rattle.trdp_dataset.specs.Configs.{ConfigModel, ReadsToml, config_of}
 use Rattle.trdp_daemon.specs.declared.totals.Totals.{Totals}
 use Rattle.trdp_daemon.specs.Told.{Taking, Give, TellsMore}
 use Rattle.trdp_daemon.specs.Daemons.{DaemonState, HasServed}
+use Rattle.trdp_daemon.specs.Questions.{text_of_totals}
 use Rattle.trdp_daemon.specs.Resting.{AreEarly, last_reading}
 use Rattle.trdp_daemon.specs.Turns.{Turn}
 use Rattle.trdp_program.specs.Checking.{RefusesConfig}
 use Rattle.trdp_program.specs.Faults.{TellsFault, TellsText, text_of_serve_fault}
-use Rattle.trdp_program.specs.Serving.{AreTotals, text_of_totals}
+use Rattle.trdp_program.specs.Serving.{AreTotals}
 use Rattle.trdp_program.specs.Streams.{Attempt, attempt, written_by, is_cut_behind, line_end}
 use Rattle.trdp_program.specs.declared.faults.ServeFault.{ServeFault}
 use Rattle.trdp_program.specs.declared.faults.ServeFault.TheVariants.{Bind, Write, OutOfMemory}

@@ -2,13 +2,14 @@
 use Rattle.std.specs.Prelude.{◌≡◌, ◌⊎◌, ℕ, List, ◌++◌, codes, length, map, Option, Ok}
 use Rattle.std.specs.List.{flat_map}
 use Rattle.std.specs.Io.KnownBytes.{Appends, Keeps}
-use Rattle.trdp_base.specs.NumberText.{text_of_number}
 use Rattle.trdp_dataset.specs.Configs.{ConfigModel, ReadsToml, config_of}
 use Rattle.trdp_daemon.specs.declared.totals.Totals.{Totals}
 use Rattle.trdp_daemon.specs.Told.{Taking, Give}
+use Rattle.trdp_daemon.specs.Counted.{TurnsCounted}
 use Rattle.trdp_daemon.specs.Counting.{no_totals, totals_after}
 use Rattle.trdp_daemon.specs.Daemons.{DaemonState, TakesTurns, opened_daemon}
 use Rattle.trdp_daemon.specs.Ports.{ports_of}
+use Rattle.trdp_daemon.specs.Questions.{text_of_totals}
 use Rattle.trdp_daemon.specs.Turns.{Turn, AllTakeAt, takings_of, turns_effect, opened_service}
 use Rattle.trdp_script.specs.Writes.{PartlyWrites}
 use Rattle.trdp_program.specs.Faults.{TellsFault, text_of_serve_fault}
@@ -16,18 +17,10 @@ use Rattle.trdp_program.specs.Programs.{TakesNoConfig}
 use Rattle.trdp_program.specs.declared.faults.ServeFault.{ServeFault}
 use Rattle.trdp_program.specs.declared.faults.ServeFault.TheVariants.{Bind, Write, OutOfMemory}
 
--- what is told of a daemon's totals, without the end of the line
-abbrev pub text_of_totals : Totals → List ℕ
-text_of_totals totals =
-    codes "taken " ++ text_of_number totals.taken
-    ++ codes " offered " ++ text_of_number totals.offered
-    ++ codes " lost " ++ text_of_number totals.lost
-    ++ codes " unread " ++ text_of_number totals.unread
-    ++ codes " memory " ++ text_of_number totals.memory
-
 -- these are the totals of a node of that configuration after these turns, its first, with these
 -- gives: each turn took once at each port that is there, in order, and the gives are exactly what
--- the turns offer, whatever they answered
+-- the turns offer, whatever they answered; each answer to the operator that tells of totals tells of
+-- those of its take
 pub record AreTotals (config : ConfigModel) (turns : List Turn) (gives : List Give)
     (totals : Totals) : Type 0 where
   pub ports : AllTakeAt (ports_of config) (opened_service config) turns
@@ -35,6 +28,7 @@ pub record AreTotals (config : ConfigModel) (turns : List Turn) (gives : List Gi
       ≡ (turns_effect (opened_service config) turns).telling.offers
   pub totals_are : totals ≡ totals_after no_totals (flat_map takings_of turns) gives
       (turns_effect (opened_service config) turns).telling.missed
+  pub counted : TurnsCounted no_totals (opened_service config) turns gives
 
 -- these are the totals of a node of that configuration after its first n turns
 pub record CountsTurns (config : ConfigModel) (n : ℕ) (totals : Totals) : Type 0 where

@@ -147,7 +147,7 @@ pub(crate) struct TotalsText(pub(crate) Totals);
 
 impl fmt::Display for TotalsText {
     ghost use Rattle.std.specs.Prelude.{Some};
-    ghost use Rattle.trdp_program.specs.Serving.{text_of_totals};
+    ghost use Rattle.trdp_daemon.specs.Questions.{text_of_totals};
 
     ghost output = { λ text. Some (text_of_totals text.0) };
 

@@ -84,8 +84,8 @@ fn push_control_address(text: &mut String, config: &NodeConfig) -> Result<(), Al
     writeln!(
         text,
         "warning: the network reaches the control ports at {address}: a stranger's datagram, an \
-         empty one too, takes a slot's indications, and his lines are its calls; control_address = \
-         \"127.0.0.1\" keeps him out"
+         empty one too, takes a slot's indications, and his lines are its calls, of which `reset` ends all its \
+         objects; control_address = \"127.0.0.1\" keeps him out"
     )
 }
 

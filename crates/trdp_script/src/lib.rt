@@ -3,10 +3,10 @@
 //!
 //! [`run_script`] plays a script over a node that it opens: it reads lines, lets the node take
 //! their events, and writes what each slot gets. [`read_line`] reads what one line says,
-//! [`read_control`] and [`read_operator`] what one says that came in a datagram, and
+//! [`read_control`] what one says that came in a datagram to a slot's control port, and
 //! [`print_record`] writes a record as its line. Whoever reads line after line keeps a buffer for
-//! their bytes: [`read_event`], [`read_control_event`] and [`read_operator_event`] read the same
-//! over it.
+//! their bytes: [`read_event`] and [`read_control_event`] read the same over it. The lines of the
+//! operator carry none: [`read_operator`] reads an event or a [`Question`].
 //!
 //! ```text
 //! call 0 publish 100 0 100000 0 0 0 10.0.0.2:17224    answers  0 handle 1
@@ -32,6 +32,7 @@ mod form;
 mod input;
 mod line;
 mod names;
+mod operator_line;
 mod output;
 mod owned_line;
 mod play;
@@ -50,8 +51,9 @@ mod words;
 pub use fault::{LineFault, ScriptFault};
 pub use line::{LINE_MAX, read_event};
 pub use names::line_fault_name;
+pub use operator_line::{OperatorLine, Question};
 pub use output::{WRITE_TRIES, write_whole};
-pub use owned_line::{Line, read_control, read_line, read_operator};
-pub use port::{read_control_event, read_operator_event};
+pub use owned_line::{Line, read_control, read_line};
+pub use port::{read_control_event, read_operator};
 pub use print::print_record;
 pub use script::{READS_MAX, run_script};

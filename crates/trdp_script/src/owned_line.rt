@@ -1,14 +1,14 @@
 //! Lines that own the bytes that they carry.
 
-ghost use Rattle.std.specs.Prelude.{◌≡◌, ◌≢◌, option_map, Option, Ok, IfErr};
+ghost use Rattle.std.specs.Prelude.{◌≡◌, option_map, Option, Ok};
 ghost use Rattle.trdp_model.specs.CarriedBytes.{event_with_bytes};
 ghost use Rattle.trdp_model.specs.Events.{EventModel, event_model};
 ghost use Rattle.trdp_script.specs.Lines.{line_of, ReadsLine};
-ghost use Rattle.trdp_script.specs.PortLines.{control_line_of, operator_line_of};
+ghost use Rattle.trdp_script.specs.PortLines.{control_line_of};
 
 use crate::fault::LineFault;
 use crate::line::read_event;
-use crate::port::{read_control_event, read_operator_event};
+use crate::port::read_control_event;
 use std::alloc::Global;
 use std::marker::Model;
 use trdp_engine::Event;
@@ -96,25 +96,6 @@ pub fn read_control(alloc: Global, slot: u16, bytes: &[u8]) -> Result<Line, Line
 {
     let mut buffer = Vec::new(alloc);
     match read_control_event(&mut buffer, slot, bytes) {
-        Ok(event) => Line::keep(alloc, &event),
-        Err(fault) => Err(fault),
-    }
-}
-
-/// Reads a datagram that came to the operator's port: a line that begins with `topology`, `role` or
-/// `addslot` (profile).
-///
-/// An end of line is dropped: a newline, and one carriage return before it. A line that is empty or
-/// begins with `#` is skipped, unless it is too long.
-///
-/// # Errors
-/// `TooLong`, `Unknown` at any other first word, `Count` and `BadWord`, in their order. None of
-/// these lines carries bytes, so that none can want memory.
-pub fn read_operator(alloc: Global, bytes: &[u8]) -> Result<Line, LineFault>
-    ensures meaning { ReadsLine (operator_line_of bytes.now) result }
-    ensures memory { IfErr result (λ fault. fault ≢ LineFault.OutOfMemory) }
-{
-    match read_operator_event(bytes) {
         Ok(event) => Line::keep(alloc, &event),
         Err(fault) => Err(fault),
     }

@@ -1,15 +1,18 @@
 //! Lines that come in datagrams, one in each: at the control port of a slot the calls of its
 //! application, and at the operator's port what concerns the whole node.
 
-ghost use Rattle.std.specs.Prelude.{◌≡◌, ◌≢◌, IfErr};
+ghost use Rattle.std.specs.Prelude.{◌≡◌, ◌≢◌, IfOk, IfErr, Ok, Err, Some, option_map};
 ghost use Rattle.trdp_script.specs.Lines.{Reads};
-ghost use Rattle.trdp_script.specs.PortLines.{control_line_of, operator_line_of};
+ghost use Rattle.trdp_script.specs.PortLines.{control_line_of, operator_line_model};
+ghost use Rattle.trdp_script.specs.PortLines.{operator_line_of, operator_words};
 ghost use Rattle.trdp_script.specs.PortLines.{without_end as line_without_end};
+ghost use Rattle.trdp_script.specs.WordsLeft.{words_left};
 
 use crate::fault::LineFault;
 use crate::form::{read_operators, read_words};
 use crate::input::without_return;
-use crate::line::{LINE_MAX, cut_line, is_skipped};
+use crate::line::{LINE_MAX, is_skipped};
+use crate::operator_line::{OperatorLine, question_of};
 use crate::words::{CALL, CutWords, Words, cut_words};
 use itoa::Buffer;
 use trdp_engine::Event;
@@ -52,26 +55,56 @@ pub fn read_control_event<'b>(
 }
 
 /// Reads a datagram that came to the operator's port: a line that begins with `topology`, `role` or
-/// `addslot` (profile).
+/// `addslot`, or one of the questions `totals` and `slots` (profile).
 ///
 /// An end of line is dropped: a newline, and one carriage return before it. A line that is
-/// empty or begins with `#` is skipped, unless it is too long: it has no event.
+/// empty or begins with `#` is skipped, unless it is too long: it says nothing.
 ///
 /// # Errors
 /// `TooLong`, `Unknown` at any other first word, `Count` and `BadWord`, in their order. None of
 /// these lines carries bytes, so that none can want memory.
 #[tactic(auto, unfolding(crate::specs::PortLines::operator_line_of))]
-pub fn read_operator_event<'b>(bytes: &[u8]) -> Result<Option<Event<'b>>, LineFault>
-    ensures meaning { Reads (operator_line_of bytes.now) result }
+pub fn read_operator<'b>(bytes: &[u8]) -> Result<Option<OperatorLine<'b>>, LineFault>
+    ensures line { IfOk result (λ line.
+        operator_line_of bytes.now ≡ Ok (option_map operator_line_model line)) }
+    ensures fault { IfErr result (λ fault. operator_line_of bytes.now ≡ Err fault) }
     ensures memory { IfErr result (λ fault. fault ≢ LineFault.OutOfMemory) }
 {
-    let mut words = CutWords::new();
-    if !cut_line(&mut words, without_end(bytes))? {
+    let text = without_end(bytes);
+    if text.len() > LINE_MAX {
+        return Err(LineFault::TooLong);
+    }
+    if is_skipped(text) {
         return Ok(None);
     }
-    match read_operators(Words::of(&words)) {
-        Ok(event) => Ok(Some(event)),
+    let mut words = CutWords::new();
+    cut_words(&mut words, text);
+    match read_said(Words::of(&words)) {
+        Ok(line) => Ok(Some(line)),
         Err(fault) => Err(fault),
+    }
+}
+
+/// Reads the words of a line of the operator: a question, which has one word, or an event.
+///
+/// # Errors
+/// `Unknown`, `Count` and `BadWord`, in their order.
+#[tactic(auto, unfolding(crate::specs::PortLines::operator_says))]
+fn read_said<'b>(words: Words<'_, '_>) -> Result<OperatorLine<'b>, LineFault>
+    ensures line { IfOk result (λ line.
+        operator_words (words_left words.entry) ≡ Ok (Some (operator_line_model line))) }
+    ensures fault { IfErr result (λ fault. operator_words (words_left words.entry) ≡ Err fault) }
+    ensures memory { IfErr result (λ fault. fault ≢ LineFault.OutOfMemory) }
+{
+    match question_of(words.first()) {
+        Some(question) => {
+            words.expect(1)?;
+            Ok(OperatorLine::Question(question))
+        }
+        None => match read_operators(words) {
+            Ok(event) => Ok(OperatorLine::Event(event)),
+            Err(fault) => Err(fault),
+        },
     }
 }
 

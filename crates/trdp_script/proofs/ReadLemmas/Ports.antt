@@ -1,10 +1,10 @@
 -- Facts on lines at the control port of a slot and at the operator's port.
--- For `read_control_event`, `read_operator_event`, `read_operator`, and what the daemon may lose.
+-- For `read_control_event` and `read_operator`, and what the daemon may lose.
 -- By: a control line is that of a call with two words before it; the operator has a few forms.
 use Rattle.std.proofs.Common.{◌≡◌, ℕ, ◌+◌, ◌^◌, ◌<◌, ◌≤◌, ◌==◌, nat_lt, Bool, true, false, List, []}
 use Rattle.std.proofs.Common.{◌∷◌, ◌++◌, length, Ok, Err, refl, sym, ap, ◌∙◌, inl, arith}
 use Rattle.std.proofs.Common.{length-append, take, Bor}
-use Rattle.std.proofs.Common.{Option, Some, None, Result, IfErr, if◌then◌else◌}
+use Rattle.std.proofs.Common.{Option, Some, None, Result, if◌then◌else◌}
 use Rattle.std.specs.Option.{option_and_then}
 use Rattle.std.proofs.lemmas.Bool.Decides.{nat_tests}
 use Rattle.std.proofs.lemmas.List.Elements.{All-nil, All-cons}
@@ -17,12 +17,11 @@ use Rattle.trdp_script.specs.Forms.{call_word, event_in, forms, has_keywords}
 use Rattle.trdp_script.specs.Forms.{role_form, topology_form, add_slot_form}
 use Rattle.trdp_script.specs.Words.{words_of, first_word, other_words, number_of_word}
 use Rattle.trdp_script.specs.WordsLeft.{words_at}
-use Rattle.trdp_script.specs.Lines.{Reads, ReadsLine, event_or_fault, form_says, is_skipped}
+use Rattle.trdp_script.specs.Lines.{Reads, event_or_fault, form_says, is_skipped}
 use Rattle.trdp_script.specs.Lines.{line_among}
 use Rattle.trdp_script.specs.Lines.{may_have, say_among, words_say}
 use Rattle.trdp_script.specs.PortLines.{call_line, control_line_of, operator_forms}
-use Rattle.trdp_script.specs.PortLines.{operator_line_of, without_end}
-use Rattle.trdp_model.specs.declared.event.Event.{Event}
+use Rattle.trdp_script.specs.PortLines.{without_end}
 use Rattle.trdp_script.specs.declared.fault.LineFault.{LineFault}
 use Rattle.trdp_script.specs.declared.fault.LineFault.TheVariants.{TooLong, Count, OutOfMemory}
 use Rattle.trdp_script.proofs.ReadLemmas.Fields.{number_lacks_byte}
@@ -156,7 +155,7 @@ other_words_said : (words : List (List ℕ)) → IsOperators (words_say None wor
 unfolding words_say
 other_words_said words = λ is. absurd (cc)
 
-operators_words : (words : List (List ℕ))
+pub operators_words : (words : List (List ℕ))
     → IsOperators (say_among operator_forms words)
 unfolding say_among operator_forms
 operators_words words = by_form (has_keywords topology_form.parts words)
@@ -171,21 +170,8 @@ operators_words words = by_form (has_keywords topology_form.parts words)
     by_form false false true = add_slot_words words
     by_form false false false = other_words_said words
 
--- what a line means at the operator's port
-pub operators_line : (bytes : List ℕ) → IsOperators (operator_line_of bytes)
-unfolding operator_line_of line_among
-operators_line bytes = by_text (nat_lt 140000 (length (without_end bytes)))
-    (is_skipped (without_end bytes))
-  where
-    by_text : (long skipped : Bool) → IsOperators (if long then Err TooLong
-        else (if skipped then Ok None
-        else say_among operator_forms (words_of (without_end bytes))))
-    by_text true skipped = λ is. absurd (cc)
-    by_text false true = tt
-    by_text false false = operators_words (words_of (without_end bytes))
-
 -- memory is never wanting for it
-operators_never_want : (meaning : Result (Option EventModel) LineFault) (fault : LineFault)
+pub operators_never_want : (meaning : Result (Option EventModel) LineFault) (fault : LineFault)
     → IsOperators meaning → Reads meaning (Err fault) → fault ≡ OutOfMemory → ⊥
 operators_never_want (Err bad) fault never reads is = never (sym reads ∙ is)
 operators_never_want (Ok None) fault of reads is = let none = reads.1 in absurd (cc)
@@ -198,14 +184,3 @@ operators_never_want (Ok (Some (DatagramIs protocol src dst bytes))) fault of re
 operators_never_want (Ok (Some (CallIs slot call))) fault of reads is = absurd of
 operators_never_want (Ok (Some (AddSlotIs quotas))) fault of reads is =
     let none = reads.1 in absurd (cc)
-
-pub operators_sure : (meaning : Result (Option EventModel) LineFault)
-    (r : Result (Option Event) LineFault)
-    → IsOperators meaning → Reads meaning r → IfErr r (λ fault. fault ≡ OutOfMemory → ⊥)
-operators_sure meaning (Ok line) of reads = tt
-operators_sure meaning (Err fault) of reads = operators_never_want meaning fault of reads
-
-pub operators_line_sure : (meaning r : Result (Option EventModel) LineFault)
-    → IsOperators meaning → ReadsLine meaning r → IfErr r (λ fault. fault ≡ OutOfMemory → ⊥)
-operators_line_sure meaning (Ok line) of reads = tt
-operators_line_sure meaning (Err fault) of reads = operators_never_want meaning fault of reads

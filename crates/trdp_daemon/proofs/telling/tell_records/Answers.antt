@@ -14,8 +14,8 @@ pub returns-then-is_empty : goal.returns-then-is_empty
 returns-then-is_empty g c =
     let none = c.is_empty.ensures.0 c.if-is_empty.true in
     subst (λ (rs : List RecordModel). Tells g.W.Wire.takings g.W.Wire.gives
-    c.args.places.now c.args.link.now c.args.link.now rs)
-    (sym (ap by_slot none ∙ by_slot_none)) (tells_none _ _ c.args.places.now c.args.link.now)
+    c.args.contacts.now c.args.link.now c.args.link.now rs)
+    (sym (ap by_slot none ∙ by_slot_none)) (tells_none _ _ c.args.contacts.now c.args.link.now)
 
 pub loop-record-init : goal.loop-record-init
 loop-record-init g c = record {
@@ -23,7 +23,7 @@ loop-record-init g c = record {
   ends = search rules;
   came = (
     [],
-    tells_none _ _ c.args.places.now c.args.link.now,
+    tells_none _ _ c.args.contacts.now c.args.link.now,
     sym (c.into_iter-record-iterator.ensures.into_iter_gives ∙ c.by_slot-record-items.ensures),
   );
 }
@@ -43,5 +43,5 @@ pub returns : goal.returns
 returns g c =
     let (done, told, left) = c.loop-record.invariant.came in
     subst (λ (rs : List RecordModel). Tells g.W.Wire.takings g.W.Wire.gives
-    c.args.places.now c.args.link.now c.loop-record.link rs)
+    c.args.contacts.now c.args.link.now c.loop-record.link rs)
     (sym (walked_all _ done _ left c.in-None.ensures.steps.0)) told

@@ -10,6 +10,6 @@ invariant-loop-record g l = record {
   can : (goal.iterator-loop-record g).can_next l.record-iterator;
   ends : (goal.iterator-loop-record g).is_finite l.record-iterator;
   came : (done : List RecordModel)
-      × Tells g.W.Wire.takings g.W.Wire.gives l.places l.fn.link l.link done
+      × Tells g.W.Wire.takings g.W.Wire.gives l.contacts l.fn.link l.link done
       × (by_slot l.records.records ≡ done ++ l.record-iterator);
 }

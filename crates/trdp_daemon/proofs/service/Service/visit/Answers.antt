@@ -41,8 +41,8 @@ returns-in-Pd-clause-takes g c =
       | in_default w ↦ asked_other (uncounted c.args.self.now.node) _ _ _
           w.in_default.not-Control w.port-is w.is_there-is
     ] in
-    let comes = at_pd c.args.self.now _ c.match-port.port c.in-Some.from c.args.self.now.home.pd _
-    c.in-Pd.is c.requires.sound.0 c.take_event.ensures.comes in
+    let comes = at_pd c.args.self.now _ c.take.new.self.totals c.match-port.port c.in-Some.from c.args.self.now.home.pd _
+    c.in-Pd.is c.requires.sound.0.0 c.take_event.ensures.comes in
     port_taken asks c.if-not-is_there.false
     (visited_datagram c.args.self.now _ c.match-port.port _ c.in-Some.from c.in-Some.len
     c.take.new.room _ c.in-Some.is c.split_at.ensures.front (search rules)
@@ -57,8 +57,8 @@ returns-in-Md-clause-takes g c =
       | in_default w ↦ asked_other (uncounted c.args.self.now.node) _ _ _
           w.in_default.not-Control w.port-is w.is_there-is
     ] in
-    let comes = at_md c.args.self.now _ c.match-port.port c.in-Some.from c.args.self.now.home.md _
-    c.in-Md.is c.requires.sound.1 c.take_event-in-Md.ensures.comes in
+    let comes = at_md c.args.self.now _ c.take.new.self.totals c.match-port.port c.in-Some.from c.args.self.now.home.md _
+    c.in-Md.is c.requires.sound.0.1 c.take_event-in-Md.ensures.comes in
     port_taken asks c.if-not-is_there.false
     (visited_datagram c.args.self.now _ c.match-port.port _ c.in-Some.from c.in-Some.len
     c.take.new.room _ c.in-Some.is c.split_at.ensures.front (search rules)
@@ -73,7 +73,7 @@ returns-in-Operator-clause-takes g c =
       | in_default w ↦ asked_other (uncounted c.args.self.now.node) _ _ _
           w.in_default.not-Control w.port-is w.is_there-is
     ] in
-    let comes = at_operator c.args.self.now _ c.match-port.port c.in-Some.from _
+    let comes = at_operator c.args.self.now _ c.take.new.self.totals c.match-port.port c.in-Some.from _
     c.in-Operator.is c.take_operator.ensures.comes in
     port_taken asks c.if-not-is_there.false
     (visited_datagram c.args.self.now _ c.match-port.port _ c.in-Some.from c.in-Some.len
@@ -89,7 +89,7 @@ returns-in-Control-port-clause-takes g c =
       | in_default w ↦ asked_other (uncounted c.args.self.now.node) _ _ _
           w.in_default.not-Control w.port-is w.is_there-is
     ] in
-    let comes = at_control c.args.self.now _ c.match-port.port c.in-Control-port.slot
+    let comes = at_control c.args.self.now _ c.take.new.self.totals c.match-port.port c.in-Control-port.slot
     c.in-Some.from _ c.in-Control-port.is c.take_control.ensures.comes in
     port_taken asks c.if-not-is_there.false
     (visited_datagram c.args.self.now _ c.match-port.port _ c.in-Some.from c.in-Some.len
