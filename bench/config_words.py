@@ -71,7 +71,7 @@ NAMES = {
 QUOTAS = "0 publishers, 0 subscriptions, 0 requesters, 0 listeners, 1 callers, 0 repliers"
 MEANT = f"node 10.0.0.1: process data at port 17224, message data at port 17225\nslot 0, no control port: {QUOTAS}\n"
 REACHED = ("warning: the network reaches the control ports at {}: a stranger's datagram, an empty one too, takes a slot's indications, and "
-           "his lines are its calls; control_address = \"127.0.0.1\" keeps him out\n")
+           "his lines are its calls, of which `reset` ends all its objects; control_address = \"127.0.0.1\" keeps him out\n")
 GROUP = "what is sent to the group alone comes in, and what goes out bears another address\n"
 PORTS = ("slot = [{ control_port = 18000 }, { publishers = 256, repliers = 7 }]\nnode = { operator_port = 65535, md_port = 2, pd_port = 1, "
          "address = '255.254.0.9', spare_control_ports = [0, 18002, 18002], control_address = '127.0.0.1' }\n")

@@ -38,13 +38,13 @@ def free_ports(count):
 
 
 class Node:
-    """A node of so many slots, each with a control port, as a process."""
+    """A node of so many slots, each with these quotas and a control port, as a process."""
 
-    def __init__(self, program, words, slots):
-        pd, md, *self.controls = free_ports(2 + slots)
+    def __init__(self, program, words, slots, quotas="publishers = 1\n"):
+        pd, self.md, *self.controls = free_ports(2 + slots)
         self.config = tempfile.NamedTemporaryFile("w", suffix=".toml")
-        self.config.write(f'[node]\naddress = "{HOST}"\npd_port = {pd}\nmd_port = {md}\n')
-        self.config.writelines(f"[[slot]]\npublishers = 1\ncontrol_port = {it}\n" for it in self.controls)
+        self.config.write(f'[node]\naddress = "{HOST}"\npd_port = {pd}\nmd_port = {self.md}\n')
+        self.config.writelines(f"[[slot]]\n{quotas}control_port = {it}\n" for it in self.controls)
         self.config.flush()
         words = [program, words[0], self.config.name, *words[1:]]
         self.process = subprocess.Popen(words, stdout=subprocess.DEVNULL, stderr=subprocess.DEVNULL)
@@ -86,13 +86,13 @@ def share(values, part):
     return values[min(len(values) - 1, int(part * len(values)))]
 
 
-def telegrams(node, seconds):
-    """When the telegrams of a publisher of 100 ms came, in seconds, and the share of a processor that the node took meanwhile."""
+def telegrams(node, seconds, cycle=CYCLE):
+    """When the telegrams of a publisher of that cycle came, in seconds, and the share of a processor that the node took meanwhile."""
     sink = socket.socket(socket.AF_INET, socket.SOCK_DGRAM)
     sink.bind((HOST, 0))
     sink.setsockopt(socket.SOL_SOCKET, SO_TIMESTAMPNS, 1)
     sink.settimeout(2)
-    node.call(f"publish 100 0 {int(CYCLE * 1e6)} 0 0 0 {HOST}:{sink.getsockname()[1]}")
+    node.call(f"publish 100 0 {int(cycle * 1e6)} 0 0 0 {HOST}:{sink.getsockname()[1]}")
     node.call("put 1 0a0b")
     came, start, used = [], time.monotonic(), node.used()
     while time.monotonic() < start + seconds:

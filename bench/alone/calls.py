@@ -18,12 +18,14 @@ class Calls:
         self.draws, self.beside = draws, beside
 
     def line(self):
-        """A call of any slot: to make something, to have an object do what it serves, to end one, or a wrong one."""
+        """A call of any slot: to make something, to have an object do what it serves, to end one or all, or a wrong one."""
         slots, draws = self.beside.slots, self.draws
         number = draws.random.randrange(len(slots))
         slot = slots[number]
         if draws.one_in(80):
             number = draws.of(len(slots), 16, 65535)
+        if draws.one_in(150):
+            return words("call", number, "reset")
         it = self.chosen(slot)
         share = draws.random.randrange(20)
         if it is None or share < 6:

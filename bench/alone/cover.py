@@ -22,7 +22,7 @@ REFUSED = {
     "abort": "NoHandle WrongKind",
 }
 MAKERS = "publish subscribe openpull listen request"
-DOERS = "put unpublish unsubscribe pull closepull unlisten notify reply query replyerror confirm abort"
+DOERS = "put unpublish unsubscribe pull closepull unlisten notify reply query replyerror confirm abort reset"
 REASONS = "Done NoReply NotAllReplies NotConfirmed ReplyMissed NoConfirm"
 FAULTS = "NoSlot Past TooLate NoGroup SlotsFull"
 TOLD = "opened silent alive notified asked overrun confirmed"

@@ -53,6 +53,7 @@ CALLS = {
     "replyerror": (U32, U32, read_status),
     "confirm": (U32, read_place, read_status),
     "abort": (U32,),
+    "reset": (),
 }
 
 

@@ -100,7 +100,14 @@ class Slot:
         self.add(made)
         return [f"handle {made.handle}"] + (made.request() if made.kind == "caller" else [])
 
+    def reset(self):
+        """The slot begins anew: no object is left, and the next handle goes on."""
+        self.objects.clear()
+        return ["done"]
+
     def call(self, word, values):
+        if word == "reset":
+            return self.reset()
         it = None
         if word in SERVED:
             it = self.objects.get(values[0])

@@ -454,6 +454,20 @@ static enum trdp_slot_error begin(uint32_t *publishes)
         : trdp_slot_put(door, *publishes, closed, sizeof closed);
 }
 
+/* The doors' slot begins anew: what it had is gone, and its handles go on. */
+static void begun_anew(void)
+{
+    struct trdp_slot_publisher terms = publisher();
+    uint32_t before = 0, after = 0;
+    CHECK_ERROR(trdp_slot_publish(door, &terms, &before), TRDP_SLOT_OK);
+    CHECK_ERROR(trdp_slot_reset(door), TRDP_SLOT_OK);
+    CHECK_ERROR(trdp_slot_put(door, before, closed, sizeof closed),
+        TRDP_SLOT_REFUSED_NO_HANDLE);
+    CHECK_ERROR(trdp_slot_publish(door, &terms, &after), TRDP_SLOT_OK);
+    CHECK(after == before + 1);
+    CHECK_ERROR(trdp_slot_reset(door), TRDP_SLOT_OK);
+}
+
 /* A daemon that is ended, and one that is started anew: the application learns of it by a refusal,
  * and makes its objects anew. */
 static void started_anew(void)
@@ -504,6 +518,7 @@ void test_node(void)
     trdp_slot_close(door);
     /* Behind the relay's slot the doors' indications come here again. */
     test_open(&doors, "127.0.9.1", 18000, WAIT);
+    begun_anew();
     started_anew();
     trdp_slot_close(door);
     trdp_slot_close(other);

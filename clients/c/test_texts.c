@@ -337,6 +337,7 @@ static void message_lines(void)
         && had("replyerror 4 301 -2147483648"));
     CHECK(!trdp_slot_confirm(slot, 3, notification.to, 0) && had("confirm 3 10.0.0.2:17225 0"));
     CHECK(!trdp_slot_abort(slot, 3) && had("abort 3"));
+    CHECK(!trdp_slot_reset(slot) && had("reset"));
     CHECK(!trdp_slot_unlisten(slot, 4) && had("unlisten 4"));
 }
 

@@ -21,7 +21,7 @@
  * again, `tries` times in all. The node may have taken the line all the same, where it was the
  * answer that got lost or comes late. Then a second try is a second call:
  *
- *     put, get                       the same again: no harm
+ *     put, get, reset                the same again: no harm
  *     publish, subscribe, openpull,  a second object, which takes its place in the quota too; the
  *     listen                         handle of one of the two stays unknown
  *     pull, notify                   the telegram goes out twice
@@ -1405,6 +1405,15 @@ static inline enum trdp_slot_error trdp_slot_confirm(struct trdp_slot *slot, uin
 static inline enum trdp_slot_error trdp_slot_abort(struct trdp_slot *slot, uint32_t handle)
 {
     return trdp_slot_do_handle(slot, "abort", handle);
+}
+
+/* Has the slot begin anew: all its objects end at once, those of an earlier program too, and no
+ * handle is given out again. The network isn't told. It is never refused, and a second try does no
+ * harm. */
+static inline enum trdp_slot_error trdp_slot_reset(struct trdp_slot *slot)
+{
+    struct trdp_slot_writer line = trdp_slot_line(slot, "reset");
+    return trdp_slot_do(slot, &line);
 }
 
 /* ---- Indications ---- */

@@ -43,7 +43,9 @@ class Node:
             self.highest += 1
             self.made[self.highest] = line
             return [f"0 handle {self.highest}"]
-        if verb not in ("notify", "#") and int(words[0]) not in self.made:
+        if verb == "reset":
+            self.made.clear()
+        elif verb not in ("notify", "#") and int(words[0]) not in self.made:
             return ["0 refused NoHandle"]
         if verb == "get":
             is_subscription = self.made[int(words[0])].startswith("subscribe")
@@ -120,6 +122,7 @@ class Calls(Case):
             ("done", lambda: slot.replyerror(4, 301, -5), "replyerror 4 301 -5"),
             ("done", lambda: slot.confirm(3, "10.0.0.3:17225"), "confirm 3 10.0.0.3:17225 0"),
             ("done", lambda: slot.abort(3), "abort 3"),
+            ("done", lambda: slot.reset(), "reset"),
         ]
         for told, call, line in calls:
             with self.subTest(line):
@@ -330,17 +333,29 @@ class Traps(Case):
     def test_the_operator_is_answered_by_something_else(self) -> None:
         operator = Operator(ADDRESS, self.port.number, tries=1, answer_us=500_000)
         for told, kind in [("", WrongAnswer), (" ", WrongAnswer), ("0 done", WrongAnswer), ("okay", WrongAnswer),
-        ("ok", None),
+                           ("ok", None),
                            ("fault NoGroup", Refused), ("line fault Unknown", Refused)]:
             self.say = lambda _: [told]
             if kind is None:
                 operator.role(1, True)
             else:
                 self.assertRaises(kind, operator.role, 1, True)
+            self.assertRaises(kind or WrongAnswer, operator.totals)
+            self.assertRaises(kind or WrongAnswer, operator.slots)
+
+    def test_what_an_operator_asks(self) -> None:
+        operator = Operator(ADDRESS, self.port.number, tries=1, answer_us=500_000)
+        self.say = lambda _: ["taken 9 offered 8 lost 7 unread 6 memory 5"]
+        self.assertEqual(operator.totals(), (9, 8, 7, 6, 5))
+        self.assertRaises(WrongAnswer, operator.slots)
+        self.say = lambda _: ["0 1/4 2/5 0/0 256/256 0/1 3/3 1500\n1 0/1 0/0 0/0 0/0 0/0 0/0 -"]
+        self.assertEqual(operator.slots(), [(0, (1, 2, 0, 256, 0, 3), (4, 5, 0, 256, 1, 3), 1500),
+                                            (1, (0, 0, 0, 0, 0, 0), (1, 0, 0, 0, 0, 0), None)])
+        self.assertRaises(WrongAnswer, operator.totals)
 
     def test_one_class_is_the_base_of_all(self) -> None:
         for kind, base in [(Refused, Exception), (NoAnswer, TimeoutError), (Nobody, ConnectionRefusedError),
-        (OtherSlot, Exception),
+                           (OtherSlot, Exception),
                            (WrongAnswer, Exception), (ConfigFault, ValueError), (trdp_slot.DoesNotFit, ValueError)]:
             self.assertTrue(issubclass(kind, SlotError) and issubclass(kind, base), kind)
 

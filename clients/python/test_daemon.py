@@ -19,8 +19,8 @@ from typing import Any
 import testing
 from test_values import BASIC
 from testing import CONTROL, MD, OPERATOR, PD, SECOND, Daemon, wait_until
-from trdp_slot import (Alive, Asked, Closed, ConfigFault, Confirmed, Datasets, DoesNotFit, Handle, Notified, Operator,
-                       Overrun, Refused, Replied, Restarted, Silent, Slot)
+from trdp_slot import (Alive, Asked, Closed, ConfigFault, Confirmed, Datasets, DoesNotFit, Handle, Kinds, Notified,
+                       Operator, Overrun, Refused, Replied, Restarted, Silent, Slot, Usage)
 from trdp_telegram import read_telegram
 
 DOOR, DESK, SINK, FRONT = "127.0.8.1", "127.0.8.2", "127.0.8.3", "127.0.8.4"
@@ -361,6 +361,36 @@ class Slots(Case):
         for _ in range(14):
             operator.addslot()
         self.refused("SlotsFull", operator.addslot)
+
+    def test_a_slot_begins_anew(self) -> None:
+        subscription = self.desk.subscribe(100, time_us=100_000)
+        self.assertEqual(self.told(self.desk, Silent), Silent(subscription))
+        before = [self.door.publish(100, f"{DESK}:{PD}", cycle_us=10_000) for _ in range(4)]
+        self.door.put(before[0], b"\x01")
+        self.assertEqual(self.told(self.desk, Alive), Alive(subscription))
+        self.refused("Quota", self.door.publish, 100, f"{DESK}:{PD}")
+        self.door.reset()
+        self.assertEqual(self.told(self.desk, Silent), Silent(subscription))
+        self.refused("NoHandle", self.door.put, before[0].number, b"\x02")
+        self.assertEqual(self.door.publish(100, f"{DESK}:{PD}").number, before[-1].number + 1)
+        self.assertEqual(self.desk.get(subscription).state, "Silent")
+
+    def test_what_an_operator_is_told(self) -> None:
+        operator = Operator(DOOR, OPERATOR, answer_us=SECOND)
+        self.door.listen(300)
+        self.door.publish(100, f"{DESK}:{PD}")
+        self.door.publish(100, f"{DESK}:{PD}")
+        operator.addslot(publishers=3, repliers=256)
+        first, second = operator.totals(), operator.totals()
+        self.assertEqual((second.taken, second.offered), (first.taken + 1, first.offered + 1))
+        self.assertEqual((second.lost, second.unread, second.memory), (0, 0, 0))
+        door, late = operator.slots()
+        self.assertEqual(door[:3], (0, Kinds(2, 0, 0, 1, 0, 0), Kinds(4, 4, 2, 2, 4, 2)))
+        self.assertEqual(late, Usage(1, Kinds(0, 0, 0, 0, 0, 0), Kinds(3, 0, 0, 0, 0, 256), None))
+        self.assertIsNotNone(door.silent_us)
+        since = door.silent_us or 0
+        self.assertLess(since, 60 * SECOND)
+        wait_until(lambda: (operator.slots()[0].silent_us or 0) > since)
 
     def test_a_client_by_address(self) -> None:
         slot = self.client(Slot(DOOR, CONTROL, answer_us=SECOND // 2))

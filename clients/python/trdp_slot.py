@@ -931,6 +931,13 @@ class Slot:
         """Ends a caller or a replier at once. The other side isn't told. A second try does no harm."""
         self._end("abort", handle, tries)
 
+    def reset(self, *, tries: int | None = None) -> None:
+        """Has the slot begin anew: all its objects end at once, those of an earlier program too, and no handle is
+        given out again. The network isn't told. A second try does no harm."""
+        self._ask(["reset"], "done", self._tries(tries))
+        for handle in [*self._handles.values(), *self._declared]:
+            self._forget(handle)
+
     # -- indications ----------------------------------------------------------
 
     def indications(self, time_us: int | None = None) -> Iterator[Indication]:
@@ -1410,6 +1417,42 @@ def _is_address(text: str | os.PathLike[str]) -> bool:
 # -----------------------------------------------------------------------------
 
 
+class Totals(NamedTuple):
+    """What a daemon has counted since it began: datagrams that came, that were given to the system, and that it
+    refused; takes at which it failed; and what was lost for want of memory."""
+
+    taken: int
+    offered: int
+    lost: int
+    unread: int
+    memory: int
+
+
+class Kinds(NamedTuple):
+    """A number for each kind of object."""
+
+    publishers: int
+    subscriptions: int
+    requesters: int
+    listeners: int
+    callers: int
+    repliers: int
+
+
+class Usage(NamedTuple):
+    """What a slot has and may have at most of each kind, and how many microseconds ago its latest line came; None
+    where none has come."""
+
+    slot: int
+    objects: Kinds
+    quotas: Kinds
+    silent_us: int | None
+
+
+_TOTALS = re.compile(" ".join(f"{name} ([0-9]+)" for name in Totals._fields))
+_USAGE = re.compile("([0-9]+)" + " ([0-9]+)/([0-9]+)" * len(Kinds._fields) + " ([0-9]+|-)")
+
+
 class Operator:
     """The operator of a node, at its operator's port: what concerns all slots.
 
@@ -1440,7 +1483,40 @@ class Operator:
         quotas = [publishers, subscriptions, requesters, listeners, callers, repliers]
         self._say(" ".join(["addslot", *(_number_word("quota", it, 0, 256) for it in quotas)]), 1)
 
+    def totals(self) -> Totals:
+        """What the daemon has counted since it began, this line with it."""
+        return Totals(*(int(it) for it in self._told("totals", _TOTALS)[0]))
+
+    def slots(self) -> list[Usage]:
+        """What each slot has and may have, slots rising, and how long ago its latest line came."""
+        usage = []
+        for number, *words, age in self._told("slots", _USAGE):
+            numbers = [int(it) for it in words]
+            silent_us = None if age == "-" else int(age)
+            usage.append(Usage(int(number), Kinds(*numbers[::2]), Kinds(*numbers[1::2]), silent_us))
+        return usage
+
+    def _told(self, line: str, form: re.Pattern[str]) -> list[tuple[str, ...]]:
+        """The words of an answer whose lines all have that form. It changes nothing to ask again."""
+        answer = self._answer(line, self.tries)
+        told = [form.fullmatch(it) for it in answer.split("\n")]
+        if None in told:
+            raise self._wrong(line, answer)
+        return [it.groups() for it in told if it]
+
     def _say(self, line: str, tries: int) -> None:
+        """Has a line done."""
+        answer = self._answer(line, tries)
+        if answer != "ok":
+            raise self._wrong(line, answer)
+
+    def _wrong(self, line: str, answer: str) -> Exception:
+        """What it is that a line has such an answer: a refusal, or none of trdpd."""
+        refused = re.fullmatch("(?:line )?fault ([A-Z][A-Za-z0-9]*)", answer)
+        return Refused(refused[1], line) if refused else WrongAnswer(f"{self.place[0]}:{self.place[1]}", answer)
+
+    def _answer(self, line: str, tries: int) -> str:
+        """The answer to a line, without the end of its last line."""
         place = f"{self.place[0]}:{self.place[1]}"
         is_nobody = False
         for _ in range(tries):
@@ -1449,14 +1525,9 @@ class Operator:
                 port.settimeout(self.answer_us / 1_000_000)
                 try:
                     port.send(line.encode())
-                    answer = _line_of(port.recv(65536))
+                    return _line_of(port.recv(65536))
                 except (TimeoutError, ConnectionRefusedError) as fault:
                     is_nobody = isinstance(fault, ConnectionRefusedError)
-                    continue
-            if answer == "ok":
-                return
-            refused = re.fullmatch("(?:line )?fault ([A-Z][A-Za-z0-9]*)", answer)
-            raise Refused(refused[1], line) if refused else WrongAnswer(place, answer)
         if is_nobody:
             raise Nobody(f"nobody is at {place}: {line}")
         raise NoAnswer(f"no answer, at {tries} tries of {self.answer_us} microseconds: {line}")

@@ -1,0 +1,135 @@
+#!/usr/bin/env python3
+"""What it costs that a slot begins anew.
+
+    bench/reset.py [SECONDS] [PROGRAM]            default: 20 seconds, crates/trdpd/out/trdpd (./run prove builds it)
+
+First how long the answer to `reset` takes over a control port of `trdpd serve`, where the node has 16 slots and each has all its 1,536
+objects, 256 of each kind, beside one of a slot that has none: in turns, the median of each. Then how much later than the earliest the
+telegrams of a publisher of 10 ms leave `trdpd daemon`, by the system's stamp at the socket that they come to, while the slot beside it
+fills and resets itself without end; and the same while that slot does nothing. All is at 127.0.0.1.
+"""
+import os
+import signal
+import socket
+import statistics
+import sys
+import time
+
+from alone.telegrams import Message, write_md
+from rest import HOST, TOP, Node, share, telegrams
+
+SLOTS, OBJECTS = 16, 256
+KINDS = ("publishers", "subscriptions", "requesters", "listeners", "callers", "repliers")
+QUOTAS = "".join(f"{kind} = {OBJECTS}\n" for kind in KINDS)
+ROUNDS = 15
+NOWHERE = f"{HOST}:9"                              # nobody is there
+LATE = 2**32 - 1                                  # the longest time, in microseconds
+CYCLE = 0.01                                      # seconds
+
+
+def calls(count):
+    """The lines by which a slot gets so many objects of each kind but repliers. Their comIds are one another's neighbours."""
+    for i in range(count):
+        yield f"publish {1000 + i} 0 {LATE} 0 0 0 {NOWHERE}"
+        yield f"subscribe {1000 + i} 0 0.0.0.0 0.0.0.0 0.0.0.0 0 0 {LATE} keep"
+        yield f"openpull {1000 + i} 0 0.0.0.0 0 0 {NOWHERE}"
+        yield f"listen {1000 + i} 0.0.0.0 0.0.0.0 0.0.0.0 - 0 0"
+        yield f"request 1 00000000-0000-0000-0000-{i:012x} 0 {LATE} - - 0 0 {NOWHERE} -"
+
+
+class FullNode(Node):
+    """A node of 16 slots that may have 256 objects of each kind."""
+
+    def __init__(self, program):
+        super().__init__(program, ["serve", "--turns", "4294967295"], SLOTS, QUOTAS)
+        self.peer = socket.socket(socket.AF_INET, socket.SOCK_DGRAM)
+        self.sessions = 2**64
+
+    def heard(self, slots):
+        """Has 256 requests come in. Each of these slots answers by a line for each of them."""
+        for _ in range(OBJECTS):
+            self.sessions += 1
+            asked = write_md(Message("Mr", 1000, b"", session=self.sessions, time=LATE))
+            self.peer.sendto(asked, (HOST, self.md))
+            for slot in slots:
+                self.clients[slot].recv(256)
+
+    def fill(self, slot):
+        for line in calls(OBJECTS):
+            if " handle " not in (told := self.call(line, slot)):
+                sys.exit(f"{line}: {told}")
+
+    def timed_reset(self):
+        """How long the answer to a reset of slot 0 takes, in microseconds."""
+        start = time.perf_counter()
+        told = self.call("reset")
+        taken = (time.perf_counter() - start) * 1e6
+        return taken if told == "0 done" else sys.exit(told)
+
+
+def resets(program):
+    """How long a reset of slot 0 takes that has all its objects, and one that has none: the median of each, in microseconds."""
+    node = FullNode(program)
+    for slot in range(1, SLOTS):
+        node.fill(slot)
+    node.heard(range(1, SLOTS))
+    full, empty = [], []
+    for _ in range(ROUNDS):
+        node.fill(0)
+        # The other slots have all the repliers that they may: each says so by `overrun`.
+        node.heard(range(SLOTS))
+        full.append(node.timed_reset())
+        empty.append(node.timed_reset())
+    node.end()
+    return statistics.median(full), statistics.median(empty)
+
+
+def busy(node):
+    """Starts a process that fills slot 1 and resets it, without end. Answers its id."""
+    child = os.fork()
+    if child == 0:
+        while True:
+            try:
+                for line in calls(OBJECTS):
+                    node.call(line, 1)
+                node.call("reset", 1)
+            except OSError:
+                os._exit(0)
+    return child
+
+
+def lateness(came):
+    """How much later each telegram left than one that is on time, in microseconds. A moment that was missed has no telegram, so that what is
+    told is how far each is behind the moment before it: less than a cycle."""
+    phases = [(moment - came[0]) % CYCLE for moment in came]
+    usual = statistics.median(phases)
+    behind = [(phase - usual + CYCLE / 4) % CYCLE * 1e6 for phase in phases]
+    on_time = share(behind, 0.01)
+    return [max(0, it - on_time) for it in behind]
+
+
+def late(program, seconds, beside):
+    """How late the telegrams of slot 0's publisher are, in microseconds, beside a slot that fills and resets itself or does nothing."""
+    node = Node(program, ["daemon"], 2, QUOTAS)
+    child = busy(node) if beside else None
+    came, _ = telegrams(node, seconds, CYCLE)
+    if child:
+        os.kill(child, signal.SIGKILL)
+        os.waitpid(child, 0)
+    node.end()
+    return lateness(came)
+
+
+def main(words):
+    seconds = int(words[0]) if words else 20
+    program = words[1] if len(words) > 1 else f"{TOP}/crates/trdpd/out/trdpd"
+    full, empty = resets(program)
+    print(f"reset of {OBJECTS * len(KINDS)} objects beside {OBJECTS * len(KINDS) * (SLOTS - 1)} others: {full:.0f} microseconds, "
+          f"of none {empty:.0f}")
+    for name, beside in (("alone", False), ("beside fills and resets", True)):
+        times = late(program, seconds, beside)
+        print(f"late, {name}: median {share(times, 0.5):.0f}, 99 % {share(times, 0.99):.0f}, most {max(times):.0f} microseconds")
+
+
+if __name__ == "__main__":
+    main(sys.argv[1:])
