@@ -1,0 +1,4 @@
+pub mod LineLemmas
+pub mod IntakeLemmas
+pub mod OutgoingLemmas
+pub mod IntakeRunLemmas

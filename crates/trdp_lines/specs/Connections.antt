@@ -1,0 +1,77 @@
+-- What a connection tells of its reads and writes.
+use Rattle.std.specs.Prelude.{◌≡◌, ℕ, ◌<◌, ◌≤◌, List, [], ◌++◌, take, Option, Some, None}
+use Rattle.trdp_lines.specs.declared.connection.Came.{Came}
+use Rattle.trdp_lines.specs.declared.connection.Came.TheVariants.{Bytes, Nothing, Ended}
+use Rattle.trdp_lines.specs.declared.connection.Went.{Went}
+use Rattle.trdp_lines.specs.declared.connection.Went.TheVariants.{Bytes as Took}
+use Rattle.trdp_lines.specs.declared.connection.Went.TheVariants.{Nothing as TookNone}
+use Rattle.trdp_lines.specs.declared.connection.Went.TheVariants.{Ended as TookNoMore}
+
+-- what a read answered: these bytes, that none was there, or that no more come
+pub data Arrived : Type 0 where
+  SomeBytes : (bytes : List ℕ) → Arrived
+  NoBytes : Arrived
+  NoMore : Arrived
+
+-- one read: how many bytes it had room for, and what it answered
+pub record Reading : Type 0 where
+  pub room : ℕ
+  pub arrived : Arrived
+
+-- one write: the bytes that it was asked to take, and what it answered, with how many it took
+pub record Writing : Type 0 where
+  pub bytes : List ℕ
+  pub went : Went
+
+-- how many bytes came
+abbrev pub came_count : Came → ℕ
+came_count (Bytes n) = n
+came_count Nothing = 0
+came_count Ended = 0
+
+-- how many bytes went
+abbrev pub went_count : Went → ℕ
+went_count (Took n) = n
+went_count TookNone = 0
+went_count TookNoMore = 0
+
+-- where bytes came, it was one at least, and at most so many
+abbrev pub CameWithin : ℕ → Came → Type 0
+CameWithin most (Bytes n) = (0 < n) × (n ≤ most)
+CameWithin most Nothing = Unit {0}
+CameWithin most Ended = Unit {0}
+
+-- where bytes went, it was one at least, and at most so many
+abbrev pub WentWithin : ℕ → Went → Type 0
+WentWithin most (Took n) = (0 < n) × (n ≤ most)
+WentWithin most TookNone = Unit {0}
+WentWithin most TookNoMore = Unit {0}
+
+-- what a read answered, where what came stands at the front of these bytes
+abbrev pub arrived_in : Came → List ℕ → Arrived
+arrived_in (Bytes n) bytes = SomeBytes (take n bytes)
+arrived_in Nothing bytes = NoBytes
+arrived_in Ended bytes = NoMore
+
+-- a read with room for so many bytes, where what came stands at the front of these
+abbrev pub reading_of : Came → ℕ → List ℕ → Reading
+reading_of came room bytes = record { room = room; arrived = arrived_in came bytes }
+
+-- the bytes that came
+abbrev pub bytes_arrived : Arrived → List ℕ
+bytes_arrived (SomeBytes bytes) = bytes
+bytes_arrived NoBytes = []
+bytes_arrived NoMore = []
+
+-- the bytes of a reading
+abbrev pub bytes_of : Reading → List ℕ
+bytes_of reading = bytes_arrived reading.arrived
+
+abbrev pub writing_of : List ℕ → Went → Writing
+writing_of bytes went = record { bytes = bytes; went = went }
+
+-- a list that is told afterwards was told before, and these were added to it
+abbrev pub TellsMore : {X : Type 0} → Option (List X) → Option (List X) → List X → Type 0
+TellsMore old None more = Unit {0}
+TellsMore None (Some new) more = ⊥
+TellsMore (Some old) (Some new) more = new ≡ old ++ more

@@ -1,0 +1,175 @@
+//! What waits to go out over a stream of bytes.
+
+ghost use Rattle.std.specs.Prelude.{◌≡◌, ◌+◌, ◌<◌, ◌≤◌, [], ◌∷◌, length, drop, IfOk, ◌==◌};
+ghost use Rattle.std.specs.Prelude.{vec_len, vec_capacity};
+ghost use Rattle.trdp_lines.specs.Connections.{WentWithin, TellsMore, went_count, writing_of};
+ghost use Rattle.trdp_lines.specs.Outgoings.{no_outgoing, outgoing_room, lost_line, lost_told};
+ghost use Rattle.trdp_lines.specs.Outgoings.{finds_room, with_bytes, takes_text, with_text};
+
+use crate::connection::{Connection, Went};
+use std::alloc::{AllocError, Global};
+use std::marker::Model;
+use trdp_base::push_number;
+
+/// Room for what the other side hasn't taken, in bytes.
+const OUT_ROOM: usize = 140_000;
+
+/// Room for the longest line that tells how many texts were dropped, in bytes.
+const LOST_ROOM: usize = 26;
+
+/// Texts that wait until the other side of a connection takes their bytes. What finds no room is
+/// dropped whole and counted, and a line tells how many were, in their place.
+#[derive(Drop)]
+pub struct Outgoing {
+    /// The bytes that the other side hasn't taken.
+    waiting: Vec<u8>,
+    /// How many texts were dropped since the latest line that told of such.
+    lost: u64,
+    /// Where that line is written.
+    line: Vec<u8>,
+}
+
+impl Model for Outgoing {
+    ghost use Rattle.std.specs.Prelude.{◌≤◌, length, vec_capacity};
+    ghost use Rattle.trdp_lines.specs.Outgoings.{OutgoingState, HasRooms};
+
+    ghost Value = { OutgoingState };
+
+    ghost view = { λ o. record { waiting = o.waiting.items; lost = o.lost } };
+
+    ghost invariant = { λ o. HasRooms o.waiting.items (vec_capacity o.waiting)
+        (vec_capacity o.line) };
+}
+
+impl Outgoing {
+    /// Nothing waits, and there is all room that it ever needs.
+    ///
+    /// # Errors
+    /// [`AllocError`] where there is no memory for it.
+    pub fn new(alloc: Global) -> Result<Outgoing, AllocError>
+        ensures { IfOk result (λ outgoing. outgoing ≡ no_outgoing) }
+    {
+        let waiting = Vec::with_capacity(alloc, OUT_ROOM)?;
+        let line = Vec::with_capacity(alloc, LOST_ROOM)?;
+        Ok(Outgoing {
+            waiting,
+            lost: 0,
+            line,
+        })
+    }
+
+    /// Leaves all bytes out, and forgets what was dropped.
+    pub fn clear(&mut self)
+        ensures { self.new ≡ no_outgoing }
+    {
+        self.waiting.clear();
+        self.lost = 0;
+    }
+
+    /// Whether no byte waits.
+    pub fn is_empty(&self) -> bool
+        ensures { result ≡ (length self.now.waiting == 0) }
+    {
+        self.waiting.is_empty()
+    }
+
+    /// Puts a text behind what waits, if no text was dropped that isn't told, and there is room
+    /// for all of it; elsewhere it is dropped and counted. What was dropped before is told first,
+    /// where there is room. Answers whether the text stands there.
+    #[tactic(auto, unfolding(crate::specs::Outgoings::with_text))]
+    pub fn push(&mut self, text: &[u8]) -> bool
+        ensures answer { result ≡ takes_text (lost_told self.old) text.now }
+        ensures changed { self.new ≡ with_text (lost_told self.old) text.now }
+    {
+        self.tell_lost();
+        if self.lost == 0 && self.has_room(text) {
+            self.put(text);
+            true
+        } else {
+            self.lost = self.lost.saturating_add(1);
+            false
+        }
+    }
+
+    /// Tells how many texts were dropped, by a line behind what waits, if any was and there is
+    /// room for it.
+    #[tactic(auto, unfolding(crate::specs::Outgoings::lost_told))]
+    pub fn tell_lost(&mut self)
+        ensures { self.new ≡ lost_told self.old }
+    {
+        if self.lost == 0 {
+            return;
+        }
+        write_lost(&mut self.line, self.lost);
+        if self.line.len() <= OUT_ROOM - self.waiting.len() {
+            self.waiting.extend_from_slice(&self.line).unwrap();
+            self.lost = 0;
+        }
+    }
+
+    /// Writes once what waits; what the other side takes of it waits no longer.
+    pub fn flush<C: Connection>(&mut self, to: &mut C) -> Went
+        requires { 0 < length self.old.waiting }
+        ensures count { WentWithin (length self.old.waiting) result }
+        ensures rest { self.new ≡ record self.old {
+          waiting = drop (went_count result) self.old.waiting;
+        } }
+        ensures told { TellsMore (C.writes to.old) (C.writes to.new)
+            (writing_of self.old.waiting result ∷ []) }
+        ensures unread { TellsMore (C.reads to.old) (C.reads to.new) [] }
+    {
+        let went = to.write(&self.waiting);
+        drop_front(&mut self.waiting, went.count());
+        went
+    }
+
+    /// What holds of all that waits: a law for callers, which does nothing when it runs. It is
+    /// never more than there is room for.
+    pub fn sound(&self)
+        ensures { length self.now.waiting ≤ outgoing_room }
+    {
+        let _ = &self.waiting;
+    }
+
+    /// Whether a text finds room.
+    fn has_room(&self, text: &[u8]) -> bool
+        ensures { result ≡ finds_room self.now text.now }
+    {
+        text.len() <= OUT_ROOM - self.waiting.len()
+    }
+
+    /// Puts a text for which there is room behind what waits.
+    fn put(&mut self, text: &[u8])
+        requires { length self.old.waiting + length text.now ≤ outgoing_room }
+        ensures { self.new ≡ with_bytes self.old text.now }
+    {
+        self.waiting.extend_from_slice(text).unwrap();
+    }
+}
+
+/// Writes the line that tells how many texts were dropped, in the place of what stood there.
+#[tactic(auto, unfolding(crate::specs::Outgoings::lost_line))]
+fn write_lost(line: &mut Vec<u8>, lost: u64)
+    requires { 26 ≤ vec_capacity line.old }
+    ensures line { line.new.items ≡ lost_line lost }
+    ensures capacity { vec_capacity line.old ≤ vec_capacity line.new }
+{
+    line.clear();
+    line.extend_from_slice(b"lost ").unwrap();
+    push_number(line, lost).unwrap();
+    line.push_reserved(b'\n');
+}
+
+/// Drops so many bytes at the front; the others move there.
+fn drop_front(bytes: &mut Vec<u8>, count: usize)
+    requires { count ≤ vec_len bytes.old }
+    ensures items { bytes.new.items ≡ drop count bytes.old.items }
+    ensures capacity { vec_capacity bytes.new ≡ vec_capacity bytes.old }
+{
+    if count == 0 {
+        return;
+    }
+    let len = bytes.len();
+    bytes.copy_within(count..len, 0);
+    bytes.truncate(len - count);
+}
