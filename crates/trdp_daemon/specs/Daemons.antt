@@ -11,8 +11,8 @@ use Rattle.trdp_daemon.specs.Ports.{ports_of}
 use Rattle.trdp_daemon.specs.Turns.{Turn, AllTakeAt, takings_of, turns_effect, opened_service}
 use Rattle.trdp_daemon.specs.Turns.{offers_of, missed_of}
 
--- a daemon: its node and what it knows of the slots' applications, its wire, its clock, what it counted, and
--- how long the wire's latest rest was asked for, in microseconds; 0 before the first
+-- a daemon: its node and what it knows of the slots' applications, its wire, its clock, what it
+-- counted, and how long the wire's latest rest was asked for, in microseconds; 0 before the first
 pub record DaemonState (W C : Type 0) : Type 0 where
   pub service : ServiceState
   pub wire : W
@@ -31,9 +31,9 @@ opened_daemon config wire clock = record {
 }
 
 -- n turns were taken, each with one reading of the clock and one take at each port that is there,
--- in order: the gives are exactly what the turns offer, whatever they answered, and an answer to the
--- operator tells of the totals as they were at its take; the wire tells its takes and gives, and the
--- clock its readings, by these functions
+-- in order: the gives are exactly what the turns offer, whatever they answered, and an answer to
+-- the operator tells of the totals as they were at its take; the wire tells its takes and gives,
+-- and the clock its readings, by these functions
 pub record TakesTurns {W C : Type 0} (takings_in : W → Option (List Taking))
     (gives_in : W → Option (List Give)) (readings_in : C → Option (List ℕ)) (n : ℕ)
     (old new : DaemonState W C) : Type 0 where
@@ -54,9 +54,9 @@ pub record TakesTurns {W C : Type 0} (takings_in : W → Option (List Taking))
 
 -- a daemon of this configuration has taken n turns since it was made with this wire and clock, each
 -- with one reading of the clock and one take at each port that is there, in order: the list of its
--- offers is that of these turns, whatever the gives answered, an answer to the operator tells of the
--- totals as they were at its take, and its totals count the datagrams that came, the gives, those
--- that failed, the takes that failed, and the entries that were lost for want of memory
+-- offers is that of these turns, whatever the gives answered, an answer to the operator tells of
+-- the totals as they were at its take, and its totals count the datagrams that came, the gives,
+-- those that failed, the takes that failed, and the entries that were lost for want of memory
 pub record HasServed {W C : Type 0} (takings_in : W → Option (List Taking))
     (gives_in : W → Option (List Give)) (readings_in : C → Option (List ℕ))
     (config : ConfigModel) (wire : W) (clock : C) (n : ℕ) (daemon : DaemonState W C)

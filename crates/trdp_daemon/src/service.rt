@@ -32,7 +32,8 @@ use trdp_dataset::NodeConfig;
 use trdp_engine::{Call, Event, Node, NodeFault, Outbox, Protocol, SLOTS_MAX};
 use trdp_script::{OperatorLine, Question, read_control_event, read_operator};
 
-/// A node, with the latest lines of its slots and the lists that are used again from event to event.
+/// A node, with the latest lines of its slots and the lists that are used again from event to
+/// event.
 #[derive(Drop)]
 pub(crate) struct Service {
     pub(crate) node: Node,
@@ -222,8 +223,8 @@ impl Service {
         }
     }
 
-    /// Gives the node an event, and offers what its records send. Answers the event's fault, with which the node takes no notice of it, if it has
-    /// one.
+    /// Gives the node an event, and offers what its records send. Answers the event's fault, with
+    /// which the node takes no notice of it, if it has one.
     ///
     /// # Errors
     /// `AllocError` for want of memory, where memory may be wanting: the event is counted, and

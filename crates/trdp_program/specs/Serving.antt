@@ -19,8 +19,8 @@ use Rattle.trdp_program.specs.declared.faults.ServeFault.TheVariants.{Bind, Writ
 
 -- these are the totals of a node of that configuration after these turns, its first, with these
 -- gives: each turn took once at each port that is there, in order, and the gives are exactly what
--- the turns offer, whatever they answered; each answer to the operator that tells of totals tells of
--- those of its take
+-- the turns offer, whatever they answered; each answer to the operator that tells of totals tells
+-- of those of its take
 pub record AreTotals (config : ConfigModel) (turns : List Turn) (gives : List Give)
     (totals : Totals) : Type 0 where
   pub ports : AllTakeAt (ports_of config) (opened_service config) turns
