@@ -5,8 +5,8 @@ use Rattle.std.proofs.Common.{◌≡◌, false, ℕ, ◌+◌, ◌-◌, ◌≤◌
 use Rattle.std.proofs.Common.{refl, ap, sym, ◌∙◌, arith}
 use Rattle.std.proofs.lemmas.List.{take_at, drop_at, take-take, drop-take, take-append-drop}
 use Rattle.std.proofs.lemmas.List.{length-drop, length-take-le, take-append-le}
-use Rattle.trdp_lines.specs.declared.connection.Came.{Came}
-use Rattle.trdp_lines.specs.declared.connection.Came.TheVariants.{Bytes, Nothing, Ended}
+use Rattle.trdp_lines.specs.declared.connections.Came.{Came}
+use Rattle.trdp_lines.specs.declared.connections.Came.TheVariants.{Bytes, Nothing, Ended}
 use Rattle.trdp_lines.specs.Connections.{reading_of, came_count, bytes_of}
 use Rattle.trdp_lines.specs.Connections.{CameWithin, SomeBytes}
 use Rattle.trdp_lines.specs.Intakes.{intake_room, lying, LieInOrder, reading_between}

@@ -41,7 +41,7 @@ none_comes (byte ∷ bytes) none =
     none_step (byte == line_end) byte bytes (none_comes bytes) none
 
 -- the rest of bytes without the end of a line is all of them
-rest_unended : (bytes : List ℕ) → has_line bytes ≡ false → rest_of bytes ≡ bytes
+pub rest_unended : (bytes : List ℕ) → has_line bytes ≡ false → rest_of bytes ≡ bytes
 rest_unended [] none = refl
 rest_unended (byte ∷ bytes) none = rw none refl
 

@@ -1,11 +1,12 @@
--- What a connection tells of its reads and writes.
+-- What the connections at a path tell of what was asked of them.
 use Rattle.std.specs.Prelude.{◌≡◌, ℕ, ◌<◌, ◌≤◌, List, [], ◌++◌, take, Option, Some, None}
-use Rattle.trdp_lines.specs.declared.connection.Came.{Came}
-use Rattle.trdp_lines.specs.declared.connection.Came.TheVariants.{Bytes, Nothing, Ended}
-use Rattle.trdp_lines.specs.declared.connection.Went.{Went}
-use Rattle.trdp_lines.specs.declared.connection.Went.TheVariants.{Bytes as Took}
-use Rattle.trdp_lines.specs.declared.connection.Went.TheVariants.{Nothing as TookNone}
-use Rattle.trdp_lines.specs.declared.connection.Went.TheVariants.{Ended as TookNoMore}
+use Rattle.trdp_lines.specs.declared.connections.Accepted.{Accepted}
+use Rattle.trdp_lines.specs.declared.connections.Came.{Came}
+use Rattle.trdp_lines.specs.declared.connections.Came.TheVariants.{Bytes, Nothing, Ended}
+use Rattle.trdp_lines.specs.declared.connections.Went.{Went}
+use Rattle.trdp_lines.specs.declared.connections.Went.TheVariants.{Bytes as Took}
+use Rattle.trdp_lines.specs.declared.connections.Went.TheVariants.{Nothing as TookNone}
+use Rattle.trdp_lines.specs.declared.connections.Went.TheVariants.{Ended as TookNoMore}
 
 -- what a read answered: these bytes, that none was there, or that no more come
 pub data Arrived : Type 0 where
@@ -22,6 +23,14 @@ pub record Reading : Type 0 where
 pub record Writing : Type 0 where
   pub bytes : List ℕ
   pub went : Went
+
+-- one call, with its answer: whether the next connection was there, and has this number then; a
+-- read from a connection; a write to one; and the end of one
+pub data ConnectionCall : Type 0 where
+  Accepts : (number : ℕ) (answer : Accepted) → ConnectionCall
+  Reads : (number : ℕ) (reading : Reading) → ConnectionCall
+  Writes : (number : ℕ) (writing : Writing) → ConnectionCall
+  Closes : (number : ℕ) → ConnectionCall
 
 -- how many bytes came
 abbrev pub came_count : Came → ℕ
@@ -67,6 +76,7 @@ bytes_arrived NoMore = []
 abbrev pub bytes_of : Reading → List ℕ
 bytes_of reading = bytes_arrived reading.arrived
 
+-- the write that was asked to take these bytes, and answered this
 abbrev pub writing_of : List ℕ → Went → Writing
 writing_of bytes went = record { bytes = bytes; went = went }
 

@@ -1,13 +1,13 @@
 -- The bytes that were read and not handed in.
 use Rattle.std.specs.Prelude.{◌≡◌, ℕ, ◌-◌, ◌+◌, ◌<◌, ◌≤◌, List, length, take, drop, true}
 use Rattle.std.specs.Prelude.{false}
-use Rattle.trdp_lines.specs.declared.connection.Came.{Came}
+use Rattle.trdp_lines.specs.declared.connections.Came.{Came}
 use Rattle.trdp_lines.specs.Connections.{Reading, reading_of}
-use Rattle.trdp_lines.specs.Lines.{has_line, first_line, behind_line}
+use Rattle.trdp_lines.specs.Lines.{line_limit, has_line, first_line, behind_line}
 
 -- room for one line with its end, in bytes
 abbrev pub intake_room : ℕ
-intake_room = 140000
+intake_room = line_limit
 
 -- the bytes between two places of a room
 abbrev pub lying : List ℕ → ℕ → ℕ → List ℕ

@@ -4,3 +4,11 @@ pub mod Intakes
 pub mod IntakeRuns
 pub mod Outgoings
 pub mod OutgoingRuns
+pub mod Said
+pub mod Conversations
+pub mod Paths
+pub mod Comings
+pub mod OperatorPaths
+pub mod Seats
+pub mod ControlPaths
+pub mod Askings

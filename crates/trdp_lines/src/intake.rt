@@ -4,11 +4,11 @@ ghost use Rattle.std.specs.Prelude.{◌≡◌, ◌+◌, ◌-◌, ◌<◌, ◌≤
 ghost use Rattle.std.specs.Prelude.{length, take, drop, true, false, IfOk, IfSome, IfNone};
 ghost use Rattle.std.specs.Prelude.{MatchOption};
 ghost use Rattle.trdp_lines.specs.Connections.{CameWithin, TellsMore, came_count, bytes_of};
-ghost use Rattle.trdp_lines.specs.Connections.{reading_of};
+ghost use Rattle.trdp_lines.specs.Connections.{Reads, reading_of};
 ghost use Rattle.trdp_lines.specs.Intakes.{intake_room, lying, IsFirstLine, reading_between};
 ghost use Rattle.trdp_lines.specs.Lines.{has_line, first_line, behind_line};
 
-use crate::connection::{Came, Connection};
+use crate::connections::{Came, Connections};
 use memchr::memchr;
 use std::alloc::{AllocError, Global};
 use std::marker::Model;
@@ -81,18 +81,19 @@ impl Intake {
         self.end - self.begin >= LINE_ROOM
     }
 
-    /// Reads once behind the bytes, into all the room that is left.
-    pub fn fill<C: Connection>(&mut self, from: &mut C) -> Came
+    /// Reads once from the connection of that number, behind the bytes and into all the room that
+    /// is left.
+    pub fn fill<C: Connections>(&mut self, from: &mut C, number: u64) -> Came
         requires { length self.old < intake_room }
         ensures count { CameWithin (intake_room - length self.old) result }
         ensures length { length self.new ≡ length self.old + came_count result }
         ensures bytes { self.new
             ≡ self.old ++ bytes_of (reading_between result self.old self.new) }
-        ensures told { TellsMore (C.reads from.old) (C.reads from.new)
-            (reading_between result self.old self.new ∷ []) }
-        ensures unwritten { TellsMore (C.writes from.old) (C.writes from.new) [] }
+        ensures told { TellsMore (C.calls from.old) (C.calls from.new)
+            (Reads number (reading_between result self.old self.new) ∷ []) }
+        ensures kept { C.file_number from.new ≡ C.file_number from.old }
     {
-        let came = refill(from, &mut self.room, self.begin, self.end);
+        let came = refill(from, number, &mut self.room, self.begin, self.end);
         self.end = self.end - self.begin + came.count();
         self.begin = 0;
         came
@@ -152,24 +153,31 @@ fn to_front(room: &mut [u8], begin: usize, end: usize)
 }
 
 /// Moves the bytes between two places to the room's front, and reads once behind them.
-fn refill<C: Connection>(from: &mut C, room: &mut [u8], begin: usize, end: usize) -> Came
+fn refill<C: Connections>(
+    from: &mut C,
+    number: u64,
+    room: &mut [u8],
+    begin: usize,
+    end: usize,
+) -> Came
     requires order { begin ≤ end }
     requires within { end ≤ length room.old }
     requires spare { end - begin < length room.old }
     ensures count { CameWithin (length room.old - (end - begin)) result }
     ensures bytes { take (end - begin + came_count result) room.new
         ≡ lying room.old begin end ++ take (came_count result) (drop (end - begin) room.new) }
-    ensures told { TellsMore (C.reads from.old) (C.reads from.new)
-        (reading_of result (length room.old - (end - begin)) (drop (end - begin) room.new) ∷ []) }
-    ensures unwritten { TellsMore (C.writes from.old) (C.writes from.new) [] }
+    ensures told { TellsMore (C.calls from.old) (C.calls from.new)
+        (Reads number (reading_of result (length room.old - (end - begin))
+        (drop (end - begin) room.new)) ∷ []) }
+    ensures kept { C.file_number from.new ≡ C.file_number from.old }
 {
     to_front(room, begin, end);
     let (_, free) = room.split_at_mut(end - begin);
-    from.read(free)
+    from.read(number, free)
 }
 
 /// Copies a line to a room's front, cut to it. Answers how many bytes it has there.
-fn copy_front(line: &[u8], to: &mut [u8]) -> usize
+pub(crate) fn copy_front(line: &[u8], to: &mut [u8]) -> usize
     ensures within { result ≤ length to.new }
     ensures line { take result to.new ≡ take (length to.old) line.now }
     ensures room { drop result to.new ≡ drop result to.old }

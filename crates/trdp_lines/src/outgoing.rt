@@ -2,11 +2,12 @@
 
 ghost use Rattle.std.specs.Prelude.{◌≡◌, ◌+◌, ◌<◌, ◌≤◌, [], ◌∷◌, length, drop, IfOk, ◌==◌};
 ghost use Rattle.std.specs.Prelude.{vec_len, vec_capacity};
-ghost use Rattle.trdp_lines.specs.Connections.{WentWithin, TellsMore, went_count, writing_of};
+ghost use Rattle.trdp_lines.specs.Connections.{WentWithin, TellsMore, Writes, went_count};
+ghost use Rattle.trdp_lines.specs.Connections.{writing_of};
 ghost use Rattle.trdp_lines.specs.Outgoings.{no_outgoing, outgoing_room, lost_line, lost_told};
 ghost use Rattle.trdp_lines.specs.Outgoings.{finds_room, with_bytes, takes_text, with_text};
 
-use crate::connection::{Connection, Went};
+use crate::connections::{Connections, Went};
 use std::alloc::{AllocError, Global};
 use std::marker::Model;
 use trdp_base::push_number;
@@ -107,18 +108,19 @@ impl Outgoing {
         }
     }
 
-    /// Writes once what waits; what the other side takes of it waits no longer.
-    pub fn flush<C: Connection>(&mut self, to: &mut C) -> Went
+    /// Writes once what waits to the connection of that number; what the other side takes of it
+    /// waits no longer.
+    pub fn flush<C: Connections>(&mut self, to: &mut C, number: u64) -> Went
         requires { 0 < length self.old.waiting }
         ensures count { WentWithin (length self.old.waiting) result }
         ensures rest { self.new ≡ record self.old {
           waiting = drop (went_count result) self.old.waiting;
         } }
-        ensures told { TellsMore (C.writes to.old) (C.writes to.new)
-            (writing_of self.old.waiting result ∷ []) }
-        ensures unread { TellsMore (C.reads to.old) (C.reads to.new) [] }
+        ensures told { TellsMore (C.calls to.old) (C.calls to.new)
+            (Writes number (writing_of self.old.waiting result) ∷ []) }
+        ensures kept { C.file_number to.new ≡ C.file_number to.old }
     {
-        let went = to.write(&self.waiting);
+        let went = to.write(number, &self.waiting);
         drop_front(&mut self.waiting, went.count());
         went
     }

@@ -1,5 +1,5 @@
 use Rattle.std.proofs.Common.{◌≡◌, [], ◌∷◌, length, drop, sym, subst, arith}
-use Rattle.trdp_lines.specs.Connections.{Reading, TellsMore}
+use Rattle.trdp_lines.specs.Connections.{Reading, Reads, TellsMore}
 use Rattle.trdp_lines.proofs.IntakeLemmas.{read_between, grown_by, longer_by, still_in_order}
 use Rattle.trdp_lines.proofs.IntakeLemmas.{came_at_most}
 use Rattle.trdp_lines.proofs.intake.Intake.fill.Goals as goal
@@ -34,8 +34,8 @@ returns-clause-told g c =
     let room = c.refill-came.new.room in
     let whole : length c.deref_mut.result.now ≡ 140000 = omega (arith, c.deref_mut.ensures.len) in
     rw (c.count.ensures, ← c.self.view_is) (subst (λ (reading : Reading).
-    TellsMore (g.C.Connection.reads c.args.from.now)
-    (g.C.Connection.reads c.refill-came.new.from) (reading ∷ [])) (sym (
+    TellsMore (g.C.Connections.calls c.args.from.now)
+    (g.C.Connections.calls c.refill-came.new.from) (Reads c.args.number reading ∷ [])) (sym (
     read_between c.refill-came.result inside.room.items room
     (drop (length room) inside.room.items) inside.room.len inside.begin inside.end
     (omega (arith, c.refill-came.auto.room, c.deref_mut.ensures.len)) (omega arith)

@@ -1,0 +1,243 @@
+-- Which connection was asked for, and which was read from, where nothing was found.
+-- For both paths.
+-- By: what each call adds; who speaks last spoke all the time, or in the place of one that did.
+use Rattle.std.proofs.Common.{◌≡◌, ℕ, ◌+◌, ◌<◌, ◌==◌, ◌||◌, ◌++◌, ◌⊎◌, List, [], ◌∷◌, Bool}
+use Rattle.std.proofs.Common.{true, false, Option, Some, None, refl, ap, sym}
+use Rattle.std.proofs.Common.{◌∙◌, subst, map, inl, inr}
+use Rattle.std.proofs.lemmas.Bool.{eq-eqb}
+use Rattle.trdp_lines.specs.declared.connections.Accepted.{Accepted}
+use Rattle.trdp_lines.specs.Askings.{AsksNext, AsksOne, AsksSpeaker, IsTurnOf, Listens, NoneFails}
+use Rattle.trdp_lines.specs.Askings.{TakesTurn, WasClosed, asks_for, closes, fails, is_failed}
+use Rattle.trdp_lines.specs.Askings.{reads_from, was_closed, was_read}
+use Rattle.trdp_lines.specs.Connections.{ConnectionCall, Accepts, Closes, Reads, Writes}
+use Rattle.trdp_lines.specs.Connections.{TellsMore}
+use Rattle.trdp_lines.specs.Conversations.{ConversationState, HasRead, HasWritten, is_done}
+use Rattle.trdp_lines.specs.Paths.{last_number}
+use Rattle.trdp_lines.specs.Seats.{IsRefused}
+use Rattle.trdp_lines.proofs.AskingLemmas.{among_first, among_none, among_once, among_second}
+use Rattle.trdp_lines.proofs.AskingLemmas.{none_fails_next, told_next, writes_fail}
+use Rattle.trdp_lines.proofs.CallLemmas.{or_false}
+use Rattle.trdp_lines.proofs.GoingOnLemmas.{never_both}
+use Rattle.trdp_lines.proofs.HandingLemmas.{tells_nothing}
+
+-- a number is itself, and nothing else is asked
+only_same : (n : ℕ) → ((n == n) || false) ≡ true
+only_same n = ap (λ (b : Bool). b || false) (eq-eqb n n refl)
+
+-- by writes the system refuses none
+pub written_fails : (n : ℕ) (texts : List (List ℕ)) (c c_then : ConversationState)
+    (calls calls_then : Option (List ConnectionCall)) → HasWritten n texts c c_then calls calls_then
+    → NoneFails calls calls_then
+written_fails n texts c c_then calls calls_then written = record {
+  more = map (Writes n) written.writings;
+  told = written.told;
+  unfailed = writes_fail n written.writings;
+}
+
+-- by the end of a connection the system refuses none
+pub close_fails : (n : ℕ) (calls calls_then : Option (List ConnectionCall))
+    → TellsMore calls calls_then (Closes n ∷ []) → NoneFails calls calls_then
+close_fails n calls calls_then told = record {
+  more = Closes n ∷ [];
+  told = told;
+  unfailed = refl;
+}
+
+-- one that is done was written to alone
+pub asks_done : (n : ℕ) (c c_then c_last : ConversationState)
+    (calls calls_then : Option (List ConnectionCall)) → HasWritten n [] c c_then calls calls_then
+    → is_done c_last ≡ true → AsksOne n calls calls_then c_last
+asks_done n c c_then c_last calls calls_then written done = record {
+  more = map (Writes n) written.writings;
+  told = written.told;
+  reads = λ going. never_both (is_done c_last) done going;
+  unfailed = writes_fail n written.writings;
+}
+
+-- one was written to, and read from
+pub asks_read : (n : ℕ) (a b c d last : ConversationState)
+    (one two three : Option (List ConnectionCall)) → HasWritten n [] a b one two
+    → HasRead n c d two three → AsksOne n one three last
+asks_read n a b c d last one two three written read = record {
+  more = map (Writes n) written.writings ++ Reads n read.reading ∷ [];
+  told = told_next one two three (map (Writes n) written.writings) (Reads n read.reading ∷ [])
+      written.told read.told;
+  reads = λ going. among_second (reads_from n) (map (Writes n) written.writings)
+      (Reads n read.reading ∷ []) (only_same n);
+  unfailed = among_none fails (map (Writes n) written.writings) (Reads n read.reading ∷ [])
+      (writes_fail n written.writings);
+}
+
+-- where the next connection may not be asked for
+pub asks_not : (calls : Option (List ConnectionCall)) (may : Type 0) (came : ℕ)
+    → (may → came < last_number → ⊥) → AsksNext calls calls may came false
+asks_not calls may came never = record {
+  more = [];
+  told = tells_nothing calls;
+  accepts = λ can low. absurd (never can low);
+  failed = refl;
+}
+
+-- where it was asked for, and what else was asked behind that
+pub asks_accept : (one two three : Option (List ConnectionCall)) (may : Type 0) (came : ℕ)
+    (answer : Accepted) (fault : Bool) → TellsMore one two (Accepts (came + 1) answer ∷ [])
+    → is_failed answer ≡ fault → NoneFails two three → AsksNext one three may came fault
+asks_accept one two three may came answer fault told same behind = record {
+  more = Accepts (came + 1) answer ∷ behind.more;
+  told = told_next one two three (Accepts (came + 1) answer ∷ []) behind.more told behind.told;
+  accepts = λ can low. among_first (asks_for (came + 1)) (Accepts (came + 1) answer ∷ [])
+      behind.more (only_same (came + 1));
+  failed = among_once fails (Accepts (came + 1) answer ∷ []) behind.more behind.unfailed
+      ∙ or_false (is_failed answer) ∙ same;
+}
+
+-- the refusal of a connection is none by the system
+pub refused_fails : (n : ℕ) (calls calls_then : Option (List ConnectionCall))
+    → IsRefused n calls calls_then → NoneFails calls calls_then
+refused_fails n calls calls_then refused = record {
+  more = Writes n refused.writing ∷ Closes n ∷ [];
+  told = refused.told;
+  unfailed = refl;
+}
+
+-- who speaks stays
+pub takes_same : (calls calls_then : Option (List ConnectionCall))
+    (speaking speaking_then : Option ℕ) → speaking_then ≡ speaking → NoneFails calls calls_then
+    → TakesTurn calls calls_then speaking speaking_then
+takes_same calls calls_then speaking speaking_then same tells = record {
+  more = tells.more;
+  told = tells.told;
+  follows = λ n some. inl (sym same ∙ some);
+  unfailed = tells.unfailed;
+}
+
+-- who spoke was closed
+pub takes_closed : (calls calls_then : Option (List ConnectionCall)) (n : ℕ)
+    (speaking speaking_then : Option ℕ) → speaking ≡ Some n
+    → TellsMore calls calls_then (Closes n ∷ [])
+    → TakesTurn calls calls_then speaking speaking_then
+takes_closed calls calls_then n speaking speaking_then spoke told = record {
+  more = Closes n ∷ [];
+  told = told;
+  follows = λ k some. inr (record { whose = n; spoke = spoke; closed = only_same n });
+  unfailed = refl;
+}
+
+-- none speaks
+pub listens_none : (calls : Option (List ConnectionCall)) (speaking : Option ℕ) → speaking ≡ None
+    → Listens calls calls speaking
+listens_none calls speaking none = record {
+  more = [];
+  told = tells_nothing calls;
+  reads = λ n some.
+      let never : None ≡ Some n = sym none ∙ some in
+      cc;
+  unfailed = refl;
+}
+
+-- the one that speaks was read from
+pub listens_read : (n : ℕ) (c c_then : ConversationState)
+    (calls calls_then : Option (List ConnectionCall)) → c.number ≡ Some n
+    → HasRead n c c_then calls calls_then → Listens calls calls_then c_then.number
+listens_read n c c_then calls calls_then number read = record {
+  more = Reads n read.reading ∷ [];
+  told = read.told;
+  reads = λ k some.
+      let whose : Some n ≡ Some k = sym number
+      ∙ sym (ap (λ (s : ConversationState). s.number) read.read) ∙ some in
+      let same : n ≡ k = cc in
+      inl (subst (λ (m : ℕ). was_read m (Reads n read.reading ∷ []) ≡ true) same (only_same n));
+  unfailed = refl;
+}
+
+-- who had its turn by some calls had it by these and more
+turn_more : (n : ℕ) (first second : List ConnectionCall) → IsTurnOf n first
+    → IsTurnOf n (first ++ second)
+turn_more n first second turn = elim turn [
+  | inl read ↦ inl (among_first (reads_from n) first second read)
+  | inr was ↦ inr (record {
+    whose = was.whose;
+    read = among_first (reads_from was.whose) first second was.read;
+    closed = among_first (closes was.whose) first second was.closed;
+  })
+]
+
+-- who had its turn by some calls had it by more and these
+turn_behind : (n : ℕ) (first second : List ConnectionCall) → IsTurnOf n second
+    → IsTurnOf n (first ++ second)
+turn_behind n first second turn = elim turn [
+  | inl read ↦ inl (among_second (reads_from n) first second read)
+  | inr was ↦ inr (record {
+    whose = was.whose;
+    read = among_second (reads_from was.whose) first second was.read;
+    closed = among_second (closes was.whose) first second was.closed;
+  })
+]
+
+-- one that was read from, or its place, was closed behind that
+turn_closed : (n whose : ℕ) (first second : List ConnectionCall) → IsTurnOf whose first
+    → was_closed whose second ≡ true → IsTurnOf n (first ++ second)
+turn_closed n whose first second turn closed = elim turn [
+  | inl read ↦ inr (record {
+    whose = whose;
+    read = among_first (reads_from whose) first second read;
+    closed = among_second (closes whose) first second closed;
+  })
+  | inr was ↦ turn_more n first second (inr was)
+]
+
+-- who speaks behind that had its turn
+turn_then : (n : ℕ) (speaking : Option ℕ) (first second : List ConnectionCall)
+    → ((k : ℕ) → speaking ≡ Some k → IsTurnOf k first)
+    → ((speaking ≡ Some n) ⊎ WasClosed speaking second) → IsTurnOf n (first ++ second)
+turn_then n speaking first second reads follows = elim follows [
+  | inl same ↦ turn_more n first second (reads n same)
+  | inr was ↦ turn_closed n was.whose first second (reads was.whose was.spoke) was.closed
+]
+
+-- who speaks behind a read spoke then, or in the place of one that did
+pub listens_then : (one two three : Option (List ConnectionCall))
+    (speaking speaking_then : Option ℕ) → Listens one two speaking
+    → TakesTurn two three speaking speaking_then → Listens one three speaking_then
+listens_then one two three speaking speaking_then first second = record {
+  more = first.more ++ second.more;
+  told = told_next one two three first.more second.more first.told second.told;
+  reads = λ n some. turn_then n speaking first.more second.more first.reads
+      (second.follows n some);
+  unfailed = among_none fails first.more second.more first.unfailed ∙ second.unfailed;
+}
+
+-- what was asked in all parts of a take
+asks_through : (one two three four : Option (List ConnectionCall)) (waiting waiting_mid : Option ℕ)
+    (came : ℕ) (speaking : Option ℕ) (fault : Bool) → (waiting ≡ None → waiting_mid ≡ None)
+    → NoneFails one two → AsksNext two three (waiting_mid ≡ None) came fault
+    → Listens three four speaking → AsksSpeaker one four waiting came speaking fault
+asks_through one two three four waiting waiting_mid came speaking fault unwaited first next heard =
+    let behind = next.more ++ heard.more in
+    record {
+      more = first.more ++ behind;
+      told = told_next one two four first.more behind first.told
+          (told_next two three four next.more heard.more next.told heard.told);
+      accepts = λ none low. among_second (asks_for (came + 1)) first.more behind
+          (among_first (asks_for (came + 1)) next.more heard.more
+          (next.accepts (unwaited none) low));
+      reads = λ n some. turn_behind n first.more behind
+          (turn_behind n next.more heard.more (heard.reads n some));
+      failed = among_none fails first.more behind first.unfailed
+          ∙ among_once fails next.more heard.more heard.unfailed ∙ next.failed;
+    }
+
+-- by the names of what is there
+pub asks_speaker : (one two three four five six : Option (List ConnectionCall))
+    (waiting waiting_mid : Option ℕ) (came came_mid : ℕ) (a b speaking speaking_then : Option ℕ)
+    (fault : Bool) → (waiting ≡ None → waiting_mid ≡ None) → came_mid ≡ came → NoneFails one two
+    → TakesTurn two three a b → AsksNext three four (waiting_mid ≡ None) came_mid fault
+    → Listens four five speaking → TakesTurn five six speaking speaking_then
+    → AsksSpeaker one six waiting came speaking_then fault
+asks_speaker one two three four five six waiting waiting_mid came came_mid a b speaking
+    speaking_then fault unwaited same first turn next heard last =
+    asks_through one three four six waiting waiting_mid came speaking_then fault unwaited
+    (none_fails_next one two three first
+    (record { more = turn.more; told = turn.told; unfailed = turn.unfailed }))
+    (subst (λ (n : ℕ). AsksNext three four (waiting_mid ≡ None) n fault) same next)
+    (listens_then four five six speaking speaking_then heard last)

@@ -1,0 +1,30 @@
+use Rattle.trdp_lines.proofs.AskingLemmas.{asks_seats}
+use Rattle.trdp_lines.proofs.ServedLemmas.{comes_served}
+use Rattle.trdp_lines.proofs.operator_path.OperatorPath.take.Goals as goal
+
+pub returns-in-Some-clause-served : goal.returns-in-Some-clause-served
+returns-in-Some-clause-served g c = comes_served c.args.self.now.came c.admit-admitted.new.self.came
+    c.next_line.new.self.came _ _ c.admit-admitted.new.self.seats c.next_line.new.self.seats
+    c.admit-admitted.ensures.served c.next_line.ensures.goes_on c.next_line.ensures.came
+
+pub returns-in-Ok-clause-served : goal.returns-in-Ok-clause-served
+returns-in-Ok-clause-served g c = comes_served c.args.self.now.came c.admit-admitted.new.self.came
+    c.next_line.new.self.came _ _ c.admit-admitted.new.self.seats c.next_line.new.self.seats
+    c.admit-admitted.ensures.served c.next_line.ensures.goes_on c.next_line.ensures.came
+
+pub returns-in-Err-clause-served : goal.returns-in-Err-clause-served
+returns-in-Err-clause-served g c = comes_served c.args.self.now.came c.admit-admitted.new.self.came
+    c.next_line.new.self.came _ _ c.admit-admitted.new.self.seats c.next_line.new.self.seats
+    c.admit-admitted.ensures.served c.next_line.ensures.goes_on c.next_line.ensures.came
+
+pub returns-in-Ok-clause-asked : goal.returns-in-Ok-clause-asked
+returns-in-Ok-clause-asked g c = asks_seats _ _ _ c.args.self.now.came _
+    c.admit-admitted.new.self.seats c.next_line.new.self.seats
+    (rw c.in-Ok.is at c.admit-admitted.ensures.asked) c.in-None.ensures.asked
+    c.in-None.ensures.four
+
+pub returns-in-Err-clause-asked : goal.returns-in-Err-clause-asked
+returns-in-Err-clause-asked g c = asks_seats _ _ _ c.args.self.now.came _
+    c.admit-admitted.new.self.seats c.next_line.new.self.seats
+    (rw c.in-Err.is at c.admit-admitted.ensures.asked) c.in-None.ensures.asked
+    c.in-None.ensures.four

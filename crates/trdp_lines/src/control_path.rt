@@ -1,0 +1,346 @@
+//! The connections at the path of a control port: one application at a time.
+
+ghost use Rattle.std.specs.Prelude.{◌≡◌, ◌≤◌, length, IfSome};
+ghost use Rattle.trdp_lines.specs.Paths.{HandsEnd};
+
+use crate::admission::{LAST_NUMBER, refuse};
+use crate::connections::{Accepted, Came, Connections};
+use crate::conversation::Conversation;
+use crate::intake::copy_front;
+use crate::path_fault::{AcceptFault, LostText};
+use std::alloc::Global;
+use std::marker::Model;
+
+/// What the wire hands in of its own where an application has ended.
+const RESET: &[u8] = b"reset";
+
+/// The connections at a path, of which one is the application: from its first line on until it
+/// ends. What it says is handed in line by line, and its end as the line `reset`.
+#[derive(Drop)]
+pub struct ControlPath<C: Connections> {
+    /// The connections.
+    connections: C,
+    /// The one whose lines are handed in.
+    speaker: Conversation,
+    /// The number of the one that came behind it, which isn't read from before that has said
+    /// whether it lives; None where none did.
+    waiting: Option<u64>,
+    /// How many connections came.
+    came: u64,
+    /// Whether something came or failed at a take since this was asked the last time.
+    heard: bool,
+}
+
+impl<C: Connections> Model for ControlPath<C> {
+    ghost use Rattle.trdp_lines.specs.ControlPaths.{IsControlPath};
+    ghost use Rattle.trdp_lines.specs.Paths.{PathState};
+
+    ghost Value = { PathState C };
+
+    ghost view = { λ p. record {
+      connections = p.connections;
+      speaker = p.speaker;
+      waiting = p.waiting;
+      came = p.came;
+    } };
+
+    ghost invariant = { λ p. IsControlPath (C.calls p.connections) p.speaker p.waiting p.came };
+}
+
+impl<C: Connections> ControlPath<C> {
+    ghost use Rattle.std.specs.Prelude.{◌≡◌, ◌≤◌, ℕ, true, [], length, IfOk, IfErr, IfSome};
+    ghost use Rattle.std.specs.Prelude.{IfNone, Some, None, is_err};
+    ghost use Rattle.trdp_lines.specs.Askings.{AsksNext, AsksSpeaker, IfNothing, Listens};
+    ghost use Rattle.trdp_lines.specs.Askings.{NoneFails, TakesTurn};
+    ghost use Rattle.trdp_lines.specs.Comings.{ComesNext, HaveCome};
+    ghost use Rattle.trdp_lines.specs.ControlPaths.{AreServed, ProceedsIfTold, has_place};
+    ghost use Rattle.trdp_lines.specs.ControlPaths.{no_places, places_of};
+    ghost use Rattle.trdp_lines.specs.Conversations.{conversation_of};
+    ghost use Rattle.trdp_lines.specs.Paths.{HandsInNext, IsReadyIf, SaysTo, left_at, speaks};
+    ghost use Rattle.trdp_lines.specs.Said.{HandsIn, applications_say};
+
+    /// The connections at a path, of which none was accepted yet. All memory that they ever need is
+    /// taken here.
+    ///
+    /// # Errors
+    /// The connections come back where there is no memory.
+    pub fn new(alloc: Global, connections: C) -> Result<ControlPath<C>, C>
+        requires { IfSome (C.calls connections) (λ calls. calls ≡ []) }
+        ensures made { IfOk result (λ path. path.connections ≡ connections) }
+        ensures nothing_left { IfOk result (λ path. left_at path ≡ []) }
+        ensures none_came { IfOk result (λ path. places_of path ≡ no_places) }
+        ensures returned { IfErr result (λ back. back ≡ connections) }
+    {
+        match Conversation::new(alloc) {
+            Ok(speaker) => Ok(ControlPath {
+                connections,
+                speaker,
+                waiting: None,
+                came: 0,
+                heard: false,
+            }),
+            Err(_) => Err(connections),
+        }
+    }
+
+    /// Its connections.
+    pub fn connections(&self) -> &C
+        ensures { result.now ≡ self.now.connections }
+    {
+        &self.connections
+    }
+
+    /// Whether something came or failed at a take since this was asked the last time.
+    pub fn has_heard(&mut self) -> bool
+        ensures { self.new ≡ self.old }
+    {
+        let heard = self.heard;
+        self.heard = false;
+        heard
+    }
+
+    /// Hands in the next line of the application without its end, or the line `reset` behind its
+    /// last one where it has ended: it is put at the front of the room, cut to it, and the answer
+    /// is the number of the connection and how many bytes it has there. Where none is there all is
+    /// handed in that came. It makes one read at most, accepts one connection at most, and has the
+    /// application take what waits for it.
+    ///
+    /// # Errors
+    /// [`AcceptFault`] where nothing is there and the system refuses the next connection.
+    pub fn take(&mut self, room: &mut [u8]) -> Result<Option<(u64, usize)>, AcceptFault>
+        ensures within { IfOk result (λ found. IfSome found (λ f. f.1 ≤ length room.new)) }
+        ensures next { IfOk result (λ found. HandsInNext
+            (C.calls self.old.connections) (C.calls self.new.connections)
+            (left_at self.old) (left_at self.new) (length room.old) found room.new) }
+        ensures refused { IfErr result (λ _. HandsInNext
+            (C.calls self.old.connections) (C.calls self.new.connections)
+            (left_at self.old) (left_at self.new) (length room.old) None room.new) }
+        ensures numbers { IfOk result (λ found. IfSome found (λ f. f.0 ≤ self.new.came)) }
+        ensures came { ComesNext
+            (C.calls self.old.connections) (C.calls self.new.connections)
+            self.old.came self.new.came }
+        ensures served { AreServed (C.calls self.new.connections)
+            (places_of self.old) (places_of self.new) }
+        ensures asked { IfNothing result (λ fault. AsksSpeaker
+            (C.calls self.old.connections) (C.calls self.new.connections)
+            self.old.waiting self.old.came self.new.speaker.number fault) }
+        ensures kept { C.file_number self.new.connections ≡ C.file_number self.old.connections }
+    {
+        self.flush();
+        if let Some(found) = self.next_text(room) {
+            self.heard = true;
+            return Ok(Some(found));
+        }
+        let admitted = self.admit();
+        self.listen();
+        match self.next_text(room) {
+            Some(found) => {
+                self.heard = true;
+                Ok(Some(found))
+            }
+            None => match admitted {
+                Ok(()) => Ok(None),
+                Err(fault) => Err(fault),
+            },
+        }
+    }
+
+    /// Says a text to the connection of that number, if it is the one that speaks: it waits until
+    /// the other side takes it. Whoever has ended is told nothing.
+    ///
+    /// # Errors
+    /// [`LostText`] where it finds no room behind what waits already: it is dropped whole, and the
+    /// other side is told in its place, by a line `lost N`, how many were.
+    pub fn give(&mut self, number: u64, text: &[u8]) -> Result<(), LostText>
+        ensures says { SaysTo (C.calls self.old.connections) (C.calls self.new.connections)
+            (speaks self.old.speaker.number number) number text.now self.old self.new result }
+        ensures waiting { self.new.waiting ≡ self.old.waiting }
+        ensures came { self.new.came ≡ self.old.came }
+        ensures left { left_at self.new ≡ left_at self.old }
+        ensures hands_in { HandsIn applications_say
+            (C.calls self.old.connections) (C.calls self.new.connections)
+            (left_at self.old) (left_at self.new) [] }
+        ensures kept { C.file_number self.new.connections ≡ C.file_number self.old.connections }
+    {
+        if self.speaker.number() != Some(number) {
+            return Ok(());
+        }
+        if self.speaker.say(&mut self.connections, number, text) {
+            Ok(())
+        } else {
+            Err(LostText)
+        }
+    }
+
+    /// Has the one that speaks take what waits for it.
+    fn flush(&mut self)
+        ensures left { left_at self.new ≡ left_at self.old }
+        ensures hands_in { HandsIn applications_say
+            (C.calls self.old.connections) (C.calls self.new.connections)
+            (left_at self.old) (left_at self.new) [] }
+        ensures goes_on { ProceedsIfTold
+            (C.calls self.old.connections) (C.calls self.new.connections)
+            (places_of self.old) (places_of self.new) }
+        ensures none { HaveCome (C.calls self.old.connections) (C.calls self.new.connections) [] }
+        ensures came { self.new.came ≡ self.old.came }
+        ensures asked { NoneFails
+            (C.calls self.old.connections) (C.calls self.new.connections) }
+        ensures waiting { self.new.waiting ≡ self.old.waiting }
+        ensures low { (n : ℕ) → has_place n (places_of self.old) ≡ true → n ≤ self.old.came }
+        ensures kept { C.file_number self.new.connections ≡ C.file_number self.old.connections }
+    {
+        if let Some(number) = self.speaker.number() {
+            self.speaker.flush(&mut self.connections, number);
+        }
+    }
+
+    /// Hands in what is left, without a read. Where a connection is over and all of it handed in,
+    /// the one that waits behind it speaks from then on.
+    fn next_text(&mut self, room: &mut [u8]) -> Option<(u64, usize)>
+        ensures within { IfSome result (λ found. found.1 ≤ length room.new) }
+        ensures length { length room.new ≡ length room.old }
+        ensures next { HandsInNext
+            (C.calls self.old.connections) (C.calls self.new.connections)
+            (left_at self.old) (left_at self.new) (length room.old) result room.new }
+        ensures ready { IfNone result (IsReadyIf self.new.speaker.number self.new.speaker) }
+        ensures numbers { IfSome result (λ found. found.0 ≤ self.new.came) }
+        ensures goes_on { ProceedsIfTold
+            (C.calls self.old.connections) (C.calls self.new.connections)
+            (places_of self.old) (places_of self.new) }
+        ensures none { HaveCome (C.calls self.old.connections) (C.calls self.new.connections) [] }
+        ensures came { self.new.came ≡ self.old.came }
+        ensures asked { TakesTurn
+            (C.calls self.old.connections) (C.calls self.new.connections)
+            self.old.speaker.number self.new.speaker.number }
+        ensures unwaited { self.old.waiting ≡ None → self.new.waiting ≡ None }
+        ensures kept { C.file_number self.new.connections ≡ C.file_number self.old.connections }
+    {
+        let number = self.speaker.number()?;
+        if let Some(len) = self.speaker.next_line(room) {
+            return Some((number, len));
+        }
+        if !self.speaker.is_done() {
+            return None;
+        }
+        let spoke = self.speaker.spoke();
+        self.connections.close(number);
+        let next = self.waiting.take();
+        self.speaker.begin(next);
+        end_line(number, spoke, room)
+    }
+
+    /// Accepts the next connection, if none waits. It speaks where no other does, and waits where
+    /// one does.
+    ///
+    /// # Errors
+    /// [`AcceptFault`] where the system refuses it.
+    fn admit(&mut self) -> Result<(), AcceptFault>
+        requires { IsReadyIf self.old.speaker.number self.old.speaker }
+        ensures ready { IsReadyIf self.new.speaker.number self.new.speaker }
+        ensures left { left_at self.new ≡ left_at self.old }
+        ensures hands_in { HandsIn applications_say
+            (C.calls self.old.connections) (C.calls self.new.connections)
+            (left_at self.old) (left_at self.new) [] }
+        ensures goes_on { ProceedsIfTold
+            (C.calls self.old.connections) (C.calls self.new.connections)
+            (places_of self.old) (places_of self.new) }
+        ensures came { ComesNext
+            (C.calls self.old.connections) (C.calls self.new.connections)
+            self.old.came self.new.came }
+        ensures asked { AsksNext
+            (C.calls self.old.connections) (C.calls self.new.connections)
+            (self.old.waiting ≡ None) self.old.came (is_err result) }
+        ensures kept { C.file_number self.new.connections ≡ C.file_number self.old.connections }
+    {
+        if self.waiting.is_some() || self.came >= LAST_NUMBER {
+            return Ok(());
+        }
+        let number = self.came + 1;
+        match self.connections.accept(number) {
+            Accepted::Nothing => Ok(()),
+            Accepted::Failed => Err(AcceptFault),
+            Accepted::Came => {
+                self.came = number;
+                self.heard = true;
+                if self.speaker.number().is_none() {
+                    self.speaker.begin(Some(number));
+                } else {
+                    self.waiting = Some(number);
+                }
+                Ok(())
+            }
+        }
+    }
+
+    /// Reads once from the one that speaks. Where nothing is there it lives, and the one that
+    /// waits is decided.
+    fn listen(&mut self)
+        requires { IsReadyIf self.old.speaker.number self.old.speaker }
+        ensures hands_in { HandsIn applications_say
+            (C.calls self.old.connections) (C.calls self.new.connections)
+            (left_at self.old) (left_at self.new) [] }
+        ensures goes_on { ProceedsIfTold
+            (C.calls self.old.connections) (C.calls self.new.connections)
+            (places_of self.old) (places_of self.new) }
+        ensures none { HaveCome (C.calls self.old.connections) (C.calls self.new.connections) [] }
+        ensures came { self.new.came ≡ self.old.came }
+        ensures asked { Listens
+            (C.calls self.old.connections) (C.calls self.new.connections)
+            self.new.speaker.number }
+        ensures kept { C.file_number self.new.connections ≡ C.file_number self.old.connections }
+    {
+        let Some(number) = self.speaker.number() else {
+            return;
+        };
+        match self.speaker.listen(&mut self.connections, number) {
+            Came::Nothing => self.decide(number),
+            Came::Bytes(_) | Came::Ended => self.heard = true,
+        }
+    }
+
+    /// Beside an application that lives, the one that waits is told so, and closed. One that has
+    /// said no line gives way to it.
+    fn decide(&mut self, number: u64)
+        requires speaks { self.old.speaker.number ≡ Some number }
+        requires ready { IsReadyIf self.old.speaker.number self.old.speaker }
+        ensures hands_in { HandsIn applications_say
+            (C.calls self.old.connections) (C.calls self.new.connections)
+            (left_at self.old) (left_at self.new) [] }
+        ensures goes_on { ProceedsIfTold
+            (C.calls self.old.connections) (C.calls self.new.connections)
+            (places_of self.old) (places_of self.new) }
+        ensures none { HaveCome (C.calls self.old.connections) (C.calls self.new.connections) [] }
+        ensures came { self.new.came ≡ self.old.came }
+        ensures asked { TakesTurn
+            (C.calls self.old.connections) (C.calls self.new.connections)
+            self.old.speaker.number self.new.speaker.number }
+        ensures kept { C.file_number self.new.connections ≡ C.file_number self.old.connections }
+    {
+        let Some(next) = self.waiting.take() else {
+            return;
+        };
+        self.heard = true;
+        let lives = self.speaker.spoke();
+        if lives {
+            refuse(&mut self.connections, next);
+        } else {
+            self.connections.close(number);
+            self.speaker.begin(Some(next));
+        }
+    }
+}
+
+/// The line that stands for the end of the connection of that number, if it has spoken: it is put
+/// at the front of the room, cut to it, and the answer is the number and how many bytes it has
+/// there.
+fn end_line(number: u64, spoke: bool, room: &mut [u8]) -> Option<(u64, usize)>
+    ensures within { IfSome result (λ found. found.1 ≤ length room.new) }
+    ensures length { length room.new ≡ length room.old }
+    ensures line { HandsEnd number spoke (length room.old) result room.new }
+{
+    if !spoke {
+        return None;
+    }
+    let len = copy_front(RESET, room);
+    Some((number, len))
+}
