@@ -148,9 +148,9 @@ turns_both {W} {C} {takings_in} {gives_in} {readings_in} {m} {n} {a} {b} {c} p q
 -- turns from the first on
 unfoldable pub served : {W C : Type 0} {takings_in : W → Option (List Taking)}
     {gives_in : W → Option (List Give)} {readings_in : C → Option (List ℕ)}
-    {config : ConfigModel} {wire : W} {clock : C} {n : ℕ} {d : DaemonState W C}
-    → TakesTurns takings_in gives_in readings_in n (opened_daemon config wire clock) d
-    → HasServed takings_in gives_in readings_in config wire clock n d
+    {config : ConfigModel} {lease : Option ℕ} {wire : W} {clock : C} {n : ℕ} {d : DaemonState W C}
+    → TakesTurns takings_in gives_in readings_in n (opened_daemon config lease wire clock) d
+    → HasServed takings_in gives_in readings_in config lease wire clock n d
 served p = record {
   turns = p.turns;
   gives = p.gives;
@@ -168,9 +168,9 @@ served p = record {
 
 unfoldable pub from_first : {W C : Type 0} {takings_in : W → Option (List Taking)}
     {gives_in : W → Option (List Give)} {readings_in : C → Option (List ℕ)}
-    {config : ConfigModel} {wire : W} {clock : C} {n : ℕ} {d : DaemonState W C}
-    → HasServed takings_in gives_in readings_in config wire clock n d
-    → TakesTurns takings_in gives_in readings_in n (opened_daemon config wire clock) d
+    {config : ConfigModel} {lease : Option ℕ} {wire : W} {clock : C} {n : ℕ} {d : DaemonState W C}
+    → HasServed takings_in gives_in readings_in config lease wire clock n d
+    → TakesTurns takings_in gives_in readings_in n (opened_daemon config lease wire clock) d
 from_first p = record {
   turns = p.turns;
   gives = p.gives;
@@ -188,26 +188,28 @@ from_first p = record {
 
 unfoldable pub served_on : {W C : Type 0} {takings_in : W → Option (List Taking)}
     {gives_in : W → Option (List Give)} {readings_in : C → Option (List ℕ)}
-    {config : ConfigModel} {wire : W} {clock : C} {m n : ℕ} {d e : DaemonState W C}
-    → HasServed takings_in gives_in readings_in config wire clock m d
+    {config : ConfigModel} {lease : Option ℕ} {wire : W} {clock : C} {m n : ℕ}
+    {d e : DaemonState W C}
+    → HasServed takings_in gives_in readings_in config lease wire clock m d
     → TakesTurns takings_in gives_in readings_in n d e
-    → HasServed takings_in gives_in readings_in config wire clock (m + n) e
+    → HasServed takings_in gives_in readings_in config lease wire clock (m + n) e
 served_on p q = served (turns_both (from_first p) q)
 
-opened_is : {W C : Type 0} (config : ConfigModel) (wire : W) (clock : C) (s : Service) (l : Link W)
-    → service_state s ≡ opened_service config → l.wire ≡ wire → l.totals ≡ no_totals
-    → l.asked ≡ 0 → daemon_of s l clock ≡ opened_daemon config wire clock
-opened_is config wire clock s l service same none fresh = cc
+opened_is : {W C : Type 0} (config : ConfigModel) (lease : Option ℕ) (wire : W) (clock : C)
+    (s : Service) (l : Link W)
+    → service_state s ≡ opened_service config lease → l.wire ≡ wire → l.totals ≡ no_totals
+    → l.asked ≡ 0 → daemon_of s l clock ≡ opened_daemon config lease wire clock
+opened_is config lease wire clock s l service same none fresh = cc
 
 pub served_none : {W C : Type 0} (takings_in : W → Option (List Taking))
     (gives_in : W → Option (List Give)) (readings_in : C → Option (List ℕ))
-    (config : ConfigModel) (wire : W) (clock : C) (s : Service) (l : Link W)
-    → service_state s ≡ opened_service config → l.wire ≡ wire → l.totals ≡ no_totals
+    (config : ConfigModel) (lease : Option ℕ) (wire : W) (clock : C) (s : Service) (l : Link W)
+    → service_state s ≡ opened_service config lease → l.wire ≡ wire → l.totals ≡ no_totals
     → l.asked ≡ 0
-    → HasServed takings_in gives_in readings_in config wire clock 0 (daemon_of s l clock)
-served_none {W} {C} takings_in gives_in readings_in config wire clock s
+    → HasServed takings_in gives_in readings_in config lease wire clock 0 (daemon_of s l clock)
+served_none {W} {C} takings_in gives_in readings_in config lease wire clock s
     l service same none fresh =
-    let first = opened_daemon config wire clock in
+    let first = opened_daemon config lease wire clock in
     served (subst (λ (d : DaemonState W C). TakesTurns takings_in gives_in readings_in 0 first d)
-    (sym (opened_is config wire clock s l service same none fresh))
+    (sym (opened_is config lease wire clock s l service same none fresh))
     (no_turns takings_in gives_in readings_in first))

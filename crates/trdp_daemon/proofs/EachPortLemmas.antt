@@ -2,7 +2,7 @@
 -- For `each_port_is_taken_from`.
 -- By induction on the ports: each slot that was open stays so, so that its port is there.
 use Rattle.std.proofs.Common.{◌≡◌, suc, ◌+◌, ◌<◌, ◌≤◌, ℕ, Bool, true, false, List, [], ◌∷◌, ◌++◌}
-use Rattle.std.proofs.Common.{refl, ◌∙◌, ap, subst, arith, length, map, if◌then◌else◌}
+use Rattle.std.proofs.Common.{refl, ◌∙◌, ap, subst, arith, length, map, if◌then◌else◌, Option}
 use Rattle.std.specs.Prelude.{◌==◌, All}
 use Rattle.std.proofs.lemmas.Bool.{lt-ltb}
 use Rattle.std.proofs.lemmas.Bool.Decides.{nat_tests}
@@ -116,9 +116,9 @@ turns_take_each config s (turn ∷ turns) enough (here, takes) =
     (turns_take_each config later turns (omega (arith, enough, as_many)) takes)
 
 -- a node that was just opened has each slot of its configuration
-pub all_open : (config : ConfigModel) → config.spare_control_ports ≡ []
-    → length (control_numbers config) ≤ length (opened_service config).node.slots
-all_open config none =
+pub all_open : (config : ConfigModel) (lease : Option ℕ) → config.spare_control_ports ≡ []
+    → length (control_numbers config) ≤ length (opened_service config lease).node.slots
+all_open config lease none =
     omega (
       arith,
       length-map config.slots (λ slot. empty_slot slot.quotas),

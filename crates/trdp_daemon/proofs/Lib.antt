@@ -1,4 +1,5 @@
 pub mod LineLossLemmas
+pub mod LeaseLemmas
 pub mod LinkLemmas
 pub mod TellingLemmas
 pub mod StepLemmas
@@ -16,5 +17,6 @@ pub mod ControlPortLemmas
 pub mod CountedLemmas
 pub mod GiveRowLemmas
 pub mod LossLemmas
+pub mod SilenceLemmas
 pub mod TakeRowLemmas
 pub mod MemoryWireLemmas

@@ -4,7 +4,7 @@
 use Rattle.std.proofs.Common.{◌≡◌, ℕ, Bool, true, false, List, [], ◌∷◌, Option, Some, None}
 use Rattle.std.proofs.Common.{Result, Ok, Err, refl, ◌∙◌, ap, arith, map, if◌then◌else◌}
 use Rattle.trdp_base.specs.declared.place.Place.{Place}
-use Rattle.trdp_model.specs.Events.{EventModel}
+use Rattle.trdp_model.specs.Events.{EventModel, CallIs, ResetCall}
 use Rattle.trdp_model.specs.Records.{RecordModel, Content, Answers, Indicates, Sends}
 use Rattle.trdp_script.specs.EventBytes.{carries_bytes}
 use Rattle.trdp_script.specs.declared.fault.LineFault.{LineFault}
@@ -20,7 +20,8 @@ use Rattle.trdp_daemon.specs.Effects.{both, text_telling, control_place, content
 use Rattle.trdp_daemon.specs.Effects.{record_telling, is_first_lost, later_marks, records_telling}
 use Rattle.trdp_daemon.specs.Effects.{event_records, ServiceState, Loss, LineLost, EventLost}
 use Rattle.trdp_daemon.specs.Effects.{TextsLost, then_effect, telling_only, event_effect}
-use Rattle.trdp_daemon.specs.Effects.{event_taken, Effect, may_take_memory, missing}
+use Rattle.trdp_daemon.specs.Effects.{event_taken, Effect, may_take_memory, missing, still}
+use Rattle.trdp_daemon.specs.Leases.{is_silent, forgotten, quiet_effect}
 use Rattle.trdp_daemon.specs.Visits.{operator_answer, operator_taken, operator_event}
 use Rattle.trdp_daemon.specs.Visits.{operator_effect, heard_from, control_event}
 use Rattle.trdp_daemon.specs.Visits.{control_effect, datagram_effect, taking_effect}
@@ -134,13 +135,31 @@ datagram_kept s totals Operator from bytes loss none =
 datagram_kept s totals (Control slot) from bytes loss none =
     control_kept s slot from (control_line_of slot bytes) loss none
 
+silence_kept : (silent : Bool) (s : ServiceState) (slot : ℕ) (loss : Loss)
+    → (if silent then event_effect (forgotten s slot) (CallIs slot ResetCall) loss
+    else still s).telling.missed ≡ 0
+    → (if silent then event_effect (forgotten s slot) (CallIs slot ResetCall) loss else still s)
+    ≡ (if silent then event_effect (forgotten s slot) (CallIs slot ResetCall) (TextsLost [])
+    else still s)
+silence_kept true s slot loss none = event_kept (forgotten s slot) (CallIs slot ResetCall) loss none
+silence_kept false s slot loss none = refl
+
+quiet_kept : (s : ServiceState) (port : Port) (loss : Loss)
+    → (quiet_effect s port loss).telling.missed ≡ 0
+    → quiet_effect s port loss ≡ quiet_effect s port (TextsLost [])
+unfolding quiet_effect
+quiet_kept s Pd loss none = refl
+quiet_kept s Md loss none = refl
+quiet_kept s Operator loss none = refl
+quiet_kept s (Control slot) loss none = silence_kept (is_silent s slot) s slot loss none
+
 taking_kept : (s : ServiceState) (totals : Totals) (port : Port) (arrived : Arrived) (loss : Loss)
     → (taking_effect s totals port arrived loss).telling.missed ≡ 0
     → taking_effect s totals port arrived loss
     ≡ taking_effect s totals port arrived (TextsLost [])
 unfolding taking_effect
 taking_kept s totals port Failed loss none = refl
-taking_kept s totals port Nothing loss none = refl
+taking_kept s totals port Nothing loss none = quiet_kept s port loss none
 taking_kept s totals port (Came from bytes) loss none =
     datagram_kept s totals port from bytes loss none
 

@@ -9,7 +9,7 @@ use Rattle.trdp_filter.specs.declared.globals.Globals.{Globals}
 use Rattle.trdp_model.specs.declared.fault.NodeFault.{NodeFault}
 use Rattle.trdp_model.specs.Alone.{refused_as, opened_by}
 use Rattle.trdp_model.specs.Configs.{NodeSetup, setup_of}
-use Rattle.trdp_model.specs.Events.{EventModel}
+use Rattle.trdp_model.specs.Events.{EventModel, CallIs, ResetCall}
 use Rattle.trdp_model.specs.NodeModels.{NodeModel}
 use Rattle.trdp_model.specs.Slots.{SlotState}
 use Rattle.trdp_script.specs.EventBytes.{carries_bytes}
@@ -23,7 +23,8 @@ use Rattle.trdp_daemon.specs.declared.totals.Totals.{Totals}
 use Rattle.trdp_daemon.specs.Told.{Arrived, Failed, Nothing, Came}
 use Rattle.trdp_daemon.specs.Effects.{ServiceState, Effect, Loss, LineLost, EventLost, TextsLost}
 use Rattle.trdp_daemon.specs.Effects.{event_effect, event_taken, may_take_memory, missing}
-use Rattle.trdp_daemon.specs.Effects.{telling_only}
+use Rattle.trdp_daemon.specs.Effects.{telling_only, still}
+use Rattle.trdp_daemon.specs.Leases.{is_silent, forgotten, quiet_effect}
 use Rattle.trdp_daemon.specs.Turns.{Visit, visit_effect, visits_effect, Turn, turn_effect}
 use Rattle.trdp_daemon.specs.Turns.{begun, moment_effect, moment_of}
 use Rattle.trdp_daemon.specs.Visits.{operator_event, operator_effect, operator_taken, heard_from}
@@ -116,11 +117,25 @@ datagram_keeps s totals Operator from bytes loss =
 datagram_keeps s totals (Control slot) from bytes loss =
     control_keeps s slot from (control_line_of slot bytes) loss
 
+silence_keeps : (silent : Bool) (s : ServiceState) (slot : ℕ) (loss : Loss)
+    → KeepsSlots s (if silent then event_effect (forgotten s slot) (CallIs slot ResetCall) loss
+    else still s)
+silence_keeps true s slot loss = event_keeps (forgotten s slot) (CallIs slot ResetCall) loss
+silence_keeps false s slot loss = omega arith
+
+quiet_keeps : (s : ServiceState) (port : Port) (loss : Loss)
+    → KeepsSlots s (quiet_effect s port loss)
+unfolding quiet_effect
+quiet_keeps s Pd loss = omega arith
+quiet_keeps s Md loss = omega arith
+quiet_keeps s Operator loss = omega arith
+quiet_keeps s (Control slot) loss = silence_keeps (is_silent s slot) s slot loss
+
 taking_keeps : (s : ServiceState) (totals : Totals) (port : Port) (arrived : Arrived) (loss : Loss)
     → KeepsSlots s (taking_effect s totals port arrived loss)
 unfolding taking_effect
 taking_keeps s totals port Failed loss = omega arith
-taking_keeps s totals port Nothing loss = omega arith
+taking_keeps s totals port Nothing loss = quiet_keeps s port loss
 taking_keeps s totals port (Came from bytes) loss = datagram_keeps s totals port from bytes loss
 
 pub visit_keeps : (s : ServiceState) (visit : Visit) → KeepsSlots s (visit_effect s visit)

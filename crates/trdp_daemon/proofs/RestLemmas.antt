@@ -171,12 +171,13 @@ attended_more {n = n} {a = a} {b} {c} {d} p turn late early rest = record {
 -- who has served goes on by what was attended, by its end
 by_end : {W C : Type 0} {takings_in : W → Option (List Taking)}
     {gives_in : W → Option (List Give)} {readings_in : C → Option (List ℕ)}
-    {config : ConfigModel} {wire : W} {clock : C} {until reading n k : ℕ} {a b c : DaemonState W C}
-    (h : HasServed takings_in gives_in readings_in config wire clock n a)
+    {config : ConfigModel} {lease : Option ℕ} {wire : W} {clock : C} {until reading n k : ℕ}
+    {a b c : DaemonState W C}
+    (h : HasServed takings_in gives_in readings_in config lease wire clock n a)
     (p : TakesEarly takings_in gives_in readings_in until k a b)
     → TakesLast takings_in gives_in readings_in until reading b c
     ⊎ ((k ≡ 2 ^ 64 - 1) × (c ≡ b) × (reading ≡ last_reading p.taken.turns))
-    → ServesUntil takings_in gives_in readings_in config wire clock n h.turns h.gives
+    → ServesUntil takings_in gives_in readings_in config lease wire clock n h.turns h.gives
     until reading c
 unfolding turns_both served_on served from_first
 by_end {until = until} {k = k} h p (inl last) =
@@ -200,10 +201,12 @@ by_end {until = until} {k = k} h p (inl last) =
       reading_is =
           last_push h.turns p.taken.turns turn.turn turn.taken.turns turn.turn_is turn.reading_is;
     }
-by_end {W} {C} {takings_in} {gives_in} {readings_in} {config} {wire} {clock} {until} {reading}
+by_end {W} {C} {takings_in} {gives_in} {readings_in} {config} {lease} {wire} {clock} {until}
+    {reading}
     {n} {k} h p (inr all) =
     let some : 0 < length p.taken.turns = omega (arith, p.taken.count, all.0) in
-    subst (λ (d : DaemonState W C). ServesUntil takings_in gives_in readings_in config wire clock
+    subst (λ (d : DaemonState W C). ServesUntil takings_in gives_in readings_in config lease wire
+    clock
     n h.turns h.gives until reading d) (sym all.1) (record {
       m = k;
       served = served_on h p.taken;
@@ -222,9 +225,10 @@ by_end {W} {C} {takings_in} {gives_in} {readings_in} {config} {wire} {clock} {un
 -- who has served goes on by what was attended
 pub served_until : {W C : Type 0} {takings_in : W → Option (List Taking)}
     {gives_in : W → Option (List Give)} {readings_in : C → Option (List ℕ)}
-    {config : ConfigModel} {wire : W} {clock : C} {until reading n : ℕ} {a b : DaemonState W C}
-    (h : HasServed takings_in gives_in readings_in config wire clock n a)
+    {config : ConfigModel} {lease : Option ℕ} {wire : W} {clock : C} {until reading n : ℕ}
+    {a b : DaemonState W C}
+    (h : HasServed takings_in gives_in readings_in config lease wire clock n a)
     → AttendsUntil takings_in gives_in readings_in until reading a b
-    → ServesUntil takings_in gives_in readings_in config wire clock n h.turns h.gives
+    → ServesUntil takings_in gives_in readings_in config lease wire clock n h.turns h.gives
     until reading b
 served_until h p = by_end h p.early p.last

@@ -43,26 +43,16 @@ pub records_told : {W : Type 0} {takings_in : W → Option (List Taking)}
     (event : EventModel) (contacts : List (Option Contact)) (records : List RecordModel)
     → uncounted new.node ≡ node_after (uncounted old.node) event
     → new.contacts.items ≡ old.contacts.items → new.reading ≡ old.reading
-    → contacts ≡ old.contacts.items → records ≡ event_records (uncounted old.node) event
+    → new.lease ≡ old.lease → contacts ≡ old.contacts.items → records ≡ event_records
+    (uncounted old.node) event
     → Tells takings_in gives_in contacts a b records
     → ComesTold takings_in gives_in old new a b event
 unfolding event_effect
 records_told {W} {takings_in} {gives_in} {a} {b} old
-    new event contacts records node kept read same all told = record {
+    new event contacts records node kept read leased same all told = record {
       marks = told.marks;
       comes = record {
-        service_is = ap (λ n. let s : ServiceState =
-            record { node = n; contacts = new.contacts.items; reading = new.reading } in s) node
-            ∙ ap (λ l. let s : ServiceState = record {
-              node = node_after (uncounted old.node) event;
-              contacts = l;
-              reading = new.reading;
-            } in s) kept
-            ∙ ap (λ r. let s : ServiceState = record {
-              node = node_after (uncounted old.node) event;
-              contacts = old.contacts.items;
-              reading = r;
-            } in s) read;
+        service_is = cc;
         carried = subst (λ (l : List RecordModel). Carries
             takings_in gives_in a b [] (records_telling old.contacts.items told.marks l)) all
             (subst (λ (l : List (Option Contact)). Carries
@@ -142,25 +132,19 @@ operator_not_lost s from event never = not_lost s event (operator_taken s from e
 
 -- the parts of a service say its state
 pub same_state : (old new : Service) → new.node ≡ old.node
-    → new.contacts.items ≡ old.contacts.items → new.reading ≡ old.reading
+    → new.contacts.items ≡ old.contacts.items → new.reading ≡ old.reading → new.lease ≡ old.lease
     → service_state new ≡ service_state old
-same_state old new node kept read =
-    ap (λ n. let s : ServiceState =
-    record { node = uncounted n; contacts = new.contacts.items; reading = new.reading } in s) node
-    ∙ ap (λ l. let s : ServiceState =
-    record { node = uncounted old.node; contacts = l; reading = new.reading } in s) kept
-    ∙ ap (λ r. let s : ServiceState =
-    record { node = uncounted old.node; contacts = old.contacts.items; reading = r } in s) read
+same_state old new node kept read leased = cc
 
 -- an event was lost
 pub missed :
     {W : Type 0} {takings_in : W → Option (List Taking)} {gives_in : W → Option (List Give)}
     {a b : Link W} (old new : Service)
     → new.node ≡ old.node → new.contacts.items ≡ old.contacts.items → new.reading ≡ old.reading
-    → Carries takings_in gives_in a b [] missing
+    → new.lease ≡ old.lease → Carries takings_in gives_in a b [] missing
     → Comes takings_in gives_in old new a b [] (telling_only (service_state old) missing)
-missed old new node kept read carried =
-    record { service_is = same_state old new node kept read; carried = carried }
+missed old new node kept read leased carried =
+    record { service_is = same_state old new node kept read leased; carried = carried }
 
 pub comes_lost : {W : Type 0} {takings_in : W → Option (List Taking)}
     {gives_in : W → Option (List Give)} {a b : Link W} (old new : Service) (event : EventModel)

@@ -1,5 +1,5 @@
 -- What a datagram at a port came to.
--- For `Service::visit`, `take_operator` and `take_control`.
+-- For `Service::visit`, `take_datagram`, `take_operator` and `take_control`.
 -- By cases on the port, and on whether its line was read, skipped or refused.
 use Rattle.std.proofs.Common.{◌≡◌, ℕ, true, List, [], ◌∷◌, Option, Some, None}
 use Rattle.std.proofs.Common.{Result, Ok, Err, refl, sym, ◌∙◌, ap, subst, length, map, take}
@@ -16,19 +16,22 @@ use Rattle.trdp_script.specs.declared.operator_line.OperatorLine.{OperatorLine}
 use Rattle.trdp_script.specs.declared.operator_line.Question.{Question}
 use Rattle.trdp_script.specs.PortLines.{OperatorSays, Orders, Asks, operator_line_model}
 use Rattle.trdp_script.specs.PortLines.{control_line_of, operator_line_of}
+use Rattle.trdp_daemon.specs.declared.fault.WireFault.{WireFault}
 use Rattle.trdp_daemon.specs.declared.link.Link.{Link}
 use Rattle.trdp_daemon.specs.declared.port.Port.{Port}
 use Rattle.trdp_daemon.specs.declared.port.Port.TheVariants.{Pd, Md, Operator, Control}
 use Rattle.trdp_daemon.specs.declared.service.Service.{Service}
 use Rattle.trdp_daemon.specs.declared.totals.Totals.{Totals}
 use Rattle.trdp_daemon.specs.Counting.{totals_after}
-use Rattle.trdp_daemon.specs.Told.{Arrived, Failed, Nothing, Came, Taking, Give}
+use Rattle.trdp_daemon.specs.Told.{Taking, Give, arrived_in, taking_of}
 use Rattle.trdp_daemon.specs.Effects.{ServiceState, Loss, LineLost, EventLost, TextsLost}
 use Rattle.trdp_daemon.specs.Effects.{Effect, Telling, silence, missing, event_effect, still}
-use Rattle.trdp_daemon.specs.Links.{Carries, IsFound, Takes}
+use Rattle.trdp_daemon.specs.Leases.{quiet_effect}
+use Rattle.trdp_daemon.specs.Links.{Carries}
 use Rattle.trdp_daemon.specs.Services.{Comes, ComesWith, TakesOnce, service_state}
-use Rattle.trdp_daemon.specs.Turns.{Visit, udp_room}
-use Rattle.trdp_daemon.specs.Visits.{fault_telling, operator_event, operator_effect, question_effect}
+use Rattle.trdp_daemon.specs.Turns.{Visit, visit_effect, take_room}
+use Rattle.trdp_daemon.specs.Visits.{fault_telling, operator_event, operator_effect}
+use Rattle.trdp_daemon.specs.Visits.{question_effect}
 use Rattle.trdp_daemon.specs.Visits.{line_lost_or, control_effect, control_event}
 use Rattle.trdp_daemon.specs.Ports.{place_of_port}
 use Rattle.trdp_daemon.specs.Visits.{datagram_effect, taking_effect, heard_from}
@@ -53,7 +56,7 @@ line_ok meaning read known says is =
     Ok (option_map operator_line_model l) in r) is
 
 -- nothing happened
-nothing_comes : {W : Type 0} (takings_in : W → Option (List Taking))
+pub nothing_comes : {W : Type 0} (takings_in : W → Option (List Taking))
     (gives_in : W → Option (List Give)) (s : Service) (a : Link W)
     → Comes takings_in gives_in s s a a [] (still (service_state s))
 nothing_comes takings_in gives_in s a =
@@ -237,6 +240,10 @@ unfolding datagram_effect
 at_control old new totals port slot from bytes is comes =
     rw is (record { loss = comes.loss; comes = comes.comes })
 
+-- what a take answers
+abbrev Found : Type 0
+Found = Result (Option (Place × ℕ)) WireFault
+
 -- where nothing is offered nothing is given
 no_gives : (gives : List Give) → map (λ g. g.offer) gives ≡ [] → gives ≡ []
 no_gives [] none = refl
@@ -244,16 +251,16 @@ no_gives (give ∷ gives) none = absurd (cc)
 
 -- one take, and what came of it
 visited : {W : Type 0} {takings_in : W → Option (List Taking)} {gives_in : W → Option (List Give)}
-    {a b c : Link W} (old new : Service) (port : Port) (room : ℕ) (arrived : Arrived)
-    → room ≡ udp_room → Carries takings_in gives_in a b (let taking : Taking =
-    record { port = port; room = room; arrived = arrived } in taking ∷ []) silence
+    {a b c : Link W} (old new : Service) (port : Port) (found : Found) (room : List ℕ)
+    → length room ≡ take_room
+    → Carries takings_in gives_in a b (taking_of port found room ∷ []) silence
     → ComesWith takings_in gives_in old new b c
-    (taking_effect (service_state old) b.totals port arrived)
+    (taking_effect (service_state old) b.totals port (arrived_in found room))
     → TakesOnce takings_in gives_in old new a c port
-visited {W} {takings_in} {gives_in} {a} {b} {c} old new port room arrived whole taken comes =
-    let taking : Taking = record { port = port; room = room; arrived = arrived } in
+visited {W} {takings_in} {gives_in} {a} {b} {c} old new port found room whole taken comes =
+    let taking = taking_of port found room in
     let visit : Visit = record { taking = taking; loss = comes.loss; totals = b.totals } in
-    let telling = (taking_effect (service_state old) b.totals port arrived comes.loss).telling in
+    let telling = (visit_effect (service_state old) visit).telling in
     record {
       visit = visit;
       port_is = ap (λ n. (port, n)) whole;
@@ -266,52 +273,45 @@ visited {W} {takings_in} {gives_in} {a} {b} {c} old new port room arrived whole 
       };
     }
 
-pub visited_nothing :
+-- the wire failed
+pub visited_fault :
     {W : Type 0} {takings_in : W → Option (List Taking)} {gives_in : W → Option (List Give)}
-    {a b : Link W} (s : Service) (port : Port) (found : Option (Place × ℕ)) (room : List ℕ)
-    → found ≡ None → length room ≡ udp_room → Takes takings_in gives_in a b port found room
+    {a b : Link W} (s : Service) (port : Port) (found : Found) (fault : WireFault) (room : List ℕ)
+    → found ≡ Err fault → length room ≡ take_room
+    → Carries takings_in gives_in a b (taking_of port found room ∷ []) silence
     → TakesOnce takings_in gives_in s s a b port
 unfolding taking_effect
-visited_nothing {W} {takings_in} {gives_in} {a} {b} s port found room none roomy p =
-    nothing p.arrived
-    (subst (λ (f : Option (Place × ℕ)). IsFound p.arrived f room) none p.is_found) p.carried
-  where
-    nothing : (arrived : Arrived) → IsFound arrived None room → Carries takings_in gives_in
-        a b (let taking : Taking = record { port = port; room = length room; arrived = arrived } in
-        taking ∷ []) silence
-        → TakesOnce takings_in gives_in s s a b port
-    nothing Failed is carried = visited s s port (length room) Failed
-        roomy carried
-        (record { loss = TextsLost []; comes = nothing_comes takings_in gives_in s b })
-    nothing Nothing is carried = visited s s port (length room) Nothing
-        roomy carried
-        (record { loss = TextsLost []; comes = nothing_comes takings_in gives_in s b })
-    nothing (Came from bytes) is carried = absurd is
+visited_fault {takings_in = takings_in} {gives_in} {b = b} s port found fault room failed whole
+    taken = visited s s port found room whole taken
+    (rw failed (record { loss = TextsLost []; comes = nothing_comes takings_in gives_in s b }))
 
-pub visited_datagram : {W : Type 0} {takings_in : W → Option (List Taking)}
-    {gives_in : W → Option (List Give)} {a b c : Link W} (old new : Service) (port : Port)
-    (found : Option (Place × ℕ)) (from : Place) (len : ℕ) (room bytes : List ℕ) → found
-    ≡ Some (from, len) → bytes ≡ take len room → length room ≡ udp_room
-    → Takes takings_in gives_in a b port found room
-    → ComesWith takings_in gives_in old new b
-    c (datagram_effect (service_state old) b.totals port from bytes)
+-- nothing was there
+pub visited_nothing :
+    {W : Type 0} {takings_in : W → Option (List Taking)} {gives_in : W → Option (List Give)}
+    {a b c : Link W} (old new : Service) (port : Port) (found : Found) (room : List ℕ)
+    → found ≡ Ok None → length room ≡ take_room
+    → Carries takings_in gives_in a b (taking_of port found room ∷ []) silence
+    → ComesWith takings_in gives_in old new b c (quiet_effect (service_state old) port)
     → TakesOnce takings_in gives_in old new a c port
 unfolding taking_effect
-visited_datagram {W} {takings_in} {gives_in} {a} {b} {c} old
-    new port found from len room bytes some front roomy p comes = came p.arrived
-    (subst (λ (f : Option (Place × ℕ)). IsFound p.arrived f room) some p.is_found) p.carried
-  where
-    came : (arrived : Arrived)
-        → IsFound arrived (Some (from, len)) room → Carries takings_in gives_in
-        a b (let taking : Taking = record { port = port; room = length room; arrived = arrived } in
-        taking ∷ []) silence
-        → TakesOnce takings_in gives_in old new a c port
-    came Failed is carried = absurd (cc)
-    came Nothing is carried = absurd (cc)
-    came (Came place whole) (at, all) carried =
-        let same = subst (λ (q : Place). ComesWith takings_in
-        gives_in old new b c (datagram_effect (service_state old) b.totals port q bytes)) at comes in
-        let here = subst (λ (l : List ℕ). ComesWith takings_in gives_in
-        old new b c (datagram_effect (service_state old) b.totals port place l)) (front ∙ all) same in
-        visited old new port (length room) (Came place whole)
-        roomy carried (record { loss = here.loss; comes = here.comes })
+visited_nothing old new port found room none whole taken comes =
+    visited old new port found room whole taken
+    (rw none (record { loss = comes.loss; comes = comes.comes }))
+
+-- a datagram came
+pub visited_datagram :
+    {W : Type 0} {takings_in : W → Option (List Taking)} {gives_in : W → Option (List Give)}
+    {a b c : Link W} (old new : Service) (port : Port) (found : Found) (from : Place) (len : ℕ)
+    (room bytes : List ℕ)
+    → found ≡ Ok (Some (from, len)) → bytes ≡ take len room → length room ≡ take_room
+    → Carries takings_in gives_in a b (taking_of port found room ∷ []) silence
+    → ComesWith takings_in gives_in old new b c
+    (datagram_effect (service_state old) b.totals port from bytes)
+    → TakesOnce takings_in gives_in old new a c port
+unfolding taking_effect
+visited_datagram {W} {takings_in} {gives_in} {a} {b} {c} old new port found from len room bytes
+    some front whole taken comes =
+    let here = subst (λ (l : List ℕ). ComesWith takings_in gives_in old new b c
+    (datagram_effect (service_state old) b.totals port from l)) front comes in
+    visited old new port found room whole taken
+    (rw some (record { loss = here.loss; comes = here.comes }))

@@ -21,9 +21,9 @@ pub record DaemonState (W C : Type 0) : Type 0 where
   pub asked : ℕ
 
 -- a daemon that was just made
-abbrev pub opened_daemon : {W C : Type 0} → ConfigModel → W → C → DaemonState W C
-opened_daemon config wire clock = record {
-  service = opened_service config;
+abbrev pub opened_daemon : {W C : Type 0} → ConfigModel → Option ℕ → W → C → DaemonState W C
+opened_daemon config lease wire clock = record {
+  service = opened_service config lease;
   wire = wire;
   clock = clock;
   totals = no_totals;
@@ -52,26 +52,27 @@ pub record TakesTurns {W C : Type 0} (takings_in : W → Option (List Taking))
       (turns_effect old.service turns).telling.missed
   pub counted : TurnsCounted old.totals old.service turns gives
 
--- a daemon of this configuration has taken n turns since it was made with this wire and clock, each
--- with one reading of the clock and one take at each port that is there, in order: the list of its
--- offers is that of these turns, whatever the gives answered, an answer to the operator tells of
--- the totals as they were at its take, and its totals count the datagrams that came, the gives,
--- those that failed, the takes that failed, and the entries that were lost for want of memory
+-- a daemon of this configuration and lease has taken n turns since it was made with this wire and
+-- clock, each with one reading of the clock and one take at each port that is there, in order: the
+-- list of its offers is that of these turns, whatever the gives answered, an answer to the operator
+-- tells of the totals as they were at its take, and its totals count the datagrams that came, the
+-- gives, those that failed, the takes that failed, and the entries that were lost for want of
+-- memory
 pub record HasServed {W C : Type 0} (takings_in : W → Option (List Taking))
     (gives_in : W → Option (List Give)) (readings_in : C → Option (List ℕ))
-    (config : ConfigModel) (wire : W) (clock : C) (n : ℕ) (daemon : DaemonState W C)
-    : Type 0 where
+    (config : ConfigModel) (lease : Option ℕ) (wire : W) (clock : C) (n : ℕ)
+    (daemon : DaemonState W C) : Type 0 where
   pub turns : List Turn
   pub gives : List Give
   pub count : length turns ≡ n
-  pub ports : AllTakeAt (ports_of config) (opened_service config) turns
+  pub ports : AllTakeAt (ports_of config) (opened_service config lease) turns
   pub read : TellsMore (readings_in clock) (readings_in daemon.clock)
       (map (λ turn. turn.reading) turns)
   pub took : TellsMore (takings_in wire) (takings_in daemon.wire) (flat_map takings_of turns)
   pub gave : TellsMore (gives_in wire) (gives_in daemon.wire) gives
-  pub offers : map (λ give. give.offer) gives ≡ offers_of config turns
-  pub service : daemon.service ≡ (turns_effect (opened_service config) turns).service
+  pub offers : map (λ give. give.offer) gives ≡ offers_of config lease turns
+  pub service : daemon.service ≡ (turns_effect (opened_service config lease) turns).service
   pub config_is : daemon.service.node.config ≡ config
   pub totals : daemon.totals
-      ≡ totals_after no_totals (flat_map takings_of turns) gives (missed_of config turns)
-  pub counted : TurnsCounted no_totals (opened_service config) turns gives
+      ≡ totals_after no_totals (flat_map takings_of turns) gives (missed_of config lease turns)
+  pub counted : TurnsCounted no_totals (opened_service config lease) turns gives

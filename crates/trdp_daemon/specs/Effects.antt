@@ -1,7 +1,8 @@
 -- What one event gives: the datagrams that are offered, and the entries that are lost for want of
 -- memory.
 use Rattle.std.specs.Prelude.{ℕ, suc, ◌+◌, List, [], ◌∷◌, ◌++◌, Bool, true, false, length}
-use Rattle.std.specs.Prelude.{Option, Some, None, option_map, slice_index_or, nat_lt, not}
+use Rattle.std.specs.Prelude.{Option, Some, None, option_map, slice_index_or, slice_set, nat_lt}
+use Rattle.std.specs.Prelude.{not}
 use Rattle.std.specs.Prelude.{if◌then◌else◌}
 use Rattle.std.specs.List.{list_any}
 use Rattle.trdp_base.specs.declared.place.Place.{Place}
@@ -116,12 +117,19 @@ abbrev pub event_records : NodeModel → EventModel → List RecordModel
 event_records node event =
     records_unless (refused_as (length node.slots) node.globals event) node event
 
--- a node, the latest line of each of the slots that it may have, none before the first, and the
--- reading of the clock of the latest turn, 0 before the first
+-- a node, the latest line of each of the slots that it may have, none before the first, the reading
+-- of the clock of the latest turn, 0 before the first, and the lease: how many microseconds the
+-- application of a slot may be silent, if that has a bound
 pub record ServiceState : Type 0 where
   pub node : NodeModel
   pub contacts : List (Option Contact)
   pub reading : ℕ
+  pub lease : Option ℕ
+
+-- the latest line of a slot is this one, or it has none
+abbrev pub with_contact : ServiceState → ℕ → Option Contact → ServiceState
+with_contact service slot contact =
+    record service { contacts = slice_set service.contacts slot contact }
 
 -- what was lost for want of memory of a reading of the clock or of a datagram
 pub data Loss : Type 0 where

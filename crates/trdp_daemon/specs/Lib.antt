@@ -2,6 +2,7 @@ pub mod Counted
 pub mod Counting
 pub mod Daemons
 pub mod Effects
+pub mod Leases
 pub mod Links
 pub mod MemoryClocks
 pub mod MemorySockets
@@ -15,6 +16,7 @@ pub mod Rows
 pub mod RunClocks
 pub mod Services
 pub mod SocketWires
+pub mod Silences
 pub mod Sockets
 pub mod SystemSockets
 pub mod Tellings

@@ -112,10 +112,11 @@ pub record EndsAt (until : ℕ) (turns : List Turn) : Type 0 where
 -- end so, the last of them at `reading`
 pub record ServesUntil {W C : Type 0} (takings_in : W → Option (List Taking))
     (gives_in : W → Option (List Give)) (readings_in : C → Option (List ℕ))
-    (config : ConfigModel) (wire : W) (clock : C) (n : ℕ) (turns : List Turn) (gives : List Give)
-    (until reading : ℕ) (daemon : DaemonState W C) : Type 0 where
+    (config : ConfigModel) (lease : Option ℕ) (wire : W) (clock : C) (n : ℕ) (turns : List Turn)
+    (gives : List Give) (until reading : ℕ) (daemon : DaemonState W C) : Type 0 where
   pub m : ℕ
-  pub served : HasServed takings_in gives_in readings_in config wire clock (n + m) daemon
+  pub served : HasServed takings_in gives_in readings_in config lease wire clock
+      (n + m) daemon
   pub more : List Turn
   pub more_gives : List Give
   pub turns_are : served.turns ≡ turns ++ more

@@ -19,11 +19,15 @@ use Rattle.trdp_daemon.specs.Questions.{answer_room}
 use Rattle.trdp_daemon.specs.Turns.{Visit, visit_effect, visits_effect, Turn, takings_of}
 use Rattle.trdp_daemon.specs.Turns.{turn_effect, port_and_room, with_room, TakesAt, TurnTakesAt}
 
--- the node, of which nothing tells what an event cost, its slots' latest lines, and the reading of
--- the latest turn
+-- the node, of which nothing tells what an event cost, its slots' latest lines, the reading of the
+-- latest turn, and the lease
 abbrev pub service_state : Service → ServiceState
-service_state s =
-    record { node = uncounted s.node; contacts = s.contacts.items; reading = s.reading }
+service_state s = record {
+  node = uncounted s.node;
+  contacts = s.contacts.items;
+  reading = s.reading;
+  lease = s.lease;
+}
 
 -- a service and its link after so many takes and this effect
 pub record Comes {W : Type 0} (takings_in : W → Option (List Taking))
@@ -47,7 +51,7 @@ pub record ComesTold {W : Type 0} (takings_in : W → Option (List Taking))
   pub comes : Comes takings_in gives_in old new link link_then []
       (event_effect (service_state old) event (TextsLost marks))
 
--- one take was made at the port, with room for any datagram, and nothing else
+-- one take was made at the port, with the room of a take, and nothing else
 pub record TakesOnce {W : Type 0} (takings_in : W → Option (List Taking))
     (gives_in : W → Option (List Give)) (old new : Service) (link link_then : Link W)
     (port : Port) : Type 0 where

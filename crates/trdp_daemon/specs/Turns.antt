@@ -66,17 +66,17 @@ turns_effect service (turn ∷ turns) =
 abbrev pub takings_of : Turn → List Taking
 takings_of turn = map (λ visit. visit.taking) turn.visits
 
--- room for any datagram over UDP, in bytes
-abbrev pub udp_room : ℕ
-udp_room = 65536
+-- the room of a take, in bytes: for any line of a control connection, and for any datagram over UDP
+abbrev pub take_room : ℕ
+take_room = 140000
 
 -- the port of a take, and how many bytes it has room for
 abbrev pub port_and_room : Visit → Port × ℕ
 port_and_room visit = (visit.taking.port, visit.taking.room)
 
--- a port, with room for any datagram
+-- a port, with the room of a take
 abbrev pub with_room : Port → Port × ℕ
-with_room port = (port, udp_room)
+with_room port = (port, take_room)
 
 -- whether a node has a port: a control port has to be that of an open slot
 abbrev pub is_there : NodeModel → Port → Bool
@@ -85,7 +85,7 @@ is_there node Md = true
 is_there node Operator = true
 is_there node (Control slot) = nat_lt slot (length node.slots)
 
--- where a port is there, the first of these takes is at it, with room for any datagram, and Later
+-- where a port is there, the first of these takes is at it, with the room of a take, and Later
 -- holds of those behind it and the service then; where it isn't, Later holds of all
 abbrev pub TakesFirst : Bool → Port → (ServiceState → List Visit → Type 0)
     → ServiceState → List Visit → Type 0
@@ -95,7 +95,7 @@ TakesFirst true port Later service (visit ∷ visits) =
     (port_and_room visit ≡ with_room port) × Later (visit_effect service visit).service visits
 
 -- from a service on, these are takes at each of the ports that is there when its place in the order
--- comes, once and in their order, each with room for any datagram
+-- comes, once and in their order, each with the room of a take
 abbrev pub TakesAt : List Port → ServiceState → List Visit → Type 0
 TakesAt [] service visits = visits ≡ []
 TakesAt (port ∷ ports) service visits =
@@ -112,7 +112,7 @@ AllTakeAt ports service [] = Unit {0}
 AllTakeAt ports service (turn ∷ turns) =
     TurnTakesAt ports service turn × AllTakeAt ports (turn_effect service turn).service turns
 
--- a turn takes once at each of these ports, in their order, each time with room for any datagram
+-- a turn takes once at each of these ports, in their order, each time with the room of a take
 abbrev pub TakesAtEach : List Port → Turn → Type 0
 TakesAtEach ports turn = map port_and_room turn.visits ≡ map with_room ports
 
@@ -120,18 +120,22 @@ TakesAtEach ports turn = map port_and_room turn.visits ≡ map with_room ports
 abbrev pub no_contacts : List (Option Contact)
 no_contacts = replicate slot_limit None
 
--- a node that was just opened, no slot of which had a line
-abbrev pub opened_service : ConfigModel → ServiceState
-opened_service config =
-    record { node = opened_model config; contacts = no_contacts; reading = 0 }
+-- a node that was just opened, no slot of which had a line, with this lease
+abbrev pub opened_service : ConfigModel → Option ℕ → ServiceState
+opened_service config lease = record {
+  node = opened_model config;
+  contacts = no_contacts;
+  reading = 0;
+  lease = lease;
+}
 
--- all that a daemon of a configuration offers in these turns, its first
-abbrev pub offers_of : ConfigModel → List Turn → List Offer
-offers_of config turns = (turns_effect (opened_service config) turns).telling.offers
+-- all that a daemon of a configuration and a lease offers in these turns, its first
+abbrev pub offers_of : ConfigModel → Option ℕ → List Turn → List Offer
+offers_of config lease turns = (turns_effect (opened_service config lease) turns).telling.offers
 
 -- how many entries it loses in them for want of memory
-abbrev pub missed_of : ConfigModel → List Turn → ℕ
-missed_of config turns = (turns_effect (opened_service config) turns).telling.missed
+abbrev pub missed_of : ConfigModel → Option ℕ → List Turn → ℕ
+missed_of config lease turns = (turns_effect (opened_service config lease) turns).telling.missed
 
 -- the same take, or turn, with nothing lost for want of memory
 abbrev pub unlost_visit : Visit → Visit

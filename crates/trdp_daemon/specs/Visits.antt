@@ -1,5 +1,5 @@
 -- What a datagram at one of the ports gives.
-use Rattle.std.specs.Prelude.{◌≡◌, ℕ, List, [], ◌++◌, length, codes, slice_set, Bool}
+use Rattle.std.specs.Prelude.{◌≡◌, ℕ, List, [], ◌++◌, length, codes, Bool}
 use Rattle.std.specs.Prelude.{Option, Some, None, Result, Ok, Err, if◌then◌else◌}
 use Rattle.trdp_base.specs.declared.place.Place.{Place}
 use Rattle.trdp_model.specs.declared.fault.NodeFault.{NodeFault}
@@ -18,11 +18,13 @@ use Rattle.trdp_daemon.specs.declared.contact.Contact.{Contact}
 use Rattle.trdp_daemon.specs.declared.port.Port.{Port}
 use Rattle.trdp_daemon.specs.declared.port.Port.TheVariants.{Pd, Md, Operator, Control}
 use Rattle.trdp_daemon.specs.declared.totals.Totals.{Totals}
+use Rattle.trdp_daemon.specs.Leases.{quiet_effect}
 use Rattle.trdp_daemon.specs.Ports.{place_of_port}
 use Rattle.trdp_daemon.specs.Questions.{text_of_question}
 use Rattle.trdp_daemon.specs.Told.{Arrived, Failed, Nothing, Came}
 use Rattle.trdp_daemon.specs.Effects.{Telling, missing, offering, ServiceState, Effect, still}
 use Rattle.trdp_daemon.specs.Effects.{telling_only, then_effect, event_effect, lost_or}
+use Rattle.trdp_daemon.specs.Effects.{with_contact}
 use Rattle.trdp_daemon.specs.Effects.{Loss, LineLost, EventLost, TextsLost}
 
 -- the answer to a datagram that is no line
@@ -90,9 +92,7 @@ contact_from service from = record { place = from; reading = service.reading }
 
 -- what reads as a line at a slot's control port is the slot's latest line
 abbrev pub heard_from : ServiceState → ℕ → Place → ServiceState
-heard_from service slot from = record service {
-  contacts = slice_set service.contacts slot (Some (contact_from service from));
-}
+heard_from service slot from = with_contact service slot (Some (contact_from service from))
 
 -- a line is lost where it carries bytes; elsewhere it comes to this effect
 abbrev pub line_lost_or : ServiceState → EventModel → Effect → Effect
@@ -128,9 +128,9 @@ datagram_effect service totals Operator from bytes loss =
 datagram_effect service totals (Control slot) from bytes loss =
     control_effect service slot from (control_line_of slot bytes) loss
 
--- what a take comes to, where these are the totals
+-- what a take comes to, where these are the totals; one that failed comes to nothing
 unfoldable pub taking_effect : ServiceState → Totals → Port → Arrived → Loss → Effect
 taking_effect service totals port Failed loss = still service
-taking_effect service totals port Nothing loss = still service
+taking_effect service totals port Nothing loss = quiet_effect service port loss
 taking_effect service totals port (Came from bytes) loss =
     datagram_effect service totals port from bytes loss

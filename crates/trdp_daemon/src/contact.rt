@@ -1,6 +1,6 @@
 //! When a slot was heard, and from where.
 
-ghost use Rattle.std.specs.Prelude.{◌≡◌};
+ghost use Rattle.std.specs.Prelude.{◌≡◌, slice_set};
 ghost use Rattle.trdp_daemon.specs.Effects.{contact_of};
 
 use trdp_base::Place;
@@ -21,5 +21,15 @@ pub(crate) fn contact_of(contacts: &[Option<Contact>], slot: u16) -> Option<Cont
     match contacts.get(usize::from(slot)) {
         Some(contact) => *contact,
         None => None,
+    }
+}
+
+/// Sets the latest line of the slot of that number, if there is such a slot.
+pub(crate) fn set_contact(contacts: &mut Vec<Option<Contact>>, slot: u16, contact: Option<Contact>)
+    ensures { contacts.new.items ≡ slice_set contacts.old.items slot contact }
+{
+    let index = usize::from(slot);
+    if index < contacts.len() {
+        contacts[index] = contact;
     }
 }

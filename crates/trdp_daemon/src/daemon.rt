@@ -3,7 +3,7 @@
 ghost use Rattle.std.specs.Prelude.{◌≡◌, IfOk, length, max, min};
 ghost use Rattle.trdp_base.specs.Moments.{last_moment};
 ghost use Rattle.trdp_daemon.specs.Ports.{ports_of};
-ghost use Rattle.trdp_daemon.specs.Turns.{udp_room};
+ghost use Rattle.trdp_daemon.specs.Turns.{take_room};
 
 use crate::clock::Clock;
 use crate::link::Link;
@@ -18,8 +18,9 @@ use trdp_base::MOMENT_MAX;
 use trdp_dataset::NodeConfig;
 use trdp_engine::{Event, Node};
 
-/// Room for a datagram, in bytes: more than the longest over UDP.
-const DATAGRAM_ROOM: usize = 65_536;
+/// Room for what a take takes, in bytes: for any line of a control connection, and for more than
+/// the longest datagram over UDP has.
+const TAKE_ROOM: usize = 140_000;
 
 /// A node that takes its datagrams from a wire and its time from a clock, and gives the wire what
 /// the node sends.
@@ -29,7 +30,7 @@ pub struct Daemon<W: Wire, C: Clock> {
     service: Service,
     /// The ports of a turn, in its order.
     ports: Vec<Port>,
-    /// Room for one datagram.
+    /// Room for what a take takes.
     room: Vec<u8>,
     /// The wire, with the totals.
     link: Link<W>,
@@ -44,7 +45,7 @@ impl<W: Wire, C: Clock> Model for Daemon<W, C> {
     ghost use Rattle.trdp_daemon.specs.Daemons.{DaemonState};
     ghost use Rattle.trdp_daemon.specs.Ports.{ports_of};
     ghost use Rattle.trdp_daemon.specs.Services.{IsSoundService, service_state};
-    ghost use Rattle.trdp_daemon.specs.Turns.{udp_room};
+    ghost use Rattle.trdp_daemon.specs.Turns.{take_room};
 
     ghost Value = { DaemonState W C };
 
@@ -58,17 +59,17 @@ impl<W: Wire, C: Clock> Model for Daemon<W, C> {
 
     ghost invariant = { λ d. IsSoundService d.service
         × (d.ports.items ≡ ports_of d.service.node.config)
-        × (length d.room.items ≡ udp_room) };
+        × (length d.room.items ≡ take_room) };
 }
 
 impl<W: Wire, C: Clock> Daemon<W, C> {
-    ghost use Rattle.std.specs.Prelude.{◌≡◌, ◌+◌, ℕ, IfOk, IfErr};
+    ghost use Rattle.std.specs.Prelude.{◌≡◌, ◌+◌, ℕ, IfOk, IfErr, Option, None};
     ghost use Rattle.trdp_dataset.specs.Configs.{ConfigModel};
     ghost use Rattle.trdp_daemon.specs.Daemons.{HasServed, TakesTurns, opened_daemon};
     ghost use Rattle.trdp_daemon.specs.Resting.{AttendsUntil, Rests, ServesUntil, TakesTurnAt};
 
     /// A daemon that has taken no turn: its node is at moment 0, and no slot has a control place.
-    /// All buffers are made here but that of the bytes of lines, which grows with them.
+    /// It has no lease: the application of a slot may be silent for ever.
     ///
     /// # Errors
     /// Configuration, wire and clock come back for want of memory.
@@ -78,16 +79,42 @@ impl<W: Wire, C: Clock> Daemon<W, C> {
         wire: W,
         clock: C,
     ) -> Result<Daemon<W, C>, (NodeConfig, W, C)>
-        ensures opened { IfOk result (λ daemon. daemon ≡ opened_daemon config wire clock) }
+        ensures opened { IfOk result (λ daemon. daemon ≡ opened_daemon config None wire clock) }
         ensures served { IfOk result (λ daemon.
-            HasServed W.takings W.gives C.readings config wire clock 0 daemon) }
+            HasServed W.takings W.gives C.readings config None wire clock 0 daemon) }
+        ensures returned { IfErr result (λ back.
+            (back.0 ≡ config) × (back.1 ≡ wire) × (back.2 ≡ clock)) }
+    {
+        Daemon::with_lease(alloc, config, None, wire, clock)
+    }
+
+    /// The same with a lease of so many microseconds, if there is one. Where a take at the control
+    /// port of a slot finds nothing, and its turn began more than that behind the turn of the
+    /// slot's latest line, the slot begins anew, as by its own call. Nobody is told, and the slot
+    /// has no control place up to its next line: so it begins anew once for each silence. A slot
+    /// that had no line yet may be silent for ever. No rest ends for a lease.
+    ///
+    /// All buffers are made here but that of the bytes of lines, which grows with them.
+    ///
+    /// # Errors
+    /// Configuration, wire and clock come back for want of memory.
+    pub fn with_lease(
+        alloc: Global,
+        config: NodeConfig,
+        lease: Option<u64>,
+        wire: W,
+        clock: C,
+    ) -> Result<Daemon<W, C>, (NodeConfig, W, C)>
+        ensures opened { IfOk result (λ daemon. daemon ≡ opened_daemon config lease wire clock) }
+        ensures served { IfOk result (λ daemon.
+            HasServed W.takings W.gives C.readings config lease wire clock 0 daemon) }
         ensures returned { IfErr result (λ back.
             (back.0 ≡ config) × (back.1 ≡ wire) × (back.2 ≡ clock)) }
     {
         match buffers(alloc, &config) {
             Err(_) => Err((config, wire, clock)),
             Ok((ports, room)) => {
-                match Service::new(alloc, config) {
+                match Service::new(alloc, config, lease) {
                     Err(config) => Err((config, wire, clock)),
                     Ok(service) => Ok(Daemon {
                         service,
@@ -121,9 +148,9 @@ impl<W: Wire, C: Clock> Daemon<W, C> {
     /// the totals since the daemon was made.
     pub fn turn(&mut self) -> Totals
         ensures turn { TakesTurns W.takings W.gives C.readings 1 self.old self.new }
-        ensures served { (config : ConfigModel) (wire : W) (clock : C) (n : ℕ)
-            → HasServed W.takings W.gives C.readings config wire clock n self.old
-            → HasServed W.takings W.gives C.readings config wire clock (n + 1) self.new }
+        ensures served { (config : ConfigModel) (lease : Option ℕ) (wire : W) (clock : C) (n : ℕ)
+            → HasServed W.takings W.gives C.readings config lease wire clock n self.old
+            → HasServed W.takings W.gives C.readings config lease wire clock (n + 1) self.new }
         ensures totals { result ≡ self.new.totals }
     {
         self.timed_turn();
@@ -133,9 +160,9 @@ impl<W: Wire, C: Clock> Daemon<W, C> {
     /// Takes so many turns. Answers the totals since the daemon was made.
     pub fn run(&mut self, turns: u32) -> Totals
         ensures turns { TakesTurns W.takings W.gives C.readings turns self.old self.new }
-        ensures served { (config : ConfigModel) (wire : W) (clock : C) (n : ℕ)
-            → HasServed W.takings W.gives C.readings config wire clock n self.old
-            → HasServed W.takings W.gives C.readings config wire clock (n + turns) self.new }
+        ensures served { (config : ConfigModel) (lease : Option ℕ) (wire : W) (clock : C) (n : ℕ)
+            → HasServed W.takings W.gives C.readings config lease wire clock n self.old
+            → HasServed W.takings W.gives C.readings config lease wire clock (n + turns) self.new }
         ensures totals { result ≡ self.new.totals }
     {
         for _turn in 0..turns {
@@ -150,9 +177,9 @@ impl<W: Wire, C: Clock> Daemon<W, C> {
     /// the reading of the last turn.
     pub fn attend(&mut self, until: u64) -> u64
         ensures turns { AttendsUntil W.takings W.gives C.readings until result self.old self.new }
-        ensures served { (config : ConfigModel) (wire : W) (clock : C) (n : ℕ)
-            → (before : HasServed W.takings W.gives C.readings config wire clock n self.old)
-            → ServesUntil W.takings W.gives C.readings config wire clock
+        ensures served { (config : ConfigModel) (lease : Option ℕ) (wire : W) (clock : C) (n : ℕ)
+            → (before : HasServed W.takings W.gives C.readings config lease wire clock n self.old)
+            → ServesUntil W.takings W.gives C.readings config lease wire clock
             n before.turns before.gives until result self.new }
     {
         let mut reading = 0;
@@ -195,16 +222,16 @@ impl<W: Wire, C: Clock> Daemon<W, C> {
     }
 }
 
-/// The ports of a turn, and room for a datagram.
+/// The ports of a turn, and room for a take.
 ///
 /// # Errors
 /// Want of memory for these.
 fn buffers(alloc: Global, config: &NodeConfig) -> Result<(Vec<Port>, Vec<u8>), AllocError>
     ensures ports { IfOk result (λ made. made.0.items ≡ ports_of config.now) }
-    ensures room { IfOk result (λ made. length made.1.items ≡ udp_room) }
+    ensures room { IfOk result (λ made. length made.1.items ≡ take_room) }
 {
     let ports = ports_of(alloc, config)?;
-    let room = vec![in alloc; 0; DATAGRAM_ROOM]?;
+    let room = vec![in alloc; 0; TAKE_ROOM]?;
     Ok((ports, room))
 }
 

@@ -15,7 +15,7 @@ pub struct WireFault;
 /// # Errors
 /// `WireFault`, where the count rose.
 #[tactic(auto, unfolding(crate::specs::MemoryWires::one_more_if))]
-pub(crate) fn fail(failures: &mut u64) -> Result<(), WireFault>
+pub fn fail(failures: &mut u64) -> Result<(), WireFault>
     ensures fault { OnErr result (failures.old < failures.new) }
     ensures fails { is_err result ≡ nat_lt failures.old (2 ^ 64 - 1) }
     ensures count { failures.new ≡ one_more_if (is_err result) failures.old }

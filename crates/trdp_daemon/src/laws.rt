@@ -1,7 +1,7 @@
 //! What follows from the definitions.
 
 ghost use Rattle.std.specs.Prelude.{◌≡◌, ◌≤◌, ◌↔◌, ℕ, List, [], length, map, All, true, false};
-ghost use Rattle.std.specs.Prelude.{IfOk, IfSome};
+ghost use Rattle.std.specs.Prelude.{IfOk, IfSome, Option};
 ghost use Rattle.trdp_base.specs.declared.place.Place.{Place};
 ghost use Rattle.trdp_dataset.specs.Configs.{ConfigModel};
 ghost use Rattle.trdp_model.specs.Events.{EventModel, CallIs, ResetCall};
@@ -15,6 +15,7 @@ ghost use Rattle.trdp_daemon.specs.Effects.{EventLost, LineLost, Loss, ServiceSt
 ghost use Rattle.trdp_daemon.specs.Effects.{event_effect};
 ghost use Rattle.trdp_daemon.specs.Effects.{event_taken, is_reset, may_take_memory, texts_lost};
 ghost use Rattle.trdp_daemon.specs.Ports.{control_numbers, ports_of};
+ghost use Rattle.trdp_daemon.specs.Silences.{HaveNoLine, times_out_in};
 ghost use Rattle.trdp_daemon.specs.Turns.{Turn, turns_effect, unlost, AllTakeAt, TakesAtEach};
 ghost use Rattle.trdp_daemon.specs.Turns.{opened_service};
 ghost use Rattle.trdp_daemon.specs.Visits.{OpensNoSlot, datagram_effect, operator_event};
@@ -65,7 +66,7 @@ pub fn lost_only_where_memory_is_taken()
 {}
 
 /// Where the slots of all control ports of a configuration are open, each turn takes once at each
-/// port of the configuration, in their order, each time with room for any datagram: a slot that is
+/// port of the configuration, in their order, each time with the room of a take: a slot that is
 /// open stays so. A node opens each slot of its configuration from the start, so that where no
 /// spare port is named it does so from the first turn on.
 pub fn each_port_is_taken_from()
@@ -73,8 +74,16 @@ pub fn each_port_is_taken_from()
         → length (control_numbers config) ≤ length service.node.slots
         → AllTakeAt (ports_of config) service turns
         → All (TakesAtEach (ports_of config)) turns }
-    ensures opened { (config : ConfigModel) (turns : List Turn)
+    ensures opened { (config : ConfigModel) (lease : Option ℕ) (turns : List Turn)
         → config.spare_control_ports ≡ []
-        → AllTakeAt (ports_of config) (opened_service config) turns
+        → AllTakeAt (ports_of config) (opened_service config lease) turns
         → All (TakesAtEach (ports_of config)) turns }
+{}
+
+/// In turns in which no line of a slot comes, the lease runs out for it once at most: where it did,
+/// it does again only behind the slot's next line.
+pub fn silence_resets_once()
+    ensures { (service : ServiceState) (slot : ℕ) (turns : List Turn)
+        → HaveNoLine slot turns
+        → times_out_in slot service turns ≤ 1 }
 {}

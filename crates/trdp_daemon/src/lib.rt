@@ -18,6 +18,10 @@
 //! follows from the takes and gives before it and from the readings (`specs/Questions`,
 //! `specs/Counted`).
 //!
+//! An application may fall silent for ever, killed or hung. A daemon with a lease
+//! ([`Daemon::with_lease`]) lets its slot begin anew once for each such silence, by the clock of
+//! the turns: any line of the slot counts as a sign of life.
+//!
 //! What no contract can say is that memory is there: a daemon that loses every text, each line that
 //! carries bytes, and each event for which memory may be wanting, and counts them in `memory`,
 //! meets its contract, and `trdp_node_tests` shows that with ample memory nothing is lost. What
@@ -52,7 +56,9 @@ mod daemon;
 mod fault;
 mod home;
 mod laws;
+mod lease;
 mod link;
+mod lists;
 mod memory_clock;
 mod memory_sockets;
 mod memory_wire;
@@ -78,8 +84,10 @@ mod wire;
 pub use bind_fault::BindFault;
 pub use clock::Clock;
 pub use daemon::Daemon;
-pub use fault::WireFault;
-pub use laws::{each_port_is_taken_from, lost_only_where_memory_is_taken, nothing_missed};
+pub use fault::{WireFault, fail};
+pub use laws::{
+    each_port_is_taken_from, lost_only_where_memory_is_taken, nothing_missed, silence_resets_once,
+};
 pub use memory_clock::MemoryClock;
 pub use memory_sockets::{MemorySockets, SocketRow};
 pub use memory_wire::MemoryWire;

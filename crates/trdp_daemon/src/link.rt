@@ -1,11 +1,13 @@
 //! A wire, with the counts of what came and went.
 
-ghost use Rattle.std.specs.Prelude.{◌≡◌, ◌≤◌, [], ◌∷◌, length, IfSome};
-ghost use Rattle.trdp_daemon.specs.Told.{Give};
+ghost use Rattle.std.specs.Prelude.{◌≡◌, ◌≤◌, ℕ, List, [], ◌∷◌, length, IfOk, IfSome};
+ghost use Rattle.trdp_daemon.specs.declared.port.Port.{Port};
+ghost use Rattle.trdp_daemon.specs.Told.{Give, taking_of};
 ghost use Rattle.trdp_daemon.specs.Counting.{counted, no_totals, totals_after};
-ghost use Rattle.trdp_daemon.specs.Effects.{missing, offering};
-ghost use Rattle.trdp_daemon.specs.Links.{Carries, Takes};
+ghost use Rattle.trdp_daemon.specs.Effects.{missing, offering, silence};
+ghost use Rattle.trdp_daemon.specs.Links.{Carries};
 
+use crate::fault::WireFault;
 use crate::port::Port;
 use crate::totals::Totals;
 use crate::wire::Wire;
@@ -41,23 +43,22 @@ impl<W: Wire> Link<W> {
     }
 
     /// Takes the next datagram at a port, if one is there: it is put at the front of the room, and
-    /// the answer is where it came from and how many bytes it has there. A take at which the wire
-    /// fails is counted, and gives nothing.
-    pub(crate) fn take(&mut self, port: Port, room: &mut [u8]) -> Option<(Place, usize)>
-        ensures within { IfSome result (λ found. found.1 ≤ length room.new) }
-        ensures takes { Takes W.takings W.gives self.old self.new port result room.new }
+    /// the answer is where it came from and how many bytes it has there. What came is counted.
+    ///
+    /// # Errors
+    /// `WireFault`, where the wire fails, which is counted.
+    pub(crate) fn take(
+        &mut self,
+        port: Port,
+        room: &mut [u8],
+    ) -> Result<Option<(Place, usize)>, WireFault>
+        ensures within { IfOk result (λ found. IfSome found (λ f. f.1 ≤ length room.new)) }
+        ensures takes { Carries W.takings W.gives self.old self.new
+            (taking_of port result room.new ∷ []) silence }
     {
-        match self.wire.take(port, room) {
-            Ok(Some(found)) => {
-                self.totals.taken = one_more(self.totals.taken);
-                Some(found)
-            }
-            Ok(None) => None,
-            Err(_) => {
-                self.totals.unread = one_more(self.totals.unread);
-                None
-            }
-        }
+        let taken = self.wire.take(port, room);
+        count_take(&mut self.totals, taken);
+        taken
     }
 
     /// Offers a datagram to the wire. One at which the wire fails is counted, and lost.
@@ -85,6 +86,18 @@ impl<W: Wire> Link<W> {
         ensures { Carries W.takings W.gives self.old self.new [] missing }
     {
         self.totals.memory = one_more(self.totals.memory);
+    }
+}
+
+/// Counts a take that answered this.
+fn count_take(totals: &mut Totals, taken: Result<Option<(Place, usize)>, WireFault>)
+    ensures { (port : Port) (room : List ℕ)
+        → totals.new ≡ totals_after totals.old (taking_of port taken room ∷ []) [] 0 }
+{
+    match taken {
+        Ok(Some(_)) => totals.taken = one_more(totals.taken),
+        Ok(None) => {}
+        Err(_) => totals.unread = one_more(totals.unread),
     }
 }
 

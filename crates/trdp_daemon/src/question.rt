@@ -1,7 +1,7 @@
 //! The answers to the operator's questions, each put into a list that has room for it.
 
 ghost use Rattle.std.specs.Prelude.{◌≡◌, ◌<◌, ◌≤◌, ◌+◌, ◌++◌, codes, length};
-ghost use Rattle.std.specs.Prelude.{vec_len, vec_capacity};
+ghost use Rattle.std.specs.Prelude.{vec_len, vec_capacity, ℕ, Option};
 ghost use Rattle.trdp_base.specs.NumberText.{text_of_number};
 ghost use Rattle.trdp_base.specs.declared.number.TheConstants.{NUMBER_LENGTH};
 ghost use Rattle.trdp_engine.specs.NodeStates.{uncounted};
@@ -31,10 +31,11 @@ pub(crate) fn put_answer(
     reading: u64,
 )
     requires room { answer_room ≤ vec_capacity text.old }
-    ensures items { text.new.items ≡ text_of_question (record {
+    ensures items { (lease : Option ℕ) → text.new.items ≡ text_of_question (record {
       node = uncounted node.now;
       contacts = contacts.now;
       reading = reading;
+      lease = lease;
     }) totals question }
     ensures len { vec_len text.new ≤ answer_room }
     ensures capacity { vec_capacity text.old ≤ vec_capacity text.new }

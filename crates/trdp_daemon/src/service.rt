@@ -1,35 +1,36 @@
 //! A node, and when and from where its slots were heard; what a take at one of the ports comes to.
 
-ghost use Rattle.std.specs.Prelude.{◌≡◌, ◌<◌, ◌≤◌, ◌∷◌, [], length, slice_set, Some, false};
-ghost use Rattle.std.specs.Prelude.{IfOk, IfErr, OnOk, OnErr, vec_capacity};
+ghost use Rattle.std.specs.Prelude.{◌≡◌, ◌<◌, ◌≤◌, ◌∷◌, [], length, false};
+ghost use Rattle.std.specs.Prelude.{IfOk, IfErr, OnOk, OnErr};
 ghost use Rattle.trdp_model.specs.Alone.{refused_as};
-ghost use Rattle.trdp_model.specs.Events.{CallIs, ResetCall, event_model};
+ghost use Rattle.trdp_model.specs.Events.{CallIs, DatagramIs, ResetCall, event_model};
 ghost use Rattle.trdp_model.specs.NodeModels.{MayTakeMemory};
 ghost use Rattle.trdp_engine.specs.NodeStates.{uncounted};
 ghost use Rattle.trdp_model.specs.NodeModels.{node_after};
 ghost use Rattle.trdp_script.specs.PortLines.{control_line_of, operator_line_of};
 ghost use Rattle.trdp_daemon.specs.Effects.{event_effect, is_reset, missing};
-ghost use Rattle.trdp_daemon.specs.Effects.{telling_only};
+ghost use Rattle.trdp_daemon.specs.Effects.{telling_only, with_contact};
 ghost use Rattle.trdp_daemon.specs.Resting.{IsIdleTime};
 ghost use Rattle.trdp_daemon.specs.Services.{Comes, ComesTold, ComesWith, IsSoundService};
 ghost use Rattle.trdp_daemon.specs.Services.{TakesAtPorts, service_state};
 ghost use Rattle.trdp_daemon.specs.Questions.{answer_room, text_of_question};
-ghost use Rattle.trdp_daemon.specs.Turns.{begun, no_contacts, opened_service, udp_room};
+ghost use Rattle.trdp_daemon.specs.Turns.{begun, opened_service, take_room};
 ghost use Rattle.trdp_daemon.specs.Visits.{control_effect, heard_from, operator_effect};
-ghost use Rattle.trdp_daemon.specs.Visits.{question_effect};
+ghost use Rattle.trdp_daemon.specs.Visits.{datagram_effect, question_effect};
 
 use crate::answer::{operator_text, refuse};
-use crate::contact::Contact;
+use crate::contact::{Contact, set_contact};
 use crate::home::{Home, home_of};
 use crate::link::Link;
+use crate::lists::Lists;
 use crate::port::Port;
-use crate::question::{ANSWER_ROOM, put_answer};
+use crate::question::put_answer;
 use crate::telling::tell_records;
 use crate::wire::Wire;
 use std::alloc::{AllocError, Global};
 use trdp_base::Place;
 use trdp_dataset::NodeConfig;
-use trdp_engine::{Call, Event, Node, NodeFault, Outbox, Protocol, SLOTS_MAX};
+use trdp_engine::{Call, Event, Node, NodeFault, Outbox, Protocol};
 use trdp_script::{OperatorLine, Question, read_control_event, read_operator};
 
 /// A node, with the latest lines of its slots and the lists that are used again from event to
@@ -44,6 +45,8 @@ pub(crate) struct Service {
     pub(crate) contacts: Vec<Option<Contact>>,
     /// The reading of the clock of the latest turn, in microseconds; 0 before the first.
     pub(crate) reading: u64,
+    /// How many microseconds the application of a slot may be silent; None where it may for ever.
+    pub(crate) lease: Option<u64>,
     /// The records of one event.
     records: Outbox,
     /// The answer to a slot that began anew. It has room for one from the start, so that no such
@@ -55,37 +58,38 @@ pub(crate) struct Service {
     pub(crate) answer: Vec<u8>,
 }
 
-/// Room for a record's line, in bytes: more than the longest of a node.
-const TEXT_ROOM: usize = 140_000;
-
 impl Service {
-    /// The service of a configuration before its first event.
+    /// The service of a configuration before its first event, with a lease of so many microseconds.
     ///
     /// # Errors
     /// The configuration comes back for want of memory.
-    pub(crate) fn new(alloc: Global, config: NodeConfig) -> Result<Service, NodeConfig>
-        ensures opened { IfOk result (λ service. service_state service ≡ opened_service config) }
+    pub(crate) fn new(
+        alloc: Global,
+        config: NodeConfig,
+        lease: Option<u64>,
+    ) -> Result<Service, NodeConfig>
+        ensures opened { IfOk result (λ service.
+            service_state service ≡ opened_service config lease) }
         ensures sound { IfOk result (λ service. IsSoundService service) }
         ensures returned { IfErr result (λ back. back ≡ config) }
     {
-        match lists(alloc) {
-            Err(_) => Err(config),
-            Ok((contacts, text, answer, resets)) => {
-                let home = home_of(&config);
-                match Node::new(alloc, config) {
-                    Err(config) => Err(config),
-                    Ok(node) => Ok(Service {
-                        node,
-                        home,
-                        contacts,
-                        reading: 0,
-                        records: Outbox::new(alloc),
-                        resets,
-                        text,
-                        answer,
-                    }),
-                }
-            }
+        let Ok(lists) = Lists::new(alloc) else {
+            return Err(config);
+        };
+        let home = home_of(&config);
+        match Node::new(alloc, config) {
+            Err(config) => Err(config),
+            Ok(node) => Ok(Service {
+                node,
+                home,
+                contacts: lists.contacts,
+                reading: 0,
+                lease,
+                records: Outbox::new(alloc),
+                resets: lists.resets,
+                text: lists.text,
+                answer: lists.answer,
+            }),
         }
     }
 
@@ -110,7 +114,7 @@ impl Service {
         link: &mut Link<W>,
     )
         requires sound { IsSoundService self.old }
-        requires room { length room.old ≡ udp_room }
+        requires room { length room.old ≡ take_room }
         ensures sound { IsSoundService self.new }
         ensures config { self.new.node.config ≡ self.old.node.config }
         ensures takes { TakesAtPorts W.takings W.gives self.old self.new link.old link.new
@@ -124,32 +128,61 @@ impl Service {
         if !is_there {
             return;
         }
-        let Some((from, len)) = link.take(port, room) else {
-            return;
-        };
-        let (bytes, _) = room.split_at(len);
+        match link.take(port, room) {
+            Ok(Some((from, len))) => {
+                let (bytes, _) = room.split_at(len);
+                self.take_datagram(buffer, port, from, bytes, link);
+            }
+            Ok(None) => self.take_nothing(port, link),
+            Err(_) => {}
+        }
+    }
+
+    /// Takes a datagram that came to a port.
+    fn take_datagram<W: Wire>(
+        &mut self,
+        buffer: &mut Vec<u8>,
+        port: Port,
+        from: Place,
+        bytes: &[u8],
+        link: &mut Link<W>,
+    )
+        requires sound { IsSoundService self.old }
+        ensures sound { IsSoundService self.new }
+        ensures config { self.new.node.config ≡ self.old.node.config }
+        ensures comes { ComesWith W.takings W.gives self.old self.new link.old link.new
+            (datagram_effect (service_state self.old) link.old.totals port from bytes.now) }
+    {
         match port {
-            Port::Pd => {
-                let event = Event::Datagram {
-                    kind: Protocol::Pd,
-                    src: from,
-                    dst: self.home.pd,
-                    bytes,
-                };
-                let _ = self.take_event(&event, link);
-            }
-            Port::Md => {
-                let event = Event::Datagram {
-                    kind: Protocol::Md,
-                    src: from,
-                    dst: self.home.md,
-                    bytes,
-                };
-                let _ = self.take_event(&event, link);
-            }
+            Port::Pd => self.take_telegram(Protocol::Pd, from, self.home.pd, bytes, link),
+            Port::Md => self.take_telegram(Protocol::Md, from, self.home.md, bytes, link),
             Port::Operator => self.take_operator(from, bytes, link),
             Port::Control(slot) => self.take_control(buffer, slot, from, bytes, link),
         }
+    }
+
+    /// Takes a datagram that came for the node at that place.
+    fn take_telegram<W: Wire>(
+        &mut self,
+        kind: Protocol,
+        from: Place,
+        to: Place,
+        bytes: &[u8],
+        link: &mut Link<W>,
+    )
+        requires sound { IsSoundService self.old }
+        ensures sound { IsSoundService self.new }
+        ensures config { self.new.node.config ≡ self.old.node.config }
+        ensures comes { ComesWith W.takings W.gives self.old self.new link.old link.new
+            (event_effect (service_state self.old) (DatagramIs kind from to bytes.now)) }
+    {
+        let event = Event::Datagram {
+            kind,
+            src: from,
+            dst: to,
+            bytes,
+        };
+        let _ = self.take_event(&event, link);
     }
 
     /// Takes a datagram that came to the operator's port. An event's answer goes back behind what
@@ -313,7 +346,18 @@ impl Service {
             place: from,
             reading: self.reading,
         };
-        note(&mut self.contacts, usize::from(slot), contact);
+        self.note(slot, Some(contact));
+    }
+
+    /// Notes the latest line of a slot, or that it had none, if there is such a slot.
+    pub(crate) fn note(&mut self, slot: u16, contact: Option<Contact>)
+        requires sound { IsSoundService self.old }
+        ensures sound { IsSoundService self.new }
+        ensures node { self.new.node ≡ self.old.node }
+        ensures noted { service_state self.new
+            ≡ with_contact (service_state self.old) slot contact }
+    {
+        set_contact(&mut self.contacts, slot, contact);
     }
 
     /// Begins a turn at a reading of the clock.
@@ -324,32 +368,5 @@ impl Service {
         ensures begun { service_state self.new ≡ begun (service_state self.old) reading }
     {
         self.reading = reading;
-    }
-}
-
-/// No line of any slot, and room for the line of a record, for an answer to the operator, and for
-/// that to a slot that begins anew.
-///
-/// # Errors
-/// Want of memory for these.
-fn lists(alloc: Global) -> Result<(Vec<Option<Contact>>, Vec<u8>, Vec<u8>, Outbox), AllocError>
-    ensures contacts { IfOk result (λ made. made.0.items ≡ no_contacts) }
-    ensures answer { IfOk result (λ made. answer_room ≤ vec_capacity made.2) }
-    ensures resets { IfOk result (λ made. 0 < made.3.row_room) }
-{
-    let contacts = vec![in alloc; None; SLOTS_MAX]?;
-    let text = Vec::with_capacity(alloc, TEXT_ROOM)?;
-    let answer = Vec::with_capacity(alloc, ANSWER_ROOM)?;
-    let mut resets = Outbox::new(alloc);
-    resets.reserve(1, 0)?;
-    Ok((contacts, text, answer, resets))
-}
-
-/// Sets the contact of that index, if there is one.
-fn note(contacts: &mut Vec<Option<Contact>>, index: usize, contact: Contact)
-    ensures { contacts.new.items ≡ slice_set contacts.old.items index (Some contact) }
-{
-    if index < contacts.len() {
-        contacts[index] = Some(contact);
     }
 }

@@ -50,9 +50,10 @@ cut_both before (byte ∷ bytes) more = cut_both (not (byte == 10)) bytes more
 -- the totals of a daemon that has served are those of its turns
 totals_served : {W C : Type 0} {takings_in : W → Option (List Taking)}
     {gives_in : W → Option (List Give)} {readings_in : C → Option (List ℕ)}
-    {config : ConfigModel} {wire : W} {clock : C} {n : ℕ} {daemon : DaemonState W C}
-    (p : HasServed takings_in gives_in readings_in config wire clock n daemon)
-    → AreTotals config p.turns p.gives daemon.totals
+    {config : ConfigModel} {lease : Option ℕ} {wire : W} {clock : C} {n : ℕ}
+    {daemon : DaemonState W C}
+    (p : HasServed takings_in gives_in readings_in config lease wire clock n daemon)
+    → AreTotals config lease p.turns p.gives daemon.totals
 totals_served p = record {
   ports = p.ports;
   offers = p.offers;
@@ -71,13 +72,14 @@ none_mapped f (x ∷ xs) none = absurd (cc)
 -- a daemon that has taken no turn has written no line
 pub lines_none : {W C : Type 0} {takings_in : W → Option (List Taking)}
     {gives_in : W → Option (List Give)} {readings_in : C → Option (List ℕ)}
-    {config : ConfigModel} {wire : W} {clock : C} {daemon : DaemonState W C}
+    {config : ConfigModel} {lease : Option ℕ} {wire : W} {clock : C} {daemon : DaemonState W C}
     (step due : ℕ) (is_cut : Bool) (told : Option (List Attempt))
     → due ≡ min (0 + step) (2 ^ 64 - 1) → is_cut ≡ false
-    → HasServed takings_in gives_in readings_in config wire clock 0 daemon
-    → WritesLinesOver takings_in gives_in readings_in config wire clock step 0 due is_cut told told
+    → HasServed takings_in gives_in readings_in config lease wire clock 0 daemon
+    → WritesLinesOver takings_in gives_in readings_in config lease wire clock step 0 due is_cut told
+    told
     daemon
-lines_none {config = config} step due is_cut told due_is whole p =
+lines_none {config = config} {lease} step due is_cut told due_is whole p =
     let turns : p.turns ≡ [] = none_in p.turns p.count in
     record {
       lines = [];
@@ -86,7 +88,7 @@ lines_none {config = config} step due is_cut told due_is whole p =
         served = p;
         turns_are = turns;
         gives_are = none_mapped (λ give. give.offer) p.gives
-            (p.offers ∙ ap (offers_of config) turns);
+            (p.offers ∙ ap (offers_of config lease) turns);
         are_lines = tt;
       };
       count = refl;
@@ -100,9 +102,10 @@ lines_none {config = config} step due is_cut told due_is whole p =
 -- the line of a daemon that has served on until it was due
 abbrev pub next_line : {W C : Type 0} {takings_in : W → Option (List Taking)}
     {gives_in : W → Option (List Give)} {readings_in : C → Option (List ℕ)}
-    {config : ConfigModel} {wire : W} {clock : C} {due reading : ℕ} {turns : List Turn}
+    {config : ConfigModel} {lease : Option ℕ} {wire : W} {clock : C} {due reading : ℕ}
+    {turns : List Turn}
     {gives : List Give} {daemon : DaemonState W C}
-    → ServesUntilDue takings_in gives_in readings_in config wire clock turns gives due reading
+    → ServesUntilDue takings_in gives_in readings_in config lease wire clock turns gives due reading
     daemon → TotalsLine
 next_line {daemon = daemon} p =
     record { turns = p.served.turns; gives = p.served.gives; totals = daemon.totals }
@@ -110,12 +113,13 @@ next_line {daemon = daemon} p =
 -- the turns up to that line
 served_next : {W C : Type 0} {takings_in : W → Option (List Taking)}
     {gives_in : W → Option (List Give)} {readings_in : C → Option (List ℕ)}
-    {config : ConfigModel} {wire : W} {clock : C} {step due reading : ℕ}
+    {config : ConfigModel} {lease : Option ℕ} {wire : W} {clock : C} {step due reading : ℕ}
     {lines : List TotalsLine} {daemon next : DaemonState W C}
-    (p : HasServedLines takings_in gives_in readings_in config wire clock step lines daemon)
-    (q : ServesUntilDue takings_in gives_in readings_in config wire clock
+    (p : HasServedLines takings_in gives_in readings_in config lease wire clock step lines daemon)
+    (q : ServesUntilDue takings_in gives_in readings_in config lease wire clock
     p.served.turns p.served.gives due reading next) → due ≡ line_due step (turns_of lines)
-    → HasServedLines takings_in gives_in readings_in config wire clock step (next_line q ∷ lines)
+    → HasServedLines takings_in gives_in readings_in config lease wire clock step
+    (next_line q ∷ lines)
     next
 served_next p q due = record {
   n = q.n;
@@ -138,18 +142,20 @@ served_next p q due = record {
 -- one more line
 pub lines_more : {W C : Type 0} {takings_in : W → Option (List Taking)}
     {gives_in : W → Option (List Give)} {readings_in : C → Option (List ℕ)}
-    {config : ConfigModel} {wire : W} {clock : C} {step n due reading next_due : ℕ}
+    {config : ConfigModel} {lease : Option ℕ} {wire : W} {clock : C}
+    {step n due reading next_due : ℕ}
     {is_cut is_cut_then : Bool} {bytes : List ℕ} {a b c : Option (List Attempt)}
     {daemon next : DaemonState W C} (count : ℕ)
-    (p : WritesLinesOver takings_in gives_in readings_in config wire clock step n due is_cut a b
+    (p : WritesLinesOver takings_in gives_in readings_in config lease wire clock step n due is_cut a
+    b
     daemon)
-    → ServesUntilDue takings_in gives_in readings_in config wire clock
+    → ServesUntilDue takings_in gives_in readings_in config lease wire clock
     p.served.served.turns p.served.served.gives due reading next
     → bytes ≡ line_end is_cut ++ text_of_line next.totals
     → TellsMore b c (attempt bytes count ∷ [])
     → is_cut_then ≡ is_cut_behind is_cut (take count bytes)
     → next_due ≡ min (reading + step) (2 ^ 64 - 1)
-    → WritesLinesOver takings_in gives_in readings_in config wire clock step (n + 1) next_due
+    → WritesLinesOver takings_in gives_in readings_in config lease wire clock step (n + 1) next_due
     is_cut_then a c next
 lines_more {step = step} {n = n} {is_cut = is_cut} {is_cut_then} {bytes} {a} {b} {c}
     {next = next} count p q bytes_are told cut due =
@@ -178,14 +184,16 @@ lines_more {step = step} {n = n} {is_cut = is_cut} {is_cut_then} {bytes} {a} {b}
 -- a line for which memory was wanting
 pub lines_fail : {W C : Type 0} {takings_in : W → Option (List Taking)}
     {gives_in : W → Option (List Give)} {readings_in : C → Option (List ℕ)}
-    {config : ConfigModel} {wire : W} {clock : C} {step n due reading : ℕ} {is_cut : Bool}
+    {config : ConfigModel} {lease : Option ℕ} {wire : W} {clock : C} {step n due reading : ℕ}
+    {is_cut : Bool}
     {a b c : Option (List Attempt)} {daemon next : DaemonState W C} {fault : ServeFault}
-    (p : WritesLinesOver takings_in gives_in readings_in config wire clock step n due is_cut a b
+    (p : WritesLinesOver takings_in gives_in readings_in config lease wire clock step n due is_cut a
+    b
     daemon)
-    → ServesUntilDue takings_in gives_in readings_in config wire clock
+    → ServesUntilDue takings_in gives_in readings_in config lease wire clock
     p.served.served.turns p.served.served.gives due reading next
     → fault ≡ OutOfMemory → c ≡ b
-    → FailsOver takings_in gives_in readings_in config wire clock step a c next fault
+    → FailsOver takings_in gives_in readings_in config lease wire clock step a c next fault
 lines_fail {a = a} p q is kept = record {
   fault_is = is;
   line = next_line q;
@@ -199,10 +207,11 @@ lines_fail {a = a} p q is kept = record {
 -- all lines, of whatever wire and clock
 pub all_lines : {W C : Type 0} {takings_in : W → Option (List Taking)}
     {gives_in : W → Option (List Give)} {readings_in : C → Option (List ℕ)}
-    {config : ConfigModel} {wire : W} {clock : C} {step due : ℕ} {is_cut : Bool}
+    {config : ConfigModel} {lease : Option ℕ} {wire : W} {clock : C} {step due : ℕ} {is_cut : Bool}
     {a b : Option (List Attempt)} {daemon : DaemonState W C}
-    → WritesLinesOver takings_in gives_in readings_in config wire clock step (2 ^ 64 - 1) due is_cut
-    a b daemon → WritesAllLines config step a b
+    → WritesLinesOver takings_in gives_in readings_in config lease wire clock step (2 ^ 64 - 1) due
+    is_cut
+    a b daemon → WritesAllLines config lease step a b
 all_lines p = record {
   all = record {
     lines = p.lines;
@@ -217,10 +226,11 @@ all_lines p = record {
 -- lines up to a fault, of whatever wire and clock
 pub lines_up_to : {W C : Type 0} {takings_in : W → Option (List Taking)}
     {gives_in : W → Option (List Give)} {readings_in : C → Option (List ℕ)}
-    {config : ConfigModel} {wire : W} {clock : C} {step : ℕ} {a b : Option (List Attempt)}
+    {config : ConfigModel} {lease : Option ℕ} {wire : W} {clock : C} {step : ℕ}
+    {a b : Option (List Attempt)}
     {daemon : DaemonState W C} (fault : ServeFault)
-    → FailsOver takings_in gives_in readings_in config wire clock step a b daemon fault
-    → WritesUpTo fault config step a b
+    → FailsOver takings_in gives_in readings_in config lease wire clock step a b daemon fault
+    → WritesUpTo fault config lease step a b
 lines_up_to Bind p = let is = p.fault_is in absurd (cc)
 lines_up_to Write p = let is = p.fault_is in absurd (cc)
 lines_up_to OutOfMemory p = record {
@@ -232,11 +242,12 @@ lines_up_to OutOfMemory p = record {
 }
 
 -- nothing was written before the first line
-pub early_end : (fault : ServeFault) (config : ConfigModel) (step : ℕ)
-    (told : Option (List Attempt)) → (fault ≡ Write → ⊥) → WritesUpTo fault config step told told
-early_end Bind config step told early = adds_none told
-early_end Write config step told early = absurd (early refl)
-early_end OutOfMemory config step told early = record {
+pub early_end : (fault : ServeFault) (config : ConfigModel) (lease : Option ℕ) (step : ℕ)
+    (told : Option (List Attempt)) → (fault ≡ Write → ⊥) → WritesUpTo fault config lease step told
+    told
+early_end Bind config lease step told early = adds_none told
+early_end Write config lease step told early = absurd (early refl)
+early_end OutOfMemory config lease step told early = record {
   lines = [];
   are_lines = tt;
   attempts = [];

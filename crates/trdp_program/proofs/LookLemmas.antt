@@ -79,10 +79,11 @@ behind_early due reading [] (turn ∷ next ∷ more) early some =
 -- all turns of so many pieces, of which none was the last
 pub record LooksSoFar {W C : Type 0} (takings_in : W → Option (List Taking))
     (gives_in : W → Option (List Give)) (readings_in : C → Option (List ℕ))
-    (config : ConfigModel) (wire : W) (clock : C) (turns : List Turn) (gives : List Give)
+    (config : ConfigModel) (lease : Option ℕ) (wire : W) (clock : C) (turns : List Turn)
+    (gives : List Give)
     (due looks reading : ℕ) (daemon : DaemonState W C) : Type 0 where
   pub n : ℕ
-  pub served : HasServed takings_in gives_in readings_in config wire clock n daemon
+  pub served : HasServed takings_in gives_in readings_in config lease wire clock n daemon
   pub more : List Turn
   pub more_gives : List Give
   pub turns_are : served.turns ≡ turns ++ more
@@ -94,9 +95,12 @@ pub record LooksSoFar {W C : Type 0} (takings_in : W → Option (List Taking))
 -- none yet
 pub looks_none : {W C : Type 0} {takings_in : W → Option (List Taking)}
     {gives_in : W → Option (List Give)} {readings_in : C → Option (List ℕ)}
-    {config : ConfigModel} {wire : W} {clock : C} {n : ℕ} {daemon : DaemonState W C}
-    (due reading : ℕ) (p : HasServed takings_in gives_in readings_in config wire clock n daemon)
-    → LooksSoFar takings_in gives_in readings_in config wire clock p.turns p.gives due 0 reading
+    {config : ConfigModel} {lease : Option ℕ} {wire : W} {clock : C} {n : ℕ}
+    {daemon : DaemonState W C}
+    (due reading : ℕ) (p : HasServed takings_in gives_in readings_in config lease wire clock n
+    daemon)
+    → LooksSoFar takings_in gives_in readings_in config lease wire clock p.turns p.gives due 0
+    reading
     daemon
 looks_none {n = n} due reading p = record {
   n = n;
@@ -150,12 +154,15 @@ early_by {until} {due} {reading} before early turns are within last sooner (inr 
 -- one more piece, before the line is due
 pub looks_more : {W C : Type 0} {takings_in : W → Option (List Taking)}
     {gives_in : W → Option (List Give)} {readings_in : C → Option (List ℕ)}
-    {config : ConfigModel} {wire : W} {clock : C} {turns : List Turn} {gives : List Give}
+    {config : ConfigModel} {lease : Option ℕ} {wire : W} {clock : C} {turns : List Turn}
+    {gives : List Give}
     {due looks reading until next : ℕ} {a b : DaemonState W C}
-    (p : LooksSoFar takings_in gives_in readings_in config wire clock turns gives due looks reading
-    a) → ServesUntil takings_in gives_in readings_in config wire clock p.n p.served.turns
+    (p : LooksSoFar takings_in gives_in readings_in config lease wire clock turns gives due looks
+    reading
+    a) → ServesUntil takings_in gives_in readings_in config lease wire clock p.n p.served.turns
     p.served.gives until next b → until ≤ due → next < due
-    → LooksSoFar takings_in gives_in readings_in config wire clock turns gives due (looks + 1) next
+    → LooksSoFar takings_in gives_in readings_in config lease wire clock turns gives due (looks + 1)
+    next
     b
 looks_more {turns = turns} {gives} {due} {looks} p q within sooner =
     let last = q.reading_is ∙ ap last_reading q.turns_are in
@@ -203,12 +210,14 @@ ends_by {until} {due} {reading} before more early turns p are within last late (
 -- the line is due
 pub looks_end : {W C : Type 0} {takings_in : W → Option (List Taking)}
     {gives_in : W → Option (List Give)} {readings_in : C → Option (List ℕ)}
-    {config : ConfigModel} {wire : W} {clock : C} {turns : List Turn} {gives : List Give}
+    {config : ConfigModel} {lease : Option ℕ} {wire : W} {clock : C} {turns : List Turn}
+    {gives : List Give}
     {due looks reading until next : ℕ} {a b : DaemonState W C}
-    (p : LooksSoFar takings_in gives_in readings_in config wire clock turns gives due looks reading
-    a) → ServesUntil takings_in gives_in readings_in config wire clock p.n p.served.turns
+    (p : LooksSoFar takings_in gives_in readings_in config lease wire clock turns gives due looks
+    reading
+    a) → ServesUntil takings_in gives_in readings_in config lease wire clock p.n p.served.turns
     p.served.gives until next b → until ≤ due → due ≤ next
-    → ServesUntilDue takings_in gives_in readings_in config wire clock turns gives due next b
+    → ServesUntilDue takings_in gives_in readings_in config lease wire clock turns gives due next b
 looks_end {turns = turns} {gives} {due} p q within late =
     let last = q.reading_is ∙ ap last_reading q.turns_are in
     record {
@@ -228,11 +237,13 @@ looks_end {turns = turns} {gives} {due} p q within late =
 -- as many pieces as can be counted, and the line isn't due
 pub looks_all : {W C : Type 0} {takings_in : W → Option (List Taking)}
     {gives_in : W → Option (List Give)} {readings_in : C → Option (List ℕ)}
-    {config : ConfigModel} {wire : W} {clock : C} {turns : List Turn} {gives : List Give}
+    {config : ConfigModel} {lease : Option ℕ} {wire : W} {clock : C} {turns : List Turn}
+    {gives : List Give}
     {due looks reading : ℕ} {daemon : DaemonState W C} → looks ≡ 2 ^ 64 - 1
-    → LooksSoFar takings_in gives_in readings_in config wire clock turns gives due looks reading
+    → LooksSoFar takings_in gives_in readings_in config lease wire clock turns gives due looks
+    reading
     daemon
-    → ServesUntilDue takings_in gives_in readings_in config wire clock turns gives due reading
+    → ServesUntilDue takings_in gives_in readings_in config lease wire clock turns gives due reading
     daemon
 looks_all all p =
     let count : 2 ^ 64 - 1 ≤ length p.more = omega (arith, p.count, all) in

@@ -13,9 +13,9 @@ use Rattle.trdp_program.specs.Serving.{CountsTurns, CountsTurnsOver, WritesNoTot
 -- totals of turns over a wire and a clock are those of so many turns
 pub counts_turns : {W C : Type 0} {takings_in : W → Option (List Taking)}
     {gives_in : W → Option (List Give)} {readings_in : C → Option (List ℕ)}
-    {config : ConfigModel} {wire : W} {clock : C} {n : ℕ} {totals : Totals}
-    → CountsTurnsOver takings_in gives_in readings_in config wire clock n totals
-    → CountsTurns config n totals
+    {config : ConfigModel} {lease : Option ℕ} {wire : W} {clock : C} {n : ℕ} {totals : Totals}
+    → CountsTurnsOver takings_in gives_in readings_in config lease wire clock n totals
+    → CountsTurns config lease n totals
 counts_turns p = record {
   turns = p.took.turns;
   gives = p.took.gives;
@@ -29,14 +29,16 @@ counts_turns p = record {
 }
 
 -- a fault before the first turn
-pub early_fault : (fault : ServeFault) (config : ConfigModel) (n : ℕ) (told : Option (List ℕ))
-    → (fault ≡ Write → ⊥) → WritesNoTotals fault config n told told
-early_fault Bind config n told early = Keeps-refl told
-early_fault OutOfMemory config n told early = Keeps-refl told
-early_fault Write config n told early = absurd (early refl)
+pub early_fault : (fault : ServeFault) (config : ConfigModel) (lease : Option ℕ) (n : ℕ)
+    (told : Option (List ℕ))
+    → (fault ≡ Write → ⊥) → WritesNoTotals fault config lease n told told
+early_fault Bind config lease n told early = Keeps-refl told
+early_fault OutOfMemory config lease n told early = Keeps-refl told
+early_fault Write config lease n told early = absurd (early refl)
 
 -- no memory for the daemon
-pub memory_fault : (fault : ServeFault) (config : ConfigModel) (n : ℕ) (told : Option (List ℕ))
-    → fault ≡ OutOfMemory → WritesNoTotals fault config n told told
-memory_fault fault config n told is =
-    subst (λ (f : ServeFault). WritesNoTotals f config n told told) (sym is) (Keeps-refl told)
+pub memory_fault : (fault : ServeFault) (config : ConfigModel) (lease : Option ℕ) (n : ℕ)
+    (told : Option (List ℕ))
+    → fault ≡ OutOfMemory → WritesNoTotals fault config lease n told told
+memory_fault fault config lease n told is =
+    subst (λ (f : ServeFault). WritesNoTotals f config lease n told told) (sym is) (Keeps-refl told)

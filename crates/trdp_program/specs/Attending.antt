@@ -56,10 +56,11 @@ pub record EndsWhenDue (due : ℕ) (turns : List Turn) : Type 0 where
 -- so, the last of them at `reading`
 pub record ServesUntilDue {W C : Type 0} (takings_in : W → Option (List Taking))
     (gives_in : W → Option (List Give)) (readings_in : C → Option (List ℕ))
-    (config : ConfigModel) (wire : W) (clock : C) (turns : List Turn) (gives : List Give)
+    (config : ConfigModel) (lease : Option ℕ) (wire : W) (clock : C) (turns : List Turn)
+    (gives : List Give)
     (due reading : ℕ) (daemon : DaemonState W C) : Type 0 where
   pub n : ℕ
-  pub served : HasServed takings_in gives_in readings_in config wire clock n daemon
+  pub served : HasServed takings_in gives_in readings_in config lease wire clock n daemon
   pub more : List Turn
   pub more_gives : List Give
   pub turns_are : served.turns ≡ turns ++ more
@@ -67,23 +68,25 @@ pub record ServesUntilDue {W C : Type 0} (takings_in : W → Option (List Taking
   pub ends : EndsWhenDue due more
   pub reading_is : reading ≡ last_reading served.turns
 
--- a line of a node of that configuration, behind these turns and their gives: it comes with the
--- first turn that begins a step or more behind the last of these
-pub record IsNextLine (config : ConfigModel) (step : ℕ) (turns : List Turn) (gives : List Give)
+-- a line of a node of that configuration and lease, behind these turns and their gives: it comes
+-- with the first turn that begins a step or more behind the last of these
+pub record IsNextLine (config : ConfigModel) (lease : Option ℕ) (step : ℕ) (turns : List Turn)
+    (gives : List Give)
     (line : TotalsLine) : Type 0 where
   pub more : List Turn
   pub more_gives : List Give
   pub turns_are : line.turns ≡ turns ++ more
   pub gives_are : line.gives ≡ gives ++ more_gives
   pub ends : EndsWhenDue (line_due step turns) more
-  pub counted : AreTotals config line.turns line.gives line.totals
+  pub counted : AreTotals config lease line.turns line.gives line.totals
 
--- these are lines of one node of that configuration, from its first turn on, the latest first
-abbrev pub AreLines : ConfigModel → ℕ → List TotalsLine → Type 0
-AreLines config step [] = Unit {0}
-AreLines config step (line ∷ earlier) =
-    IsNextLine config step (turns_of earlier) (gives_of earlier) line
-    × AreLines config step earlier
+-- these are lines of one node of that configuration and lease, from its first turn on, the latest
+-- first
+abbrev pub AreLines : ConfigModel → Option ℕ → ℕ → List TotalsLine → Type 0
+AreLines config lease step [] = Unit {0}
+AreLines config lease step (line ∷ earlier) =
+    IsNextLine config lease step (turns_of earlier) (gives_of earlier) line
+    × AreLines config lease step earlier
 
 -- what the stream is asked to take for a line, where it took these before: the end of a line that
 -- was cut, and then the whole line
@@ -100,47 +103,53 @@ AttemptsLines (line ∷ earlier) attempts =
     × (attempts ≡ before ++ attempt (bytes_of_line before line) count ∷ [])
 
 -- a stream was asked to take such lines, and nothing else
-pub record WritesLines (config : ConfigModel) (step : ℕ) (old new : Option (List Attempt))
+pub record WritesLines (config : ConfigModel) (lease : Option ℕ) (step : ℕ)
+    (old new : Option (List Attempt))
     : Type 0 where
   pub lines : List TotalsLine
-  pub are_lines : AreLines config step lines
+  pub are_lines : AreLines config lease step lines
   pub attempts : List Attempt
   pub are_attempts : AttemptsLines lines attempts
   pub told : TellsMore old new attempts
 
 -- it was asked to take as many as can be counted
-pub record WritesAllLines (config : ConfigModel) (step : ℕ) (old new : Option (List Attempt))
+pub record WritesAllLines (config : ConfigModel) (lease : Option ℕ) (step : ℕ)
+    (old new : Option (List Attempt))
     : Type 0 where
-  pub all : WritesLines config step old new
+  pub all : WritesLines config lease step old new
   pub count : length all.lines ≡ 2 ^ 64 - 1
 
 -- what a service has written that ends with this fault
-abbrev pub WritesUpTo : ServeFault → ConfigModel → ℕ → Option (List Attempt)
+abbrev pub WritesUpTo : ServeFault → ConfigModel → Option ℕ → ℕ → Option (List Attempt)
     → Option (List Attempt) → Type 0
-WritesUpTo Bind config step old new = TellsMore old new []
-WritesUpTo Write config step old new = ⊥
-WritesUpTo OutOfMemory config step old new = WritesLines config step old new
+WritesUpTo Bind config lease step old new = TellsMore old new []
+WritesUpTo Write config lease step old new = ⊥
+WritesUpTo OutOfMemory config lease step old new = WritesLines config lease step old new
 
--- a daemon of this configuration has served since it was made with this wire and this clock, which
--- tell what they do by these functions: its turns are those up to the latest of these lines
+-- a daemon of this configuration and lease has served since it was made with this wire and this
+-- clock, which tell what they do by these functions: its turns are those up to the latest of these
+-- lines
 pub record HasServedLines {W C : Type 0} (takings_in : W → Option (List Taking))
     (gives_in : W → Option (List Give)) (readings_in : C → Option (List ℕ))
-    (config : ConfigModel) (wire : W) (clock : C) (step : ℕ) (lines : List TotalsLine)
+    (config : ConfigModel) (lease : Option ℕ) (wire : W) (clock : C) (step : ℕ)
+    (lines : List TotalsLine)
     (daemon : DaemonState W C) : Type 0 where
   pub n : ℕ
-  pub served : HasServed takings_in gives_in readings_in config wire clock n daemon
+  pub served : HasServed takings_in gives_in readings_in config lease wire clock n daemon
   pub turns_are : served.turns ≡ turns_of lines
   pub gives_are : served.gives ≡ gives_of lines
-  pub are_lines : AreLines config step lines
+  pub are_lines : AreLines config lease step lines
 
 -- such a daemon has served, and a stream was asked to take n lines; the next one is due at `due`,
 -- and the latest is cut or isn't
 pub record WritesLinesOver {W C : Type 0} (takings_in : W → Option (List Taking))
     (gives_in : W → Option (List Give)) (readings_in : C → Option (List ℕ))
-    (config : ConfigModel) (wire : W) (clock : C) (step n due : ℕ) (is_cut : Bool)
+    (config : ConfigModel) (lease : Option ℕ) (wire : W) (clock : C) (step n due : ℕ)
+    (is_cut : Bool)
     (old new : Option (List Attempt)) (daemon : DaemonState W C) : Type 0 where
   pub lines : List TotalsLine
-  pub served : HasServedLines takings_in gives_in readings_in config wire clock step lines daemon
+  pub served : HasServedLines takings_in gives_in readings_in config lease wire clock step lines
+      daemon
   pub count : length lines ≡ n
   pub attempts : List Attempt
   pub are_attempts : AttemptsLines lines attempts
@@ -152,12 +161,13 @@ pub record WritesLinesOver {W C : Type 0} (takings_in : W → Option (List Takin
 -- those before it
 pub record FailsOver {W C : Type 0} (takings_in : W → Option (List Taking))
     (gives_in : W → Option (List Give)) (readings_in : C → Option (List ℕ))
-    (config : ConfigModel) (wire : W) (clock : C) (step : ℕ) (old new : Option (List Attempt))
+    (config : ConfigModel) (lease : Option ℕ) (wire : W) (clock : C) (step : ℕ)
+    (old new : Option (List Attempt))
     (daemon : DaemonState W C) (fault : ServeFault) : Type 0 where
   pub fault_is : fault ≡ OutOfMemory
   pub line : TotalsLine
   pub earlier : List TotalsLine
-  pub served : HasServedLines takings_in gives_in readings_in config wire clock step
+  pub served : HasServedLines takings_in gives_in readings_in config lease wire clock step
       (line ∷ earlier) daemon
   pub attempts : List Attempt
   pub are_attempts : AttemptsLines earlier attempts
@@ -165,48 +175,51 @@ pub record FailsOver {W C : Type 0} (takings_in : W → Option (List Taking))
 
 -- as many lines were offered as can be counted: the status is 0, and the error stream is told of
 -- what was lost
-pub record AttendsToEnd (config : ConfigModel) (step : ℕ) (old new : Option (List Attempt))
+pub record AttendsToEnd (config : ConfigModel) (lease : Option ℕ) (step : ℕ)
+    (old new : Option (List Attempt))
     (errors errors_then : Option (List ℕ)) (status : ℕ) : Type 0 where
   pub status_is : status ≡ 0
-  pub written : WritesAllLines config step old new
+  pub written : WritesAllLines config lease step old new
   pub losses : TellsText errors errors_then
 
 -- the service came to a fault: the status is 4, and the error stream is told of what was lost, and
 -- then the fault
-pub record FailsToAttend (config : ConfigModel) (step : ℕ) (old new : Option (List Attempt))
+pub record FailsToAttend (config : ConfigModel) (lease : Option ℕ) (step : ℕ)
+    (old new : Option (List Attempt))
     (errors errors_then : Option (List ℕ)) (status : ℕ) : Type 0 where
   pub fault : ServeFault
   pub status_is : status ≡ 4
-  pub written : WritesUpTo fault config step old new
+  pub written : WritesUpTo fault config lease step old new
   pub before : Option (List ℕ)
   pub losses : TellsText errors before
   pub told : TellsFault (text_of_serve_fault fault) before errors_then
 
--- a service of a node that goes on: what the writer was asked to take and what the error stream had
--- before and after it, and the status
-abbrev pub Attends : ConfigModel → ℕ → Option (List Attempt) → Option (List Attempt)
+-- a service of a node that goes on, with this lease: what the writer was asked to take and what the
+-- error stream had before and after it, and the status
+abbrev pub Attends : ConfigModel → Option ℕ → ℕ → Option (List Attempt) → Option (List Attempt)
     → Option (List ℕ) → Option (List ℕ) → ℕ → Type 0
-Attends config step old new errors errors_then status =
-    AttendsToEnd config step old new errors errors_then status
-    ⊎ FailsToAttend config step old new errors errors_then status
+Attends config lease step old new errors errors_then status =
+    AttendsToEnd config lease step old new errors errors_then status
+    ⊎ FailsToAttend config lease step old new errors errors_then status
 
 -- the bytes are a configuration, whose node was served; the error stream was told some text before
 -- that and some behind it
-pub record AttendsConfig (bytes : List ℕ) (step : ℕ) (old new : Option (List Attempt))
+pub record AttendsConfig (bytes : List ℕ) (lease : Option ℕ) (step : ℕ)
+    (old new : Option (List Attempt))
     (errors errors_then : Option (List ℕ)) (status : ℕ) : Type 0 where
   pub config : ConfigModel
   pub is : ReadsToml config_of bytes (Ok config)
   pub before : Option (List ℕ)
   pub behind : Option (List ℕ)
   pub words : TellsText errors before
-  pub attends : Attends config step old new before behind status
+  pub attends : Attends config lease step old new before behind status
   pub more : TellsText behind errors_then
 
--- a service that goes on over these bytes of a configuration: what the writer was asked to take and
--- what the error stream had before and after it, and the status. Where the bytes are none, the
--- writer was asked for nothing
-abbrev pub AttendsProgram : List ℕ → ℕ → Option (List Attempt) → Option (List Attempt)
+-- a service that goes on over these bytes of a configuration, with this lease: what the writer was
+-- asked to take and what the error stream had before and after it, and the status. Where the bytes
+-- are none, the writer was asked for nothing
+abbrev pub AttendsProgram : List ℕ → Option ℕ → ℕ → Option (List Attempt) → Option (List Attempt)
     → Option (List ℕ) → Option (List ℕ) → ℕ → Type 0
-AttendsProgram bytes step old new errors errors_then status =
+AttendsProgram bytes lease step old new errors errors_then status =
     (RefusesConfig bytes errors errors_then status × (new ≡ old))
-    ⊎ AttendsConfig bytes step old new errors errors_then status
+    ⊎ AttendsConfig bytes lease step old new errors errors_then status

@@ -17,33 +17,37 @@ use Rattle.trdp_program.specs.Programs.{TakesNoConfig}
 use Rattle.trdp_program.specs.declared.faults.ServeFault.{ServeFault}
 use Rattle.trdp_program.specs.declared.faults.ServeFault.TheVariants.{Bind, Write, OutOfMemory}
 
--- these are the totals of a node of that configuration after these turns, its first, with these
--- gives: each turn took once at each port that is there, in order, and the gives are exactly what
--- the turns offer, whatever they answered; each answer to the operator that tells of totals tells
--- of those of its take
-pub record AreTotals (config : ConfigModel) (turns : List Turn) (gives : List Give)
+-- these are the totals of a node of that configuration and lease after these turns, its first, with
+-- these gives: each turn took once at each port that is there, in order, and the gives are exactly
+-- what the turns offer, whatever they answered; each answer to the operator that tells of totals
+-- tells of those of its take
+pub record AreTotals (config : ConfigModel) (lease : Option ℕ) (turns : List Turn)
+    (gives : List Give)
     (totals : Totals) : Type 0 where
-  pub ports : AllTakeAt (ports_of config) (opened_service config) turns
+  pub ports : AllTakeAt (ports_of config) (opened_service config lease) turns
   pub offers : map (λ give. give.offer) gives
-      ≡ (turns_effect (opened_service config) turns).telling.offers
+      ≡ (turns_effect (opened_service config lease) turns).telling.offers
   pub totals_are : totals ≡ totals_after no_totals (flat_map takings_of turns) gives
-      (turns_effect (opened_service config) turns).telling.missed
-  pub counted : TurnsCounted no_totals (opened_service config) turns gives
+      (turns_effect (opened_service config lease) turns).telling.missed
+  pub counted : TurnsCounted no_totals (opened_service config lease) turns gives
 
--- these are the totals of a node of that configuration after its first n turns
-pub record CountsTurns (config : ConfigModel) (n : ℕ) (totals : Totals) : Type 0 where
+-- these are the totals of a node of that configuration and lease after its first n turns
+pub record CountsTurns (config : ConfigModel) (lease : Option ℕ) (n : ℕ) (totals : Totals)
+    : Type 0 where
   pub turns : List Turn
   pub gives : List Give
   pub count : length turns ≡ n
-  pub are : AreTotals config turns gives totals
+  pub are : AreTotals config lease turns gives totals
 
--- these are the totals of a daemon of that configuration that has just been made, after n turns
--- over this wire and this clock, which tell what they do by these functions
+-- these are the totals of a daemon of that configuration and lease that has just been made, after n
+-- turns over this wire and this clock, which tell what they do by these functions
 pub record CountsTurnsOver {W C : Type 0} (takings_in : W → Option (List Taking))
     (gives_in : W → Option (List Give)) (readings_in : C → Option (List ℕ))
-    (config : ConfigModel) (wire : W) (clock : C) (n : ℕ) (totals : Totals) : Type 0 where
+    (config : ConfigModel) (lease : Option ℕ) (wire : W) (clock : C) (n : ℕ) (totals : Totals)
+    : Type 0 where
   pub daemon : DaemonState W C
-  pub took : TakesTurns takings_in gives_in readings_in n (opened_daemon config wire clock) daemon
+  pub took : TakesTurns takings_in gives_in readings_in n (opened_daemon config lease wire clock)
+      daemon
   pub totals_are : totals ≡ daemon.totals
 
 -- the line of these totals was written
@@ -58,41 +62,43 @@ FailsToWrite Write totals old new = PartlyWrites old new (text_of_totals totals 
 
 -- the bytes are a configuration, whose node took n turns: the status is 0, the line of its totals
 -- was written, and the error stream is told nothing
-pub record ServesConfig (bytes : List ℕ) (n : ℕ) (old new errors errors_then : Option (List ℕ))
+pub record ServesConfig (bytes : List ℕ) (lease : Option ℕ) (n : ℕ)
+    (old new errors errors_then : Option (List ℕ))
     (status : ℕ) : Type 0 where
   pub config : ConfigModel
   pub is : ReadsToml config_of bytes (Ok config)
   pub totals : Totals
-  pub counts : CountsTurns config n totals
+  pub counts : CountsTurns config lease n totals
   pub status_is : status ≡ 0
   pub written : WritesTotals totals old new
   pub faultless : Keeps errors errors_then
 
 -- what a service has written that ends with this fault: where the output can't be written a front
 -- of the line of the totals of n turns, and else nothing
-abbrev pub WritesNoTotals : ServeFault → ConfigModel → ℕ → Option (List ℕ) → Option (List ℕ)
-    → Type 0
-WritesNoTotals Bind config n old new = Keeps old new
-WritesNoTotals OutOfMemory config n old new = Keeps old new
-WritesNoTotals Write config n old new = (totals : Totals) × CountsTurns config n totals
+abbrev pub WritesNoTotals : ServeFault → ConfigModel → Option ℕ → ℕ → Option (List ℕ)
+    → Option (List ℕ) → Type 0
+WritesNoTotals Bind config lease n old new = Keeps old new
+WritesNoTotals OutOfMemory config lease n old new = Keeps old new
+WritesNoTotals Write config lease n old new = (totals : Totals) × CountsTurns config lease n totals
     × PartlyWrites old new (text_of_totals totals ++ codes "\n")
 
 -- the bytes are a configuration, but the line of its node's totals wasn't written, or only a front
 -- of it: the status is 4, and the error stream is told the fault
-pub record FailsToServe (bytes : List ℕ) (n : ℕ) (old new errors errors_then : Option (List ℕ))
+pub record FailsToServe (bytes : List ℕ) (lease : Option ℕ) (n : ℕ)
+    (old new errors errors_then : Option (List ℕ))
     (status : ℕ) : Type 0 where
   pub config : ConfigModel
   pub is : ReadsToml config_of bytes (Ok config)
   pub fault : ServeFault
   pub status_is : status ≡ 4
-  pub written : WritesNoTotals fault config n old new
+  pub written : WritesNoTotals fault config lease n old new
   pub told : TellsFault (text_of_serve_fault fault) errors errors_then
 
--- n turns over these bytes of a configuration: what the writer and the error stream had before and
--- have after them, and the status
-abbrev pub ServesProgram : List ℕ → ℕ → Option (List ℕ) → Option (List ℕ) → Option (List ℕ)
-    → Option (List ℕ) → ℕ → Type 0
-ServesProgram bytes n old new errors errors_then status =
+-- n turns over these bytes of a configuration, with this lease: what the writer and the error
+-- stream had before and have after them, and the status
+abbrev pub ServesProgram : List ℕ → Option ℕ → ℕ → Option (List ℕ) → Option (List ℕ)
+    → Option (List ℕ) → Option (List ℕ) → ℕ → Type 0
+ServesProgram bytes lease n old new errors errors_then status =
     TakesNoConfig bytes old new errors errors_then status
-    ⊎ ServesConfig bytes n old new errors errors_then status
-    ⊎ FailsToServe bytes n old new errors errors_then status
+    ⊎ ServesConfig bytes lease n old new errors errors_then status
+    ⊎ FailsToServe bytes lease n old new errors errors_then status

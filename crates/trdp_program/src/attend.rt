@@ -1,6 +1,6 @@
 //! A service that goes on: first the sockets, and then turns with rests between them.
 
-ghost use Rattle.std.specs.Prelude.{◌≡◌, ◌≢◌, ◌^◌, ◌-◌, OnOk, IfErr, Bool, ℕ};
+ghost use Rattle.std.specs.Prelude.{◌≡◌, ◌≢◌, ◌^◌, ◌-◌, OnOk, IfErr, Bool, ℕ, Option};
 ghost use Rattle.trdp_dataset.specs.Configs.{ConfigModel};
 ghost use Rattle.trdp_daemon.specs.Daemons.{HasServed};
 ghost use Rattle.trdp_program.specs.Attending.{Attends, FailsOver, ServesUntilDue, step_of};
@@ -20,19 +20,21 @@ use std::time::Clock;
 use trdp_daemon::{Daemon, RestingWire, RunClock, SystemSockets, Wire};
 use trdp_dataset::NodeConfig;
 
-/// Serves a node of a configuration until the program is stopped, and answers the exit status: 4
-/// after a fault, which gives one line on `errors`, and 0 after 2^64 - 1 lines of totals.
+/// Serves a node of a configuration until the program is stopped, with a lease of so many
+/// microseconds, if there is one, and answers the exit status: 4 after a fault, which gives one
+/// line on `errors`, and 0 after 2^64 - 1 lines of totals.
 pub(crate) fn attend_config<H: Net + Clock + AllocGlobal, W: Stream, E: Write>(
     rt: &H,
     config: NodeConfig,
+    lease: Option<u64>,
     seconds: u32,
     writer: &mut W,
     errors: &mut E,
 ) -> u8
-    ensures { Attends config (step_of seconds) (W.attempts writer.old) (W.attempts writer.new)
+    ensures { Attends config lease (step_of seconds) (W.attempts writer.old) (W.attempts writer.new)
         (E.contents errors.old) (E.contents errors.new) result }
 {
-    match attend(rt, config, seconds, writer, errors) {
+    match attend(rt, config, lease, seconds, writer, errors) {
         Ok(()) => 0,
         Err(fault) => {
             tell_fault(fault, errors);
@@ -41,50 +43,52 @@ pub(crate) fn attend_config<H: Net + Clock + AllocGlobal, W: Stream, E: Write>(
     }
 }
 
-/// Binds the ports of a configuration, and attends to its node.
+/// Binds the ports of a configuration, and attends to its node, with a lease.
 ///
 /// # Errors
 /// `Bind` where the system refuses a port, and `OutOfMemory`.
 fn attend<H: Net + Clock + AllocGlobal, W: Stream, E: Write>(
     rt: &H,
     config: NodeConfig,
+    lease: Option<u64>,
     seconds: u32,
     writer: &mut W,
     errors: &mut E,
 ) -> Result<(), ServeFault>
-    ensures ok { OnOk result (WritesAllLines config (step_of seconds)
+    ensures ok { OnOk result (WritesAllLines config lease (step_of seconds)
         (W.attempts writer.old) (W.attempts writer.new)) }
-    ensures err { IfErr result (λ fault. WritesUpTo fault config (step_of seconds)
+    ensures err { IfErr result (λ fault. WritesUpTo fault config lease (step_of seconds)
         (W.attempts writer.old) (W.attempts writer.new)) }
     ensures losses { TellsText (E.contents errors.old) (E.contents errors.new) }
 {
     let wire = bind(rt, &config)?;
     let step = step_of(seconds);
     let clock = RunClock::new(rt);
-    attend_over(rt.alloc(), config, wire, clock, step, writer, errors)
+    attend_over(rt.alloc(), config, lease, wire, clock, step, writer, errors)
 }
 
-/// Opens a node of a configuration over a wire and a clock, and attends to it: a line of its totals
-/// comes after each step of so many microseconds.
+/// Opens a node of a configuration over a wire and a clock, with a lease, and attends to it: a line
+/// of its totals comes after each step of so many microseconds.
 ///
 /// # Errors
 /// `OutOfMemory`.
 fn attend_over<L: Wire + Drop, C: trdp_daemon::Clock + Drop, W: Stream, E: Write>(
     alloc: Global,
     config: NodeConfig,
+    lease: Option<u64>,
     wire: L,
     clock: C,
     step: u64,
     writer: &mut W,
     errors: &mut E,
 ) -> Result<(), ServeFault>
-    ensures ok { OnOk result (WritesAllLines config step
+    ensures ok { OnOk result (WritesAllLines config lease step
         (W.attempts writer.old) (W.attempts writer.new)) }
-    ensures err { IfErr result (λ fault. WritesUpTo fault config step
+    ensures err { IfErr result (λ fault. WritesUpTo fault config lease step
         (W.attempts writer.old) (W.attempts writer.new)) }
     ensures losses { TellsText (E.contents errors.old) (E.contents errors.new) }
 {
-    match Daemon::new(alloc, config, wire, clock) {
+    match Daemon::with_lease(alloc, config, lease, wire, clock) {
         Ok(mut daemon) => attend_lines(alloc, &mut daemon, step, u64::MAX, writer, errors),
         Err(_) => Err(ServeFault::OutOfMemory),
     }
@@ -104,14 +108,14 @@ pub fn attend_lines<L: Wire, C: trdp_daemon::Clock, W: Stream, E: Write>(
     writer: &mut W,
     errors: &mut E,
 ) -> Result<(), ServeFault>
-    ensures ok { (config : ConfigModel) (wire : L) (clock : C)
-        → HasServed L.takings L.gives C.readings config wire clock 0 daemon.old
+    ensures ok { (config : ConfigModel) (lease : Option ℕ) (wire : L) (clock : C)
+        → HasServed L.takings L.gives C.readings config lease wire clock 0 daemon.old
         → OnOk result ((due : ℕ) × (is_cut : Bool) × WritesLinesOver L.takings L.gives C.readings
-        config wire clock step lines due is_cut
+        config lease wire clock step lines due is_cut
         (W.attempts writer.old) (W.attempts writer.new) daemon.new) }
-    ensures err { (config : ConfigModel) (wire : L) (clock : C)
-        → HasServed L.takings L.gives C.readings config wire clock 0 daemon.old
-        → IfErr result (FailsOver L.takings L.gives C.readings config wire clock step
+    ensures err { (config : ConfigModel) (lease : Option ℕ) (wire : L) (clock : C)
+        → HasServed L.takings L.gives C.readings config lease wire clock 0 daemon.old
+        → IfErr result (FailsOver L.takings L.gives C.readings config lease wire clock step
         (W.attempts writer.old) (W.attempts writer.new) daemon.new) }
     ensures losses { TellsText (E.contents errors.old) (E.contents errors.new) }
 {
@@ -132,9 +136,9 @@ fn attend_until<L: Wire, C: trdp_daemon::Clock, E: Write>(
     losses: &mut Losses,
     errors: &mut E,
 ) -> u64
-    ensures served { (config : ConfigModel) (wire : L) (clock : C) (n : ℕ)
-        → (before : HasServed L.takings L.gives C.readings config wire clock n daemon.old)
-        → ServesUntilDue L.takings L.gives C.readings config wire clock
+    ensures served { (config : ConfigModel) (lease : Option ℕ) (wire : L) (clock : C) (n : ℕ)
+        → (before : HasServed L.takings L.gives C.readings config lease wire clock n daemon.old)
+        → ServesUntilDue L.takings L.gives C.readings config lease wire clock
         before.turns before.gives due result daemon.new }
     ensures losses { TellsText (E.contents errors.old) (E.contents errors.new) }
 {

@@ -1,6 +1,6 @@
 //! A service that goes on, with words about its configuration.
 
-ghost use Rattle.std.specs.Prelude.{◌≡◌, ◌⊎◌};
+ghost use Rattle.std.specs.Prelude.{◌≡◌, ◌⊎◌, None};
 ghost use Rattle.trdp_program.specs.Attending.{AttendsProgram, step_of};
 ghost use Rattle.trdp_program.specs.Faults.{TellsText};
 ghost use Rattle.trdp_program.specs.Programs.{IsConfig};
@@ -40,7 +40,7 @@ pub fn report_daemon<H: Net + Clock + AllocGlobal, W: Stream, E: Write>(
 ) -> u8
     ensures status { (result ≡ 0) ⊎ (result ≡ 1) ⊎ (result ≡ 4) }
     ensures config { (result ≡ 1) ⊎ IsConfig config.now }
-    ensures attends { AttendsProgram config.now (step_of seconds)
+    ensures attends { AttendsProgram config.now None (step_of seconds)
         (W.attempts writer.old) (W.attempts writer.new)
         (E.contents errors.old) (E.contents errors.new) result }
     ensures quiet { result ≡ 1 → W.attempts writer.new ≡ W.attempts writer.old }
@@ -49,7 +49,7 @@ pub fn report_daemon<H: Net + Clock + AllocGlobal, W: Stream, E: Write>(
     match NodeConfig::from_toml(alloc, config) {
         Ok(taken) => {
             tell_text(report(alloc, config, &taken), errors);
-            let status = attend_config(rt, taken, seconds, writer, errors);
+            let status = attend_config(rt, taken, None, seconds, writer, errors);
             tell_ports(rt, config, status, errors);
             status
         }

@@ -1,6 +1,6 @@
 //! A service of the program: the configuration first, then the sockets, and then the turns.
 
-ghost use Rattle.std.specs.Prelude.{◌≡◌, ◌≢◌, ◌⊎◌, IfOk, IfErr, OnOk};
+ghost use Rattle.std.specs.Prelude.{◌≡◌, ◌≢◌, ◌⊎◌, IfOk, IfErr, OnOk, None};
 ghost use Rattle.std.specs.Io.KnownBytes.{Keeps};
 ghost use Rattle.trdp_program.specs.Programs.{IsConfig};
 ghost use Rattle.trdp_program.specs.Serving.{CountsTurns, CountsTurnsOver, FailsToWrite};
@@ -34,7 +34,7 @@ pub fn serve_program<H: Net + Clock + AllocGlobal, W: Write, E: Write>(
 ) -> u8
     ensures status { (result ≡ 0) ⊎ (result ≡ 1) ⊎ (result ≡ 4) }
     ensures config { (result ≡ 1) ⊎ IsConfig config.now }
-    ensures serves { ServesProgram config.now turns
+    ensures serves { ServesProgram config.now None turns
         (W.contents writer.old) (W.contents writer.new)
         (E.contents errors.old) (E.contents errors.new) result }
     ensures quiet { result ≡ 1 → Keeps (W.contents writer.old) (W.contents writer.new) }
@@ -43,7 +43,7 @@ pub fn serve_program<H: Net + Clock + AllocGlobal, W: Write, E: Write>(
     let Ok(config) = read_config(rt.alloc(), config, errors) else {
         return CONFIG_STATUS;
     };
-    match serve(rt, config, turns, writer) {
+    match serve(rt, config, None, turns, writer) {
         Ok(()) => 0,
         Err(fault) => {
             tell_fault(fault, errors);
@@ -52,45 +52,47 @@ pub fn serve_program<H: Net + Clock + AllocGlobal, W: Write, E: Write>(
     }
 }
 
-/// Binds the ports of a configuration, takes so many turns at them, and writes the line of their
-/// totals.
+/// Binds the ports of a configuration, takes so many turns at them, with a lease, and writes the
+/// line of their totals.
 ///
 /// # Errors
 /// `Bind` where the system refuses a port, `Write` where the writer fails, and `OutOfMemory`.
 fn serve<H: Net + Clock + AllocGlobal, W: Write>(
     rt: &H,
     config: NodeConfig,
+    lease: Option<u64>,
     turns: u32,
     writer: &mut W,
 ) -> Result<(), ServeFault>
-    ensures ok { OnOk result ((totals : Totals) × CountsTurns config turns totals
+    ensures ok { OnOk result ((totals : Totals) × CountsTurns config lease turns totals
         × WritesTotals totals (W.contents writer.old) (W.contents writer.new)) }
-    ensures err { IfErr result (λ fault. WritesNoTotals fault config turns
+    ensures err { IfErr result (λ fault. WritesNoTotals fault config lease turns
         (W.contents writer.old) (W.contents writer.new)) }
 {
     let wire = bind(rt, &config)?;
-    let totals = serve_over(rt.alloc(), config, wire, RunClock::new(rt), turns)?;
+    let totals = serve_over(rt.alloc(), config, lease, wire, RunClock::new(rt), turns)?;
     write_totals(rt.alloc(), totals, writer)
 }
 
-/// Opens a node of a configuration over a wire and a clock, and takes so many turns. Answers their
-/// totals: those of the turns that the wire and the clock tell of, where they tell. The system's
-/// sockets and clock tell nothing, so that of them only the number of turns is left.
+/// Opens a node of a configuration over a wire and a clock, with a lease, and takes so many turns.
+/// Answers their totals: those of the turns that the wire and the clock tell of, where they tell.
+/// The system's sockets and clock tell nothing, so that of them only the number of turns is left.
 ///
 /// # Errors
 /// `OutOfMemory`.
 fn serve_over<L: Wire + Drop, C: trdp_daemon::Clock + Drop>(
     alloc: Global,
     config: NodeConfig,
+    lease: Option<u64>,
     wire: L,
     clock: C,
     turns: u32,
 ) -> Result<Totals, ServeFault>
     ensures ok { IfOk result
-        (CountsTurnsOver L.takings L.gives C.readings config wire clock turns) }
+        (CountsTurnsOver L.takings L.gives C.readings config lease wire clock turns) }
     ensures err { IfErr result (λ fault. fault ≡ ServeFault.OutOfMemory) }
 {
-    match Daemon::new(alloc, config, wire, clock) {
+    match Daemon::with_lease(alloc, config, lease, wire, clock) {
         Ok(mut daemon) => Ok(daemon.run(turns)),
         Err(_) => Err(ServeFault::OutOfMemory),
     }

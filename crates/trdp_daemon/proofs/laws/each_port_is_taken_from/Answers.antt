@@ -7,5 +7,5 @@ returns-clause-served c = λ config service turns enough takes.
     turns_take_each config service turns enough takes
 
 pub returns-clause-opened : goal.returns-clause-opened
-returns-clause-opened c = λ config turns none takes.
-    turns_take_each config (opened_service config) turns (all_open config none) takes
+returns-clause-opened c = λ config lease turns none takes.
+    turns_take_each config (opened_service config lease) turns (all_open config lease none) takes

@@ -9,10 +9,12 @@ returns-in-Ok-clause-ok g c =
     let new = g.W.Stream.attempts c.attend_lines.new.writer in
     on_ok c.attend_lines.result
     ((due : ℕ) × (is_cut : Bool) × WritesLinesOver g.L.Wire.takings g.L.Wire.gives
-    g.C.Clock.readings c.args.config c.args.wire c.args.clock c.args.step (2 ^ 64 - 1) due is_cut
+    g.C.Clock.readings c.args.config c.args.lease c.args.wire c.args.clock c.args.step (2 ^ 64 - 1)
+    due is_cut
     old new c.attend_lines.new.daemon)
-    (WritesAllLines c.args.config c.args.step old new) (λ p. all_lines p.2)
-    (c.attend_lines.ensures.ok c.args.config c.args.wire c.args.clock c.in-Ok.ensures.served)
+    (WritesAllLines c.args.config c.args.lease c.args.step old new) (λ p. all_lines p.2)
+    (c.attend_lines.ensures.ok c.args.config c.args.lease c.args.wire c.args.clock
+    c.in-Ok.ensures.served)
 
 pub returns-in-Ok-clause-err : goal.returns-in-Ok-clause-err
 returns-in-Ok-clause-err g c =
@@ -20,7 +22,8 @@ returns-in-Ok-clause-err g c =
     let new = g.W.Stream.attempts c.attend_lines.new.writer in
     on_err c.attend_lines.result
     (FailsOver g.L.Wire.takings g.L.Wire.gives g.C.Clock.readings c.args.config
-    c.args.wire c.args.clock c.args.step old new c.attend_lines.new.daemon)
-    (λ fault. WritesUpTo fault c.args.config c.args.step old new)
+    c.args.lease c.args.wire c.args.clock c.args.step old new c.attend_lines.new.daemon)
+    (λ fault. WritesUpTo fault c.args.config c.args.lease c.args.step old new)
     (λ fault p. lines_up_to fault p)
-    (c.attend_lines.ensures.err c.args.config c.args.wire c.args.clock c.in-Ok.ensures.served)
+    (c.attend_lines.ensures.err c.args.config c.args.lease c.args.wire c.args.clock
+    c.in-Ok.ensures.served)

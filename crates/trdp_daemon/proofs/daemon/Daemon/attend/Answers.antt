@@ -25,7 +25,7 @@ returns-then-until-reading-clause-turns g c =
     }
 
 pub returns-then-until-reading-clause-served : goal.returns-then-until-reading-clause-served
-returns-then-until-reading-clause-served g c = λ config wire clock n before.
+returns-then-until-reading-clause-served g c = λ config lease wire clock n before.
     served_until before (returns-then-until-reading-clause-turns g c)
 
 pub returns-clause-turns : goal.returns-clause-turns
@@ -41,5 +41,5 @@ returns-clause-turns g c =
     }
 
 pub returns-clause-served : goal.returns-clause-served
-returns-clause-served g c = λ config wire clock n before.
+returns-clause-served g c = λ config lease wire clock n before.
     served_until before (returns-clause-turns g c)

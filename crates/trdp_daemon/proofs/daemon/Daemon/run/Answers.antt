@@ -17,5 +17,5 @@ returns-clause-turns g c =
     g.C.Clock.readings n c.args.self.now c.loop-turn.self) all c.loop-turn.invariant
 
 pub returns-clause-served : goal.returns-clause-served
-returns-clause-served g c = λ config wire clock n before.
+returns-clause-served g c = λ config lease wire clock n before.
     served_on before (returns-clause-turns g c)

@@ -5,5 +5,5 @@ pub returns-clause-turn : goal.returns-clause-turn
 returns-clause-turn g c = c.timed_turn.ensures.taken
 
 pub returns-clause-served : goal.returns-clause-served
-returns-clause-served g c = λ config wire clock n before.
+returns-clause-served g c = λ config lease wire clock n before.
     served_on before c.timed_turn.ensures.taken

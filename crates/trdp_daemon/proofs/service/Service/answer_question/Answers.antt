@@ -9,22 +9,24 @@ use Rattle.trdp_daemon.proofs.service.Service.answer_question.Goals as goal
 
 pub returns-clause-short : goal.returns-clause-short
 returns-clause-short g c =
-    let told = c.put_answer.ensures.items ∙ ap (λ (l : List (Option Contact)).
+    let told = c.put_answer.ensures.items c.args.self.now.lease ∙ ap (λ (l : List (Option Contact)).
     let s : ServiceState = record {
       node = uncounted c.args.self.now.node;
       contacts = l;
       reading = c.args.self.now.reading;
+      lease = c.args.self.now.lease;
     } in text_of_question s c.args.link.now.totals c.args.question) c.deref.ensures.value in
     let same = ap (λ (l : List ℕ). length l) told in
     omega (arith, same, c.put_answer.ensures.len)
 
 pub returns-clause-comes : goal.returns-clause-comes
 returns-clause-comes g c =
-    let told = c.put_answer.ensures.items ∙ ap (λ (l : List (Option Contact)).
+    let told = c.put_answer.ensures.items c.args.self.now.lease ∙ ap (λ (l : List (Option Contact)).
     let s : ServiceState = record {
       node = uncounted c.args.self.now.node;
       contacts = l;
       reading = c.args.self.now.reading;
+      lease = c.args.self.now.lease;
     } in text_of_question s c.args.link.now.totals c.args.question) c.deref.ensures.value in
     record {
       service_is = refl;

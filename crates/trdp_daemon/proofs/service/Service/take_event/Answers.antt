@@ -16,7 +16,7 @@ returns-in-Ok-clause-node g c =
 pub returns-in-Ok-clause-told : goal.returns-in-Ok-clause-told
 returns-in-Ok-clause-told g c =
     records_told c.args.self.now _ (event_model c.args.event.now) c.deref.result.now _
-    (returns-in-Ok-clause-node g c) refl refl c.deref.ensures.value
+    (returns-in-Ok-clause-node g c) refl refl refl c.deref.ensures.value
     (records_played (uncounted c.args.self.now.node) (uncounted c.step.new.self) _ _ _
     c.in-Ok.ensures.fault c.clear.ensures.records c.in-Ok.ensures.steps) c.tell_records.ensures
 
@@ -28,7 +28,7 @@ returns-in-Err-OutOfMemory-clause-comes g c =
     comes_lost c.args.self.now _ (event_model c.args.event.now)
     (c.step.ensures.memory (c.in-Err-OutOfMemory.is ∙ ap Err c.in-Err-OutOfMemory.field-0-is))
     (search rules)
-    (missed c.args.self.now _ c.in-Err-OutOfMemory.ensures.kept refl refl c.miss.ensures)
+    (missed c.args.self.now _ c.in-Err-OutOfMemory.ensures.kept refl refl refl c.miss.ensures)
 
 pub returns-in-Err-clause-node : goal.returns-in-Err-clause-node
 returns-in-Err-clause-node g c =
@@ -39,7 +39,7 @@ returns-in-Err-clause-node g c =
 pub returns-in-Err-clause-told : goal.returns-in-Err-clause-told
 returns-in-Err-clause-told g c =
     records_told c.args.self.now _ (event_model c.args.event.now) c.args.self.now.contacts.items []
-    (returns-in-Err-clause-node g c) refl refl refl
+    (returns-in-Err-clause-node g c) refl refl refl refl
     (sym (records_refused c.in-Err.fault (uncounted c.args.self.now.node)
     (event_model c.args.event.now) c.in-Err.ensures.fault (search rules)))
     (tells_none _ _ _ _)

@@ -16,7 +16,7 @@ returns-then-from-slots-clause-told g c =
     records_told c.args.self.now _ (CallIs c.args.slot ResetCall)
     c.args.self.now.contacts.items []
     (sym (node_refused NoSlot (uncounted c.args.self.now.node) (CallIs c.args.slot ResetCall)
-    refused (λ is. absurd (cc)))) refl refl refl
+    refused (λ is. absurd (cc)))) refl refl refl refl
     (sym (records_refused NoSlot (uncounted c.args.self.now.node) (CallIs c.args.slot ResetCall)
     refused (λ is. absurd (cc))))
     (tells_none _ _ _ _)
@@ -29,7 +29,7 @@ returns-clause-node g c =
 pub returns-clause-told : goal.returns-clause-told
 returns-clause-told g c =
     records_told c.args.self.now _ (CallIs c.args.slot ResetCall) c.deref.result.now _
-    (returns-clause-node g c) refl refl c.deref.ensures.value
+    (returns-clause-node g c) refl refl refl c.deref.ensures.value
     (records_played (uncounted c.args.self.now.node) (uncounted c.step.new.self) _ _ _
     c.in-Ok.ensures.fault c.clear.ensures.records c.in-Ok.ensures.steps)
     c.tell_records.ensures

@@ -1,0 +1,37 @@
+-- What came of it that nothing came to a port.
+-- For `Service::take_nothing`.
+-- By cases on the port.
+use Rattle.std.proofs.Common.{◌≡◌, ℕ, List, [], Option, refl}
+use Rattle.trdp_daemon.specs.declared.link.Link.{Link}
+use Rattle.trdp_daemon.specs.declared.port.Port.{Port}
+use Rattle.trdp_daemon.specs.declared.port.Port.TheVariants.{Pd, Md, Operator, Control}
+use Rattle.trdp_daemon.specs.declared.service.Service.{Service}
+use Rattle.trdp_daemon.specs.Told.{Taking, Give}
+use Rattle.trdp_daemon.specs.Effects.{TextsLost}
+use Rattle.trdp_daemon.specs.Leases.{silence_effect, quiet_effect}
+use Rattle.trdp_daemon.specs.Services.{ComesWith, service_state}
+use Rattle.trdp_daemon.proofs.VisitLemmas.{nothing_comes}
+
+-- at a control port a slot may have been silent for too long
+pub quiet_control : {W : Type 0} {takings_in : W → Option (List Taking)}
+    {gives_in : W → Option (List Give)} {a b : Link W} (old new : Service) (port : Port)
+    (slot : ℕ) → port ≡ Control slot
+    → ComesWith takings_in gives_in old new a b (silence_effect (service_state old) slot)
+    → ComesWith takings_in gives_in old new a b (quiet_effect (service_state old) port)
+unfolding quiet_effect
+quiet_control old new port slot is comes =
+    rw is (record { loss = comes.loss; comes = comes.comes })
+
+-- at the others nothing happens
+pub quiet_else : {W : Type 0} (takings_in : W → Option (List Taking))
+    (gives_in : W → Option (List Give)) (a : Link W) (s : Service) (port : Port)
+    → ((slot : ℕ) → port ≡ Control slot → ⊥)
+    → ComesWith takings_in gives_in s s a a (quiet_effect (service_state s) port)
+unfolding quiet_effect
+quiet_else takings_in gives_in a s Pd other =
+    record { loss = TextsLost []; comes = nothing_comes takings_in gives_in s a }
+quiet_else takings_in gives_in a s Md other =
+    record { loss = TextsLost []; comes = nothing_comes takings_in gives_in s a }
+quiet_else takings_in gives_in a s Operator other =
+    record { loss = TextsLost []; comes = nothing_comes takings_in gives_in s a }
+quiet_else takings_in gives_in a s (Control slot) other = absurd (other slot refl)

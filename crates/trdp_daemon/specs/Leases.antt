@@ -1,0 +1,40 @@
+-- A lease: how long the application of a slot may be silent.
+use Rattle.std.specs.Prelude.{ℕ, ◌+◌, nat_lt, Bool, false, Option, Some, None, if◌then◌else◌}
+use Rattle.trdp_model.specs.Events.{CallIs, ResetCall}
+use Rattle.trdp_daemon.specs.declared.contact.Contact.{Contact}
+use Rattle.trdp_daemon.specs.declared.port.Port.{Port}
+use Rattle.trdp_daemon.specs.declared.port.Port.TheVariants.{Pd, Md, Operator, Control}
+use Rattle.trdp_daemon.specs.Effects.{ServiceState, Effect, Loss, contact_of, event_effect, still}
+use Rattle.trdp_daemon.specs.Effects.{with_contact}
+
+-- whether a lease has run out behind the latest line of a slot by this reading of the clock: the
+-- line came more than so many microseconds before. It never does where there is no lease, nor where
+-- there was no line
+unfoldable pub has_run_out : Option ℕ → ℕ → Option Contact → Bool
+has_run_out None reading contact = false
+has_run_out (Some lease) reading None = false
+has_run_out (Some lease) reading (Some contact) = nat_lt (contact.reading + lease) reading
+
+-- whether the lease has run out for a slot by the reading of the turn
+abbrev pub is_silent : ServiceState → ℕ → Bool
+is_silent service slot =
+    has_run_out service.lease service.reading (contact_of service.contacts slot)
+
+-- the latest line of a slot is forgotten, and with it where its application is
+abbrev pub forgotten : ServiceState → ℕ → ServiceState
+forgotten service slot = with_contact service slot None
+
+-- a slot for which the lease has run out begins anew. Its latest line is forgotten before, so that
+-- nobody is told, and the lease runs out for it no more before its next line
+abbrev pub silence_effect : ServiceState → ℕ → Loss → Effect
+silence_effect service slot loss =
+    if is_silent service slot
+    then event_effect (forgotten service slot) (CallIs slot ResetCall) loss
+    else still service
+
+-- what a take comes to that found nothing: a slot's application may have been silent for too long
+unfoldable pub quiet_effect : ServiceState → Port → Loss → Effect
+quiet_effect service Pd loss = still service
+quiet_effect service Md loss = still service
+quiet_effect service Operator loss = still service
+quiet_effect service (Control slot) loss = silence_effect service slot loss

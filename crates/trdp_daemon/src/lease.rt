@@ -1,0 +1,60 @@
+//! A lease: how long the application of a slot may be silent.
+
+ghost use Rattle.std.specs.Prelude.{◌≡◌};
+ghost use Rattle.trdp_daemon.specs.Leases.{has_run_out, quiet_effect, silence_effect};
+ghost use Rattle.trdp_daemon.specs.Services.{ComesWith, IsSoundService, service_state};
+
+use crate::contact::{Contact, contact_of};
+use crate::link::Link;
+use crate::port::Port;
+use crate::service::Service;
+use crate::wire::Wire;
+use trdp_engine::{Call, Event};
+
+impl Service {
+    /// Sees that nothing came to a port: at a control port the slot's application may have been
+    /// silent for too long.
+    pub(crate) fn take_nothing<W: Wire>(&mut self, port: Port, link: &mut Link<W>)
+        requires sound { IsSoundService self.old }
+        ensures sound { IsSoundService self.new }
+        ensures config { self.new.node.config ≡ self.old.node.config }
+        ensures comes { ComesWith W.takings W.gives self.old self.new link.old link.new
+            (quiet_effect (service_state self.old) port) }
+    {
+        if let Port::Control(slot) = port {
+            self.end_silence(slot, link);
+        }
+    }
+
+    /// Lets a slot begin anew for which the lease has run out. Its latest line is forgotten before,
+    /// so that the lease runs out for it once, and its answer goes to nobody.
+    fn end_silence<W: Wire>(&mut self, slot: u16, link: &mut Link<W>)
+        requires sound { IsSoundService self.old }
+        ensures sound { IsSoundService self.new }
+        ensures config { self.new.node.config ≡ self.old.node.config }
+        ensures comes { ComesWith W.takings W.gives self.old self.new link.old link.new
+            (silence_effect (service_state self.old) slot) }
+    {
+        let contact = contact_of(&self.contacts, slot);
+        if has_run_out(self.lease, self.reading, contact) {
+            self.note(slot, None);
+            let reset = Event::Call {
+                slot,
+                call: Call::Reset,
+            };
+            let _ = self.take_event(&reset, link);
+        }
+    }
+}
+
+/// Whether a lease of so many microseconds has run out behind the latest line of a slot, by this
+/// reading of the clock.
+#[tactic(auto, unfolding(crate::specs::Leases::has_run_out))]
+fn has_run_out(lease: Option<u64>, reading: u64, contact: Option<Contact>) -> bool
+    ensures { result ≡ has_run_out lease reading contact }
+{
+    match (lease, contact) {
+        (Some(lease), Some(contact)) => lease < reading.saturating_sub(contact.reading),
+        _ => false,
+    }
+}
