@@ -1,0 +1,172 @@
+-- What a wire makes of its network and of its paths.
+use Rattle.std.specs.Prelude.{◌≡◌, ℕ, ◌^◌, ◌-◌, ◌&&◌, nat_lt, List, [], ◌∷◌, length}
+use Rattle.std.specs.Prelude.{Option, Some, None, Result, Ok, Err, Bool, option_map, is_err}
+use Rattle.std.specs.Prelude.{slice_index_or, slice_set}
+use Rattle.trdp_base.specs.declared.place.Place.{Place}
+use Rattle.trdp_lines.specs.Connections.{ConnectionCall}
+use Rattle.trdp_lines.specs.OperatorPaths.{HandsInNextLine, OperatorState, SaysToSeat, has_seat}
+use Rattle.trdp_lines.specs.Paths.{HandsInNext, PathState, SaysTo, left_at, speaks}
+use Rattle.trdp_lines.specs.declared.path_fault.LostText.{LostText}
+use Rattle.trdp_daemon.specs.declared.fault.WireFault.{WireFault}
+use Rattle.trdp_daemon.specs.declared.port.Port.{Port}
+use Rattle.trdp_daemon.specs.declared.port.Port.TheVariants.{Pd, Md, Operator, Control}
+use Rattle.trdp_controls.specs.declared.control_wire.ControlWire.{ControlWire}
+use Rattle.trdp_daemon.specs.Told.{TellsMore, Give, Taking, give_of, taking_of}
+use Rattle.trdp_controls.specs.Places.{number_of_place, place_of_number}
+
+-- what was found at a take, a fault being nothing
+abbrev pub found_in : {X E : Type 0} → Result (Option X) E → Option X
+found_in (Ok found) = found
+found_in (Err fault) = None
+
+-- a connection's number and how many bytes of it came, as the place where they came from
+abbrev pub placed : ℕ × ℕ → Place × ℕ
+placed found = (place_of_number found.0, found.1)
+
+-- a take at one of the network's ports is a take of the network
+pub record TakesOverNetwork (takings takings_then : Option (List Taking)) (port : Port)
+    (result : Result (Option (Place × ℕ)) WireFault) (room_then : List ℕ) : Type 0 where
+  pub answer : Result (Option (Place × ℕ)) WireFault
+  pub told : TellsMore takings takings_then (taking_of port answer room_then ∷ [])
+  pub found : found_in result ≡ found_in answer
+
+-- a give at one of the network's ports is a give of the network
+pub record GivesOverNetwork (gives gives_then : Option (List Give)) (port : Port) (to : Place)
+    (bytes : List ℕ) (result : Result (Unit {0}) WireFault) (failures : ℕ) : Type 0 where
+  pub answer : Result (Unit {0}) WireFault
+  pub told : TellsMore gives gives_then (give_of port to bytes answer ∷ [])
+  pub fault : is_err result ≡ is_err answer && nat_lt failures (2 ^ 64 - 1)
+
+-- the path of a slot's control port, if it has one
+abbrev pub control_at : {C : Type 0} → List (Option (PathState C)) → ℕ → Option (PathState C)
+control_at controls slot = slice_index_or controls slot None
+
+-- a take at a path handed in what is next there, from the place of the connection that says it
+pub record TakesText {C : Type 0} (calls_of : C → Option (List ConnectionCall))
+    (path path_then : PathState C) (room : ℕ) (result : Result (Option (Place × ℕ)) WireFault)
+    (room_then : List ℕ) : Type 0 where
+  pub found : Option (ℕ × ℕ)
+  pub next : HandsInNext (calls_of path.connections) (calls_of path_then.connections)
+      (left_at path) (left_at path_then) room found room_then
+  pub answer : found_in result ≡ option_map placed found
+
+-- the same of a control port that may have no path, where nothing ever comes
+abbrev pub TakesAtPath : {C : Type 0} → (calls_of : C → Option (List ConnectionCall))
+    → (path path_then : Option (PathState C)) → (room : ℕ)
+    → Result (Option (Place × ℕ)) WireFault → (room_then : List ℕ) → Type 0
+TakesAtPath calls_of None path_then room result room_then =
+    (result ≡ Ok None) × (path_then ≡ None)
+TakesAtPath calls_of (Some path) None room result room_then = ⊥
+TakesAtPath calls_of (Some path) (Some path_then) room result room_then =
+    TakesText calls_of path path_then room result room_then
+
+-- a take at the control port of a slot is one at its path, and of all paths it changes this alone
+pub record TakesAtControl {C : Type 0} (calls_of : C → Option (List ConnectionCall)) (slot : ℕ)
+    (controls controls_then : List (Option (PathState C))) (room : ℕ)
+    (result : Result (Option (Place × ℕ)) WireFault) (room_then : List ℕ) : Type 0 where
+  pub path_then : Option (PathState C)
+  pub takes : TakesAtPath calls_of (control_at controls slot) path_then room result room_then
+  pub others : controls_then ≡ slice_set controls slot path_then
+
+-- a text for a place was said to the connection of that place, if there is a path, and that is the
+-- one that speaks there
+abbrev pub SaysAtPath : {C : Type 0} → (calls_of : C → Option (List ConnectionCall))
+    → (path path_then : Option (PathState C)) → (to : Place) → (text : List ℕ)
+    → Result (Unit {0}) LostText → Type 0
+SaysAtPath calls_of None path_then to text result = (result ≡ Ok tt) × (path_then ≡ None)
+SaysAtPath calls_of (Some path) None to text result = ⊥
+SaysAtPath calls_of (Some path) (Some path_then) to text result =
+    SaysTo (calls_of path.connections) (calls_of path_then.connections)
+    (speaks path.speaker.number (number_of_place to)) (number_of_place to) text path path_then
+    result
+
+-- a text was said at the path of a slot, and of all paths it changed this alone
+pub record SaysAtControl {C : Type 0} (calls_of : C → Option (List ConnectionCall)) (slot : ℕ)
+    (controls controls_then : List (Option (PathState C))) (to : Place) (text : List ℕ)
+    (result : Result (Unit {0}) LostText) : Type 0 where
+  pub path_then : Option (PathState C)
+  pub says : SaysAtPath calls_of (control_at controls slot) path_then to text result
+  pub others : controls_then ≡ slice_set controls slot path_then
+
+-- the same, where a text that is lost is a fault, unless the count of failures is at its last value
+pub record GivesAtControl {C : Type 0} (calls_of : C → Option (List ConnectionCall)) (slot : ℕ)
+    (controls controls_then : List (Option (PathState C))) (to : Place) (text : List ℕ)
+    (result : Result (Unit {0}) WireFault) (failures : ℕ) : Type 0 where
+  pub answer : Result (Unit {0}) LostText
+  pub says : SaysAtControl calls_of slot controls controls_then to text answer
+  pub fault : is_err result ≡ is_err answer && nat_lt failures (2 ^ 64 - 1)
+
+-- a take at the operator's path handed in the next line of a connection, from its place
+pub record TakesLine {C : Type 0} (calls_of : C → Option (List ConnectionCall))
+    (path path_then : OperatorState C) (room : ℕ) (result : Result (Option (Place × ℕ)) WireFault)
+    (room_then : List ℕ) : Type 0 where
+  pub found : Option (ℕ × ℕ)
+  pub next : HandsInNextLine (calls_of path.connections) (calls_of path_then.connections)
+      path.seats path_then.seats room found room_then
+  pub answer : found_in result ≡ option_map placed found
+
+-- the same of an operator's port that may have no path, where nothing ever comes
+abbrev pub TakesAtOperator : {C : Type 0} → (calls_of : C → Option (List ConnectionCall))
+    → (operator operator_then : Option (OperatorState C)) → (room : ℕ)
+    → Result (Option (Place × ℕ)) WireFault → (room_then : List ℕ) → Type 0
+TakesAtOperator calls_of None operator_then room result room_then =
+    (result ≡ Ok None) × (operator_then ≡ None)
+TakesAtOperator calls_of (Some path) None room result room_then = ⊥
+TakesAtOperator calls_of (Some path) (Some path_then) room result room_then =
+    TakesLine calls_of path path_then room result room_then
+
+-- a text for a place was said to the connection of that place at the operator's path, if there is
+-- one, and it has a seat there
+abbrev pub SaysAtOperator : {C : Type 0} → (calls_of : C → Option (List ConnectionCall))
+    → (operator operator_then : Option (OperatorState C)) → (to : Place) → (text : List ℕ)
+    → Result (Unit {0}) LostText → Type 0
+SaysAtOperator calls_of None operator_then to text result =
+    (result ≡ Ok tt) × (operator_then ≡ None)
+SaysAtOperator calls_of (Some path) None to text result = ⊥
+SaysAtOperator calls_of (Some path) (Some path_then) to text result =
+    SaysToSeat (calls_of path.connections) (calls_of path_then.connections)
+    (has_seat (number_of_place to) path.seats) (number_of_place to) text path.seats
+    path_then.seats result
+
+-- the same, where a text that is lost is a fault, unless the count of failures is at its last value
+pub record GivesAtOperator {C : Type 0} (calls_of : C → Option (List ConnectionCall))
+    (operator operator_then : Option (OperatorState C)) (to : Place) (text : List ℕ)
+    (result : Result (Unit {0}) WireFault) (failures : ℕ) : Type 0 where
+  pub answer : Result (Unit {0}) LostText
+  pub says : SaysAtOperator calls_of operator operator_then to text answer
+  pub fault : is_err result ≡ is_err answer && nat_lt failures (2 ^ 64 - 1)
+
+-- a take at a port: of the network, or at the operator's path or that of a slot, and nowhere else
+abbrev pub TakesAtPort : {N C : Type 0} → (takings_in : N → Option (List Taking))
+    → (calls_of : C → Option (List ConnectionCall)) → (old new : ControlWire N C) → Port
+    → (room : ℕ) → Result (Option (Place × ℕ)) WireFault → (room_then : List ℕ) → Type 0
+TakesAtPort takings_in calls_of old new Pd room result room_then =
+    TakesOverNetwork (takings_in old.network) (takings_in new.network) Pd result room_then
+    × (new.operator ≡ old.operator) × (new.controls.items ≡ old.controls.items)
+TakesAtPort takings_in calls_of old new Md room result room_then =
+    TakesOverNetwork (takings_in old.network) (takings_in new.network) Md result room_then
+    × (new.operator ≡ old.operator) × (new.controls.items ≡ old.controls.items)
+TakesAtPort takings_in calls_of old new Operator room result room_then =
+    TakesAtOperator calls_of old.operator new.operator room result room_then
+    × (new.network ≡ old.network) × (new.controls.items ≡ old.controls.items)
+TakesAtPort takings_in calls_of old new (Control slot) room result room_then =
+    TakesAtControl calls_of slot old.controls.items new.controls.items room result room_then
+    × (new.network ≡ old.network) × (new.operator ≡ old.operator)
+
+-- a give at a port: to the network, or at the operator's path or that of a slot, and nowhere else
+abbrev pub GivesAtPort : {N C : Type 0} → (gives_in : N → Option (List Give))
+    → (calls_of : C → Option (List ConnectionCall)) → (old new : ControlWire N C) → Port
+    → (to : Place) → (bytes : List ℕ) → Result (Unit {0}) WireFault → Type 0
+GivesAtPort gives_in calls_of old new Pd to bytes result =
+    GivesOverNetwork (gives_in old.network) (gives_in new.network) Pd to bytes result old.failures
+    × (new.operator ≡ old.operator) × (new.controls.items ≡ old.controls.items)
+GivesAtPort gives_in calls_of old new Md to bytes result =
+    GivesOverNetwork (gives_in old.network) (gives_in new.network) Md to bytes result old.failures
+    × (new.operator ≡ old.operator) × (new.controls.items ≡ old.controls.items)
+GivesAtPort gives_in calls_of old new Operator to bytes result =
+    GivesAtOperator calls_of old.operator new.operator to bytes result old.failures
+    × (new.network ≡ old.network) × (new.controls.items ≡ old.controls.items)
+GivesAtPort gives_in calls_of old new (Control slot) to bytes result =
+    GivesAtControl calls_of slot old.controls.items new.controls.items to bytes result
+    old.failures
+    × (new.network ≡ old.network) × (new.operator ≡ old.operator)

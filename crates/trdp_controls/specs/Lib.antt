@@ -1,0 +1,4 @@
+pub mod Answers
+pub mod Paths
+pub mod Places
+pub mod ControlWires

@@ -1,0 +1,387 @@
+//! The wire of a node whose lines come over control sockets.
+
+ghost use Rattle.std.specs.Prelude.{◌≡◌, ◌<◌, ◌≤◌, length, IfOk, IfSome, OnErr, None};
+ghost use Rattle.trdp_controls.specs.ControlWires.{GivesAtControl, GivesAtOperator};
+ghost use Rattle.trdp_controls.specs.ControlWires.{SaysAtControl, SaysAtOperator, SaysAtPath};
+ghost use Rattle.trdp_controls.specs.ControlWires.{GivesOverNetwork, TakesAtControl};
+ghost use Rattle.trdp_controls.specs.ControlWires.{TakesAtOperator, TakesOverNetwork};
+ghost use Rattle.trdp_controls.specs.ControlWires.{GivesAtPort, TakesAtPort, TakesAtPath};
+
+use crate::place::{number_of, place_of};
+use trdp_base::Place;
+use trdp_daemon::{Port, Refusal, SocketFault, Wire, WireFault, fail};
+use trdp_lines::{Connections, ControlPath, LostText, OperatorPath};
+
+/// The system's number of its error where there is no room for what is to go out (ENOBUFS).
+const NO_BUFFER_SPACE: i32 = 105;
+
+/// The wire of a node whose lines come over connections at paths: process data and message data go
+/// over a wire of the network, the lines of the operator and of the applications over the paths. It
+/// tells no takes and gives; what it makes of those of the network, and of the calls of the
+/// connections, its contracts say.
+#[derive(Drop)]
+pub struct ControlWire<N: Wire, C: Connections> {
+    /// The ports of process data and message data.
+    network: N,
+    /// The path of the operator's port; None where the configuration names none.
+    operator: Option<OperatorPath<C>>,
+    /// The path of the control port of each slot; None where the configuration names none.
+    controls: Vec<Option<ControlPath<C>>>,
+    /// How often a take or a give failed, at most 2^64 - 1.
+    failures: u64,
+    /// The latest give that was refused; None before the first.
+    refusal: Option<Refusal>,
+}
+
+impl<N: Wire, C: Connections> ControlWire<N, C> {
+    ghost use Rattle.std.specs.Prelude.{◌≡◌, ◌<◌, ◌≤◌, ◌-◌, ◌^◌, length, IfOk, IfSome, OnErr};
+    ghost use Rattle.std.specs.Prelude.{is_err, nat_lt, None};
+    ghost use Rattle.trdp_controls.specs.ControlWires.{GivesAtControl, GivesAtOperator, SaysAtPath};
+    ghost use Rattle.trdp_controls.specs.ControlWires.{GivesOverNetwork, TakesAtControl};
+    ghost use Rattle.trdp_controls.specs.ControlWires.{TakesAtOperator, TakesOverNetwork};
+
+    /// A wire over a network and paths, before its first take: `controls` has at the index of each
+    /// slot the path of its control port.
+    pub fn new(
+        network: N,
+        operator: Option<OperatorPath<C>>,
+        controls: Vec<Option<ControlPath<C>>>,
+    ) -> ControlWire<N, C>
+        ensures network { result.network ≡ network }
+        ensures operator { result.operator ≡ operator }
+        ensures controls { result.controls ≡ controls }
+        ensures failures { result.failures ≡ 0 }
+        ensures refusal { result.refusal ≡ None }
+    {
+        ControlWire {
+            network,
+            operator,
+            controls,
+            failures: 0,
+            refusal: None,
+        }
+    }
+
+    /// Takes the next datagram at a port of the network.
+    ///
+    /// # Errors
+    /// `WireFault`, where the network fails.
+    fn take_telegram(
+        &mut self,
+        port: Port,
+        room: &mut [u8],
+    ) -> Result<Option<(Place, usize)>, WireFault>
+        ensures within { IfOk result (λ found. IfSome found (λ f. f.1 ≤ length room.new)) }
+        ensures takes { TakesOverNetwork (N.takings self.old.network) (N.takings self.new.network)
+            port result room.new }
+        ensures fault { OnErr result (self.old.failures < self.new.failures) }
+        ensures operator { self.new.operator ≡ self.old.operator }
+        ensures controls { self.new.controls ≡ self.old.controls }
+    {
+        match self.network.take(port, room) {
+            Ok(found) => Ok(found),
+            Err(_) => nothing(&mut self.failures),
+        }
+    }
+
+    /// Takes the next line of the application of a slot, or its end.
+    ///
+    /// # Errors
+    /// `WireFault`, where nothing is there and the system refuses the next connection.
+    fn take_control(
+        &mut self,
+        slot: usize,
+        room: &mut [u8],
+    ) -> Result<Option<(Place, usize)>, WireFault>
+        ensures within { IfOk result (λ found. IfSome found (λ f. f.1 ≤ length room.new)) }
+        ensures takes { TakesAtControl C.calls slot self.old.controls.items
+            self.new.controls.items (length room.old) result room.new }
+        ensures fault { OnErr result (self.old.failures < self.new.failures) }
+        ensures network { self.new.network ≡ self.old.network }
+        ensures operator { self.new.operator ≡ self.old.operator }
+    {
+        if slot >= self.controls.len() {
+            return Ok(None);
+        }
+        let control = &mut self.controls[slot];
+        take_line(control, room, &mut self.failures)
+    }
+
+    /// Takes the next line of the operator.
+    ///
+    /// # Errors
+    /// As [`ControlWire::take_control`].
+    fn take_operator(&mut self, room: &mut [u8]) -> Result<Option<(Place, usize)>, WireFault>
+        ensures within { IfOk result (λ found. IfSome found (λ f. f.1 ≤ length room.new)) }
+        ensures takes { TakesAtOperator C.calls self.old.operator self.new.operator
+            (length room.old) result room.new }
+        ensures fault { OnErr result (self.old.failures < self.new.failures) }
+        ensures network { self.new.network ≡ self.old.network }
+        ensures controls { self.new.controls ≡ self.old.controls }
+    {
+        let Some(path) = &mut self.operator else {
+            return Ok(None);
+        };
+        match path.take(room) {
+            Ok(Some((number, len))) => Ok(Some((place_of(number), len))),
+            Ok(None) => Ok(None),
+            Err(_) => nothing(&mut self.failures),
+        }
+    }
+
+    /// Gives a datagram to the network.
+    ///
+    /// # Errors
+    /// `WireFault`, where the network fails.
+    fn give_telegram(&mut self, port: Port, to: Place, bytes: &[u8]) -> Result<(), WireFault>
+        ensures gives { GivesOverNetwork (N.gives self.old.network) (N.gives self.new.network)
+            port to bytes.now result self.old.failures }
+        ensures fault { OnErr result (self.old.failures < self.new.failures) }
+        ensures operator { self.new.operator ≡ self.old.operator }
+        ensures controls { self.new.controls ≡ self.old.controls }
+    {
+        match self.network.give(port, to, bytes) {
+            Ok(()) => Ok(()),
+            Err(_) => {
+                self.refusal = self.network.refusal();
+                fail(&mut self.failures)
+            }
+        }
+    }
+
+    /// Says a text to the application of a slot, where its connection is that of the place.
+    ///
+    /// # Errors
+    /// `WireFault`, where there is no room for it.
+    fn give_control(&mut self, slot: u16, to: Place, text: &[u8]) -> Result<(), WireFault>
+        ensures gives { GivesAtControl C.calls slot self.old.controls.items
+            self.new.controls.items to text.now result self.old.failures }
+        ensures fault { OnErr result (self.old.failures < self.new.failures) }
+        ensures network { self.new.network ≡ self.old.network }
+        ensures operator { self.new.operator ≡ self.old.operator }
+    {
+        match give_text_at(&mut self.controls, usize::from(slot), to, text) {
+            Ok(()) => Ok(()),
+            Err(_) => self.lose(Port::Control(slot), to),
+        }
+    }
+
+    /// Says a text to the connection of the operator that is that of the place.
+    ///
+    /// # Errors
+    /// `WireFault`, where there is no room for it.
+    fn give_operator(&mut self, to: Place, text: &[u8]) -> Result<(), WireFault>
+        ensures gives { GivesAtOperator C.calls self.old.operator self.new.operator
+            to text.now result self.old.failures }
+        ensures fault { OnErr result (self.old.failures < self.new.failures) }
+        ensures network { self.new.network ≡ self.old.network }
+        ensures controls { self.new.controls ≡ self.old.controls }
+    {
+        match give_line(&mut self.operator, to, text) {
+            Ok(()) => Ok(()),
+            Err(_) => self.lose(Port::Operator, to),
+        }
+    }
+
+    /// Counts a text that was lost for want of room, and keeps it as the latest refusal.
+    ///
+    /// # Errors
+    /// `WireFault`, where the count of failures rose.
+    fn lose(&mut self, port: Port, to: Place) -> Result<(), WireFault>
+        ensures fault { OnErr result (self.old.failures < self.new.failures) }
+        ensures counted { is_err result ≡ nat_lt self.old.failures (2 ^ 64 - 1) }
+        ensures network { self.new.network ≡ self.old.network }
+        ensures operator { self.new.operator ≡ self.old.operator }
+        ensures controls { self.new.controls ≡ self.old.controls }
+    {
+        let fault = SocketFault {
+            code: Some(NO_BUFFER_SPACE),
+        };
+        self.refusal = Some(Refusal { port, to, fault });
+        fail(&mut self.failures)
+    }
+
+    /// Whether something came or failed at a path since this was asked the last time.
+    fn has_heard(&mut self) -> bool
+        ensures network { self.new.network ≡ self.old.network }
+        ensures failures { self.new.failures ≡ self.old.failures }
+        ensures operator { self.new.operator ≡ self.old.operator }
+        ensures controls { self.new.controls.items ≡ self.old.controls.items }
+    {
+        let operator = match &mut self.operator {
+            Some(path) => path.has_heard(),
+            None => false,
+        };
+        controls_have_heard(&mut self.controls) || operator
+    }
+}
+
+impl<N: Wire, C: Connections> Wire for ControlWire<N, C> {
+    ghost use Rattle.std.specs.Prelude.{None};
+
+    ghost takings = { λ _. None };
+
+    ghost gives = { λ _. None };
+
+    ghost faults = { λ wire. wire.failures };
+
+    fn take(&mut self, port: Port, room: &mut [u8]) -> Result<Option<(Place, usize)>, WireFault>
+        ensures within { IfOk result (λ found. IfSome found (λ f. f.1 ≤ length room.new)) }
+        ensures fault { OnErr result (self.old.failures < self.new.failures) }
+        ensures takes { TakesAtPort N.takings C.calls self.old self.new port (length room.old)
+            result room.new }
+    {
+        match port {
+            Port::Pd | Port::Md => self.take_telegram(port, room),
+            Port::Operator => self.take_operator(room),
+            Port::Control(slot) => self.take_control(usize::from(slot), room),
+        }
+    }
+
+    fn give(&mut self, port: Port, to: Place, bytes: &[u8]) -> Result<(), WireFault>
+        ensures fault { OnErr result (self.old.failures < self.new.failures) }
+        ensures gives { GivesAtPort N.gives C.calls self.old self.new port to bytes.now result }
+    {
+        match port {
+            Port::Pd | Port::Md => self.give_telegram(port, to, bytes),
+            Port::Operator => self.give_operator(to, bytes),
+            Port::Control(slot) => self.give_control(slot, to, bytes),
+        }
+    }
+
+    fn rest(&mut self, most: u64)
+        ensures fault { self.new.failures ≡ self.old.failures }
+        ensures operator { self.new.operator ≡ self.old.operator }
+        ensures controls { self.new.controls.items ≡ self.old.controls.items }
+    {
+        // The system tells what comes, and not what is there: a rest begins only where each path
+        // had nothing since the rest before.
+        if !self.has_heard() {
+            self.network.rest(most);
+        }
+    }
+
+    fn failures(&self) -> u64 {
+        self.failures
+    }
+
+    fn refusal(&self) -> Option<Refusal>
+        ensures { result ≡ self.now.refusal }
+    {
+        self.refusal
+    }
+}
+
+/// What a take finds that failed: nothing, and that is counted.
+///
+/// # Errors
+/// `WireFault`, where the count of failures rose.
+fn nothing(failures: &mut u64) -> Result<Option<(Place, usize)>, WireFault>
+    ensures found { IfOk result (λ found. found ≡ None) }
+    ensures fault { OnErr result (failures.old < failures.new) }
+{
+    match fail(failures) {
+        Ok(()) => Ok(None),
+        Err(fault) => Err(fault),
+    }
+}
+
+/// Takes the next line at a path, or the end of its application; nothing ever comes where there is
+/// none.
+///
+/// # Errors
+/// `WireFault`, where nothing is there and the system refuses the next connection.
+fn take_line<C: Connections>(
+    control: &mut Option<ControlPath<C>>,
+    room: &mut [u8],
+    failures: &mut u64,
+) -> Result<Option<(Place, usize)>, WireFault>
+    ensures within { IfOk result (λ found. IfSome found (λ f. f.1 ≤ length room.new)) }
+    ensures takes { TakesAtPath C.calls control.old control.new (length room.old) result room.new }
+    ensures fault { OnErr result (failures.old < failures.new) }
+{
+    let Some(path) = control else {
+        return Ok(None);
+    };
+    match path.take(room) {
+        Ok(Some((number, len))) => Ok(Some((place_of(number), len))),
+        Ok(None) => Ok(None),
+        Err(_) => nothing(failures),
+    }
+}
+
+/// Says a text at a slot's path to the connection of the place, if that is the one that speaks.
+///
+/// # Errors
+/// `LostText`, where there is no room for it.
+fn give_text_at<C: Connections>(
+    controls: &mut Vec<Option<ControlPath<C>>>,
+    slot: usize,
+    to: Place,
+    text: &[u8],
+) -> Result<(), LostText>
+    ensures { SaysAtControl C.calls slot controls.old.items controls.new.items to text.now
+        result }
+{
+    if slot >= controls.len() {
+        return Ok(());
+    }
+    let control = &mut controls[slot];
+    give_text(control, to, text)
+}
+
+/// Says a text at a path to the connection of the place, if that is the one that speaks.
+///
+/// # Errors
+/// `LostText`, where there is no room for it.
+fn give_text<C: Connections>(
+    control: &mut Option<ControlPath<C>>,
+    to: Place,
+    text: &[u8],
+) -> Result<(), LostText>
+    ensures { SaysAtPath C.calls control.old control.new to text.now result }
+{
+    match control {
+        Some(path) => path.give(number_of(to), text),
+        None => Ok(()),
+    }
+}
+
+/// Says a text at the operator's path to the connection of the place, if it has a seat there.
+///
+/// # Errors
+/// `LostText`, where there is no room for it.
+fn give_line<C: Connections>(
+    operator: &mut Option<OperatorPath<C>>,
+    to: Place,
+    text: &[u8],
+) -> Result<(), LostText>
+    ensures { SaysAtOperator C.calls operator.old operator.new to text.now result }
+{
+    match operator {
+        Some(path) => path.give(number_of(to), text),
+        None => Ok(()),
+    }
+}
+
+/// Whether something came or failed at one of these paths since this was asked the last time.
+fn controls_have_heard<C: Connections>(controls: &mut Vec<Option<ControlPath<C>>>) -> bool
+    ensures { controls.new.items ≡ controls.old.items }
+{
+    let mut heard = false;
+    for slot in 0..controls.len() {
+        let control = &mut controls[slot];
+        heard = path_has_heard(control) || heard;
+    }
+    heard
+}
+
+/// Whether something came or failed at a path since this was asked the last time.
+fn path_has_heard<C: Connections>(control: &mut Option<ControlPath<C>>) -> bool
+    ensures { control.new ≡ control.old }
+{
+    match control {
+        Some(path) => path.has_heard(),
+        None => false,
+    }
+}

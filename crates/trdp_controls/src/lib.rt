@@ -1,0 +1,43 @@
+//! The wire of a node whose lines come over control sockets: for each control port a Unix stream
+//! socket, the file FOLDER/NUMBER, as `/run/trdpd/18000`.
+//!
+//! [`ControlWire`] is a wire over two sides: process data and message data go over a wire of the
+//! network, and the lines of the operator and of the applications over the paths of `trdp_lines`.
+//! What a take and a give at a port make of either side is proved for any network and any
+//! connections: a take at the control port of a slot is one at the path of that slot and at no
+//! other, and the place that a line comes from is the number of its connection.
+//!
+//! [`SystemConnections`] are those of the system at one path:
+//!
+//! ```text
+//! match SystemConnections::listen(rt, alloc, "/run/trdpd", 18000, Some(registry)) {
+//!     Ok(connections) => ControlPath::new(alloc, connections),
+//!     Err(_) => tell(refused_path(rt, "/run/trdpd/18000")),   // Address already in use (os ..)
+//! }
+//! ```
+//!
+//! A socket's file at which nobody listens any more is replaced; nothing else that stands at the
+//! path is touched. Of two nodes that begin at one path at the same moment, one may take the file
+//! of the other for such: a node binds its ports for process data before, which only one can.
+//!
+//! The file's mode is 0660, whatever the umask: its owner and its group may connect. Nobody else
+//! ever could, since the file comes with no wider mode.
+//!
+//! What the system does at a call no contract can say: each call here is one of its own, with no
+//! more than bounds and what its answer is taken for. Nor does one say when a rest of the wire
+//! waits: whether something was heard at a path is no part of what the path's contracts tell.
+#![tactic(auto)]
+
+mod answers;
+mod control_wire;
+mod listen_fault;
+mod path;
+mod place;
+mod socket_file;
+mod system_connections;
+
+pub use control_wire::ControlWire;
+pub use listen_fault::ListenFault;
+pub use path::socket_path;
+pub use socket_file::refused_path;
+pub use system_connections::SystemConnections;

@@ -1,0 +1,29 @@
+//! Why nobody listens at a path.
+
+ghost use Rattle.std.specs.Prelude.{◌≡◌};
+ghost use Rattle.std.specs.IoError.{error_kind};
+ghost use Rattle.trdp_controls.specs.Answers.{fault_of_kind};
+
+use std::io;
+use thiserror::Error;
+
+/// Why nobody listens at a path.
+#[derive(Clone, Copy, Debug, PartialEq, Eq, Error)]
+pub enum ListenFault {
+    /// The system refuses the path, or it has too many bytes.
+    #[error("the path of a socket is refused")]
+    Refused = 1,
+    /// There is no memory for it.
+    #[error("there is no memory for a socket")]
+    OutOfMemory = 2,
+}
+
+/// What it means that the system refuses a path.
+pub(crate) fn listen_fault(error: io::Error) -> ListenFault
+    ensures { result ≡ fault_of_kind (error_kind error) }
+{
+    match error.kind() {
+        io::ErrorKind::OutOfMemory => ListenFault::OutOfMemory,
+        _ => ListenFault::Refused,
+    }
+}

@@ -1,0 +1,140 @@
+//! The file of a socket.
+
+ghost use Rattle.std.specs.Prelude.{◌↔◌, pos, ◌≤ℤ◌, IsOk};
+
+use mio::event::Source;
+use mio::net::{UnixListener, UnixStream};
+use mio::{Interest, Registry, Token};
+use std::fs::{Files, Permissions};
+use std::net::Net;
+use std::os::fd::{AsFd, AsRawFd, OwnedFd};
+use std::os::unix::fs::{FileTypeExt, PermissionsExt};
+use std::os::unix::net;
+use std::{fs, io};
+
+/// The mode of a socket's file: its owner and its group may connect, which takes leave to write.
+const MODE: u32 = 0o660;
+
+/// How many connections may wait until they are accepted: as many as the system lets.
+const BACKLOG: i32 = -1;
+
+/// Why a path is refused, if it is: the system's own words, as `Address already in use (os error
+/// 98)`. It listens there once more, and leaves nothing behind.
+pub fn refused_path<R: Files + Net>(rt: &R, path: &str) -> Option<io::Error> {
+    match listen_at(rt, path, &None) {
+        // The file goes first: nobody else takes it for one at which nobody listens.
+        Ok(_listener) => fs::remove_file(rt, path).err(),
+        Err(error) => Some(error),
+    }
+}
+
+/// Listens at a path, whose file is this listener's own, and has the system tell of whoever comes.
+///
+/// # Errors
+/// What the system says to it; the path is left then as it was, or free.
+pub(crate) fn listen_at<R: Files + Net>(
+    rt: &R,
+    path: &str,
+    registry: &Option<Registry>,
+) -> io::Result<UnixListener> {
+    let address = net::SocketAddr::from_pathname(path)?;
+    let socket = new_socket(rt)?;
+    if is_stale(rt, path) {
+        fs::remove_file(rt, path)?;
+    }
+    rt.bind_unix(socket.as_fd(), &address)?;
+    match begin(rt, path, socket, registry) {
+        Ok(listener) => Ok(listener),
+        Err(error) => {
+            // Where it can't be removed, it is one at which nobody listens.
+            let _ = fs::remove_file(rt, path);
+            Err(error)
+        }
+    }
+}
+
+/// A socket with the mode of its file to be: the system makes the file with that, less what the
+/// umask takes away, so that no moment is there at which others may connect.
+///
+/// # Errors
+/// What the system says to it.
+fn new_socket<R: Net>(rt: &R) -> io::Result<OwnedFd> {
+    let socket = rt.unix_socket()?;
+    check(libc::fchmod(socket.as_raw_fd(), MODE))?;
+    Ok(socket)
+}
+
+/// Whether there is a socket's file at a path at which nobody listens.
+fn is_stale<R: Files + Net>(rt: &R, path: &str) -> bool {
+    match fs::symlink_metadata(rt, path) {
+        Ok(found) => found.file_type().is_socket() && is_deserted(rt, path),
+        Err(_) => false,
+    }
+}
+
+/// Whether nobody listens at a socket's file.
+fn is_deserted<R: Net>(rt: &R, path: &str) -> bool {
+    match UnixStream::connect(rt, path) {
+        Ok(_) => false,
+        Err(error) => error.kind() == io::ErrorKind::ConnectionRefused,
+    }
+}
+
+/// Listens at a socket that is bound, once its file has the whole mode.
+///
+/// # Errors
+/// What the system says to it.
+fn begin<R: Files>(
+    rt: &R,
+    path: &str,
+    socket: OwnedFd,
+    registry: &Option<Registry>,
+) -> io::Result<UnixListener> {
+    fs::set_permissions(rt, path, Permissions::from_mode(MODE))?;
+    check(libc::net::listen(socket.as_raw_fd(), BACKLOG))?;
+    let listener = net::UnixListener::from(socket);
+    listener.set_nonblocking(true)?;
+    let mut listener = UnixListener::from_std(listener);
+    watch(registry, &mut listener)?;
+    Ok(listener)
+}
+
+/// The system's error at the call that has just answered a status, if that tells of one.
+///
+/// # Errors
+/// That one.
+fn check(status: i32) -> io::Result<()>
+    ensures { IsOk result ↔ (pos 0 ≤ℤ status) }
+{
+    if status < 0 {
+        Err(io::Error::from_raw_os_error(os::errno()))
+    } else {
+        Ok(())
+    }
+}
+
+/// Has the system tell, where it tells at all, when a source has something to read.
+///
+/// # Errors
+/// What the system says to it.
+pub(crate) fn watch<S: Source>(registry: &Option<Registry>, source: &mut S) -> io::Result<()> {
+    match registry {
+        // The token is of no use: a turn takes at each port.
+        Some(registry) => registry.register(source, Token(0), Interest::READABLE),
+        None => Ok(()),
+    }
+}
+
+/// Has the system tell of a source that is watched, from now on, when it has something to read, and
+/// if so asked, when it has room for what is written.
+pub(crate) fn watch_room<S: Source>(registry: &Option<Registry>, source: &mut S, room: bool) {
+    let interest = if room {
+        Interest::READABLE | Interest::WRITABLE
+    } else {
+        Interest::READABLE
+    };
+    if let Some(registry) = registry {
+        // Where the system refuses it, a rest ends by its time.
+        let _ = registry.reregister(source, Token(0), interest);
+    }
+}

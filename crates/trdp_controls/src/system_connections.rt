@@ -1,0 +1,212 @@
+//! The connections of the system at a path.
+
+ghost use Rattle.std.specs.Prelude.{◌≡◌, ◌<◌, length, IfOk};
+ghost use Rattle.std.specs.Io.{ReadsAtMost, WritesAtMost};
+
+use crate::answers::{came_of, unaccepted_of, went_of};
+use crate::listen_fault::{ListenFault, listen_fault};
+use crate::path::socket_path;
+use crate::socket_file::{listen_at, watch, watch_room};
+use mio::Registry;
+use mio::net::{UnixListener, UnixStream};
+use std::alloc::Global;
+use std::fs::Files;
+use std::io::{ErrorKind, Read, Write};
+use std::net::Net;
+use std::{array, io};
+use trdp_lines::{Accepted, Came, Connections, Went};
+
+/// The most connections that are open at once: four operators, one that waits behind them, and one
+/// that is told that there are others.
+const OPEN_MAX: usize = 6;
+
+/// How often a call is made that a signal interrupts.
+const TRIES: u32 = 8;
+
+/// The connections of the system at a path. They tell nothing.
+#[derive(Drop)]
+pub struct SystemConnections {
+    /// The number that is the name of the path's file.
+    file_number: u16,
+    /// Where they come in.
+    listener: UnixListener,
+    /// Those that are open, and room for more.
+    seats: [Option<Seated>; OPEN_MAX],
+    /// Where the system tells that one came, or can go on; None where it doesn't.
+    registry: Option<Registry>,
+}
+
+/// A connection that is open.
+#[derive(Drop)]
+struct Seated {
+    /// The number by which it is called.
+    number: u64,
+    /// Its bytes.
+    stream: UnixStream,
+    /// Whether the system tells of room: the other side didn't take all of the last write.
+    is_behind: bool,
+}
+
+impl SystemConnections {
+    /// Listens at the file of that number in a folder. The system tells the registry, if there is
+    /// one, when a connection, bytes, room for more or an end comes.
+    ///
+    /// # Errors
+    /// `Refused` where somebody listens there, where something else than the file of a socket
+    /// stands there, which is left as it is, where the path has more than 107 bytes, or where the
+    /// system refuses it otherwise; `OutOfMemory` where there is no memory for it.
+    pub fn listen<R: Files + Net>(
+        rt: &R,
+        alloc: Global,
+        folder: &str,
+        file_number: u16,
+        registry: Option<Registry>,
+    ) -> Result<SystemConnections, ListenFault>
+        ensures { IfOk result (λ connections. connections.file_number ≡ file_number) }
+    {
+        let path = socket_path(alloc, folder, file_number)?;
+        match listen_at(rt, path.as_str(), &registry) {
+            Ok(listener) => Ok(SystemConnections {
+                file_number,
+                listener,
+                seats: array::from_fn(|_| None),
+                registry,
+            }),
+            Err(error) => Err(listen_fault(error)),
+        }
+    }
+
+    /// The open connection of that number.
+    fn stream(&self, number: u64) -> Option<&UnixStream> {
+        for seat in self.seats.iter() {
+            match seat {
+                Some(seated) if seated.number == number => return Some(&seated.stream),
+                _ => {}
+            }
+        }
+        None
+    }
+
+    /// Keeps a connection open, if there is room for it.
+    fn keep(&mut self, number: u64, mut stream: UnixStream) -> Accepted
+        ensures { self.new.file_number ≡ self.old.file_number }
+    {
+        for seat in self.seats.iter_mut() {
+            if seat.is_none() {
+                if watch(&self.registry, &mut stream).is_err() {
+                    return Accepted::Failed;
+                }
+                *seat = Some(Seated {
+                    number,
+                    stream,
+                    is_behind: false,
+                });
+                return Accepted::Came;
+            }
+        }
+        Accepted::Failed
+    }
+}
+
+impl Seated {
+    ghost use Rattle.std.specs.Prelude.{◌<◌, length};
+    ghost use Rattle.trdp_lines.specs.Connections.{WentWithin};
+
+    /// Writes once. The system tells of room only while some is missing: it would else tell each
+    /// time that the other side reads.
+    fn write(&mut self, bytes: &[u8], registry: &Option<Registry>) -> Went
+        ensures { WentWithin (length bytes.now) result }
+    {
+        let went = went_of(write_to(&self.stream, bytes));
+        let is_behind = went.count() < bytes.len();
+        if is_behind != self.is_behind {
+            self.is_behind = is_behind;
+            watch_room(registry, &mut self.stream, is_behind);
+        }
+        went
+    }
+}
+
+impl Connections for SystemConnections {
+    ghost use Rattle.std.specs.Prelude.{None};
+
+    ghost calls = { λ _. None };
+
+    ghost file_number = { λ connections. connections.file_number };
+
+    fn accept(&mut self, number: u64) -> Accepted {
+        match self.listener.accept() {
+            Ok((stream, _)) => self.keep(number, stream),
+            Err(error) => unaccepted_of(&error),
+        }
+    }
+
+    fn read(&mut self, number: u64, room: &mut [u8]) -> Came {
+        match self.stream(number) {
+            Some(stream) => came_of(read_from(stream, room)),
+            None => Came::Ended,
+        }
+    }
+
+    fn write(&mut self, number: u64, bytes: &[u8]) -> Went {
+        for seat in self.seats.iter_mut() {
+            match seat {
+                Some(seated) if seated.number == number => {
+                    return seated.write(bytes, &self.registry);
+                }
+                _ => {}
+            }
+        }
+        Went::Ended
+    }
+
+    fn close(&mut self, number: u64) {
+        for seat in self.seats.iter_mut() {
+            if is_of(seat, number) {
+                *seat = None;
+            }
+        }
+    }
+}
+
+/// Whether a connection of that number sits there.
+fn is_of(seat: &Option<Seated>, number: u64) -> bool {
+    match seat {
+        Some(seated) => seated.number == number,
+        None => false,
+    }
+}
+
+/// Reads once from a stream. A read that a signal interrupts is made again, since the system
+/// doesn't tell a second time that bytes are there. Where each of them is interrupted, the bytes
+/// wait until the next take.
+///
+/// # Errors
+/// What the system says to it.
+fn read_from(mut stream: &UnixStream, room: &mut [u8]) -> io::Result<usize>
+    ensures { ReadsAtMost result room.new }
+{
+    for _ in 0..TRIES {
+        match stream.read(room) {
+            Err(error) if error.kind() == ErrorKind::Interrupted => {}
+            answer => return answer,
+        }
+    }
+    Err(io::Error::from(ErrorKind::Interrupted))
+}
+
+/// Writes once to a stream. A write that a signal interrupts is made again.
+///
+/// # Errors
+/// What the system says to it.
+fn write_to(mut stream: &UnixStream, bytes: &[u8]) -> io::Result<usize>
+    ensures { WritesAtMost result bytes.now }
+{
+    for _ in 0..TRIES {
+        match stream.write(bytes) {
+            Err(error) if error.kind() == ErrorKind::Interrupted => {}
+            answer => return answer,
+        }
+    }
+    Err(io::Error::from(ErrorKind::Interrupted))
+}
