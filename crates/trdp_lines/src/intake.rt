@@ -18,7 +18,7 @@ const LINE_ROOM: usize = 140_000;
 
 /// The bytes of a connection that were read and not handed in.
 #[derive(Drop)]
-pub struct Intake {
+pub(crate) struct Intake {
     /// Where they lie.
     room: Vec<u8>,
     /// Where they begin.
@@ -45,7 +45,7 @@ impl Intake {
     ///
     /// # Errors
     /// [`AllocError`] where there is no memory for it.
-    pub fn new(alloc: Global) -> Result<Intake, AllocError>
+    pub(crate) fn new(alloc: Global) -> Result<Intake, AllocError>
         ensures { IfOk result (λ intake. intake ≡ []) }
     {
         let room = vec![in alloc; 0; LINE_ROOM]?;
@@ -59,14 +59,14 @@ impl Intake {
 
     /// What holds of all that was read and not handed in: a law for callers, which does nothing
     /// when it runs. It is never more than there is room for.
-    pub fn sound(&self)
+    pub(crate) fn sound(&self)
         ensures { length self.now ≤ intake_room }
     {
         let _ = &self.room;
     }
 
     /// Leaves all bytes out.
-    pub fn clear(&mut self)
+    pub(crate) fn clear(&mut self)
         ensures { self.new ≡ [] }
     {
         self.begin = 0;
@@ -75,7 +75,7 @@ impl Intake {
     }
 
     /// Whether there is no room for one more byte.
-    pub fn is_full(&self) -> bool
+    pub(crate) fn is_full(&self) -> bool
         ensures { result ≡ nat_le intake_room (length self.now) }
     {
         self.end - self.begin >= LINE_ROOM
@@ -83,7 +83,7 @@ impl Intake {
 
     /// Reads once from the connection of that number, behind the bytes and into all the room that
     /// is left.
-    pub fn fill<C: Connections>(&mut self, from: &mut C, number: u64) -> Came
+    pub(crate) fn fill<C: Connections>(&mut self, from: &mut C, number: u64) -> Came
         requires { length self.old < intake_room }
         ensures count { CameWithin (intake_room - length self.old) result }
         ensures length { length self.new ≡ length self.old + came_count result }
@@ -101,7 +101,7 @@ impl Intake {
 
     /// Hands in the next line without its end, cut to the room that is given, if a whole one is
     /// there. Answers how many bytes it has there.
-    pub fn next_line(&mut self, to: &mut [u8]) -> Option<usize>
+    pub(crate) fn next_line(&mut self, to: &mut [u8]) -> Option<usize>
         ensures some { IfSome result (λ _. has_line self.old ≡ true) }
         ensures within { IfSome result (λ count. count ≤ length to.new) }
         ensures line { IfSome result (λ count.

@@ -15,11 +15,13 @@
 //! }
 //! ```
 //!
-//! A path has the two halves of a connection: what came in and isn't handed in yet ([`Intake`]),
-//! and what waits to go out ([`Outgoing`]). They take all memory that they ever need when they are
-//! made. The connections are whatever implements [`Connections`]. Where those tell what was asked
-//! of them, all that is handed in is what they told that applications said: each line whole, once
-//! and in order, and the end of each behind its last line and before any line of a later one.
+//! The operator's path ([`OperatorPath`]) has four connections at once, whose ends are no matter.
+//!
+//! A path has two halves for a connection: what came in and isn't handed in yet, and what waits to
+//! go out. They take all memory that they ever need when they are made. The connections are
+//! whatever implements [`Connections`]. Where those tell what was asked of them, all that is handed
+//! in is what they told that applications said: each line whole, once and in order, and the end of
+//! each behind its last line and before any line of a later one.
 //!
 //! No contract can say that memory is there for them, nor what the other side sends and takes, nor
 //! that a search for the end of a line begins where the one before it ended. Each that comes has
@@ -40,11 +42,9 @@ mod seats;
 
 pub use connections::{Accepted, Came, Connections, Went};
 pub use control_path::ControlPath;
-pub use intake::Intake;
 pub use laws::{
     bytes_are_lines_and_rest, each_line_is_handed_in, lines_come_one_by_one, texts_go_whole,
     whole_lines_stay,
 };
 pub use operator_path::OperatorPath;
-pub use outgoing::Outgoing;
 pub use path_fault::{AcceptFault, LostText};

@@ -21,7 +21,7 @@ const LOST_ROOM: usize = 26;
 /// Texts that wait until the other side of a connection takes their bytes. What finds no room is
 /// dropped whole and counted, and a line tells how many were, in their place.
 #[derive(Drop)]
-pub struct Outgoing {
+pub(crate) struct Outgoing {
     /// The bytes that the other side hasn't taken.
     waiting: Vec<u8>,
     /// How many texts were dropped since the latest line that told of such.
@@ -47,7 +47,7 @@ impl Outgoing {
     ///
     /// # Errors
     /// [`AllocError`] where there is no memory for it.
-    pub fn new(alloc: Global) -> Result<Outgoing, AllocError>
+    pub(crate) fn new(alloc: Global) -> Result<Outgoing, AllocError>
         ensures { IfOk result (λ outgoing. outgoing ≡ no_outgoing) }
     {
         let waiting = Vec::with_capacity(alloc, OUT_ROOM)?;
@@ -60,7 +60,7 @@ impl Outgoing {
     }
 
     /// Leaves all bytes out, and forgets what was dropped.
-    pub fn clear(&mut self)
+    pub(crate) fn clear(&mut self)
         ensures { self.new ≡ no_outgoing }
     {
         self.waiting.clear();
@@ -68,7 +68,7 @@ impl Outgoing {
     }
 
     /// Whether no byte waits.
-    pub fn is_empty(&self) -> bool
+    pub(crate) fn is_empty(&self) -> bool
         ensures { result ≡ (length self.now.waiting == 0) }
     {
         self.waiting.is_empty()
@@ -78,7 +78,7 @@ impl Outgoing {
     /// for all of it; elsewhere it is dropped and counted. What was dropped before is told first,
     /// where there is room. Answers whether the text stands there.
     #[tactic(auto, unfolding(crate::specs::Outgoings::with_text))]
-    pub fn push(&mut self, text: &[u8]) -> bool
+    pub(crate) fn push(&mut self, text: &[u8]) -> bool
         ensures answer { result ≡ takes_text (lost_told self.old) text.now }
         ensures changed { self.new ≡ with_text (lost_told self.old) text.now }
     {
@@ -95,7 +95,7 @@ impl Outgoing {
     /// Tells how many texts were dropped, by a line behind what waits, if any was and there is
     /// room for it.
     #[tactic(auto, unfolding(crate::specs::Outgoings::lost_told))]
-    pub fn tell_lost(&mut self)
+    pub(crate) fn tell_lost(&mut self)
         ensures { self.new ≡ lost_told self.old }
     {
         if self.lost == 0 {
@@ -110,7 +110,7 @@ impl Outgoing {
 
     /// Writes once what waits to the connection of that number; what the other side takes of it
     /// waits no longer.
-    pub fn flush<C: Connections>(&mut self, to: &mut C, number: u64) -> Went
+    pub(crate) fn flush<C: Connections>(&mut self, to: &mut C, number: u64) -> Went
         requires { 0 < length self.old.waiting }
         ensures count { WentWithin (length self.old.waiting) result }
         ensures rest { self.new ≡ record self.old {
@@ -127,7 +127,7 @@ impl Outgoing {
 
     /// What holds of all that waits: a law for callers, which does nothing when it runs. It is
     /// never more than there is room for.
-    pub fn sound(&self)
+    pub(crate) fn sound(&self)
         ensures { length self.now.waiting ≤ outgoing_room }
     {
         let _ = &self.waiting;
