@@ -7,13 +7,14 @@
 //! connections: a take at the control port of a slot is one at the path of that slot and at no
 //! other, and the place that a line comes from is the number of its connection.
 //!
-//! [`SystemConnections`] are those of the system at one path:
+//! [`ControlWire::open`] listens at the paths of a configuration, in a [`Folder`]: each is at the
+//! file of its control port's number. [`SystemFolder`] is one of the system, and
+//! [`SystemConnections`] are those that come in at one of its paths:
 //!
 //! ```text
-//! match SystemConnections::listen(rt, alloc, "/run/trdpd", 18000, Some(registry)) {
-//!     Ok(connections) => ControlPath::new(alloc, connections),
-//!     Err(_) => tell(refused_path(rt, "/run/trdpd/18000")),   // Address already in use (os ..)
-//! }
+//! let network = RestingWire::bind_network(rt, rt.alloc(), &config)?;
+//! let mut folder = SystemFolder::new(rt, rt.alloc(), "/run/trdpd", network.registry()?);
+//! let wire = ControlWire::open(rt.alloc(), &mut folder, network, &config)?;
 //! ```
 //!
 //! A socket's file at which nobody listens any more is replaced; nothing else that stands at the
@@ -30,14 +31,19 @@
 
 mod answers;
 mod control_wire;
+mod folder;
 mod listen_fault;
+mod opening;
 mod path;
 mod place;
 mod socket_file;
 mod system_connections;
+mod system_folder;
 
 pub use control_wire::ControlWire;
+pub use folder::Folder;
 pub use listen_fault::ListenFault;
 pub use path::socket_path;
 pub use socket_file::refused_path;
 pub use system_connections::SystemConnections;
+pub use system_folder::SystemFolder;

@@ -72,3 +72,15 @@ binds_of config = map (bind_of config) (ports_of config)
 -- they are watched, one after another
 abbrev pub watches_of : ConfigModel → List SocketCall
 watches_of config = map watch_of (ports_of config)
+
+-- the ports of the network alone: those of process data and of message data
+abbrev pub network_ports : List Port
+network_ports = Pd ∷ Md ∷ []
+
+-- their sockets are bound
+abbrev pub network_binds_of : ConfigModel → List SocketCall
+network_binds_of config = map (bind_of config) network_ports
+
+-- they are watched
+abbrev pub network_watches : List SocketCall
+network_watches = map watch_of network_ports

@@ -93,6 +93,7 @@ pub use memory_sockets::{MemorySockets, SocketRow};
 pub use memory_wire::MemoryWire;
 pub use offers::Offers;
 pub use port::Port;
+pub use ports::control_number;
 pub use refusal::Refusal;
 pub use resting_wire::RestingWire;
 pub use rows::Rest;

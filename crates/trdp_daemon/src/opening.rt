@@ -6,6 +6,7 @@ ghost use Rattle.trdp_daemon.specs.Openings.{request_of};
 ghost use Rattle.trdp_daemon.specs.Ports.{control_numbers, port_unless_0, ports_of};
 ghost use Rattle.trdp_daemon.specs.declared.port.Port.TheVariants.{Control};
 ghost use Rattle.trdp_daemon.specs.Sockets.{MadeInTurn, binds_of, fault_of, watches_of};
+ghost use Rattle.trdp_daemon.specs.Sockets.{network_binds_of, network_ports, network_watches};
 
 use crate::bind_fault::BindFault;
 use crate::port::Port;
@@ -52,6 +53,53 @@ pub(crate) fn bind_and_watch_ports<S: Sockets>(
     ask_for_ports(sockets, config, PortRequest::Watch(alloc))
 }
 
+/// Binds the sockets of process data and message data.
+///
+/// # Errors
+/// At the first one that is refused: its fault.
+pub(crate) fn bind_network<S: Sockets>(
+    sockets: &mut S,
+    config: &NodeConfig,
+) -> Result<(), BindFault>
+    ensures { MadeInTurn (network_binds_of config.now) (fault_of result)
+        (S.calls sockets.old) (S.calls sockets.new) }
+{
+    ask_for_network(sockets, config, PortRequest::Bind)
+}
+
+/// Binds the sockets of process data and message data, and then has waits end when a datagram comes
+/// at one of them.
+///
+/// # Errors
+/// At the first call that is refused: its fault.
+pub(crate) fn bind_and_watch_network<S: Sockets>(
+    sockets: &mut S,
+    alloc: Global,
+    config: &NodeConfig,
+) -> Result<(), BindFault>
+    ensures { MadeInTurn (network_binds_of config.now ++ network_watches) (fault_of result)
+        (S.calls sockets.old) (S.calls sockets.new) }
+{
+    bind_network(sockets, config)?;
+    ask_for_network(sockets, config, PortRequest::Watch(alloc))
+}
+
+/// Asks the same for the port of process data, and then for that of message data.
+///
+/// # Errors
+/// At the first one that is refused: its fault.
+fn ask_for_network<S: Sockets>(
+    sockets: &mut S,
+    config: &NodeConfig,
+    request: PortRequest,
+) -> Result<(), BindFault>
+    ensures { MadeInTurn (map (request_of config.now request) network_ports)
+        (fault_of result) (S.calls sockets.old) (S.calls sockets.new) }
+{
+    ask(sockets, config, request, Port::Pd)?;
+    ask(sockets, config, request, Port::Md)
+}
+
 /// Asks the same for each port that a configuration names, in the order of a turn.
 ///
 /// # Errors
@@ -64,8 +112,7 @@ fn ask_for_ports<S: Sockets>(
     ensures { MadeInTurn (map (request_of config.now request) (ports_of config.now))
         (fault_of result) (S.calls sockets.old) (S.calls sockets.new) }
 {
-    ask(sockets, config, request, Port::Pd)?;
-    ask(sockets, config, request, Port::Md)?;
+    ask_for_network(sockets, config, request)?;
     ask_unless_0(
         sockets,
         config,

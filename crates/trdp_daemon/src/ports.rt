@@ -25,7 +25,7 @@ pub(crate) fn ports_of(alloc: Global, config: &NodeConfig) -> Result<Vec<Port>, 
 
 /// The number of the control port of a slot: of one that the configuration has, or of one that is
 /// added behind these; None where none is named for it.
-pub(crate) fn control_number(config: &NodeConfig, slot: usize) -> Option<u16>
+pub fn control_number(config: &NodeConfig, slot: usize) -> Option<u16>
     ensures { result ≡ slice_get (control_numbers config.now) slot }
 {
     let slots = config.slots();

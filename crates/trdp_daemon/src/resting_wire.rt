@@ -3,19 +3,22 @@
 ghost use Rattle.std.specs.Prelude.{◌≡◌, ◌<◌, ◌≤◌, ◌-◌, ◌/◌, ◌++◌, length, None, Some, IfOk, IfErr};
 ghost use Rattle.std.specs.Prelude.{IfSome, OnErr, false};
 ghost use Rattle.trdp_daemon.specs.Sockets.{MadeInTurn, binds_of, watches_of};
+ghost use Rattle.trdp_daemon.specs.Sockets.{network_binds_of, network_watches};
 ghost use Rattle.trdp_daemon.specs.SocketWires.{GivesAtSocket, TakesAtSocket, waits_of};
 ghost use Rattle.trdp_daemon.specs.Told.{TellsMore};
 
 use crate::bind_fault::BindFault;
 use crate::fault::WireFault;
-use crate::opening::bind_and_watch_ports;
+use crate::opening::{bind_and_watch_network, bind_and_watch_ports};
 use crate::port::Port;
 use crate::refusal::Refusal;
 use crate::sockets::Sockets;
 use crate::system_sockets::SystemSockets;
 use crate::udp_wire::UdpWire;
 use crate::wire::Wire;
+use mio::Registry;
 use std::alloc::Global;
+use std::io;
 use std::net::Net;
 use trdp_base::Place;
 use trdp_dataset::NodeConfig;
@@ -55,6 +58,33 @@ impl<'a, R: Net> RestingWire<SystemSockets<'a, R>> {
             Err((fault, _)) => Err(fault),
         }
     }
+
+    /// Binds the system's sockets at the ports of process data and message data alone, as
+    /// [`UdpWire::bind_network`] does, and then takes what their waits need.
+    ///
+    /// # Errors
+    /// As [`RestingWire::bind`].
+    pub fn bind_network(
+        rt: &'a R,
+        alloc: Global,
+        config: &NodeConfig,
+    ) -> Result<RestingWire<SystemSockets<'a, R>>, BindFault>
+        ensures failures { IfOk result (λ wire. wire.wire.failures ≡ 0) }
+        ensures refusal { IfOk result (λ wire. wire.wire.refusal ≡ None) }
+    {
+        match RestingWire::open_network(alloc, SystemSockets::new(rt), config) {
+            Ok(wire) => Ok(wire),
+            Err((fault, _)) => Err(fault),
+        }
+    }
+
+    /// Where the system is asked to end a rest for something else too; None where it never waits.
+    ///
+    /// # Errors
+    /// What the system says to it.
+    pub fn registry(&self) -> io::Result<Option<Registry>> {
+        self.wire.sockets.registry()
+    }
 }
 
 impl<S: Sockets> RestingWire<S> {
@@ -79,6 +109,34 @@ impl<S: Sockets> RestingWire<S> {
         ensures refusal { IfOk result (λ wire. wire.wire.refusal ≡ None) }
     {
         match bind_and_watch_ports(&mut sockets, alloc, config) {
+            Ok(()) => Ok(RestingWire {
+                wire: UdpWire::over(sockets),
+            }),
+            Err(fault) => Err((fault, sockets)),
+        }
+    }
+
+    /// Binds sockets at the ports of process data and message data alone, as
+    /// [`UdpWire::open_network`] does, and then has waits end when a datagram comes at one of them.
+    ///
+    /// # Errors
+    /// As [`RestingWire::open`].
+    pub fn open_network(
+        alloc: Global,
+        mut sockets: S,
+        config: &NodeConfig,
+    ) -> Result<RestingWire<S>, (BindFault, S)>
+        ensures bound { IfOk result (λ wire. MadeInTurn
+            (network_binds_of config.now ++ network_watches) None
+            (S.calls sockets) (S.calls wire.wire.sockets)) }
+        ensures refused { IfErr result (λ back. MadeInTurn
+            (network_binds_of config.now ++ network_watches) (Some back.0)
+            (S.calls sockets) (S.calls back.1)) }
+        ensures failures { IfOk result (λ wire. wire.wire.failures ≡ 0) }
+        ensures heard { IfOk result (λ wire. wire.wire.heard ≡ false) }
+        ensures refusal { IfOk result (λ wire. wire.wire.refusal ≡ None) }
+    {
+        match bind_and_watch_network(&mut sockets, alloc, config) {
             Ok(()) => Ok(RestingWire {
                 wire: UdpWire::over(sockets),
             }),

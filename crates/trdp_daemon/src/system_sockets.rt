@@ -13,7 +13,7 @@ use crate::bind_fault::BindFault;
 use crate::socket_fault::SocketFault;
 use crate::sockets::Sockets;
 use mio::unix::SourceFd;
-use mio::{Events, Interest, Poll, Token};
+use mio::{Events, Interest, Poll, Registry, Token};
 use std::alloc::Global;
 use std::net::{Ipv4Addr, Net, SocketAddr, SocketAddrV4, UdpSocket};
 use std::os::fd::AsRawFd;
@@ -54,6 +54,18 @@ impl<'a, R: Net> SystemSockets<'a, R> {
             rt,
             sockets: array::from_fn(|_| None),
             waits: None,
+        }
+    }
+
+    /// Where the system is asked to end a wait for something else too; None before the first socket
+    /// that is watched.
+    ///
+    /// # Errors
+    /// What the system says to it.
+    pub(crate) fn registry(&self) -> io::Result<Option<Registry>> {
+        match &self.waits {
+            Some(waits) => Ok(Some(waits.poll.registry().try_clone()?)),
+            None => Ok(None),
         }
     }
 }

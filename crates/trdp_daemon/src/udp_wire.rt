@@ -2,13 +2,13 @@
 
 ghost use Rattle.std.specs.Prelude.{◌≡◌, ◌<◌, ◌≤◌, ◌∷◌, [], length, None, Some};
 ghost use Rattle.std.specs.Prelude.{IfOk, IfErr, IfSome, OnErr, false};
-ghost use Rattle.trdp_daemon.specs.Sockets.{MadeInTurn, binds_of};
+ghost use Rattle.trdp_daemon.specs.Sockets.{MadeInTurn, binds_of, network_binds_of};
 ghost use Rattle.trdp_daemon.specs.SocketWires.{GivesAtSocket, TakesAtSocket, begins_as_answer};
 ghost use Rattle.trdp_daemon.specs.SocketWires.{is_answer};
 
 use crate::bind_fault::BindFault;
 use crate::fault::{WireFault, fail};
-use crate::opening::bind_ports;
+use crate::opening::{bind_network, bind_ports};
 use crate::port::Port;
 use crate::refusal::Refusal;
 use crate::seats::socket_of;
@@ -57,6 +57,25 @@ impl<'a, R: Net> UdpWire<SystemSockets<'a, R>> {
             Err((fault, _)) => Err(fault),
         }
     }
+
+    /// Binds the system's sockets at the ports of process data and message data alone, as
+    /// [`UdpWire::open_network`] does: nothing ever comes at the others. It takes no memory of its
+    /// own.
+    ///
+    /// # Errors
+    /// As [`UdpWire::bind`].
+    pub fn bind_network(
+        rt: &'a R,
+        config: &NodeConfig,
+    ) -> Result<UdpWire<SystemSockets<'a, R>>, BindFault>
+        ensures failures { IfOk result (λ wire. wire.failures ≡ 0) }
+        ensures refusal { IfOk result (λ wire. wire.refusal ≡ None) }
+    {
+        match UdpWire::open_network(SystemSockets::new(rt), config) {
+            Ok(wire) => Ok(wire),
+            Err((fault, _)) => Err(fault),
+        }
+    }
 }
 
 impl<S: Sockets> UdpWire<S> {
@@ -76,6 +95,26 @@ impl<S: Sockets> UdpWire<S> {
         ensures refusal { IfOk result (λ wire. wire.refusal ≡ None) }
     {
         match bind_ports(&mut sockets, config) {
+            Ok(()) => Ok(UdpWire::over(sockets)),
+            Err(fault) => Err((fault, sockets)),
+        }
+    }
+
+    /// Binds sockets at the ports of process data and message data alone, one after another, at the
+    /// address of the configuration.
+    ///
+    /// # Errors
+    /// As [`UdpWire::open`].
+    pub fn open_network(mut sockets: S, config: &NodeConfig) -> Result<UdpWire<S>, (BindFault, S)>
+        ensures bound { IfOk result (λ wire. MadeInTurn (network_binds_of config.now) None
+            (S.calls sockets) (S.calls wire.sockets)) }
+        ensures refused { IfErr result (λ back. MadeInTurn (network_binds_of config.now)
+            (Some back.0) (S.calls sockets) (S.calls back.1)) }
+        ensures failures { IfOk result (λ wire. wire.failures ≡ 0) }
+        ensures heard { IfOk result (λ wire. wire.heard ≡ false) }
+        ensures refusal { IfOk result (λ wire. wire.refusal ≡ None) }
+    {
+        match bind_network(&mut sockets, config) {
             Ok(()) => Ok(UdpWire::over(sockets)),
             Err(fault) => Err((fault, sockets)),
         }

@@ -3,11 +3,11 @@ use Rattle.std.proofs.Common.{sym, subst}
 use Rattle.std.proofs.Common.{Option}
 use Rattle.std.specs.Prelude.{slice_get, unwrap_or}
 use Rattle.trdp_daemon.specs.declared.port.Port.{Port}
-use Rattle.trdp_daemon.specs.declared.port.Port.TheVariants.{Pd, Md, Operator, Control}
+use Rattle.trdp_daemon.specs.declared.port.Port.TheVariants.{Operator, Control}
 use Rattle.trdp_dataset.specs.Configs.{ConfigModel}
 use Rattle.trdp_daemon.specs.Openings.{request_of}
 use Rattle.trdp_daemon.specs.Ports.{control_numbers, control_ports, port_unless_0, ports_of}
-use Rattle.trdp_daemon.specs.Sockets.{SocketCall}
+use Rattle.trdp_daemon.specs.Sockets.{SocketCall, network_ports}
 use Rattle.trdp_daemon.specs.Told.{TellsMore}
 use Rattle.trdp_daemon.proofs.ControlPortLemmas.{control_next, control_end, numbers_count}
 use Rattle.trdp_daemon.proofs.SocketLemmas.{Asked, asked_first, asked_more, asked_stops, asked_all}
@@ -16,15 +16,14 @@ use Rattle.trdp_daemon.proofs.opening.ask_for_ports.Goals as goal
 
 -- process data and message data were asked
 two_asked : (f : Port → SocketCall) (config : ConfigModel) (number : ℕ)
-    (a b c : Option (List SocketCall)) → number ≡ config.operator_port
-    → TellsMore a b (f Pd ∷ []) → TellsMore b c (f Md ∷ [])
-    → Asked f (ports_of config) a c
+    (a b : Option (List SocketCall)) → number ≡ config.operator_port
+    → TellsMore a b (map f network_ports)
+    → Asked f (ports_of config) a b
     (port_unless_0 number Operator ++ control_ports 0 (control_numbers config))
-two_asked f config number a b c is one other =
-    subst (λ (n : ℕ). Asked f (ports_of config) a c (port_unless_0 n Operator
+two_asked f config number a b is both =
+    subst (λ (n : ℕ). Asked f (ports_of config) a b (port_unless_0 n Operator
     ++ control_ports 0 (control_numbers config))) (sym is)
-    (asked_more f (ports_of config) (Md ∷ []) _ a b c
-    (asked_more f (ports_of config) (Pd ∷ []) _ a a b (asked_first f config a) one) other)
+    (asked_more f (ports_of config) network_ports _ a a b (asked_first f config a) both)
 
 -- all was asked but for the control ports of a slot and those behind it
 next_slot : (f : Port → SocketCall) (config : ConfigModel) (slot : ℕ)
@@ -45,31 +44,22 @@ all_asked f config slot a b end asked =
     asked_all f (ports_of config) a b (subst (λ (l : List Port). Asked f (ports_of config) a b l)
     (control_end (control_numbers config) slot end) asked)
 
-pub returns-in_err-ask : goal.returns-in_err-ask
-returns-in_err-ask g c =
+pub returns-in_err-ask_for_network : goal.returns-in_err-ask_for_network
+returns-in_err-ask_for_network g c =
     let f = request_of c.args.config.now c.args.request in
     let all = ports_of c.args.config.now in
-    stops_with _ _ _ c.from_residual.result c.in_err-ask.field-0.0 c.from_residual.ensures.1
-    (asked_stops f all (Pd ∷ []) _ c.in_err-ask.field-0.0 _ _ _
-    (asked_first f c.args.config.now _) c.in_err-ask.ensures)
-
-pub returns-in_err-ask-2 : goal.returns-in_err-ask-2
-returns-in_err-ask-2 g c =
-    let f = request_of c.args.config.now c.args.request in
-    let all = ports_of c.args.config.now in
-    stops_with _ _ _ c.from_residual-in_err-ask-2.result c.in_err-ask-2.field-0.0
-    c.from_residual-in_err-ask-2.ensures.1
-    (asked_stops f all (Md ∷ []) _ c.in_err-ask-2.field-0.0 _ _ _
-    (asked_more f all (Pd ∷ []) _ _ _ _ (asked_first f c.args.config.now _) c.in_ok-ask.ensures)
-    c.in_err-ask-2.ensures)
+    stops_with _ _ _ c.from_residual.result c.in_err-ask_for_network.field-0.0
+    c.from_residual.ensures.1
+    (asked_stops f all network_ports _ c.in_err-ask_for_network.field-0.0 _ _ _
+    (asked_first f c.args.config.now _) c.in_err-ask_for_network.ensures)
 
 pub returns-in_err-ask_unless_0 : goal.returns-in_err-ask_unless_0
 returns-in_err-ask_unless_0 g c =
     let f = request_of c.args.config.now c.args.request in
     let config = c.args.config.now in
     let number = c.operator_port.result in
-    let two = two_asked f config number _ _ _ c.operator_port.ensures.value
-    c.in_ok-ask.ensures c.in_ok-ask-2.ensures in
+    let two = two_asked f config number _ _ c.operator_port.ensures.value
+    c.in_ok-ask_for_network.ensures in
     stops_with _ _ _ c.from_residual-in_err-ask_unless_0.result
     c.in_err-ask_unless_0.field-0.0 c.from_residual-in_err-ask_unless_0.ensures.1
     (asked_stops f (ports_of config) (port_unless_0 number Operator) _
@@ -80,8 +70,8 @@ loop-slot-init g c =
     let f = request_of c.args.config.now c.args.request in
     let config = c.args.config.now in
     let number = c.operator_port.result in
-    let two = two_asked f config number _ _ _ c.operator_port.ensures.value
-    c.in_ok-ask.ensures c.in_ok-ask-2.ensures in
+    let two = two_asked f config number _ _ c.operator_port.ensures.value
+    c.in_ok-ask_for_network.ensures in
     asked_more f (ports_of config) (port_unless_0 number Operator) _ _ _ _ two
     c.in_ok-ask_unless_0.ensures
 

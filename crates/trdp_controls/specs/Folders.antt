@@ -1,0 +1,74 @@
+-- What is asked of the folder of a node's paths.
+use Rattle.std.specs.Prelude.{◌≡◌, ℕ, zero, suc, List, [], ◌∷◌, ◌++◌, map}
+use Rattle.std.specs.Prelude.{Option, Some, None, IfNone}
+use Rattle.std.specs.List.{flat_map}
+use Rattle.std.specs.Option.{option_map}
+use Rattle.trdp_lines.specs.OperatorPaths.{OperatorState}
+use Rattle.trdp_lines.specs.Paths.{PathState}
+use Rattle.trdp_dataset.specs.Configs.{ConfigModel}
+use Rattle.trdp_daemon.specs.Ports.{control_numbers}
+use Rattle.trdp_daemon.specs.Told.{TellsMore}
+use Rattle.trdp_controls.specs.declared.listen_fault.ListenFault.{ListenFault}
+use Rattle.trdp_controls.specs.declared.listen_fault.ListenFault.TheVariants.{OutOfMemory}
+
+-- that somebody listens at the file of a number, and the fault if it was refused
+pub data Listening : Type 0 where
+  ListensAt : (number : ℕ) (fault : Option ListenFault) → Listening
+
+-- it was granted
+abbrev pub granted : ℕ → Listening
+granted number = ListensAt number None
+
+-- the file of a port of that number; none where it is 0
+abbrev pub file_unless_0 : ℕ → List ℕ
+file_unless_0 zero = []
+file_unless_0 (suc n) = suc n ∷ []
+
+-- the files of a configuration's paths, in the order of a turn: the operator's, and those of the
+-- slots, also of those that may be added
+abbrev pub files_of : ConfigModel → List ℕ
+files_of config = file_unless_0 config.operator_port
+    ++ flat_map file_unless_0 (control_numbers config)
+
+-- the file that was refused, if there was one, and that it was
+abbrev pub file_of : Option ℕ → List ℕ
+file_of None = []
+file_of (Some number) = number ∷ []
+
+abbrev pub refusal_of : Option ℕ → ListenFault → List Listening
+refusal_of None fault = []
+refusal_of (Some number) fault = ListensAt number (Some fault) ∷ []
+
+-- somebody listens at the first of these files, one after another; then one was refused with this
+-- fault, or there was no memory for more
+pub record StopsListening (files : List ℕ) (fault : ListenFault)
+    (old new : Option (List Listening)) : Type 0 where
+  pub front : List ℕ
+  pub last : Option ℕ
+  pub behind : List ℕ
+  pub files_are : files ≡ front ++ (file_of last ++ behind)
+  pub asked : TellsMore old new (map granted front ++ refusal_of last fault)
+  pub wanting : IfNone last (fault ≡ OutOfMemory)
+
+-- somebody listens at each of these files, one after another; or it came to this fault
+abbrev pub ListensInTurn : List ℕ → Option ListenFault → Option (List Listening)
+    → Option (List Listening) → Type 0
+ListensInTurn files None old new = TellsMore old new (map granted files)
+ListensInTurn files (Some fault) old new = StopsListening files fault old new
+
+-- the number of a port's file; None where the port's is 0
+abbrev pub number_unless_0 : ℕ → Option ℕ
+number_unless_0 zero = None
+number_unless_0 (suc n) = Some (suc n)
+
+-- the number of the file of a path, if there is one
+abbrev pub number_of_path : {C : Type 0} → (C → ℕ) → Option (PathState C) → Option ℕ
+number_of_path number_in = option_map (λ path. number_in path.connections)
+
+-- the same of the operator's
+abbrev pub number_of_operator : {C : Type 0} → (C → ℕ) → Option (OperatorState C) → Option ℕ
+number_of_operator number_in = option_map (λ path. number_in path.connections)
+
+-- the numbers of the files of paths
+abbrev pub numbers_of : {C : Type 0} → (C → ℕ) → List (Option (PathState C)) → List (Option ℕ)
+numbers_of number_in = map (number_of_path number_in)

@@ -1,0 +1,169 @@
+//! The paths of a node, at which somebody listens before the first turn: one after another, in the
+//! order of a turn.
+
+ghost use Rattle.std.specs.Prelude.{◌≡◌, ◌∷◌, [], ◌++◌, map, IfOk, IfSome, OnOk};
+ghost use Rattle.std.specs.Option.{option_map};
+ghost use Rattle.std.specs.List.{flat_map};
+ghost use Rattle.trdp_daemon.specs.Ports.{control_numbers};
+ghost use Rattle.trdp_daemon.specs.Sockets.{fault_of};
+ghost use Rattle.trdp_controls.specs.Folders.{ListensInTurn, file_unless_0, number_of_operator};
+ghost use Rattle.trdp_controls.specs.Folders.{number_of_path, number_unless_0, numbers_of};
+
+use crate::control_wire::ControlWire;
+use crate::folder::Folder;
+use crate::listen_fault::ListenFault;
+use std::alloc::Global;
+use trdp_daemon::{Wire, control_number};
+use trdp_dataset::NodeConfig;
+use trdp_lines::{Connections, ControlPath, OperatorPath};
+
+impl<N: Wire + Drop, C: Connections + Drop> ControlWire<N, C> {
+    ghost use Rattle.std.specs.Prelude.{◌≡◌, map, IfOk};
+    ghost use Rattle.trdp_daemon.specs.Ports.{control_numbers};
+    ghost use Rattle.trdp_daemon.specs.Sockets.{fault_of};
+    ghost use Rattle.trdp_controls.specs.Folders.{ListensInTurn, files_of, number_of_operator};
+    ghost use Rattle.trdp_controls.specs.Folders.{number_unless_0, numbers_of};
+
+    /// Listens at the paths of a configuration, one after another in the order of a turn: the file
+    /// of the operator's port, and those of the control ports of the slots and of the spare ones.
+    /// They are the paths of a wire over that network. A port of the number 0 has no path.
+    ///
+    /// # Errors
+    /// At the first file at which nobody listens then: its fault. `OutOfMemory` too where there is
+    /// none for a path.
+    pub fn open<F: Folder<C>>(
+        alloc: Global,
+        folder: &mut F,
+        network: N,
+        config: &NodeConfig,
+    ) -> Result<ControlWire<N, C>, ListenFault>
+        ensures listens { ListensInTurn (files_of config.now) (fault_of result)
+            (F.listenings folder.old) (F.listenings folder.new) }
+        ensures operator { IfOk result (λ wire. number_of_operator C.file_number wire.operator
+            ≡ number_unless_0 config.now.operator_port) }
+        ensures controls { IfOk result (λ wire. numbers_of C.file_number wire.controls.items
+            ≡ map number_unless_0 (control_numbers config.now)) }
+        ensures network { IfOk result (λ wire. wire.network ≡ network) }
+        ensures failures { IfOk result (λ wire. wire.failures ≡ 0) }
+    {
+        let operator = operator_path(alloc, folder, config.operator_port())?;
+        let controls = control_paths(alloc, folder, config)?;
+        Ok(ControlWire::new(network, operator, controls))
+    }
+}
+
+/// Listens at the file of the operator's port, unless its number is 0.
+///
+/// # Errors
+/// The folder's fault, and `OutOfMemory`.
+fn operator_path<C: Connections + Drop, F: Folder<C>>(
+    alloc: Global,
+    folder: &mut F,
+    number: u16,
+) -> Result<Option<OperatorPath<C>>, ListenFault>
+    ensures listens { ListensInTurn (file_unless_0 number) (fault_of result)
+        (F.listenings folder.old) (F.listenings folder.new) }
+    ensures number { IfOk result (λ path. number_of_operator C.file_number path
+        ≡ number_unless_0 number) }
+{
+    match connections_at(folder, number) {
+        Ok(Some(connections)) => match OperatorPath::new(alloc, connections) {
+            Ok(path) => Ok(Some(path)),
+            Err(_) => Err(ListenFault::OutOfMemory),
+        },
+        Ok(None) => Ok(None),
+        Err(fault) => Err(fault),
+    }
+}
+
+/// Listens at the files of the control ports of the slots, and of the spare ones.
+///
+/// # Errors
+/// The fault of the first that is refused, and `OutOfMemory`.
+fn control_paths<C: Connections + Drop, F: Folder<C>>(
+    alloc: Global,
+    folder: &mut F,
+    config: &NodeConfig,
+) -> Result<Vec<Option<ControlPath<C>>>, ListenFault>
+    ensures listens { ListensInTurn (flat_map file_unless_0 (control_numbers config.now))
+        (fault_of result) (F.listenings folder.old) (F.listenings folder.new) }
+    ensures numbers { IfOk result (λ paths. numbers_of C.file_number paths.items
+        ≡ map number_unless_0 (control_numbers config.now)) }
+{
+    let mut paths = Vec::new(alloc);
+    for slot in 0..config.slots() + config.spare_control_ports() {
+        let number = control_number(config, slot).unwrap_or(0);
+        push_path(alloc, folder, number, &mut paths)?;
+    }
+    Ok(paths)
+}
+
+/// Adds the path of one more control port: None where its number is 0.
+///
+/// # Errors
+/// The folder's fault, and `OutOfMemory`.
+fn push_path<C: Connections + Drop, F: Folder<C>>(
+    alloc: Global,
+    folder: &mut F,
+    number: u16,
+    paths: &mut Vec<Option<ControlPath<C>>>,
+) -> Result<(), ListenFault>
+    ensures listens { ListensInTurn (file_unless_0 number) (fault_of result)
+        (F.listenings folder.old) (F.listenings folder.new) }
+    ensures pushed { OnOk result (numbers_of C.file_number paths.new.items
+        ≡ numbers_of C.file_number paths.old.items ++ number_unless_0 number ∷ []) }
+{
+    let path = control_path(alloc, folder, number)?;
+    match paths.push(path) {
+        Ok(()) => Ok(()),
+        Err(_) => Err(ListenFault::OutOfMemory),
+    }
+}
+
+/// Listens at the file of a control port, unless its number is 0.
+///
+/// # Errors
+/// The folder's fault, and `OutOfMemory`.
+fn control_path<C: Connections + Drop, F: Folder<C>>(
+    alloc: Global,
+    folder: &mut F,
+    number: u16,
+) -> Result<Option<ControlPath<C>>, ListenFault>
+    ensures listens { ListensInTurn (file_unless_0 number) (fault_of result)
+        (F.listenings folder.old) (F.listenings folder.new) }
+    ensures number { IfOk result (λ path. number_of_path C.file_number path
+        ≡ number_unless_0 number) }
+{
+    match connections_at(folder, number) {
+        Ok(Some(connections)) => match ControlPath::new(alloc, connections) {
+            Ok(path) => Ok(Some(path)),
+            Err(_) => Err(ListenFault::OutOfMemory),
+        },
+        Ok(None) => Ok(None),
+        Err(fault) => Err(fault),
+    }
+}
+
+/// Listens at the file of a port, unless its number is 0.
+///
+/// # Errors
+/// The folder's fault.
+fn connections_at<C: Connections, F: Folder<C>>(
+    folder: &mut F,
+    number: u16,
+) -> Result<Option<C>, ListenFault>
+    ensures listens { ListensInTurn (file_unless_0 number) (fault_of result)
+        (F.listenings folder.old) (F.listenings folder.new) }
+    ensures number { IfOk result (λ found. option_map C.file_number found
+        ≡ number_unless_0 number) }
+    ensures none_came { IfOk result (λ found. IfSome found (λ connections.
+        IfSome (C.calls connections) (λ calls. calls ≡ []))) }
+{
+    if number == 0 {
+        return Ok(None);
+    }
+    match folder.listen(number) {
+        Ok(connections) => Ok(Some(connections)),
+        Err(fault) => Err(fault),
+    }
+}

@@ -1,0 +1,68 @@
+//! A folder of the system.
+
+use crate::folder::Folder;
+use crate::listen_fault::{ListenFault, listen_fault};
+use crate::system_connections::SystemConnections;
+use mio::Registry;
+use std::alloc::Global;
+use std::fs::Files;
+use std::io;
+use std::net::Net;
+
+/// A folder of the system, in which each path is the file of a Unix stream socket. It tells
+/// nothing.
+#[derive(Drop)]
+pub struct SystemFolder<'a, R: Files + Net> {
+    /// The system, which has the files and the sockets.
+    rt: &'a R,
+    /// Where memory comes from.
+    alloc: Global,
+    /// The path of the folder.
+    path: &'a str,
+    /// Where the system tells that a connection, bytes, room or an end came; None where it doesn't.
+    registry: Option<Registry>,
+}
+
+impl<'a, R: Files + Net> SystemFolder<'a, R> {
+    /// A folder, at whose files nobody listens yet. The system tells the registry, if there is one,
+    /// of what comes at each of them.
+    pub fn new(
+        rt: &'a R,
+        alloc: Global,
+        path: &'a str,
+        registry: Option<Registry>,
+    ) -> SystemFolder<'a, R> {
+        SystemFolder {
+            rt,
+            alloc,
+            path,
+            registry,
+        }
+    }
+
+    /// The registry for one more path.
+    ///
+    /// # Errors
+    /// What the system says to it.
+    fn registry(&self) -> io::Result<Option<Registry>> {
+        match &self.registry {
+            Some(registry) => Ok(Some(registry.try_clone()?)),
+            None => Ok(None),
+        }
+    }
+}
+
+impl<'a, R: Files + Net> Folder<SystemConnections> for SystemFolder<'a, R> {
+    ghost use Rattle.std.specs.Prelude.{None};
+
+    ghost listenings = { λ _. None };
+
+    fn listen(&mut self, number: u16) -> Result<SystemConnections, ListenFault> {
+        match self.registry() {
+            Ok(registry) => {
+                SystemConnections::listen(self.rt, self.alloc, self.path, number, registry)
+            }
+            Err(error) => Err(listen_fault(error)),
+        }
+    }
+}
