@@ -24,7 +24,7 @@ Commands:
   check   Say what a configuration means, or what is wrong with it
   run     Play the script at standard input; print what the node gives
   serve   Serve the node for N turns without a rest; print its totals
-  daemon  Serve the node at its UDP ports until it is stopped
+  daemon  Serve the node at its ports until it is stopped
   help    Print this message or the help of the given subcommand(s)
 
 Options:

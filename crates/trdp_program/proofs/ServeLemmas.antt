@@ -1,5 +1,5 @@
 -- What the turns of a service come to.
--- For `serve`.
+-- For `serve`, `serve_controls` and `serve_at`.
 -- By cases: a fault before the first turn, or the totals of so many turns.
 use Rattle.std.proofs.Common.{◌≡◌, ℕ, List, Option, refl, sym, ◌∙◌, subst}
 use Rattle.std.proofs.KnownBytes.{Keeps-refl}
@@ -8,7 +8,7 @@ use Rattle.trdp_daemon.specs.declared.totals.Totals.{Totals}
 use Rattle.trdp_daemon.specs.Told.{Taking, Give}
 use Rattle.trdp_program.specs.declared.faults.ServeFault.{ServeFault}
 use Rattle.trdp_program.specs.declared.faults.ServeFault.TheVariants.{Bind, Write, OutOfMemory}
-use Rattle.trdp_program.specs.Serving.{CountsTurns, CountsTurnsOver, WritesNoTotals}
+use Rattle.trdp_program.specs.Serving.{CountsTurns, CountsTurnsOver, FailsToWrite, WritesNoTotals}
 
 -- totals of turns over a wire and a clock are those of so many turns
 pub counts_turns : {W C : Type 0} {takings_in : W → Option (List Taking)}
@@ -42,3 +42,11 @@ pub memory_fault : (fault : ServeFault) (config : ConfigModel) (lease : Option �
     → fault ≡ OutOfMemory → WritesNoTotals fault config lease n told told
 memory_fault fault config lease n told is =
     subst (λ (f : ServeFault). WritesNoTotals f config lease n told told) (sym is) (Keeps-refl told)
+
+-- the line of totals that were counted isn't written
+pub totals_unwritten : (fault : ServeFault) (config : ConfigModel) (lease : Option ℕ) (n : ℕ)
+    (totals : Totals) (old new : Option (List ℕ)) → CountsTurns config lease n totals
+    → FailsToWrite fault totals old new → WritesNoTotals fault config lease n old new
+totals_unwritten Bind config lease n totals old new counts fails = absurd fails
+totals_unwritten OutOfMemory config lease n totals old new counts fails = fails
+totals_unwritten Write config lease n totals old new counts fails = (totals, counts, fails)

@@ -1,5 +1,6 @@
 -- What it comes to when the program serves a node.
-use Rattle.std.specs.Prelude.{◌≡◌, ◌⊎◌, ℕ, List, ◌++◌, codes, length, map, Option, Ok}
+use Rattle.std.specs.Prelude.{◌≡◌, ◌⊎◌, ℕ, ◌*◌, List, ◌++◌, codes, length, map, Option, Ok}
+use Rattle.std.specs.Option.{option_map}
 use Rattle.std.specs.List.{flat_map}
 use Rattle.std.specs.Io.KnownBytes.{Appends, Keeps}
 use Rattle.trdp_dataset.specs.Configs.{ConfigModel, ReadsToml, config_of}
@@ -16,6 +17,10 @@ use Rattle.trdp_program.specs.Faults.{TellsFault, text_of_serve_fault}
 use Rattle.trdp_program.specs.Programs.{TakesNoConfig}
 use Rattle.trdp_program.specs.declared.faults.ServeFault.{ServeFault}
 use Rattle.trdp_program.specs.declared.faults.ServeFault.TheVariants.{Bind, Write, OutOfMemory}
+
+-- a lease of so many seconds in microseconds
+abbrev pub lease_of : Option ℕ → Option ℕ
+lease_of = option_map (λ seconds. seconds * 1000000)
 
 -- these are the totals of a node of that configuration and lease after these turns, its first, with
 -- these gives: each turn took once at each port that is there, in order, and the gives are exactly

@@ -1,40 +1,43 @@
 //! A service that goes on: first the sockets, and then turns with rests between them.
 
-ghost use Rattle.std.specs.Prelude.{◌≡◌, ◌≢◌, ◌^◌, ◌-◌, OnOk, IfErr, Bool, ℕ, Option};
+ghost use Rattle.std.specs.Prelude.{◌≡◌, ◌^◌, ◌-◌, OnOk, IfErr, Bool, ℕ, Option};
 ghost use Rattle.trdp_dataset.specs.Configs.{ConfigModel};
 ghost use Rattle.trdp_daemon.specs.Daemons.{HasServed};
 ghost use Rattle.trdp_program.specs.Attending.{Attends, FailsOver, ServesUntilDue, step_of};
 ghost use Rattle.trdp_program.specs.Attending.{WritesAllLines, WritesLinesOver, WritesUpTo};
 ghost use Rattle.trdp_program.specs.Faults.{TellsText};
+ghost use Rattle.trdp_program.specs.Serving.{lease_of};
 
 use crate::faults::{SERVE_FAULT_STATUS, ServeFault};
 use crate::losses::Losses;
-use crate::serve::bind_fault;
+use crate::options::ServiceOptions;
 use crate::stream::Stream;
 use crate::told::tell_fault;
 use crate::totals_log::TotalsLog;
+use crate::wires::{bind_resting, bind_resting_controls};
 use std::alloc::Global;
+use std::fs::Files;
 use std::io::Write;
 use std::net::Net;
 use std::time::Clock;
-use trdp_daemon::{Daemon, RestingWire, RunClock, SystemSockets, Wire};
+use trdp_daemon::{Daemon, RunClock, Wire};
 use trdp_dataset::NodeConfig;
 
-/// Serves a node of a configuration until the program is stopped, with a lease of so many
-/// microseconds, if there is one, and answers the exit status: 4 after a fault, which gives one
-/// line on `errors`, and 0 after 2^64 - 1 lines of totals.
-pub(crate) fn attend_config<H: Net + Clock + AllocGlobal, W: Stream, E: Write>(
+/// Serves a node of a configuration until the program is stopped, and answers the exit status: 4
+/// after a fault, which gives one line on `errors`, and 0 after 2^64 - 1 lines of totals.
+pub(crate) fn attend_config<H: Files + Net + Clock + AllocGlobal, W: Stream, E: Write>(
     rt: &H,
     config: NodeConfig,
-    lease: Option<u64>,
+    options: ServiceOptions,
     seconds: u32,
     writer: &mut W,
     errors: &mut E,
 ) -> u8
-    ensures { Attends config lease (step_of seconds) (W.attempts writer.old) (W.attempts writer.new)
+    ensures { Attends config (lease_of options.entry.lease) (step_of seconds)
+        (W.attempts writer.old) (W.attempts writer.new)
         (E.contents errors.old) (E.contents errors.new) result }
 {
-    match attend(rt, config, lease, seconds, writer, errors) {
+    match attend(rt, config, options, seconds, writer, errors) {
         Ok(()) => 0,
         Err(fault) => {
             tell_fault(fault, errors);
@@ -43,28 +46,37 @@ pub(crate) fn attend_config<H: Net + Clock + AllocGlobal, W: Stream, E: Write>(
     }
 }
 
-/// Binds the ports of a configuration, and attends to its node, with a lease.
+/// Binds the ports of a configuration, and attends to its node.
 ///
 /// # Errors
 /// `Bind` where the system refuses a port, and `OutOfMemory`.
-fn attend<H: Net + Clock + AllocGlobal, W: Stream, E: Write>(
+fn attend<H: Files + Net + Clock + AllocGlobal, W: Stream, E: Write>(
     rt: &H,
     config: NodeConfig,
-    lease: Option<u64>,
+    options: ServiceOptions,
     seconds: u32,
     writer: &mut W,
     errors: &mut E,
 ) -> Result<(), ServeFault>
-    ensures ok { OnOk result (WritesAllLines config lease (step_of seconds)
+    ensures ok { OnOk result (WritesAllLines config (lease_of options.entry.lease) (step_of seconds)
         (W.attempts writer.old) (W.attempts writer.new)) }
-    ensures err { IfErr result (λ fault. WritesUpTo fault config lease (step_of seconds)
-        (W.attempts writer.old) (W.attempts writer.new)) }
+    ensures err { IfErr result (λ fault. WritesUpTo fault config (lease_of options.entry.lease)
+        (step_of seconds) (W.attempts writer.old) (W.attempts writer.new)) }
     ensures losses { TellsText (E.contents errors.old) (E.contents errors.new) }
 {
-    let wire = bind(rt, &config)?;
+    let lease = options.lease_time();
     let step = step_of(seconds);
     let clock = RunClock::new(rt);
-    attend_over(rt.alloc(), config, lease, wire, clock, step, writer, errors)
+    match options.folder {
+        None => {
+            let wire = bind_resting(rt, &config)?;
+            attend_over(rt.alloc(), config, lease, wire, clock, step, writer, errors)
+        }
+        Some(folder) => {
+            let wire = bind_resting_controls(rt, &config, folder)?;
+            attend_over(rt.alloc(), config, lease, wire, clock, step, writer, errors)
+        }
+    }
 }
 
 /// Opens a node of a configuration over a wire and a clock, with a lease, and attends to it: a line
@@ -163,21 +175,5 @@ fn step_of(seconds: u32) -> u64
         u64::MAX
     } else {
         u64::from(seconds) * 1_000_000
-    }
-}
-
-/// Binds the ports of a configuration for a daemon that rests.
-///
-/// # Errors
-/// `Bind` where the system refuses a port, and `OutOfMemory`.
-fn bind<'a, H: Net + AllocGlobal>(
-    rt: &'a H,
-    config: &NodeConfig,
-) -> Result<RestingWire<SystemSockets<'a, H>>, ServeFault>
-    ensures { IfErr result (λ fault. fault ≢ ServeFault.Write) }
-{
-    match RestingWire::bind(rt, rt.alloc(), config) {
-        Ok(wire) => Ok(wire),
-        Err(fault) => Err(bind_fault(fault)),
     }
 }

@@ -18,10 +18,11 @@ use trdp_script::write_whole;
 /// Says what a configuration (TOML) means and what its author may not have meant, on the writer,
 /// and answers the exit status: 0, or 1 where it isn't taken, with its fault on `errors` and behind
 /// it each fault of the file, or 4 where the writer fails or memory is wanting, with a line on
-/// `errors` (profile).
+/// `errors` (profile). The ports for lines are files of a folder, if there is one.
 pub fn check_program<W: Write, E: Write>(
     alloc: Global,
     config: &[u8],
+    folder: Option<&str>,
     writer: &mut W,
     errors: &mut E,
 ) -> u8
@@ -33,7 +34,7 @@ pub fn check_program<W: Write, E: Write>(
     ensures faultless { result ≡ 0 → Keeps (E.contents errors.old) (E.contents errors.new) }
 {
     match NodeConfig::from_toml(alloc, config) {
-        Ok(taken) => match write_report(alloc, config, &taken, writer) {
+        Ok(taken) => match write_report(alloc, config, &taken, folder, writer) {
             Ok(()) => 0,
             Err(fault) => {
                 tell_fault(fault, errors);
@@ -55,12 +56,13 @@ fn write_report<W: Write>(
     alloc: Global,
     config: &[u8],
     taken: &NodeConfig,
+    folder: Option<&str>,
     writer: &mut W,
 ) -> Result<(), ServeFault>
     ensures written { TellsText (W.contents writer.old) (W.contents writer.new) }
     ensures err { IfErr result (λ fault. fault ≢ ServeFault.Bind) }
 {
-    let Ok(text) = report(alloc, config, taken) else {
+    let Ok(text) = report(alloc, config, taken, folder) else {
         return Err(ServeFault::OutOfMemory);
     };
     match write_whole(writer, text.as_bytes()) {

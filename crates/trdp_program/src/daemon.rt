@@ -1,14 +1,17 @@
 //! A service that goes on, with words about its configuration.
 
-ghost use Rattle.std.specs.Prelude.{◌≡◌, ◌⊎◌, None};
+ghost use Rattle.std.specs.Prelude.{◌≡◌, ◌⊎◌};
 ghost use Rattle.trdp_program.specs.Attending.{AttendsProgram, step_of};
 ghost use Rattle.trdp_program.specs.Faults.{TellsText};
 ghost use Rattle.trdp_program.specs.Programs.{IsConfig};
+ghost use Rattle.trdp_program.specs.Serving.{lease_of};
 
 use crate::attend::attend_config;
+use crate::options::ServiceOptions;
 use crate::program::CONFIG_STATUS;
 use crate::stream::Stream;
 use crate::told::{tell_config_fault, tell_text};
+use std::fs::Files;
 use std::io::Write;
 use std::net::Net;
 use std::time::Clock;
@@ -31,16 +34,19 @@ use trdp_report::{refused_ports, report};
 /// and while it serves at most once a second what the network refused, and why.
 /// Behind the fault's line stands each fault of a configuration that isn't taken, and else
 /// which ports the system refuses, and why (profile).
-pub fn report_daemon<H: Net + Clock + AllocGlobal, W: Stream, E: Write>(
+///
+/// The ports for lines are files of a folder, if there is one, and slots begin anew after a lease.
+pub fn report_daemon<H: Files + Net + Clock + AllocGlobal, W: Stream, E: Write>(
     rt: &H,
     config: &[u8],
+    options: ServiceOptions,
     seconds: u32,
     writer: &mut W,
     errors: &mut E,
 ) -> u8
     ensures status { (result ≡ 0) ⊎ (result ≡ 1) ⊎ (result ≡ 4) }
     ensures config { (result ≡ 1) ⊎ IsConfig config.now }
-    ensures attends { AttendsProgram config.now None (step_of seconds)
+    ensures attends { AttendsProgram config.now (lease_of options.entry.lease) (step_of seconds)
         (W.attempts writer.old) (W.attempts writer.new)
         (E.contents errors.old) (E.contents errors.new) result }
     ensures quiet { result ≡ 1 → W.attempts writer.new ≡ W.attempts writer.old }
@@ -48,9 +54,9 @@ pub fn report_daemon<H: Net + Clock + AllocGlobal, W: Stream, E: Write>(
     let alloc = rt.alloc();
     match NodeConfig::from_toml(alloc, config) {
         Ok(taken) => {
-            tell_text(report(alloc, config, &taken), errors);
-            let status = attend_config(rt, taken, None, seconds, writer, errors);
-            tell_ports(rt, config, status, errors);
+            tell_text(report(alloc, config, &taken, options.folder), errors);
+            let status = attend_config(rt, taken, options, seconds, writer, errors);
+            tell_ports(rt, config, options.folder, status, errors);
             status
         }
         Err(fault) => {
@@ -61,13 +67,19 @@ pub fn report_daemon<H: Net + Clock + AllocGlobal, W: Stream, E: Write>(
 }
 
 /// Tells which ports of a configuration the system refuses, where a service came to no good end.
-fn tell_ports<H: Net + AllocGlobal, E: Write>(rt: &H, config: &[u8], status: u8, errors: &mut E)
+fn tell_ports<H: Files + Net + AllocGlobal, E: Write>(
+    rt: &H,
+    config: &[u8],
+    folder: Option<&str>,
+    status: u8,
+    errors: &mut E,
+)
     ensures { TellsText (E.contents errors.old) (E.contents errors.new) }
 {
     if status != 0 {
         let alloc = rt.alloc();
         if let Ok(taken) = NodeConfig::from_toml(alloc, config) {
-            tell_text(refused_ports(rt, alloc, &taken), errors);
+            tell_text(refused_ports(rt, alloc, &taken, folder), errors);
         }
     }
 }

@@ -1,20 +1,23 @@
 //! A service of the program: the configuration first, then the sockets, and then the turns.
 
-ghost use Rattle.std.specs.Prelude.{◌≡◌, ◌≢◌, ◌⊎◌, IfOk, IfErr, OnOk, None};
+ghost use Rattle.std.specs.Prelude.{◌≡◌, ◌⊎◌, IfOk, IfErr, OnOk, None};
 ghost use Rattle.std.specs.Io.KnownBytes.{Keeps};
 ghost use Rattle.trdp_program.specs.Programs.{IsConfig};
 ghost use Rattle.trdp_program.specs.Serving.{CountsTurns, CountsTurnsOver, FailsToWrite};
-ghost use Rattle.trdp_program.specs.Serving.{ServesProgram, WritesNoTotals, WritesTotals};
+ghost use Rattle.trdp_program.specs.Serving.{ServesProgram, WritesNoTotals, WritesTotals, lease_of};
 
 use crate::faults::{SERVE_FAULT_STATUS, ServeFault};
+use crate::options::ServiceOptions;
 use crate::program::{CONFIG_STATUS, read_config};
 use crate::told::tell_fault;
+use crate::wires::{bind, bind_controls};
 use std::alloc::Global;
 use std::fmt;
+use std::fs::Files;
 use std::io::Write;
 use std::net::Net;
 use std::time::Clock;
-use trdp_daemon::{BindFault, Daemon, RunClock, SystemSockets, Totals, UdpWire, Wire};
+use trdp_daemon::{Daemon, RunClock, Totals, Wire};
 use trdp_dataset::NodeConfig;
 use trdp_script::write_whole;
 
@@ -52,8 +55,63 @@ pub fn serve_program<H: Net + Clock + AllocGlobal, W: Write, E: Write>(
     }
 }
 
-/// Binds the ports of a configuration, takes so many turns at them, with a lease, and writes the
-/// line of their totals.
+/// Serves a node of that configuration (TOML) over the system's sockets as [`serve_program`] does:
+/// the ports for lines are files of a folder, if there is one, and slots begin anew after a lease.
+pub fn serve_with<H: Files + Net + Clock + AllocGlobal, W: Write, E: Write>(
+    rt: &H,
+    config: &[u8],
+    options: ServiceOptions,
+    turns: u32,
+    writer: &mut W,
+    errors: &mut E,
+) -> u8
+    ensures status { (result ≡ 0) ⊎ (result ≡ 1) ⊎ (result ≡ 4) }
+    ensures config { (result ≡ 1) ⊎ IsConfig config.now }
+    ensures serves { ServesProgram config.now (lease_of options.entry.lease) turns
+        (W.contents writer.old) (W.contents writer.new)
+        (E.contents errors.old) (E.contents errors.new) result }
+    ensures quiet { result ≡ 1 → Keeps (W.contents writer.old) (W.contents writer.new) }
+    ensures faultless { result ≡ 0 → Keeps (E.contents errors.old) (E.contents errors.new) }
+{
+    let Ok(config) = read_config(rt.alloc(), config, errors) else {
+        return CONFIG_STATUS;
+    };
+    match serve_options(rt, config, options, turns, writer) {
+        Ok(()) => 0,
+        Err(fault) => {
+            tell_fault(fault, errors);
+            SERVE_FAULT_STATUS
+        }
+    }
+}
+
+/// Binds the ports of a configuration as the options say, takes so many turns at them, and writes
+/// the line of their totals.
+///
+/// # Errors
+/// `Bind` where the system refuses a port, `Write` where the writer fails, and `OutOfMemory`.
+fn serve_options<H: Files + Net + Clock + AllocGlobal, W: Write>(
+    rt: &H,
+    config: NodeConfig,
+    options: ServiceOptions,
+    turns: u32,
+    writer: &mut W,
+) -> Result<(), ServeFault>
+    ensures ok { OnOk result ((totals : Totals)
+        × CountsTurns config (lease_of options.entry.lease) turns totals
+        × WritesTotals totals (W.contents writer.old) (W.contents writer.new)) }
+    ensures err { IfErr result (λ fault. WritesNoTotals fault config (lease_of options.entry.lease) turns
+        (W.contents writer.old) (W.contents writer.new)) }
+{
+    let lease = options.lease_time();
+    match options.folder {
+        None => serve(rt, config, lease, turns, writer),
+        Some(folder) => serve_controls(rt, config, folder, lease, turns, writer),
+    }
+}
+
+/// Binds the UDP ports of a configuration, takes so many turns at them, with a lease, and writes
+/// the line of their totals.
 ///
 /// # Errors
 /// `Bind` where the system refuses a port, `Write` where the writer fails, and `OutOfMemory`.
@@ -70,8 +128,67 @@ fn serve<H: Net + Clock + AllocGlobal, W: Write>(
         (W.contents writer.old) (W.contents writer.new)) }
 {
     let wire = bind(rt, &config)?;
-    let totals = serve_over(rt.alloc(), config, lease, wire, RunClock::new(rt), turns)?;
-    write_totals(rt.alloc(), totals, writer)
+    serve_at(
+        rt.alloc(),
+        config,
+        lease,
+        wire,
+        RunClock::new(rt),
+        turns,
+        writer,
+    )
+}
+
+/// The same, where the ports for lines are files of a folder.
+///
+/// # Errors
+/// As [`serve`].
+fn serve_controls<H: Files + Net + Clock + AllocGlobal, W: Write>(
+    rt: &H,
+    config: NodeConfig,
+    folder: &str,
+    lease: Option<u64>,
+    turns: u32,
+    writer: &mut W,
+) -> Result<(), ServeFault>
+    ensures ok { OnOk result ((totals : Totals) × CountsTurns config lease turns totals
+        × WritesTotals totals (W.contents writer.old) (W.contents writer.new)) }
+    ensures err { IfErr result (λ fault. WritesNoTotals fault config lease turns
+        (W.contents writer.old) (W.contents writer.new)) }
+{
+    let wire = bind_controls(rt, &config, folder)?;
+    serve_at(
+        rt.alloc(),
+        config,
+        lease,
+        wire,
+        RunClock::new(rt),
+        turns,
+        writer,
+    )
+}
+
+/// Opens a node of a configuration over a wire and a clock, with a lease, takes so many turns, and
+/// writes the line of their totals.
+///
+/// # Errors
+/// `Write` where the writer fails, and `OutOfMemory`.
+fn serve_at<L: Wire + Drop, C: trdp_daemon::Clock + Drop, W: Write>(
+    alloc: Global,
+    config: NodeConfig,
+    lease: Option<u64>,
+    wire: L,
+    clock: C,
+    turns: u32,
+    writer: &mut W,
+) -> Result<(), ServeFault>
+    ensures ok { OnOk result ((totals : Totals) × CountsTurns config lease turns totals
+        × WritesTotals totals (W.contents writer.old) (W.contents writer.new)) }
+    ensures err { IfErr result (λ fault. WritesNoTotals fault config lease turns
+        (W.contents writer.old) (W.contents writer.new)) }
+{
+    let totals = serve_over(alloc, config, lease, wire, clock, turns)?;
+    write_totals(alloc, totals, writer)
 }
 
 /// Opens a node of a configuration over a wire and a clock, with a lease, and takes so many turns.
@@ -113,32 +230,6 @@ fn write_totals<W: Write>(alloc: Global, totals: Totals, writer: &mut W) -> Resu
     match write_whole(writer, line.as_bytes()) {
         Ok(()) => Ok(()),
         Err(_) => Err(ServeFault::Write),
-    }
-}
-
-/// Binds the ports of a configuration.
-///
-/// # Errors
-/// `Bind` where the system refuses a port, and `OutOfMemory`.
-fn bind<'a, H: Net + AllocGlobal>(
-    rt: &'a H,
-    config: &NodeConfig,
-) -> Result<UdpWire<SystemSockets<'a, H>>, ServeFault>
-    ensures { IfErr result (λ fault. fault ≢ ServeFault.Write) }
-{
-    match UdpWire::bind(rt, config) {
-        Ok(wire) => Ok(wire),
-        Err(fault) => Err(bind_fault(fault)),
-    }
-}
-
-/// What it is to a service that its ports aren't bound.
-pub(crate) fn bind_fault(fault: BindFault) -> ServeFault
-    ensures { result ≢ ServeFault.Write }
-{
-    match fault {
-        BindFault::Bind => ServeFault::Bind,
-        BindFault::OutOfMemory => ServeFault::OutOfMemory,
     }
 }
 

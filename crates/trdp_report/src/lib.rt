@@ -2,9 +2,9 @@
 //! meant, what is wrong with it, and which of its ports the system refuses.
 //!
 //! ```text
-//! let text = report(alloc, config, &taken)?;              // node 10.0.0.1: process data at ..
+//! let text = report(alloc, config, &taken, None)?;        // node 10.0.0.1: process data at ..
 //! let text = fault_place(alloc, config, fault)?;          // line 4, node: pd_port = 0: a ..
-//! let text = refused_ports(rt, alloc, &taken)?;           // port 10.0.0.1:17224: ..
+//! let text = refused_ports(rt, alloc, &taken, None)?;     // port 10.0.0.1:17224: ..
 //! ```
 //!
 //! Each answers lines, or none where there is nothing to say. The words are no proof's matter: no

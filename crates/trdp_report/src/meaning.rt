@@ -1,8 +1,9 @@
 //! What a configuration means, in a screen.
 
+use crate::ports::control_site;
 use std::alloc::AllocError;
 use std::fmt::Write;
-use std::net::{Ipv4Addr, SocketAddrV4};
+use std::net::Ipv4Addr;
 use trdp_base::{Ip, Quotas};
 use trdp_dataset::NodeConfig;
 
@@ -22,16 +23,21 @@ pub(crate) fn shown(ip: Ip) -> Ipv4Addr {
 }
 
 /// Adds what a configuration means: a line for the node, one for each slot, one for the spare
-/// control ports, and one for each dataset.
+/// control ports, and one for each dataset. The ports for lines are files of a folder, if there is
+/// one.
 ///
 /// # Errors
 /// Want of memory.
-pub(crate) fn push_meaning(text: &mut String, config: &NodeConfig) -> Result<(), AllocError> {
-    push_node(text, config)?;
+pub(crate) fn push_meaning(
+    text: &mut String,
+    config: &NodeConfig,
+    folder: Option<&str>,
+) -> Result<(), AllocError> {
+    push_node(text, config, folder)?;
     for slot in 0..config.slots() {
-        push_slot(text, config, slot)?;
+        push_slot(text, config, folder, slot)?;
     }
-    push_spare_ports(text, config)?;
+    push_spare_ports(text, config, folder)?;
     push_datasets(text, config)
 }
 
@@ -39,7 +45,11 @@ pub(crate) fn push_meaning(text: &mut String, config: &NodeConfig) -> Result<(),
 ///
 /// # Errors
 /// Want of memory.
-fn push_node(text: &mut String, config: &NodeConfig) -> Result<(), AllocError> {
+fn push_node(
+    text: &mut String,
+    config: &NodeConfig,
+    folder: Option<&str>,
+) -> Result<(), AllocError> {
     let address = shown(config.address());
     let pd_port = config.pd_port();
     let md_port = config.md_port();
@@ -50,7 +60,7 @@ fn push_node(text: &mut String, config: &NodeConfig) -> Result<(), AllocError> {
     if config.operator_port() == 0 {
         return Ok(());
     }
-    let operator = SocketAddrV4::new(shown(config.control_address()), config.operator_port());
+    let operator = control_site(config, folder, config.operator_port());
     writeln!(text, "operator at {operator}")
 }
 
@@ -58,11 +68,16 @@ fn push_node(text: &mut String, config: &NodeConfig) -> Result<(), AllocError> {
 ///
 /// # Errors
 /// Want of memory.
-fn push_slot(text: &mut String, config: &NodeConfig, slot: usize) -> Result<(), AllocError> {
+fn push_slot(
+    text: &mut String,
+    config: &NodeConfig,
+    folder: Option<&str>,
+    slot: usize,
+) -> Result<(), AllocError> {
     write!(text, "slot {slot}")?;
     match config.control_port(slot) {
         Some(port) if port != 0 => {
-            let control = SocketAddrV4::new(shown(config.control_address()), port);
+            let control = control_site(config, folder, port);
             write!(text, " at {control}")?;
         }
         _ => text.push_str(", no control port")?,
@@ -92,12 +107,19 @@ fn push_quotas(text: &mut String, quotas: Quotas) -> Result<(), AllocError> {
 ///
 /// # Errors
 /// Want of memory.
-fn push_spare_ports(text: &mut String, config: &NodeConfig) -> Result<(), AllocError> {
+fn push_spare_ports(
+    text: &mut String,
+    config: &NodeConfig,
+    folder: Option<&str>,
+) -> Result<(), AllocError> {
     if config.spare_control_ports() == 0 {
         return Ok(());
     }
     let address = shown(config.control_address());
-    write!(text, "slots that are added have, at {address}, the ports")?;
+    match folder {
+        Some(folder) => write!(text, "slots that are added have, in {folder}, the files")?,
+        None => write!(text, "slots that are added have, at {address}, the ports")?,
+    }
     for added in 0..config.spare_control_ports() {
         if let Some(port) = config.spare_control_port(added) {
             write!(text, " {port}")?;

@@ -3,8 +3,7 @@
 use crate::meaning::shown;
 use std::alloc::{AllocError, Global};
 use std::fmt;
-use std::net::{Ipv4Addr, SocketAddrV4};
-use trdp_base::Ip;
+use std::net::SocketAddrV4;
 use trdp_dataset::NodeConfig;
 
 /// The key that names a port.
@@ -34,56 +33,80 @@ impl fmt::Display for PortKey {
     }
 }
 
-/// A port of a node.
+/// Where a port is.
 #[derive(Clone, Copy)]
-pub(crate) struct NamedPort {
-    /// The key that names it.
-    key: PortKey,
-    /// Its address; 0.0.0.0 is every address.
-    ip: Ipv4Addr,
-    /// Its number, 1 to 65535.
-    port: u16,
+pub(crate) enum Site<'a> {
+    /// A UDP port; the address 0.0.0.0 is every address.
+    Udp(SocketAddrV4),
+    /// The file of a socket in a folder, by its number.
+    File(&'a str, u16),
 }
 
-impl NamedPort {
-    /// The place at which it is bound.
-    pub(crate) fn place(self) -> SocketAddrV4 {
-        SocketAddrV4::new(self.ip, self.port)
+impl<'a> Site<'a> {
+    /// Whether another port is the same one, at some address.
+    fn meets(self, other: Site<'a>) -> bool {
+        match (self, other) {
+            (Site::Udp(place), Site::Udp(other)) => {
+                let is_everywhere = place.ip().is_unspecified() || other.ip().is_unspecified();
+                place.port() == other.port() && (is_everywhere || place.ip() == other.ip())
+            }
+            (Site::File(_, number), Site::File(_, other)) => number == other,
+            _ => false,
+        }
     }
+}
 
-    /// Whether another port is the same one at some address.
-    fn meets(self, other: NamedPort) -> bool {
-        let is_everywhere = self.ip.is_unspecified() || other.ip.is_unspecified();
-        self.port == other.port && (is_everywhere || self.ip == other.ip)
+impl<'a> fmt::Display for Site<'a> {
+    fn fmt<W: fmt::Write>(&self, f: &mut fmt::Formatter<W>) -> fmt::Result {
+        match *self {
+            Site::Udp(place) => write!(f, "{place}"),
+            Site::File(folder, number) => write!(f, "{folder}/{number}"),
+        }
     }
+}
+
+/// Where a control port is, or the operator's: a file of the folder, if there is one, and else a
+/// UDP port at the control address.
+pub(crate) fn control_site<'a>(
+    config: &NodeConfig,
+    folder: Option<&'a str>,
+    port: u16,
+) -> Site<'a> {
+    match folder {
+        Some(folder) => Site::File(folder, port),
+        None => Site::Udp(SocketAddrV4::new(shown(config.control_address()), port)),
+    }
+}
+
+/// A port of a node.
+#[derive(Clone, Copy)]
+pub(crate) struct NamedPort<'a> {
+    /// The key that names it.
+    key: PortKey,
+    /// Where it is.
+    pub(crate) site: Site<'a>,
 }
 
 /// Two ports of a node that are the same one at some address.
 #[derive(Clone, Copy)]
-pub(crate) struct Collision {
+pub(crate) struct Collision<'a> {
     /// The one that is bound first.
-    first: NamedPort,
+    first: NamedPort<'a>,
     /// The other one.
-    second: NamedPort,
+    second: NamedPort<'a>,
 }
 
-impl Collision {
-    /// The address at which both are the same one.
-    pub(crate) fn address(self) -> Ipv4Addr {
-        if self.first.ip.is_unspecified() {
-            self.second.ip
-        } else {
-            self.first.ip
+impl<'a> Collision<'a> {
+    /// Where both are the same one.
+    pub(crate) fn site(self) -> Site<'a> {
+        match self.first.site {
+            Site::Udp(place) if place.ip().is_unspecified() => self.second.site,
+            site => site,
         }
     }
-
-    /// The number of both.
-    pub(crate) fn port(self) -> u16 {
-        self.first.port
-    }
 }
 
-impl fmt::Display for Collision {
+impl<'a> fmt::Display for Collision<'a> {
     fn fmt<W: fmt::Write>(&self, f: &mut fmt::Formatter<W>) -> fmt::Result {
         write!(f, "{} and {} both name", self.first.key, self.second.key)
     }
@@ -91,34 +114,46 @@ impl fmt::Display for Collision {
 
 /// The first port, of those that come before the one of an index, with which that one collides;
 /// None where it collides with none.
-pub(crate) fn collision_at(ports: &[NamedPort], index: usize) -> Option<Collision> {
+pub(crate) fn collision_at<'a>(ports: &[NamedPort<'a>], index: usize) -> Option<Collision<'a>> {
     let second = *ports.get(index)?;
     let first = ports
         .iter()
         .take(index)
         .copied()
-        .find(|earlier| earlier.meets(second))?;
+        .find(|earlier| earlier.site.meets(second.site))?;
     Some(Collision { first, second })
 }
 
-/// The ports of a node, in the order in which they are bound.
+/// The ports of a node, in the order in which they are bound: those for lines are files of a
+/// folder, if there is one.
 ///
 /// # Errors
 /// Want of memory.
-pub(crate) fn ports_of(alloc: Global, config: &NodeConfig) -> Result<Vec<NamedPort>, AllocError> {
+pub(crate) fn ports_of<'a>(
+    alloc: Global,
+    config: &NodeConfig,
+    folder: Option<&'a str>,
+) -> Result<Vec<NamedPort<'a>>, AllocError> {
     let mut ports = Vec::new(alloc);
-    let own = config.address();
-    push_port(&mut ports, PortKey::Pd, own, config.pd_port())?;
-    push_port(&mut ports, PortKey::Md, own, config.md_port())?;
-    let controls = config.control_address();
+    let own = shown(config.address());
+    push_port(
+        &mut ports,
+        PortKey::Pd,
+        Site::Udp(SocketAddrV4::new(own, config.pd_port())),
+    )?;
+    push_port(
+        &mut ports,
+        PortKey::Md,
+        Site::Udp(SocketAddrV4::new(own, config.md_port())),
+    )?;
+    let operator = config.operator_port();
     push_port(
         &mut ports,
         PortKey::Operator,
-        controls,
-        config.operator_port(),
+        control_site(config, folder, operator),
     )?;
-    push_control_ports(&mut ports, config)?;
-    push_spare_ports(&mut ports, config)?;
+    push_control_ports(&mut ports, config, folder)?;
+    push_spare_ports(&mut ports, config, folder)?;
     Ok(ports)
 }
 
@@ -126,14 +161,17 @@ pub(crate) fn ports_of(alloc: Global, config: &NodeConfig) -> Result<Vec<NamedPo
 ///
 /// # Errors
 /// Want of memory.
-fn push_control_ports(ports: &mut Vec<NamedPort>, config: &NodeConfig) -> Result<(), AllocError> {
+fn push_control_ports<'a>(
+    ports: &mut Vec<NamedPort<'a>>,
+    config: &NodeConfig,
+    folder: Option<&'a str>,
+) -> Result<(), AllocError> {
     for slot in 0..config.slots() {
         let port = config.control_port(slot).unwrap_or(0);
         push_port(
             ports,
             PortKey::Control(slot),
-            config.control_address(),
-            port,
+            control_site(config, folder, port),
         )?;
     }
     Ok(())
@@ -143,10 +181,18 @@ fn push_control_ports(ports: &mut Vec<NamedPort>, config: &NodeConfig) -> Result
 ///
 /// # Errors
 /// Want of memory.
-fn push_spare_ports(ports: &mut Vec<NamedPort>, config: &NodeConfig) -> Result<(), AllocError> {
+fn push_spare_ports<'a>(
+    ports: &mut Vec<NamedPort<'a>>,
+    config: &NodeConfig,
+    folder: Option<&'a str>,
+) -> Result<(), AllocError> {
     for added in 0..config.spare_control_ports() {
         let port = config.spare_control_port(added).unwrap_or(0);
-        push_port(ports, PortKey::Spare(added), config.control_address(), port)?;
+        push_port(
+            ports,
+            PortKey::Spare(added),
+            control_site(config, folder, port),
+        )?;
     }
     Ok(())
 }
@@ -155,15 +201,17 @@ fn push_spare_ports(ports: &mut Vec<NamedPort>, config: &NodeConfig) -> Result<(
 ///
 /// # Errors
 /// Want of memory.
-fn push_port(
-    ports: &mut Vec<NamedPort>,
+fn push_port<'a>(
+    ports: &mut Vec<NamedPort<'a>>,
     key: PortKey,
-    ip: Ip,
-    port: u16,
+    site: Site<'a>,
 ) -> Result<(), AllocError> {
-    if port != 0 {
-        let ip = shown(ip);
-        ports.push(NamedPort { key, ip, port })?;
+    let number = match site {
+        Site::Udp(place) => place.port(),
+        Site::File(_, number) => number,
+    };
+    if number != 0 {
+        ports.push(NamedPort { key, site })?;
     }
     Ok(())
 }

@@ -1,29 +1,33 @@
 //! Which port of a node the system refuses.
 
-use crate::ports::{collision_at, ports_of};
+use crate::ports::{Site, collision_at, ports_of};
 use std::alloc::{AllocError, Global};
 use std::fmt::Write;
+use std::fs::Files;
+use std::io;
 use std::net::{Net, SocketAddr, UdpSocket};
+use trdp_controls::refused_path;
 use trdp_dataset::NodeConfig;
 
-/// A line for each port of a node that the system refuses, with its reason. Of a port that is named
-/// before, which it would refuse too, it tells by which keys. It asks for each other one once more,
-/// and gives them back.
+/// A line for each port of a node that the system refuses, with its reason: those for lines are
+/// files of a folder, if there is one. Of a port that is named before, which it would refuse too,
+/// it tells by which keys. It asks for each other one once more, and gives them back.
 ///
 /// # Errors
 /// Want of memory.
-pub fn refused_ports<R: Net>(
+pub fn refused_ports<R: Files + Net>(
     rt: &R,
     alloc: Global,
     config: &NodeConfig,
+    folder: Option<&str>,
 ) -> Result<String, AllocError> {
     let mut text = String::new(alloc);
-    let ports = ports_of(alloc, config)?;
+    let ports = ports_of(alloc, config, folder)?;
     for (index, port) in ports.iter().enumerate() {
-        let place = port.place();
+        let site = port.site;
         match collision_at(&ports, index) {
-            Some(both) => writeln!(text, "port {place}: {both} it")?,
-            None => push_refusal(rt, &mut text, SocketAddr::V4(place))?,
+            Some(both) => writeln!(text, "port {site}: {both} it")?,
+            None => push_refusal(rt, alloc, &mut text, site)?,
         }
     }
     Ok(text)
@@ -33,9 +37,23 @@ pub fn refused_ports<R: Net>(
 ///
 /// # Errors
 /// Want of memory.
-fn push_refusal<R: Net>(rt: &R, text: &mut String, place: SocketAddr) -> Result<(), AllocError> {
-    match UdpSocket::bind(rt, place) {
-        Ok(_) => Ok(()),
-        Err(error) => writeln!(text, "port {place}: {error}"),
+fn push_refusal<R: Files + Net>(
+    rt: &R,
+    alloc: Global,
+    text: &mut String,
+    site: Site,
+) -> Result<(), AllocError> {
+    let path = format!(in alloc; "{site}")?;
+    match refusal(rt, site, &path) {
+        Some(error) => writeln!(text, "port {path}: {error}"),
+        None => Ok(()),
+    }
+}
+
+/// Why the system refuses a port, if it does; `path` is how the port is printed.
+fn refusal<R: Files + Net>(rt: &R, site: Site, path: &str) -> Option<io::Error> {
+    match site {
+        Site::Udp(place) => UdpSocket::bind(rt, SocketAddr::V4(place)).err(),
+        Site::File(..) => refused_path(rt, path),
     }
 }

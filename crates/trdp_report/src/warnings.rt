@@ -1,11 +1,12 @@
 //! What the author of a configuration may not have meant.
 
 use crate::meaning::shown;
-use crate::ports::{collision_at, ports_of};
+use crate::ports::{NamedPort, Site, collision_at, ports_of};
 use std::alloc::{AllocError, Global};
 use std::fmt::Write;
 use std::net::Ipv4Addr;
 use trdp_base::Quotas;
+use trdp_controls::{ListenFault, socket_path};
 use trdp_dataset::NodeConfig;
 use trdp_head::PD_PAYLOAD_MAX;
 
@@ -17,12 +18,15 @@ pub(crate) fn push_warnings(
     alloc: Global,
     text: &mut String,
     config: &NodeConfig,
+    folder: Option<&str>,
 ) -> Result<(), AllocError> {
     push_address(text, "address", shown(config.address()))?;
-    if has_control_port(config) {
+    if folder.is_none() && has_control_port(config) {
         push_control_address(text, config)?;
     }
-    push_collisions(alloc, text, config)?;
+    let ports = ports_of(alloc, config, folder)?;
+    push_collisions(text, &ports)?;
+    push_long_paths(alloc, text, &ports)?;
     for slot in 0..config.slots() {
         push_empty_slot(text, config, slot)?;
     }
@@ -84,8 +88,8 @@ fn push_control_address(text: &mut String, config: &NodeConfig) -> Result<(), Al
     writeln!(
         text,
         "warning: the network reaches the control ports at {address}: a stranger's datagram, an \
-         empty one too, takes a slot's indications, and his lines are its calls, of which `reset` ends all its \
-         objects; control_address = \"127.0.0.1\" keeps him out"
+         empty one too, takes a slot's indications, and his lines are its calls, of which `reset` \
+         ends all its objects; control_address = \"127.0.0.1\" keeps him out"
     )
 }
 
@@ -93,16 +97,41 @@ fn push_control_address(text: &mut String, config: &NodeConfig) -> Result<(), Al
 ///
 /// # Errors
 /// Want of memory.
-fn push_collisions(
+fn push_collisions(text: &mut String, ports: &[NamedPort]) -> Result<(), AllocError> {
+    for index in 0..ports.len() {
+        if let Some(both) = collision_at(ports, index) {
+            match both.site() {
+                Site::Udp(place) => {
+                    let (address, port) = (place.ip(), place.port());
+                    writeln!(text, "warning: {both} port {port} at {address}")?;
+                }
+                site => writeln!(text, "warning: {both} {site}")?,
+            }
+        }
+    }
+    Ok(())
+}
+
+/// Adds a warning for each path that is longer than the system takes.
+///
+/// # Errors
+/// Want of memory.
+fn push_long_paths(
     alloc: Global,
     text: &mut String,
-    config: &NodeConfig,
+    ports: &[NamedPort],
 ) -> Result<(), AllocError> {
-    let ports = ports_of(alloc, config)?;
-    for index in 0..ports.len() {
-        if let Some(both) = collision_at(&ports, index) {
-            let (address, port) = (both.address(), both.port());
-            writeln!(text, "warning: {both} port {port} at {address}")?;
+    for port in ports.iter() {
+        if let Site::File(folder, number) = port.site {
+            match socket_path(alloc, folder, number) {
+                Err(ListenFault::Refused) => {
+                    writeln!(
+                        text,
+                        "warning: {folder}/{number} has more than 107 bytes: the system refuses it"
+                    )?;
+                }
+                _ => {}
+            }
         }
     }
     Ok(())

@@ -6,15 +6,20 @@ use std::alloc::{AllocError, Global};
 use trdp_dataset::{NodeConfig, telegram_doubts, unknown_keys};
 
 /// What a configuration (TOML) means, and what its author may not have meant, in lines. `taken` is
-/// what the bytes mean.
+/// what the bytes mean; the ports for lines are files of a folder, if there is one.
 ///
 /// # Errors
 /// Want of memory.
-pub fn report(alloc: Global, config: &[u8], taken: &NodeConfig) -> Result<String, AllocError> {
+pub fn report(
+    alloc: Global,
+    config: &[u8],
+    taken: &NodeConfig,
+    folder: Option<&str>,
+) -> Result<String, AllocError> {
     let mut text = String::new(alloc);
-    push_meaning(&mut text, taken)?;
+    push_meaning(&mut text, taken, folder)?;
     text.push_str(&unknown_keys(alloc, config)?)?;
     text.push_str(&telegram_doubts(alloc, config, taken)?)?;
-    push_warnings(alloc, &mut text, taken)?;
+    push_warnings(alloc, &mut text, taken, folder)?;
     Ok(text)
 }

@@ -3,6 +3,7 @@
 
 use clap::{Arg, ArgAction, ArgMatches, Command, Error, value_parser};
 use std::alloc::{AllocError, Global};
+use trdp_program::ServiceOptions;
 
 /// What stands below the help.
 const EXAMPLE: &str = "Example, with a configuration of this project:\n  \
@@ -16,6 +17,8 @@ pub enum Task<'a> {
     Check {
         /// The path of the configuration file.
         path: &'a str,
+        /// The folder of the control sockets; None where the control ports are UDP ports.
+        folder: Option<&'a str>,
     },
     /// To run the script at standard input.
     Run {
@@ -26,6 +29,8 @@ pub enum Task<'a> {
     Serve {
         /// The path of the configuration file.
         path: &'a str,
+        /// What is asked for beside it.
+        options: ServiceOptions<'a>,
         /// How many turns to take.
         turns: u32,
     },
@@ -33,15 +38,18 @@ pub enum Task<'a> {
     Daemon {
         /// The path of the configuration file.
         path: &'a str,
+        /// What is asked for beside it.
+        options: ServiceOptions<'a>,
         /// How many seconds lie between two lines of totals; 0 for no line.
         seconds: u32,
     },
 }
 
-/// Reads the words of the command line, of which the first names the program: good is `check` or
-/// `run` with a configuration file, `serve` with a configuration file and `--turns` with a number
-/// of 0 to 4,294,967,295, and `daemon` with a configuration file and maybe `--totals` with such a
-/// number.
+/// Reads the words of the command line, of which the first names the program: good is `check`,
+/// `run`, `serve` or `daemon` with a configuration file. Behind `serve` stands `--turns` with a
+/// number of 0 to 4,294,967,295, and behind `daemon` maybe `--totals` with such a number. Behind
+/// all but `run` maybe stands `--controls` with a folder, and behind `serve` and `daemon` maybe
+/// `--lease` with a number of 1 to 86,400.
 ///
 /// The error's text is for the user. Its kind tells want of memory from wrong words and from a
 /// wish for help.
@@ -55,6 +63,7 @@ fn task_of<'a>(matches: &ArgMatches<'a>) -> Task<'a> {
     if let Some(serve) = matches.subcommand_matches("serve") {
         return Task::Serve {
             path: path_of(Some(serve)),
+            options: options_of(serve),
             // The number is required, so that good words have it. No turn does no harm.
             turns: serve.get_one::<u32>("turns").unwrap_or(0),
         };
@@ -62,12 +71,14 @@ fn task_of<'a>(matches: &ArgMatches<'a>) -> Task<'a> {
     if let Some(daemon) = matches.subcommand_matches("daemon") {
         return Task::Daemon {
             path: path_of(Some(daemon)),
+            options: options_of(daemon),
             seconds: daemon.get_one::<u32>("totals").unwrap_or(0),
         };
     }
     if let Some(check) = matches.subcommand_matches("check") {
         return Task::Check {
             path: path_of(Some(check)),
+            folder: check.get_str("controls"),
         };
     }
     Task::Run {
@@ -84,11 +95,20 @@ fn path_of<'a>(words: Option<&ArgMatches<'a>>) -> &'a str {
     }
 }
 
+/// What the words of a service ask for beside its configuration.
+fn options_of<'a>(words: &ArgMatches<'a>) -> ServiceOptions<'a> {
+    ServiceOptions {
+        folder: words.get_str("controls"),
+        lease: words.get_one::<u32>("lease"),
+    }
+}
+
 /// The words that are understood.
 fn command<'a>(alloc: Global) -> Result<Command<'a>, AllocError> {
     let check = Command::new(alloc, "check")
         .about("Say what a configuration means, or what is wrong with it")
-        .arg(config(alloc))?;
+        .arg(config(alloc))?
+        .arg(controls(alloc))?;
     let run = Command::new(alloc, "run")
         .about("Play the script at standard input; print what the node gives")
         .arg(config(alloc))?;
@@ -102,7 +122,9 @@ fn command<'a>(alloc: Global) -> Result<Command<'a>, AllocError> {
     let serve = Command::new(alloc, "serve")
         .about("Serve the node for N turns without a rest; print its totals")
         .arg(config(alloc))?
-        .arg(turns)?;
+        .arg(turns)?
+        .arg(controls(alloc))?
+        .arg(lease(alloc))?;
     Command::new(alloc, "trdpd")
         .about("A communication node for the Train Real-time Data Protocol (TRDP, IEC 61375-2-3)")
         .after_help(EXAMPLE)
@@ -122,9 +144,30 @@ fn daemon<'a>(alloc: Global) -> Result<Command<'a>, AllocError> {
         .value_parser(value_parser!(u32))
         .help("How many seconds lie between two lines of totals [default: 0, no line]");
     Command::new(alloc, "daemon")
-        .about("Serve the node at its UDP ports until it is stopped")
+        .about("Serve the node at its ports until it is stopped")
         .arg(config(alloc))?
-        .arg(totals)
+        .arg(totals)?
+        .arg(controls(alloc))?
+        .arg(lease(alloc))
+}
+
+/// The words that name the folder of the control sockets.
+fn controls<'a>(alloc: Global) -> Arg<'a> {
+    Arg::new(alloc, "controls")
+        .long("controls")
+        .value_name("FOLDER")
+        .action(ArgAction::Set)
+        .help("The folder of the control sockets, in place of UDP control ports")
+}
+
+/// The words that give the lease.
+fn lease<'a>(alloc: Global) -> Arg<'a> {
+    Arg::new(alloc, "lease")
+        .long("lease")
+        .value_name("SECONDS")
+        .action(ArgAction::Set)
+        .value_parser(value_parser!(u32).range(1..=86_400))
+        .help("After how many silent seconds of its application a slot begins anew")
 }
 
 /// The word that names the configuration file.

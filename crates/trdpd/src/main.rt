@@ -20,6 +20,10 @@
 //! second what the network refused. Nothing that becomes of these two streams stops it: what one
 //! doesn't take at once is left out.
 //!
+//! With `--controls FOLDER` the control ports and the operator's are Unix stream sockets of the
+//! folder, files that have the port's number as their name, and no UDP ports; `check` takes these
+//! words too. With `--lease SECONDS` a slot begins anew whose application said nothing for so long.
+//!
 //! The exit status is
 //! - 0 at the script's end, after the last turn, and for a configuration without a fault;
 //! - 1 where the configuration isn't taken, with `config fault NAME` on standard error. Behind
@@ -33,7 +37,7 @@
 //!   the system refuses a port. A daemon knows no `write fault`.
 //!
 //! What it does in each case, with the exit status, is the contract of `trdp_program`'s
-//! `run_program`, `serve_program`, `check_program` and `report_daemon`: but for the words of a
+//! `run_program`, `serve_with`, `check_program` and `report_daemon`: but for the words of a
 //! check, and for what the system's sockets and clock do. The functions here and in `command` have
 //! no clauses: how the command line is read is `clap`'s matter. How the file is read, and those
 //! words, are tested over this program (`bench/refused_runs.py`, `bench/config_words.py`); status 2
@@ -49,8 +53,8 @@ use std::process::ExitCode;
 use std::{env, fs, io};
 use trdp_dataset::ConfigFault;
 use trdp_program::{
-    CONFIG_STATUS, ConfigFaultText, Ready, ScriptFaultText, check_program, report_daemon,
-    run_program, script_status, serve_program,
+    CONFIG_STATUS, ConfigFaultText, Ready, ScriptFaultText, ServiceOptions, check_program,
+    report_daemon, run_program, script_status, serve_with,
 };
 use trdp_script::ScriptFault;
 
@@ -70,10 +74,22 @@ fn main(rt: HostRuntime) -> ExitCode {
 fn status(rt: &HostRuntime) -> u8 {
     match given_words(rt) {
         Ok(words) => match read_words(rt.alloc(), &words) {
-            Ok(Task::Check { path }) => check_file(rt, path),
+            Ok(Task::Check { path, folder }) => check_file(rt, path, folder),
             Ok(Task::Run { path }) => run_file(rt, path),
-            Ok(Task::Serve { path, turns }) => serve_file(rt, path, turns),
-            Ok(Task::Daemon { path, seconds }) => attend_file(rt, path, seconds),
+            Ok(
+                Task::Serve {
+                    path,
+                    options,
+                    turns,
+                },
+            ) => serve_file(rt, path, options, turns),
+            Ok(
+                Task::Daemon {
+                    path,
+                    options,
+                    seconds,
+                },
+            ) => attend_file(rt, path, options, seconds),
             Err(error) => refuse(rt, &error, error.kind() == ErrorKind::OutOfMemory),
         },
         Err(error) => refuse(rt, NO_TEXT, error.kind() == io::ErrorKind::OutOfMemory),
@@ -81,9 +97,15 @@ fn status(rt: &HostRuntime) -> u8 {
 }
 
 /// Says what the configuration of a file means, and answers the exit status.
-fn check_file(rt: &HostRuntime, path: &str) -> u8 {
+fn check_file(rt: &HostRuntime, path: &str, folder: Option<&str>) -> u8 {
     match read_file_or_say_why(rt, path) {
-        Some(config) => check_program(rt.alloc(), &config, &mut rt.stdout(), &mut rt.stderr()),
+        Some(config) => check_program(
+            rt.alloc(),
+            &config,
+            folder,
+            &mut rt.stdout(),
+            &mut rt.stderr(),
+        ),
         None => CONFIG_STATUS,
     }
 }
@@ -104,20 +126,28 @@ fn run_file(rt: &HostRuntime, path: &str) -> u8 {
 }
 
 /// Serves the configuration of a file for so many turns, and answers the exit status.
-fn serve_file(rt: &HostRuntime, path: &str, turns: u32) -> u8 {
+fn serve_file(rt: &HostRuntime, path: &str, options: ServiceOptions, turns: u32) -> u8 {
     match read_file(rt, path) {
-        Some(config) => serve_program(rt, &config, turns, &mut rt.stdout(), &mut rt.stderr()),
+        Some(config) => serve_with(
+            rt,
+            &config,
+            options,
+            turns,
+            &mut rt.stdout(),
+            &mut rt.stderr(),
+        ),
         None => CONFIG_STATUS,
     }
 }
 
 /// Serves the configuration of a file until the program is stopped, and answers the exit status.
 /// Neither standard output nor standard error can make it wait.
-fn attend_file(rt: &HostRuntime, path: &str, seconds: u32) -> u8 {
+fn attend_file(rt: &HostRuntime, path: &str, options: ServiceOptions, seconds: u32) -> u8 {
     match read_file_or_say_why(rt, path) {
         Some(config) => report_daemon(
             rt,
             &config,
+            options,
             seconds,
             &mut Ready::output(rt.stdout()),
             &mut Ready::error(rt.stderr()),

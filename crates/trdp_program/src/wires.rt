@@ -1,0 +1,130 @@
+//! The wires of a service: UDP ports alone, or those of the network and a folder of control
+//! sockets.
+
+ghost use Rattle.std.specs.Prelude.{◌≢◌, IfErr};
+
+use crate::faults::ServeFault;
+use mio::Registry;
+use std::fs::Files;
+use std::io;
+use std::net::Net;
+use trdp_controls::{ControlWire, ListenFault, SystemConnections, SystemFolder};
+use trdp_daemon::{BindFault, RestingWire, SystemSockets, UdpWire, Wire};
+use trdp_dataset::NodeConfig;
+
+/// The UDP ports of a service.
+type Udp<'a, H> = UdpWire<SystemSockets<'a, H>>;
+
+/// The UDP ports of a service that rests.
+type Resting<'a, H> = RestingWire<SystemSockets<'a, H>>;
+
+/// Binds the ports of a configuration.
+///
+/// # Errors
+/// `Bind` where the system refuses a port, and `OutOfMemory`.
+pub(crate) fn bind<'a, H: Net + AllocGlobal>(
+    rt: &'a H,
+    config: &NodeConfig,
+) -> Result<Udp<'a, H>, ServeFault>
+    ensures { IfErr result (λ fault. fault ≢ ServeFault.Write) }
+{
+    match UdpWire::bind(rt, config) {
+        Ok(wire) => Ok(wire),
+        Err(fault) => Err(bind_fault(fault)),
+    }
+}
+
+/// Binds the ports of a configuration for a daemon that rests.
+///
+/// # Errors
+/// As [`bind`].
+pub(crate) fn bind_resting<'a, H: Net + AllocGlobal>(
+    rt: &'a H,
+    config: &NodeConfig,
+) -> Result<Resting<'a, H>, ServeFault>
+    ensures { IfErr result (λ fault. fault ≢ ServeFault.Write) }
+{
+    match RestingWire::bind(rt, rt.alloc(), config) {
+        Ok(wire) => Ok(wire),
+        Err(fault) => Err(bind_fault(fault)),
+    }
+}
+
+/// Binds the network's ports of a configuration, and listens at the paths of the others in a
+/// folder.
+///
+/// # Errors
+/// `Bind` where the system refuses a port or a path, and `OutOfMemory`.
+pub(crate) fn bind_controls<'a, H: Files + Net + AllocGlobal>(
+    rt: &'a H,
+    config: &NodeConfig,
+    folder: &str,
+) -> Result<ControlWire<Udp<'a, H>, SystemConnections>, ServeFault>
+    ensures { IfErr result (λ fault. fault ≢ ServeFault.Write) }
+{
+    match UdpWire::bind_network(rt, config) {
+        Ok(network) => listen(rt, config, folder, network, None),
+        Err(fault) => Err(bind_fault(fault)),
+    }
+}
+
+/// The same for a daemon that rests: a rest ends when something comes at a path, too.
+///
+/// # Errors
+/// As [`bind_controls`].
+pub(crate) fn bind_resting_controls<'a, H: Files + Net + AllocGlobal>(
+    rt: &'a H,
+    config: &NodeConfig,
+    folder: &str,
+) -> Result<ControlWire<Resting<'a, H>, SystemConnections>, ServeFault>
+    ensures { IfErr result (λ fault. fault ≢ ServeFault.Write) }
+{
+    match RestingWire::bind_network(rt, rt.alloc(), config) {
+        Ok(network) => match network.registry() {
+            Ok(registry) => listen(rt, config, folder, network, registry),
+            Err(error) => Err(registry_fault(error)),
+        },
+        Err(fault) => Err(bind_fault(fault)),
+    }
+}
+
+/// Listens at the paths of a configuration in a folder, over a network.
+///
+/// # Errors
+/// As [`bind_controls`].
+fn listen<H: Files + Net + AllocGlobal, N: Wire + Drop>(
+    rt: &H,
+    config: &NodeConfig,
+    folder: &str,
+    network: N,
+    registry: Option<Registry>,
+) -> Result<ControlWire<N, SystemConnections>, ServeFault>
+    ensures { IfErr result (λ fault. fault ≢ ServeFault.Write) }
+{
+    let mut folder = SystemFolder::new(rt, rt.alloc(), folder, registry);
+    match ControlWire::open(rt.alloc(), &mut folder, network, config) {
+        Ok(wire) => Ok(wire),
+        Err(ListenFault::Refused) => Err(ServeFault::Bind),
+        Err(ListenFault::OutOfMemory) => Err(ServeFault::OutOfMemory),
+    }
+}
+
+/// What it is to a service that its ports aren't bound.
+fn bind_fault(fault: BindFault) -> ServeFault
+    ensures { result ≢ ServeFault.Write }
+{
+    match fault {
+        BindFault::Bind => ServeFault::Bind,
+        BindFault::OutOfMemory => ServeFault::OutOfMemory,
+    }
+}
+
+/// What it is to a service that the system doesn't end its rests for its paths.
+fn registry_fault(error: io::Error) -> ServeFault
+    ensures { result ≢ ServeFault.Write }
+{
+    match error.kind() {
+        io::ErrorKind::OutOfMemory => ServeFault::OutOfMemory,
+        _ => ServeFault::Bind,
+    }
+}
