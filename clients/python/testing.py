@@ -1,6 +1,7 @@
 """What the tests of the clients stand on: daemons, and a network before one that loses and doubles."""
 from __future__ import annotations
 
+import ctypes
 import os
 import pathlib
 import random
@@ -11,6 +12,7 @@ import subprocess
 import tempfile
 import threading
 import time
+import traceback
 from collections.abc import Callable, Sequence
 
 HERE = pathlib.Path(__file__).resolve().parent
@@ -36,15 +38,26 @@ def wait_until(is_so: Callable[[], bool], seconds: float = 5) -> None:
 FILE = -1
 
 
+def open_ends() -> set[str]:
+    """The sockets of this machine at which something can come in, as the system names them: UDP ports, and the paths
+    at which somebody listens."""
+    with open("/proc/net/udp") as ports, open("/proc/net/unix") as paths:
+        udp, unix = ([line.split() for line in list(table)[1:]] for table in (ports, paths))
+    listening = [it[6] for it in unix if int(it[3], 16) & 0x10000]
+    return {f"socket:[{inode}]" for inode in [*(it[9] for it in udp), *listening]}
+
+
 class Daemon:
     """A daemon of a configuration, as a process.
 
     `output` and `errors` are the descriptors of its streams: by default a file of both, and None where it has none.
+    `umask` is that of its process, and -1 that of this one.
     """
 
     def __init__(self, config: str, folder: str | None = None, words: Sequence[str] = (), output: int | None = FILE,
-                 errors: int | None = FILE) -> None:
+                 errors: int | None = FILE, umask: int = -1) -> None:
         self.words = words
+        self.umask = umask
         self.streams = output, errors
         self.folder = tempfile.TemporaryDirectory() if folder is None else None
         self.path = pathlib.Path(self.folder.name if self.folder else str(folder)) / "node.toml"
@@ -74,20 +87,20 @@ class Daemon:
         with open(errors, "wb") as out:
             output, error = (out.fileno() if it in (FILE, None) else it for it in self.streams)
             line = ["sh", "-c", f'exec "$0" "$@" {closed}', PROGRAM, "daemon", str(self.path), *self.words]
-            self.process = subprocess.Popen(line[3 * (not closed):], stdout=output, stderr=error)
+            self.process = subprocess.Popen(line[3 * (not closed):], stdout=output, stderr=error, umask=self.umask)
         wait_until(lambda: self.process.poll() is not None or self._has_ports(), seconds=20)
         if self.process.poll() is not None:
             raise RuntimeError(f"the daemon ended: {errors.read_text()}")
 
     def _has_ports(self) -> bool:
-        """Whether the process has its sockets."""
-        sockets = 0
+        """Whether the process has its ports: each is bound, or listens at its path."""
+        held = set()
         for number in os.listdir(f"/proc/{self.process.pid}/fd"):
             try:
-                sockets += os.readlink(f"/proc/{self.process.pid}/fd/{number}").startswith("socket:")
+                held.add(os.readlink(f"/proc/{self.process.pid}/fd/{number}"))
             except FileNotFoundError:
                 pass
-        return sockets >= self.ports()
+        return len(held & open_ends()) >= self.ports()
 
     def ports(self) -> int:
         """How many ports the configuration names, of which a spare one is at most one."""
@@ -112,6 +125,103 @@ class Daemon:
         self.end()
         if self.folder:
             self.folder.cleanup()
+
+
+class Connection:
+    """A connection at a path, which says lines and hears texts."""
+
+    def __init__(self, path: str, seconds: float = 5) -> None:
+        """Connects as soon as somebody listens there."""
+        self.socket = socket.socket(socket.AF_UNIX, socket.SOCK_STREAM)
+        self.heard = b""
+        try:
+            wait_until(lambda: self._connects(path), seconds)
+        except BaseException:
+            self.close()
+            raise
+
+    def _connects(self, path: str) -> bool:
+        try:
+            self.socket.connect(path)
+        except (FileNotFoundError, ConnectionRefusedError):
+            return False
+        return True
+
+    def say(self, *lines: bytes) -> None:
+        """Says lines, all at once."""
+        self.socket.sendall(b"".join(it + b"\n" for it in lines))
+
+    def hear(self, seconds: float = 5) -> bytes:
+        """The next line, with its end; at the end of the connection what is left, as nothing."""
+        end = time.monotonic() + seconds
+        while b"\n" not in self.heard:
+            self.socket.settimeout(max(end - time.monotonic(), 0.001))
+            try:
+                more = self.socket.recv(1 << 18)
+            except ConnectionResetError:
+                # So the system ends one that said what nobody read.
+                more = b""
+            if not more:
+                left, self.heard = self.heard, b""
+                return left
+            self.heard += more
+        line, _, self.heard = self.heard.partition(b"\n")
+        return line + b"\n"
+
+    def hear_all(self, seconds: float = 5) -> list[bytes]:
+        """All lines up to the end of the connection."""
+        lines = []
+        while line := self.hear(seconds):
+            lines.append(line)
+        return lines
+
+    def close(self) -> None:
+        """Ends it."""
+        self.socket.close()
+
+
+def fork(act: Callable[[], object], keeps: Sequence[int] = ()) -> int:
+    """Starts a process that does something, and ends with status 0, or with 1 where that raises. It goes where this one
+    goes; of the files that are open here it has those, and the three streams. Answers its number."""
+    number = os.fork()
+    if number:
+        return number
+    try:
+        ctypes.CDLL(None).prctl(1, signal.SIGKILL)  # PR_SET_PDEATHSIG
+        for first, behind in zip([2, *sorted(keeps)], [*sorted(keeps), 1 << 20]):
+            os.closerange(first + 1, behind)
+        act()
+        os._exit(0)
+    except BaseException:
+        traceback.print_exc()
+    finally:
+        os._exit(1)
+
+
+class Holder:
+    """A process that takes a socket over, does with it what it is given, and then holds it until it is killed."""
+
+    def __init__(self, held: socket.socket, act: Callable[[socket.socket], object] = id) -> None:
+        def hold() -> None:
+            held.settimeout(None)
+            act(held)
+            while True:
+                signal.pause()
+
+        self.number = fork(hold, [held.fileno()])
+        held.close()
+
+    def stop(self) -> None:
+        """Stops it, so that it neither reads nor writes, and doesn't end."""
+        os.kill(self.number, signal.SIGSTOP)
+        os.waitid(os.P_PID, self.number, os.WSTOPPED)
+
+    def kill(self) -> None:
+        """Kills it: from then on its socket is closed."""
+        if self.number:
+            os.kill(self.number, signal.SIGKILL)
+            os.waitpid(self.number, 0)
+            self.number = 0
 
 
 def play(config: str, script: str) -> list[str]:

@@ -1,0 +1,365 @@
+"""Applications that end, hang or fall silent: their slot begins anew, and nobody is told their values any more."""
+from __future__ import annotations
+
+import itertools
+import os
+import select
+import signal
+import socket
+import time
+import unittest
+import uuid
+from collections.abc import Callable
+from dataclasses import dataclass
+
+from test_controls import AtPaths, arrived, publish
+from test_edge import is_in, pid
+from test_ports import DEVICE, HOME, KEPT, Socket, control, node
+from testing import CONTROL, MD, OPERATOR, PD, Connection, Holder, wait_until
+from trdp_telegram import Telegram
+
+QUOTAS = "publishers = 2\nlisteners = 1\ncallers = 1\nrepliers = 1"
+# Each application publishes what begins with OLD, and its successor NEW.
+OLD, NEW = b"aa", b"bb00"
+# Seconds: the supervision of the display; how long something may still be sent behind an end and a lease; for how long
+# it is seen then that nothing is, in which a request would be sent again, and a session closed; the lease.
+SUPERVISION, AFTER, SEEN, LEASE = 1.0, 1.0, 1.8, 1
+SESSION_US = 2_500_000
+# How often a display looks at a successor's value, over how many telegrams at the least.
+LOOKS, TELEGRAMS = 2000, 5
+# How many times as long as it should take something may take, and how often it is tried.
+MARGIN, TRIES = 10, 3
+
+
+class Datagrams:
+    """A client of a UDP control port, which says lines and hears texts as a connection does."""
+
+    def __init__(self, client: Socket) -> None:
+        self.socket = client
+
+    def say(self, *lines: bytes) -> None:
+        """Says lines."""
+        for line in lines:
+            self.socket.send(line)
+
+    def hear(self) -> bytes:
+        """The next text."""
+        return self.socket.recv(65536)
+
+
+Speaker = Connection | Datagrams
+
+
+class Display:
+    """An application that shows others' values, and keeps what it is told of them."""
+
+    def __init__(self, speaker: Speaker, com_ids: range) -> None:
+        self.speaker = speaker
+        # By the handle of a subscription its latest indication.
+        self.told: dict[int, bytes] = {}
+        for com_id in com_ids:
+            speaker.say(f"subscribe {com_id} 0 {HOME} {HOME} 0.0.0.0 0 0 {round(SUPERVISION * 1e6)} zero".encode())
+            assert b" handle " in speaker.hear()
+
+    def looks(self, handle: int, times: int = 1) -> list[tuple[bytes, int, bytes]]:
+        """So many times the state, the counter and the value that a subscription shows."""
+        self.speaker.say(*[b"get %d" % handle] * times)
+        shown: list[tuple[bytes, int, bytes]] = []
+        while len(shown) < times:
+            words = self.speaker.hear().split()
+            if words[1] == b"value":
+                shown.append((words[2], int(words[3]), words[4]))
+            else:
+                self.told[int(words[2])] = words[1]
+        return shown
+
+
+class Spoken(AtPaths):
+    """Applications at paths, or at UDP ports where they have a lease."""
+
+    is_at_paths = True
+
+    def speaks(self, slot: int) -> Speaker:
+        """Whoever speaks for a slot from now on."""
+        return self.connects(CONTROL + slot) if self.is_at_paths else Datagrams(self.client(CONTROL + slot))
+
+    def calls(self, speaker: Speaker, slot: int, *calls: tuple[str | bytes, str]) -> None:
+        """The calls have these answers."""
+        for line, answer in calls:
+            speaker.say(line if isinstance(line, bytes) else line.encode())
+            self.assertEqual(speaker.hear(), f"{slot} {answer}\n".encode(), line)
+
+    def holds(self, speaker: Speaker, act: Callable[[socket.socket], object] = id) -> Holder:
+        """A process that has the speaker's socket from now on, and does that with it."""
+        holder = Holder(speaker.socket, act)
+        self.addCleanup(holder.kill)
+        return holder
+
+
+def put(number: int) -> bytes:
+    """A call by which a publisher has another value."""
+    return b"put 1 %s%02x\n" % (OLD, number % 256)
+
+
+def puts_once(held: socket.socket) -> None:
+    held.send(put(1))
+
+
+def puts_500_times(held: socket.socket) -> None:
+    for number in range(500):
+        held.send(put(number))
+
+
+def puts_until_the_end(held: socket.socket) -> None:
+    number = 0
+    while True:
+        held.send(put(number))
+        number += 1
+        time.sleep(0.01)
+
+
+def says_a_piece(held: socket.socket) -> None:
+    held.send(publish((HOME, PD)))
+
+
+@dataclass
+class End:
+    """How an application ends: what it does before, what the process does that has its socket, and whether that is
+    stopped before it is killed; how many handles the slot has given out then."""
+
+    name: str
+    before: Callable[[Ends, Speaker, int], None]
+    does: Callable[[socket.socket], object] = id
+    is_stopped: bool = False
+    handles: int = 2
+    is_at_ports: bool = True
+
+
+class Ends(Spoken):
+    """A process that is an application is killed, wherever it is."""
+
+    def nothing(self, speaker: Speaker, slot: int) -> None:
+        """Says nothing."""
+
+    def publishes(self, speaker: Speaker, slot: int) -> None:
+        """Has a publisher to the display, and one to a device."""
+        self.calls(speaker, slot, (publish((HOME, PD), slot), "handle 1"),
+                   (publish(self.telegrams.getsockname(), slot), "handle 2"),
+                   (b"put 1 %s00" % OLD, "done"), (b"put 2 %s00" % OLD, "done"))
+
+    def requests(self, speaker: Speaker, slot: int) -> None:
+        """Has sent a request too, which is sent again if it isn't answered."""
+        self.publishes(speaker, slot)
+        place = "{}:{}".format(*self.messages.getsockname())
+        line = f"request 300 {uuid.UUID(int=slot)} 1 {SESSION_US} - - 0 0 {place} 0d 2"
+        self.calls(speaker, slot, (line, "handle 3"))
+
+    def is_asked(self, speaker: Speaker, slot: int) -> None:
+        """Has heard a request too."""
+        self.publishes(speaker, slot)
+        self.calls(speaker, slot, (f"listen {slot} 0.0.0.0 0.0.0.0 0.0.0.0 - 0 0", "handle 3"))
+        asked = Telegram("Mr", slot, session=uuid.UUID(int=slot), time_us=SESSION_US)
+        self.messages.sendto(asked.write(), (HOME, MD))
+        self.assertIn(b" asked 3 4 ", speaker.hear())
+
+    def queries(self, speaker: Speaker, slot: int) -> None:
+        """Has answered the request by a query."""
+        self.is_asked(speaker, slot)
+        self.calls(speaker, slot, (f"query 4 301 0 {SESSION_US} 0c", "done"))
+
+    def test_at_a_path(self) -> None:
+        self.ends(ENDS, 0, "--controls", self.folder)
+
+    def test_at_a_port_under_a_lease(self) -> None:
+        self.is_at_paths = False
+        self.ends([it for it in ENDS if it.is_at_ports], LEASE, "--lease", str(LEASE))
+
+    def ends(self, ends: list[End], lease: float, *words: str) -> None:
+        """Has an application in a slot of its own for each of these ends, and a display in one more."""
+        self.telegrams, self.messages = self.socket(DEVICE), self.socket(DEVICE)
+        slots = range(len(ends))
+        self.daemon(node(*(control(it, QUOTAS) for it in slots), control(len(ends), "subscriptions = 16")), *words)
+        display = Display(self.speaks(len(ends)), slots)
+        speakers = [self.speaks(it) for it in slots]
+        for slot, end in enumerate(ends):
+            end.before(self, speakers[slot], slot)
+        shown = [it + 1 for it in slots if ends[it].handles]
+        wait_until(lambda: self.are_shown(display, [(it, speakers[it - 1]) for it in shown]))
+        self.kill(ends, [self.holds(speakers[it], ends[it].does) for it in slots])
+        self.are_over(display, time.monotonic() + lease + AFTER)
+        for handle in shown:
+            with self.subTest(ends[handle - 1].name):
+                self.assertEqual(display.told[handle], b"silent")
+                state, _, value = display.looks(handle)[0]
+                self.assertEqual((state, value), (b"Silent", b"0000"))
+        self.are_followed(display, ends)
+
+    def are_shown(self, display: Display, shown: list[tuple[int, Speaker]]) -> bool:
+        """Whether each of these subscriptions shows a value. The applications aren't silent meanwhile."""
+        for _, speaker in shown:
+            speaker.say(b"#")
+        return all(display.looks(handle)[0][0] == b"Valid" for handle, _ in shown)
+
+    def kill(self, ends: list[End], holders: list[Holder]) -> None:
+        """Kills these processes, once they do what they do."""
+        for end, holder in zip(ends, holders):
+            if end.is_stopped:
+                holder.stop()
+        operator = self.speaks(OPERATOR - CONTROL)
+        # Each question is taken too.
+        before, asked = taken(operator), itertools.count(1)
+        wait_until(lambda: taken(operator) - next(asked) > before + 30)
+        for holder in holders:
+            holder.kill()
+
+    def are_over(self, display: Display, end: float) -> None:
+        """From that time on nothing is sent any more."""
+        sinks = [self.telegrams, self.messages]
+        while (now := time.monotonic()) < end + SEEN:
+            # The display isn't silent, so that no lease ends it.
+            display.looks(1)
+            came = [data for it in select.select(sinks, [], [], 0.05)[0] for data in arrived(it)]
+            if now > end:
+                self.assertEqual(came, [])
+
+    def are_followed(self, display: Display, ends: list[End]) -> None:
+        """The successors have all that they may have, and are told nothing of before. From the first look on that shows
+        one's value none shows another."""
+        speakers = [self.speaks(it) for it in range(len(ends))]
+        for slot, end in enumerate(ends):
+            handle = end.handles + 1
+            with self.subTest(end.name):
+                self.calls(speakers[slot], slot, (publish((HOME, PD), slot), f"handle {handle}"),
+                           (b"put %d %s" % (handle, NEW), "done"),
+                           (publish(self.telegrams.getsockname(), slot), f"handle {handle + 1}"),
+                           *((f"abort {it}", "refused NoHandle") for it in range(1, handle)))
+        seen: list[list[tuple[bytes, int, bytes]]] = [[] for _ in ends]
+        wait_until(lambda: self.look_again(display, speakers, seen), seconds=20)
+        for slot, end in enumerate(ends):
+            with self.subTest(end.name):
+                self.assertEqual({value for _, _, value in seen[slot]}, {NEW})
+                self.calls(speakers[slot], slot, ("get 99", "refused NoHandle"))
+
+    def look_again(self, display: Display, speakers: list[Speaker], seen: list[list[tuple[bytes, int, bytes]]]) -> bool:
+        """Looks at each value, and keeps what is seen from a successor's value on; whether that is enough."""
+        for slot, so_far in enumerate(seen):
+            speakers[slot].say(b"#")
+            looks = display.looks(slot + 1, 100)
+            so_far += looks if so_far else itertools.dropwhile(lambda it: it[2] != NEW, looks)
+        return all(len(it) >= LOOKS and it[-1][1] >= it[0][1] + TELEGRAMS for it in seen)
+
+
+def taken(operator: Speaker) -> int:
+    """How many lines and datagrams the daemon has taken so far."""
+    operator.say(b"totals")
+    return int(operator.hear().split()[1])
+
+
+ENDS = [
+    End("before its first line", Ends.nothing, handles=0, is_at_ports=False),
+    End("within a line", Ends.publishes, says_a_piece, is_at_ports=False),
+    End("between two lines", Ends.publishes),
+    End("with a call unanswered", Ends.publishes, puts_once),
+    End("in a burst of 500 calls", Ends.publishes, puts_500_times),
+    End("publishing", Ends.publishes, puts_until_the_end),
+    End("with a request unanswered", Ends.requests, handles=3),
+    End("asked and not answered", Ends.is_asked, handles=4),
+    End("with a query not confirmed", Ends.queries, handles=4),
+    End("stopped", Ends.publishes, is_stopped=True),
+]
+
+
+class Leases(Spoken):
+    """A slot begins anew behind the silence of its application, and not before: at a path, and at a UDP port."""
+
+    # Seconds: of a publisher; between two remarks of an application, and for how long it makes them; for how long a
+    # daemon is stopped.
+    CYCLE, REMARK, REMARKED, STOPPED = 0.01, 0.3, 3.0, 3.0
+    SLOTS = 2
+
+    def setUp(self) -> None:
+        super().setUp()
+        text = node(*(control(it, "publishers = 1") for it in range(self.SLOTS)))
+        lease = "--lease", str(LEASE)
+        self.daemons = [self.daemon(text, *lease, "--controls", self.folder),
+                        self.daemon(text.replace(HOME, KEPT), *lease)]
+
+    def both(self, port: int = CONTROL) -> list[Speaker]:
+        """Whoever speaks at that port from now on, of each daemon."""
+        return [self.connects(port), Datagrams(self.client(port, KEPT))]
+
+    def publishes(self, speaker: Speaker, slot: int, number: int, place: tuple[str, int], cycle: float = CYCLE) -> None:
+        """Has a publisher of that handle."""
+        self.calls(speaker, slot, (publish(place, cycle=cycle), f"handle {number}"),
+                   (b"put %d %s" % (number, NEW), "done"))
+
+    def has_none(self, operator: Speaker, slot: int) -> bool:
+        """Whether that slot has no publisher."""
+        operator.say(b"slots")
+        text = b""
+        while text.count(b"\n") < self.SLOTS:
+            text += operator.hear()
+        return text.splitlines()[slot].split()[1] == b"0/1"
+
+    def test_one_that_hangs_is_over_behind_the_lease(self) -> None:
+        for application, operator in zip(self.both(), self.both(OPERATOR)):
+            sink = self.socket(DEVICE)
+            # The turn that takes the last line begins behind the one that takes the line before, and so behind this.
+            begin = latest = time.monotonic()
+            self.publishes(application, 0, 1, sink.getsockname())
+            application.say(b"#")
+            holder = Holder(application.socket.dup())
+            self.addCleanup(holder.kill)
+            holder.stop()
+            while not self.has_none(operator, 0):
+                latest = time.monotonic() if arrived(sink) else latest
+                self.assertLess(time.monotonic(), begin + MARGIN * LEASE)
+            self.assertGreaterEqual(latest - begin, LEASE - self.CYCLE)
+            arrived(sink)
+            # It learns of it, and goes on.
+            self.calls(application, 0, (b"put 1 00", "refused NoHandle"))
+            self.publishes(application, 0, 2, sink.getsockname())
+            self.assertTrue(select.select([sink], [], [], MARGIN * self.CYCLE)[0])
+
+    def test_one_that_speaks_is_not(self) -> None:
+        applications = self.both()
+        self.assertTrue(any(self.are_left(applications, number) for number in range(1, TRIES + 1)))
+
+    def are_left(self, applications: list[Speaker], number: int) -> bool:
+        """Whether each application has its publisher of that handle still when it has made remarks for long enough."""
+        for application in applications:
+            application.say(b"reset")
+            self.assertEqual(application.hear(), b"0 done\n")
+            self.publishes(application, 0, number, (DEVICE, PD))
+        end = time.monotonic() + self.REMARKED
+        while time.monotonic() < end:
+            for line in (b"#", b""):
+                time.sleep(self.REMARK)
+                for application in applications:
+                    application.say(line)
+        for application in applications:
+            application.say(b"put %d 00" % number)
+        return [it.hear() for it in applications] == [b"0 done\n"] * 2
+
+    def test_a_daemon_that_was_stopped_takes_before_it_judges(self) -> None:
+        # Nothing is due, so that each daemon rests.
+        silent, speaking = self.both(CONTROL + 1), self.both()
+        for slot, applications in enumerate((speaking, silent)):
+            for application in applications:
+                self.publishes(application, slot, 1, (DEVICE, PD), 1000)
+        for daemon in self.daemons:
+            wait_until(lambda: is_in(daemon, "S"))
+            os.kill(pid(daemon), signal.SIGSTOP)
+            wait_until(lambda: is_in(daemon, "T"))
+        for application in speaking:
+            application.say(b"#")
+        time.sleep(self.STOPPED)
+        for daemon in self.daemons:
+            os.kill(pid(daemon), signal.SIGCONT)
+        for operator in self.both(OPERATOR):
+            wait_until(lambda: self.has_none(operator, 1))
+            self.assertFalse(self.has_none(operator, 0))
+
+
+if __name__ == "__main__":
+    unittest.main()
