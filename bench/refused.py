@@ -6,6 +6,8 @@ import subprocess
 import tempfile
 
 BENCH = os.path.dirname(os.path.abspath(__file__))
+# What refused_calls.c is told beside the call that is refused.
+SETTINGS = ("read_piece", "write_piece", "write_every", "refused_error")
 
 
 class Library:
@@ -19,15 +21,18 @@ class Library:
 
         The settings are READ_PIECE, WRITE_PIECE and WRITE_EVERY of refused_calls.c, in small letters, and those of subprocess.run.
         """
-        pieces = ("read_piece", "write_piece", "write_every")
-        environment = {name: text for name, text in os.environ.items() if name != "REFUSED" and name.lower() not in pieces}
+        pieces = {name: settings.pop(name) for name in SETTINGS if name in settings}
+        environment = self.environment(refused, **pieces)
+        return subprocess.run(words, env=environment, capture_output=True, text=True, errors="replace", timeout=60, **settings)
+
+    def environment(self, refused=None, **pieces):
+        """The environment of a program of which that call is refused, with these settings of refused_calls.c in small letters."""
+        environment = {name: text for name, text in os.environ.items() if name != "REFUSED" and name.lower() not in SETTINGS}
         environment["LD_PRELOAD"] = self.path
         if refused is not None:
             environment["REFUSED"] = f"{refused[0]} {refused[1]}"
-        for name in pieces:
-            if name in settings:
-                environment[name.upper()] = str(settings.pop(name))
-        return subprocess.run(words, env=environment, capture_output=True, text=True, errors="replace", timeout=60, **settings)
+        environment.update({name.upper(): str(setting) for name, setting in pieces.items()})
+        return environment
 
     def count(self, words, kind, **settings):
         """How many calls of that kind there are where none is refused, and what the program said then."""
