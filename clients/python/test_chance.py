@@ -50,7 +50,7 @@ OPTIONS = {
     "trdp_dump.py": ["--pd-port", "--md-port", "--toml", "--com-id", "--type", "--pcapng", "--time", "--beside",
     "--count",
                      "--for-us", "--p", "--jump"],
-    "client.py": ["--jump"],
+    "client.py": ["--stay", "--stay", "--jump"],
 }
 FITTING = {
     "--type": ["Pd", "Mn", "Mr"], "--value": ["[4, [0, 0, 0, 0], 0]", "[1, [300], 0]"], "--data": ["0d"],
@@ -62,7 +62,7 @@ FITTING = {
 GROUPS = {
     "trdp_send.py": [["--toml", "node.toml", "--value", "[4, [0, 0, 0, 0], 0]"], ["--cycle-us", "1000", "--count", "3"],
                      ["--type", "Mr", "--session", "new"]],
-    "trdp_dump.py": [["--toml", "none.toml"]], "client.py": [["put 1 -", "#"]],
+    "trdp_dump.py": [["--toml", "none.toml"]], "client.py": [["put 1 -", "#"], ["./gone", "0", "#"]],
 }
 GOOD = {
     "trdp_send.py": [PLACE, "--com-id", "2101"], "trdp_dump.py": [DUMP, "--for-us", "1"],
@@ -146,7 +146,8 @@ class Random(Case):
         print(f"command lines by chance: seed {SEED}", file=sys.stderr)
         stubs: list[contextlib.AbstractContextManager[Any]] = [
             mock.patch.object(time, "sleep", interrupt), mock.patch.object(socket, "socket", Quiet),
-            mock.patch.object(trdp_dump, "Beside", trdp_dump.Ports), mock.patch.object(client, "Slot", Mute),
+            mock.patch.object(trdp_dump, "Beside", trdp_dump.Ports), mock.patch.object(client, "Datagrams", Mute),
+            mock.patch.object(client, "Connection", Mute), mock.patch.object(sys, "stdin", None),
             mock.patch.object(trdp_dump.Ports, "take", lambda *_: interrupt()),
             # argparse looks for a file at each text.
             mock.patch.object(argparse, "_", str),
@@ -185,22 +186,25 @@ class Random(Case):
         # What no command line has is left out.
         typed = [it.encode("utf-8", "replace").replace(b"\0", b"") for it in words]
         line: list[str | bytes] = ["timeout", "-s", "KILL", "2", sys.executable, "-W", "error", str(path), *typed]
-        ran = subprocess.run(line, capture_output=True, timeout=60)
+        ran = subprocess.run(line, stdin=subprocess.DEVNULL, capture_output=True, timeout=60)
         self.assertNotIn(b"Traceback", ran.stderr, (SEED, name, words))
         self.assertIn(ran.returncode, (0, 1, 2, 128 + 9, -9), (SEED, name, words))
 
 
 class Mute:
-    """A slot at which nobody says anything, until its user ends the program."""
+    """A control port at which nobody says anything, until its user ends the program."""
+
+    line_most = 65507
+    is_over = is_behind = False
 
     def __init__(self, *_: object) -> None:
         pass
 
-    def __enter__(self) -> Mute:
-        return self
+    def close(self) -> None:
+        """Ends nothing."""
 
-    def __exit__(self, *_: object) -> None:
-        pass
+    def end_lines(self) -> None:
+        """Ends nothing."""
 
     def send_line(self, line: str) -> None:
         """Sends nothing."""

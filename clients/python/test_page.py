@@ -47,6 +47,16 @@ def commands(block: str) -> list[tuple[str, list[str]]]:
     return typed
 
 
+def sockets_of(pid: int) -> int:
+    """How many sockets a process has."""
+    count = 0
+    for file in pathlib.Path(f"/proc/{pid}/fd").iterdir():
+        # One may be closed meanwhile.
+        with contextlib.suppress(FileNotFoundError):
+            count += os.readlink(file).startswith("socket:")
+    return count
+
+
 class Page(unittest.TestCase):
     """All that the page says to type, in its order."""
 
@@ -68,7 +78,8 @@ class Page(unittest.TestCase):
 
     def end_all(self) -> None:
         """Ends what still runs."""
-        for process in self.running:
+        while self.running:
+            process = self.running.pop()
             with contextlib.suppress(ProcessLookupError):
                 os.killpg(process.pid, signal.SIGKILL)
             process.communicate()
@@ -107,9 +118,7 @@ class Page(unittest.TestCase):
             assert process.stdout is not None
             while (said := process.stdout.readline()) and not said.startswith("dataset "):
                 pass
-            files = pathlib.Path(f"/proc/{process.pid}/fd")
-            wait_until(lambda: process.poll() is not None or sum(
-                os.readlink(it).startswith("socket:") for it in files.iterdir()) >= 3, 30)
+            wait_until(lambda: process.poll() is not None or sockets_of(process.pid) >= 3, 30)
             self.assertIsNone(process.poll(), part)
 
     def test_all(self) -> None:
@@ -125,6 +134,7 @@ class Page(unittest.TestCase):
         doors.write_text(doors.read_text() + self.block("[[telegram]]"))
         self.tools()
         self.doors()
+        self.controls()
 
     def programs(self) -> None:
         """The two programs in Python, at their first run; and what they come to at their second."""
@@ -178,6 +188,21 @@ class Page(unittest.TestCase):
             while "Valid: 4 doors, 7 bytes\n" not in said[-1:]:
                 said.append(process.stdout.readline())
                 self.assertNotEqual(said[-1], "", said)
+
+    def controls(self) -> None:
+        """Two programs at a control socket, of which one is there first."""
+        self.end_all()
+        made, daemon = commands(self.block("$ mkdir -m 700 sockets"))
+        self.prints(made)
+        self.start_daemons(daemon[0])
+        (self.top / "lines.py").write_text(self.block("import socket\n"))
+        (self.top / "lines.c").write_text(self.block("#include <stdio.h>\n#include <string.h>"))
+        first, compiling, second = commands(self.block("$ python3 lines.py &"))
+        process = self.begin(first[0])
+        assert process.stdout is not None
+        self.assertEqual([process.stdout.readline() for _ in first[1]], [f"{it}\n" for it in first[1]])
+        self.prints(compiling)
+        self.prints(second)
 
 
 if __name__ == "__main__":

@@ -98,7 +98,13 @@ CLIENT_TRAPS: list[tuple[list[str], str]] = [
     ([SOURCE, "99999", "1", "get 1"], "'99999' is no whole number of 1 to 65535"), ([], "required"),
     ([SOURCE, "0", "1", "get 1"], "'0' is no whole"), ([SOURCE, "x", "1", "get 1"], "'x' is no whole"),
     *[([SOURCE, "18000", it, "get 1"], "is no time") for it in ("x", "nan", "inf", "-1", "1e300", "")],
-    ([SOURCE, "18000", "1", "x" * 65508], "more than 65507 bytes"),
+    ([SOURCE, "18000", "1", "x" * 65508], "more than 65507 bytes"), (["--st", SOURCE, "9", "1", "#"], "unrecognized"),
+    (["./18000"], "required: seconds, line"), (["./18000", "x", "get 1"], "'x' is no time"),
+    (["./18000", "1", "x" * 140_000], "more than 139999 bytes"), (["./" + "x" * 106, "1", "#"], "more than 107 bytes"),
+    (["./\0", "1", "#"], "is no path"), (["--stay"], "required: address, port"), (["--stay", SOURCE], "required: port"),
+    (["--stay", "localhost", "18000"], "'localhost' is no address"), (["--stay=1", "./18000"], "ignored explicit"),
+    (["--stay", SOURCE, "18000", "x" * 65508], "more than 65507 bytes"),
+    (["--stay", "--", "-", "./18000"], "'-' is no path"), ([SOURCE, "9", "--", "--", "get 1", "#"], "is no time"),
 ]
 # The words that are meant, but can't be done.
 UNDONE: list[tuple[types.ModuleType, list[str], str]] = [
@@ -123,6 +129,10 @@ UNDONE: list[tuple[types.ModuleType, list[str], str]] = [
     (trdp_dump, [DUMP, "--for-us", "1", "--pcapng", "no/file"], "no/file: No such file"),
     (trdp_dump, [DUMP, "--for-us", "1", "--pcapng", "/dev/full"], "No space left on device"),
     (client, [SOURCE, "9", "1", "get 1"], f"nobody is at {SOURCE}:9"),
+    (client, ["--stay", SOURCE, "9", "get 1"], f"nobody is at {SOURCE}:9"),
+    (client, ["./gone", "1", "get 1"], "./gone: No such file or directory"),
+    (client, ["./node.toml", "1", "get 1"], "./node.toml: Connection refused"),
+    (client, ["--stay", "./"], "./: Connection refused"),
     (trdp_lua, ["/dev/zero"], "/dev/zero: the file has more than"),
     (trdp_lua, ["gone.toml"], "gone.toml: No such file"), (trdp_lua, ["deep.toml"], "deep.toml: "),
 ]
