@@ -19,7 +19,7 @@ from testing import CONTROL, MD, OPERATOR, PD, PROGRAM, Connection, Daemon, fork
 # The most bytes of a path.
 PATH = 107
 NOBODY = 65534
-STARTS = 20
+STARTS = 50
 MODE = 0o660
 IN_USE = "Address already in use (os error 98)"
 NOTHING = "taken 0 offered 0 lost 0 unread 0 memory 0\n"
