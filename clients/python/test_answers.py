@@ -67,8 +67,8 @@ class Case(unittest.TestCase):
         self.addCleanup(self.port.close)
 
     def client(self, **words: Any) -> Slot:
-        """A client at the port."""
-        words = {"answer_us": 50_000, **words}
+        """A client at the port, which says no reset unless it is to."""
+        words = {"answer_us": 50_000, "reset": False, **words}
         slot = Slot(ADDRESS, self.port.number, **words)
         self.addCleanup(slot.close)
         return slot
@@ -310,7 +310,7 @@ class Traps(Case):
 
     def test_nobody_is_there(self) -> None:
         number = self.free_port()
-        with Slot(ADDRESS, number, tries=2, answer_us=10_000) as slot:
+        with Slot.look(ADDRESS, number, tries=2, answer_us=10_000) as slot:
             calls: list[tuple[Callable[[], object], str]] = [
                 (lambda: slot.get(1), ": get 1"), (slot.sync, ""), (slot.check, ""),
                 (lambda: slot.listen(1), ": listen 1 0.0.0.0 0.0.0.0 0.0.0.0 - 0 0")]
@@ -325,7 +325,7 @@ class Traps(Case):
         # Somebody comes, and says nothing.
         silent = testing.Port(ADDRESS, lambda _: [])
         self.addCleanup(silent.close)
-        with Slot(ADDRESS, silent.number, tries=1, answer_us=10_000) as slot:
+        with Slot.look(ADDRESS, silent.number, tries=1, answer_us=10_000) as slot:
             with self.assertRaises(NoAnswer) as silence:
                 slot.get(1)
             self.assertNotIsInstance(silence.exception, Nobody)
@@ -399,7 +399,7 @@ class Answers(Case):
         with socket.socket(socket.AF_INET, socket.SOCK_DGRAM) as free:
             free.bind((ADDRESS, 0))
             number = free.getsockname()[1]
-        with Slot(ADDRESS, number, tries=2, answer_us=20_000) as slot:
+        with Slot.look(ADDRESS, number, tries=2, answer_us=20_000) as slot:
             for call in (lambda: slot.get(1), slot.sync, slot.check):
                 with self.assertRaises(TimeoutError):
                     call()
@@ -623,10 +623,11 @@ class Restarts(Case):
         slot, handles = self.declare(restore=True)
         self.node.start_anew()
         new = slot.subscribe(105)
-        self.assertEqual(new.number, 1)
+        # It was the first one there, and made again behind the reset and the others.
+        self.assertEqual(new.number, max(self.node.made))
         self.assertEqual(len(self.node.made), 5)
         self.assertEqual(slot.get(handles["subscription"]).counter, handles["subscription"].number)
-        self.assertNotEqual(handles["subscription"].number, 1)
+        self.assertEqual(slot.get(new).counter, new.number)
 
     def test_an_end_notices_it(self) -> None:
         slot, handles = self.declare(restore=True)
@@ -694,7 +695,7 @@ class Restarts(Case):
         self.say = self.node.answer
         slot.pull(handles["requester"])
         slot.unlisten(handles["listener"])
-        self.assertEqual(slot.get(handles["subscription"]).counter, 2)
+        self.assertEqual(slot.get(handles["subscription"]).counter, handles["subscription"].number)
 
 
 if __name__ == "__main__":

@@ -197,7 +197,7 @@ class Mute:
     line_most = 65507
     is_over = is_behind = False
 
-    def __init__(self, *_: object) -> None:
+    def __init__(self, *_: object, **__: object) -> None:
         pass
 
     def close(self) -> None:

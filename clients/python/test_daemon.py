@@ -519,7 +519,7 @@ class Losses(Case):
     def through(self, seed: int, both_ways: bool) -> None:
         relay = testing.Relay(FRONT, (DOOR, CONTROL), seed, lost=5, doubled=4, both_ways=both_ways)
         self.addCleanup(relay.close)
-        slot = Slot(FRONT, relay.number, datasets=self.door.datasets, answer_us=20_000, tries=40)
+        slot = Slot.look(FRONT, relay.number, datasets=self.door.datasets, answer_us=20_000, tries=40)
         self.addCleanup(slot.close)
         # Made without losses.
         publisher = self.door.publish(100, f"{SINK}:{PD}", dataset=1001).number

@@ -1,4 +1,4 @@
-"""A client of trdpd: the calls of one slot's application, over the control port of a daemon.
+"""A client of trdpd: the calls of one slot's application, at the control port of a daemon: a UDP port or a control socket.
 
     from trdp_slot import Slot
 
@@ -6,7 +6,7 @@
         status = doors.publish(2101, "10.0.0.2:17224", dataset=5002, cycle_us=100_000)
         doors.put(status, [4, [0, 0, 0, 0], 0])
 
-This one file needs the standard library of Python 3.11 alone, and can be copied. docs/CLIENTS.md tells how it is
+This one file needs Linux and the standard library of Python 3.11 alone, and can be copied. docs/CLIENTS.md tells how it is
 used, and docs/SCRIPT.md what each call does and when it is refused.
 
 All times are whole numbers of microseconds, and named so: `cycle_us`. Addresses are texts as "10.0.0.2", places
@@ -14,25 +14,36 @@ texts as "10.0.0.2:17224", URIs texts of at most 32 bytes, and sessions are `uui
 """
 from __future__ import annotations
 
+import asyncio
 import collections
+import concurrent.futures
+import contextlib
+import functools
 import ipaddress
+import math
 import os
 import re
-import selectors
+import select
 import socket
 import struct
+import sys
+import threading
 import time
 import tomllib
 import uuid
-from collections.abc import Callable, Iterator, Mapping, Sequence
-from typing import Any, NamedTuple, TypeVar, get_args
+from collections.abc import Callable, Coroutine, Iterator, Mapping, Sequence
+from typing import Any, Concatenate, NamedTuple, NoReturn, ParamSpec, Self, TypeVar, cast, get_args
 
 PD_MOST = 1432
 """The most bytes that a telegram of process data carries."""
 MD_MOST = 65388
 """The most bytes that a message carries, and the most of a dataset's zero value."""
 DATAGRAM_MOST = 65507
-"""The most bytes of one datagram, and so of one line to a control port."""
+"""The most bytes of one datagram, and so of one line to a UDP control port."""
+LINE_MOST = 140_000
+"""The most bytes of a line over a control socket, with its end."""
+PATH_MOST = 107
+"""The most bytes of a control socket's path."""
 ANY = "0.0.0.0"
 """In a filter: from any address, to any address."""
 _U32_MOST = 0xFFFFFFFF
@@ -56,18 +67,32 @@ class Refused(SlotError):
     """
 
     def __init__(self, name: str, line: str, tries: int = 1) -> None:
-        super().__init__(f"{name}: {line if len(line) <= 80 else line[:77] + '...'}")
+        super().__init__(f"{name}: {_cut(line)}")
         self.name = name
         self.line = line
         self.tries = tries
 
 
 class NoAnswer(SlotError, TimeoutError):
-    """No answer to a call came in its time, at any try. Whether it took effect isn't known."""
+    """No answer to a call came in its time, at any try, or before its connection ended. Whether it took effect isn't
+    known."""
 
 
 class Nobody(NoAnswer, ConnectionRefusedError):
     """Nobody is at the control port, as the system said of the latest try: that one didn't take effect."""
+
+
+class Busy(SlotError):
+    """Another application lives at the path of the control socket, or four operators do. The call didn't take effect."""
+
+    def __init__(self, place: str) -> None:
+        super().__init__(f"{place} is busy: another one lives there")
+
+
+class _Ended(NoAnswer):
+    """The connection has ended. `is_taken` is whether the node may have taken the call."""
+
+    is_taken = False
 
 
 class OtherSlot(SlotError):
@@ -618,9 +643,16 @@ class Closed(NamedTuple):
     reason: str
 
 
+class Lost(NamedTuple):
+    """Not of an object: so many texts or datagrams of the node were lost before what is told next, as this program read
+    too slowly. Some of them may have been answers."""
+
+    texts: int
+
+
 class Restarted(NamedTuple):
-    """Not of the node: this client noticed that the daemon was started anew, and so has none of the objects of
-    before.
+    """Not of the node: this client noticed that the slot began anew, and so has none of the objects of before: the
+    daemon was started anew, or the connection has ended, or the lease has run out.
 
     `declared` are the publishers, subscriptions, requesters and listeners, which a client with `restore` makes
     again; `lost` the callers and repliers, whose sessions nobody will tell of any more."""
@@ -629,7 +661,7 @@ class Restarted(NamedTuple):
     lost: tuple[Handle, ...]
 
 
-Indication = Silent | Alive | Notified | Asked | Overrun | Replied | Confirmed | Closed | Restarted
+Indication = Silent | Alive | Notified | Asked | Overrun | Replied | Confirmed | Closed | Lost | Restarted
 
 _DECLARED = ("publisher", "subscription", "requester", "listener")
 
@@ -682,7 +714,183 @@ _LINE_FAULT = re.compile("line fault [A-Z][A-Za-z0-9]*")
 
 SLOTS_MOST = 16
 """The most slots of a node."""
+LEASE_MOST = 86_400_000_000
+"""The longest lease of a daemon, in microseconds."""
 _WAIT_MOST = 3600.0  # seconds of one wait: the system takes none of many days
+# Seconds behind which `run` looks whether the slot still has its objects, where it heard nothing; behind which it tries
+# again what it couldn't make again; and between two tries to connect.
+_LOOK, _AGAIN, _CONNECT = 1.0, 0.1, 0.01
+# How often a slot may begin anew while its objects are made again.
+_RESTORES_MOST = 10
+# The calls of an object that may be made a second time, though the first one took effect.
+_REPEATED = ("put", "get")
+
+
+# -----------------------------------------------------------------------------
+# The two kinds of control port
+# -----------------------------------------------------------------------------
+
+# What comes at a control port: a line, or that some were lost.
+_Came = str | Lost
+_SO_RXQ_OVFL = 40  # by which the system tells with a datagram how many were dropped so far, for want of room
+_LOST_LINE = re.compile("lost ([1-9][0-9]{0,18})")
+
+
+class _Port:
+    """A UDP control port, by a socket that takes its datagrams alone."""
+
+    is_path = False
+    is_over = False
+    is_behind = False
+    has_line = False
+
+    def __init__(self, place: tuple[str, int]) -> None:
+        """Raises OSError with the place."""
+        self.is_nobody = False  # whether the system said that nobody is there
+        self._dropped = 0
+        self._socket = socket.socket(socket.AF_INET, socket.SOCK_DGRAM)
+        try:
+            self._socket.setsockopt(socket.SOL_SOCKET, _SO_RXQ_OVFL, 1)
+            self._socket.connect(place)
+        except OSError as fault:
+            self._socket.close()
+            raise OSError(fault.errno, fault.strerror, f"{place[0]}:{place[1]}") from None
+
+    def fileno(self) -> int:
+        return self._socket.fileno()
+
+    def close(self) -> None:
+        self._socket.close()
+
+    def begin(self) -> None:
+        """Forgets what the system said of the datagrams so far."""
+        self._socket.getsockopt(socket.SOL_SOCKET, socket.SO_ERROR)
+        self.is_nobody = False
+
+    def send(self, line: bytes) -> bool:
+        """Sends a line. Answers True: the system takes it at once."""
+        for _ in range(2):
+            try:
+                self._socket.send(line)
+                break
+            except ConnectionRefusedError:
+                # Told of what was sent before, to a port that nobody had. Then nothing was sent now.
+                self.is_nobody = True
+        return True
+
+    def flush(self) -> bool:
+        """Nothing waits here."""
+        return True
+
+    def take(self) -> list[_Came]:
+        """What came first, and before it how much was lost; nothing where none is there."""
+        try:
+            data, extra, _, _ = self._socket.recvmsg(65536, 64, socket.MSG_DONTWAIT)
+        except ConnectionRefusedError:
+            self.is_nobody = True
+            return []
+        except BlockingIOError:
+            return []
+        came: list[_Came] = []
+        for level, kind, value in extra:
+            if (level, kind) == (socket.SOL_SOCKET, _SO_RXQ_OVFL):
+                dropped = int.from_bytes(value[:4], sys.byteorder)
+                if lost := (dropped - self._dropped) & _U32_MOST:
+                    came.append(Lost(lost))
+                self._dropped = dropped
+        return [*came, _line_of(data)]
+
+
+class _Path:
+    """A connection to a control socket. Nothing here waits for the other side."""
+
+    is_path = True
+    is_nobody = False
+
+    def __init__(self, path: str) -> None:
+        """Raises OSError."""
+        self.is_over = False  # whether the other side has ended it, and all whole lines are taken
+        self.is_first = True  # whether no line was taken
+        self._has_end = False  # whether nothing more comes
+        self._came = bytearray()
+        self._unsent = bytearray()
+        self._socket = socket.socket(socket.AF_UNIX, socket.SOCK_STREAM)
+        try:
+            self._socket.setblocking(False)
+            self._socket.connect(path)
+        except BaseException:
+            self._socket.close()
+            raise
+
+    def fileno(self) -> int:
+        return self._socket.fileno()
+
+    def close(self) -> None:
+        self._socket.close()
+
+    def begin(self) -> None:
+        """There is nothing to forget."""
+
+    @property
+    def is_behind(self) -> bool:
+        """Whether the other side hasn't taken all lines."""
+        return bool(self._unsent)
+
+    @property
+    def has_line(self) -> bool:
+        """Whether something can be taken without a wait."""
+        return self._has_end or b"\n" in self._came
+
+    def send(self, line: bytes) -> bool:
+        """Sends a line, as soon as the other side takes it. Answers False where the connection has ended before."""
+        self._unsent += line + b"\n"
+        return self.flush()
+
+    def flush(self) -> bool:
+        """Sends what waits. Answers False where the connection has ended."""
+        try:
+            while self._unsent:
+                del self._unsent[:self._socket.send(self._unsent, socket.MSG_NOSIGNAL)]
+        except BlockingIOError:
+            pass
+        except (BrokenPipeError, ConnectionResetError):
+            # What the other side said before it ended is there to be read.
+            self._unsent.clear()
+            return False
+        return True
+
+    def take(self) -> list[_Came]:
+        """What came first; nothing where no whole line is there."""
+        end = self._came.find(b"\n")
+        if end < 0:
+            self._read()
+            end = self._came.find(b"\n")
+        if end < 0 and len(self._came) > LINE_MOST:
+            # As no trdpd says. What is behind can't be read any more.
+            end = LINE_MOST
+            self._has_end = True
+        if end < 0:
+            # A last line without its end is none.
+            self.is_over = self._has_end
+            return []
+        line = _line_of(bytes(self._came[:end]))
+        del self._came[:end + 1]
+        lost = _LOST_LINE.fullmatch(line)
+        return [Lost(int(lost[1])) if lost else line]
+
+    def _read(self) -> None:
+        try:
+            data = self._socket.recv(1 << 18)
+        except BlockingIOError:
+            return
+        except ConnectionResetError:
+            # So the system ends one that said what nobody read.
+            data = b""
+        self._came += data
+        self._has_end = self._has_end or not data
+
+
+_Link = _Port | _Path
 
 
 # -----------------------------------------------------------------------------
@@ -690,54 +898,99 @@ _WAIT_MOST = 3600.0  # seconds of one wait: the system takes none of many days
 # -----------------------------------------------------------------------------
 
 
-class Slot:
-    """The application of one slot of a node, at its control port.
+_Method = TypeVar("_Method", bound=Callable[..., Any])
 
-    It has one socket for all, and at most one call is under way. It isn't made for several threads at a time, nor
-    for several clients of one slot: the node tells indications to where the latest line came from.
+
+def _one_at_a_time(method: _Method) -> _Method:
+    """A method of Slot that other threads' calls wait for, and that leaves `fileno` as it has to be."""
+    @functools.wraps(method)
+    def call(self: Slot, *words: Any, **named: Any) -> Any:
+        with self._lock:
+            try:
+                return method(self, *words, **named)
+            finally:
+                self._show()
+    return cast(_Method, call)
+
+
+class Slot:
+    """The application of one slot of a node, at its control port: a UDP port or a control socket.
+
+    It has one socket or connection for all, and at most one call is under way: a call of another thread waits until
+    it is over. It isn't made for several clients of one slot: over UDP the node tells indications to where the latest
+    line came from, and at a control socket a second one is `Busy`.
+
+    **Beginning anew.** Before the first call goes `reset`, so that the slot has no object of an earlier program; no
+    call is made before the answer to the mark behind the last `reset` that was sent. A client that only looks at the
+    objects of another one has `reset=False`: `Slot.look`.
 
     **Answers.** An answer doesn't say to which call it is. So behind each call goes a line that can't be read,
-    whose fault marks the end of the call's answers: what comes between two marks is the answer. Where one of them
-    doesn't come in its time, the client goes on with a new socket, at which no earlier answer comes any more. So in
-    a network that keeps the order, which the one within a machine does, an answer that was lost, late or doubled is
+    whose fault marks the end of the call's answers: what comes between two marks is the answer. Over UDP, where one of
+    them doesn't come in its time, the client goes on with a new socket, at which no earlier answer comes any more. So
+    in a network that keeps the order, which the one within a machine does, an answer that was lost, late or doubled is
     never taken for that of another call. In one that doesn't, a doubled answer that falls behind a mark can be
     taken for the next one of the same form. What can't be told in any network is whether it was the call that got
-    lost or its answer, nor that a call was brought twice.
+    lost or its answer, nor that a call was brought twice. A connection keeps the order: no call is made there before
+    the answer to the mark of the one before.
 
-    **Tries.** A call is sent again where no answer came within `answer_us`, `tries` times in all, and raises
-    TimeoutError where none came at all. That is so for calls that may be made twice: `put`, `get`, and those that
-    end an object. All others are sent once, unless `tries` is given with the call, and each says what a second try
-    may do.
+    **Tries.** Over UDP a call is sent again where no answer came within `answer_us`, `tries` times in all, and raises
+    TimeoutError where none came at all. That is so for calls that may be made twice: `put`, `get`, `reset`, and those
+    that end an object. All others are sent once, unless `tries` is given with the call, and each says what a second try
+    may do. Over a connection the answer is waited for as long in all, and a call is sent again only where the node
+    says that it dropped the answer.
 
-    **A daemon that was started anew** has no objects. It is noticed where the node refuses a handle as NoHandle
-    that this client was given and hasn't ended, or gives one a second time; then all handles of before are void,
-    and an indication `Restarted` says so. With `restore`, the publishers, with their latest values, subscriptions,
-    requesters and listeners are made again under the same `Handle`, and the call that noticed it is made again. A
-    client that makes no calls notices by `check`.
+    **A slot that began anew** has no objects: the daemon was started anew, the connection has ended, or the lease has
+    run out. It is noticed by the end of the connection, or where the node refuses a handle as NoHandle that this client
+    was given and hasn't ended, or gives one a second time. Then all handles of before are void, and an indication
+    `Restarted` says so. With `restore`, the publishers, with their latest values, subscriptions, requesters and
+    listeners are made again under the same `Handle`, behind a `reset`, and the call that noticed it is made again. As
+    long as one of them isn't there, each call begins with making them all. `run`, `indications` and `next_indication`
+    look once a second, where they hear nothing; `check` looks at once.
 
-    All calls raise Refused, TimeoutError where no answer came (Nobody where nobody is at the port), OtherSlot where
-    another slot answers, WrongAnswer where no trdpd does, ValueError or TypeError where an argument can't stand in a
-    line, and OSError where the socket fails.
+    **A lease** of the daemon is given as `lease_us`. Then the client says `#` whenever a third of it has passed since
+    its latest line, where it waits: in calls, in `run` and in `indications`. No thread does that, so that a program
+    that hangs says nothing.
+
+    **Threads and processes.** Several threads may make calls, also while one is in `run` or in `indications`. A child
+    of `fork` has its parent's socket: it makes no calls, and closes its copy by `close`, which ends nothing of its
+    parent's. As long as a child keeps a connection open, its parent's end doesn't end it. What a process becomes by
+    `exec` doesn't have it.
+
+    All calls raise Refused, TimeoutError where no answer came (Nobody, at once, where nobody is at the port), Busy where
+    another application has the control socket, OtherSlot where another slot answers, WrongAnswer where no trdpd does,
+    ValueError or TypeError where an argument can't stand in a line, and OSError where the system refuses, as
+    PermissionError at a control socket.
     """
 
-    def __init__(self, config: str | os.PathLike[str], slot: int, /, *, datasets: Datasets | None = None,
-                 answer_us: int = 200_000, tries: int = 3, restore: bool = False, number: int | None = None) -> None:
-        """A client of slot `slot` of the node with that configuration, or at that address and port, as 127.0.0.1
-        and 18000.
+    def __init__(self, config: str | os.PathLike[str], slot: int, /, *, controls: str | os.PathLike[str] | None = None,
+                 datasets: Datasets | None = None, answer_us: int = 200_000, tries: int = 3, reset: bool = True,
+                 restore: bool = False, lease_us: int | None = None, number: int | None = None) -> None:
+        """A client of slot `slot` of the node with that configuration, at its UDP port, or at its control socket in the
+        folder `controls`; or at that address and port, as 127.0.0.1 and 18000; or at the control socket of that folder
+        and port, as /run/trdpd and 18000. A folder that stands first has a /.
 
-        `datasets` are those by which values are packed; where it is None, those of the configuration, and at an
-        address none: then values are bytes. `answer_us` is how long an answer is waited for, and `tries` how often
-        a call is sent that may be made twice. `number` is the slot's number at an address, where it is known; None
-        takes the number that the first answer has. Nothing is sent yet. Raises ConfigFault where the configuration
-        isn't one, or the slot has no control port."""
+        `datasets` are those by which values are packed; where it is None, those of the configuration, and without one
+        none: then values are bytes. `answer_us` is how long an answer is waited for, and `tries` how often a call is
+        sent that may be made twice. `lease_us` is the daemon's lease; None where it has none. `number` is the slot's
+        number where no configuration says it; None takes the number that the first answer has. Nothing is sent yet,
+        and no connection made. Raises ConfigFault where the configuration isn't one, or the slot has no control
+        port."""
         self._slot = None if number is None else _whole("number", number, 0, SLOTS_MOST - 1)
         self.answer_us = _whole("answer_us", answer_us, 1)
         self.tries = _whole("tries", tries, 1)
         self.restore = restore
+        self._lease_us = None if lease_us is None else _whole("lease_us", lease_us, 1, LEASE_MOST)
         if not isinstance(config, (str, os.PathLike)):
             raise TypeError(f"config is {_shown(config)}, and no path or address")
-        if _is_address(config):
-            address, port = str(config), _whole("port", slot, 1, 0xFFFF)
+        place: tuple[str, int] | None = None
+        if _is_address(config) or _is_folder(config, slot):
+            if controls is not None:
+                raise ValueError(f"controls is {_shown(controls)}, and {_shown(config)} is no configuration")
+            if _is_address(config):
+                place = str(config), _whole("port", slot, 1, 0xFFFF)
+            else:
+                controls = config
+            port = slot
         else:
             if not isinstance(slot, int) or not 0 <= slot < SLOTS_MOST:
                 raise ValueError(f"{_shown(config)} is no address as 127.0.0.1, and {_shown(slot)} no slot of a "
@@ -746,34 +999,64 @@ class Slot:
                 raise ValueError(f"number is {number}, and the slot is {slot}")
             tables = _read_toml(config)
             address, port = control_place(tables, slot)
+            place = address, port
             datasets = datasets or Datasets.from_tables(tables)
             self._slot = slot
+        self._path = None if controls is None else _socket_path("controls", controls, port)
         self.datasets = Datasets({}) if datasets is None else _typed("datasets", datasets, Datasets, "Datasets")
         self._handles: dict[int, Handle] = {}
         self._declared: list[Handle] = []
         self._highest = 0  # of the handles that the node gave
-        self._start = 0  # how often the daemon was seen to be started anew
+        self._start = 0  # how often the slot was seen to begin anew
+        self._is_reset_due = reset  # whether the slot has yet to begin anew for this client
+        self._is_whole = True  # whether all that was declared is there, as far as this client makes it again
         self._told: collections.deque[Indication] = collections.deque()
         self._callbacks: dict[type, list[Callable[[Any], object]]] = {}
         self._marks = 0  # how many were sent
-        self._awaited: str | None = None  # the answer to the latest mark, where it hasn't come
-        self._mark_end = 0.0  # until when it is waited for
+        self._awaited: list[str] = []  # the answers to the latest marks, where they haven't come
+        self._mark_end = 0.0  # until when they are waited for
         self._is_nobody = False  # whether the system said of the latest try that nobody is at the port
         self._left_out: str | None = None  # the first line of the latest call that was no answer to it
-        self._place = (address, port)
-        self._selector = selectors.DefaultSelector()
+        self._latest: float | None = None  # when the latest line was said, if one was
+        self._heard = -math.inf  # when something came last
+        self._tried = -math.inf  # when `run` looked at the objects last, or tried to make them again
+        self._is_patient = True  # whether a connection is tried again for as long as an answer is waited for
+        self._lock = threading.RLock()
+        self._place = place
+        # What `fileno` gives: it has the sockets, and a bell that rings as long as something is to be told.
+        self._epoll = select.epoll()
+        self._bell, self._rope = socket.socketpair()
+        self._is_shown = self._is_watched_out = False
+        self._epoll.register(self._bell, select.EPOLLIN)
+        self._link: _Link | None = None
+        self._known: _Link | None = None  # at which the node answered last: indications may come there still
         try:
-            self._socket = self._connected()
+            if self._path is None:
+                self._link = self._connected()
         except OSError:
-            self._selector.close()
+            self.close()
             raise
-        self._known = self._socket  # at which the node answered last: indications may come there still
+        self._known = self._link
+
+    @classmethod
+    def look(cls, config: str | os.PathLike[str], slot: int, /, *, datasets: Datasets | None = None,
+             answer_us: int = 200_000, tries: int = 3, number: int | None = None) -> Self:
+        """A client that only looks at the objects of another one, over UDP: it says no `reset`. Each of its calls
+        has the indications come to it, until the other one makes its next call. At a control socket nobody can look
+        beside the application; there `Operator.slots` says what a slot has."""
+        return cls(config, slot, datasets=datasets, answer_us=answer_us, tries=tries, reset=False, number=number)
 
     def close(self) -> None:
-        """Closes the socket. The objects stay as they are."""
-        for port in {self._socket, self._known}:
-            port.close()
-        self._selector.close()
+        """Closes the socket or the connection. Over UDP the objects stay as they are, up to the daemon's lease. The end
+        of a connection resets the slot, unless another process keeps it open."""
+        for held in (*self._links(), self._epoll, self._bell, self._rope):
+            held.close()
+
+    def fileno(self) -> int:
+        """A descriptor that can be read from as long as something is there for `next_indication(0)`; it stays the same.
+        It is for `select` and the like alone. Whoever waits at it calls `next_indication(0)` now and then also where
+        nothing is there, so that the lease is kept, and `check`, so that a restart is noticed."""
+        return self._epoll.fileno()
 
     def __enter__(self) -> Slot:
         return self
@@ -783,6 +1066,7 @@ class Slot:
 
     # -- process data ---------------------------------------------------------
 
+    @_one_at_a_time
     def publish(self, com_id: int, place: str, *, dataset: int = 0, cycle_us: int = 0, group: int = 0, etb: int = 0,
                 op_trn: int = 0, tries: int = 1) -> Handle:
         """Makes a publisher, which sends a value of `dataset` (0: bytes) to `place` every `cycle_us` (0: when it is
@@ -794,6 +1078,7 @@ class Slot:
                  _number_word("group", group, 0, 255), *_counts(etb, op_trn), _place_word("place", place)]
         return self._open("publisher", "publish", words, tries, dataset)
 
+    @_one_at_a_time
     def put(self, handle: Handle | int, value: Any, *, tries: int | None = None) -> None:
         """Gives a publisher its value. A value of its dataset is packed, and refused by DoesNotFit where it doesn't
         fit; bytes are sent as they are, and the node looks whether they are one. A second try does no harm."""
@@ -803,10 +1088,12 @@ class Slot:
         if isinstance(handle, Handle):
             handle._data = data
 
+    @_one_at_a_time
     def unpublish(self, handle: Handle | int, *, tries: int | None = None) -> None:
         """Ends a publisher. A second try does no harm."""
         self._end("unpublish", handle, tries)
 
+    @_one_at_a_time
     def subscribe(self, com_id: int, *, dataset: int = 0, low: str = ANY, high: str = ANY, dest: str = ANY,
                   etb: int = 0, op_trn: int = 0, time_us: int = 0, behaviour: str = "zero", tries: int = 1) -> Handle:
         """Makes a subscription of telegrams of `com_id` whose payload is a value of `dataset` (0: bytes), from an
@@ -823,6 +1110,7 @@ class Slot:
                  _number_word("time_us", time_us), behaviour]
         return self._open("subscription", "subscribe", words, tries, dataset)
 
+    @_one_at_a_time
     def get(self, handle: Handle | int, *, tries: int | None = None) -> Value:
         """What a subscription shows: its state, the counter of its latest telegram, and the value. A second try
         does no harm. Raises DoesNotFit where the daemon has another dataset of that number than this client."""
@@ -831,10 +1119,12 @@ class Slot:
         value = _bytes_of(data)
         return Value(state, int(counter), self.datasets.unpack(dataset, value) if dataset in self.datasets else value)
 
+    @_one_at_a_time
     def unsubscribe(self, handle: Handle | int, *, tries: int | None = None) -> None:
         """Ends a subscription. A second try does no harm."""
         self._end("unsubscribe", handle, tries)
 
+    @_one_at_a_time
     def openpull(self, com_id: int, place: str, *, reply_com_id: int = 0, reply_address: str = ANY, etb: int = 0,
                  op_trn: int = 0, tries: int = 1) -> Handle:
         """Makes a requester, which asks `place` for `reply_com_id` (0: for `com_id`) by requests of `com_id`; the
@@ -844,16 +1134,19 @@ class Slot:
                  _address_word("reply_address", reply_address), *_counts(etb, op_trn), _place_word("place", place)]
         return self._open("requester", "openpull", words, tries)
 
+    @_one_at_a_time
     def pull(self, handle: Handle | int, *, tries: int = 1) -> None:
         """Sends one pull request. A second try may send a second one."""
         self._act("pull", handle, [], tries)
 
+    @_one_at_a_time
     def closepull(self, handle: Handle | int, *, tries: int | None = None) -> None:
         """Ends a requester. A second try does no harm."""
         self._end("closepull", handle, tries)
 
     # -- message data ---------------------------------------------------------
 
+    @_one_at_a_time
     def listen(self, com_id: int | None, *, low: str = ANY, high: str = ANY, dest: str = ANY, uri: str = "",
                etb: int = 0, op_trn: int = 0, tries: int = 1) -> Handle:
         """Makes a listener to messages of `com_id` (None: of any) from an address in `low` to `high`, sent to
@@ -865,17 +1158,20 @@ class Slot:
                  *_counts(etb, op_trn)]
         return self._open("listener", "listen", words, tries)
 
+    @_one_at_a_time
     def unlisten(self, handle: Handle | int, *, tries: int | None = None) -> None:
         """Ends a listener. Its open repliers stay. A second try does no harm."""
         self._end("unlisten", handle, tries)
 
+    @_one_at_a_time
     def notify(self, com_id: int, place: str, value: Any = b"", *, dataset: int = 0, source_uri: str = "",
                dest_uri: str = "", etb: int = 0, op_trn: int = 0, tries: int = 1) -> None:
         """Sends one notification, with bytes or a value of `dataset`. A second try may send a second one."""
         words = [_number_word("com_id", com_id), _uri_word("source_uri", source_uri), _uri_word("dest_uri", dest_uri),
                  *_counts(etb, op_trn), _place_word("place", place), _hex_word(self._payload(dataset, value, MD_MOST))]
-        self._ask(["notify", *words], "done", tries)
+        self._call(["notify", *words], tries)
 
+    @_one_at_a_time
     def request(self, com_id: int, place: str, value: Any = b"", *, dataset: int = 0, session: uuid.UUID | None = None,
                 expected: int = 1, time_us: int = 5_000_000, source_uri: str = "", dest_uri: str = "", etb: int = 0,
                 op_trn: int = 0, retries: int = 0, tries: int = 1) -> Handle:
@@ -895,6 +1191,7 @@ class Slot:
             words.append(_number_word("retries", retries, 0, 255))
         return self._open("caller", "request", words, tries)
 
+    @_one_at_a_time
     def reply(self, handle: Handle | int, com_id: int, value: Any = b"", *, dataset: int = 0, status: int = 0,
               tries: int = 1) -> None:
         """Answers what a replier was asked, with bytes or a value of `dataset`; the replier is over. `status` is 0
@@ -906,6 +1203,7 @@ class Slot:
         self._act("reply", handle, words, tries)
         self._forget(handle)
 
+    @_one_at_a_time
     def query(self, handle: Handle | int, com_id: int, value: Any = b"", *, dataset: int = 0, status: int = 0,
               time_us: int = 5_000_000, tries: int = 1) -> None:
         """Answers in the same way, and waits over `time_us` (1000 or more) for a confirmation: `Confirmed` or
@@ -915,45 +1213,57 @@ class Slot:
                  _hex_word(self._payload(dataset, value, MD_MOST))]
         self._act("query", handle, words, tries)
 
+    @_one_at_a_time
     def replyerror(self, handle: Handle | int, com_id: int, status: int, *, tries: int = 1) -> None:
         """Answers by an error, with a `status` below 0; the replier is over. A second try sends no second one:
         where the first one took effect it is refused by NoHandle."""
         self._act("replyerror", handle, [_number_word("com_id", com_id), _status_word(status)], tries)
         self._forget(handle)
 
+    @_one_at_a_time
     def confirm(self, handle: Handle | int, place: str, status: int = 0, *, tries: int = 1) -> None:
         """Confirms the query that a caller has from `place`, which is the `source` of its `Replied`. `status` is 0
         or more. A second try sends no second one: where the first one took effect it is refused by State or
         NoHandle."""
         self._act("confirm", handle, [_place_word("place", place), _status_word(status)], tries)
 
+    @_one_at_a_time
     def abort(self, handle: Handle | int, *, tries: int | None = None) -> None:
         """Ends a caller or a replier at once. The other side isn't told. A second try does no harm."""
         self._end("abort", handle, tries)
 
+    @_one_at_a_time
     def reset(self, *, tries: int | None = None) -> None:
         """Has the slot begin anew: all its objects end at once, those of an earlier program too, and no handle is
-        given out again. The network isn't told. A second try does no harm."""
-        self._ask(["reset"], "done", self._tries(tries))
+        given out again. The network isn't told. A second try does no harm. Returns once the answer to the mark behind
+        the last one that was sent has come."""
+        self._reset_slot(self._tries(tries))
         for handle in [*self._handles.values(), *self._declared]:
             self._forget(handle)
+        self._is_whole = True
 
     # -- indications ----------------------------------------------------------
 
     def indications(self, time_us: int | None = None) -> Iterator[Indication]:
         """The indications, as they come. Ends when none has come for `time_us`; None is for ever. What came during
-        calls waits here. The node tells them to where the latest line came from: where this client has made no call
-        yet, `begin` says one."""
+        calls waits here. Over UDP the node tells them to where the latest line came from: where this client has made no
+        call yet, `begin` says one."""
         while (told := self.next_indication(time_us)) is not None:
             yield told
 
     def next_indication(self, time_us: int | None = None) -> Indication | None:
-        """The next indication; None where none has come within `time_us`. 0 doesn't wait."""
+        """The next indication; None where none has come within `time_us`. 0 doesn't wait, and so doesn't look whether
+        the slot began anew, nor make objects again. Else it may take longer by the time of a call that does so."""
         end = _end_of(time_us)
-        while not self._told:
-            if self._take_next(end) is None:
+        while True:
+            told = self._next_told(may_wait=time_us != 0)
+            if told is not None:
+                return told
+            now = time.monotonic()
+            if end is not None and now >= end:
                 return None
-        return self._told.popleft()
+            # Without the lock, so that other threads make calls meanwhile.
+            self._epoll.poll(min(_WAIT_MOST, max(0.0, min(math.inf if end is None else end, self._due()) - now)))
 
     def on(self, kind: type[Any], callback: Callable[[Any], object]) -> None:
         """Has `run` call `callback` with each indication of that kind, as `slot.on(Silent, print)`. Several
@@ -965,13 +1275,18 @@ class Slot:
         self._callbacks.setdefault(kind, []).append(callback)
 
     def run(self, time_us: int | None = None) -> None:
-        """Calls the callbacks of the indications that come within `time_us`; None is for ever. Those without one
-        are dropped. What a callback raises ends it."""
+        """Calls the callbacks of the indications that come within `time_us`, in this thread; None is for ever. Those
+        without one are dropped. What a callback raises ends it: then the same indication is handed out again by the
+        next `run`, to all its callbacks. Other threads may make calls meanwhile."""
         end = _end_of(time_us)
         left = time_us
         while (told := self.next_indication(left)) is not None:
-            for callback in self._callbacks.get(type(told), []):
-                callback(told)
+            try:
+                for callback in self._callbacks.get(type(told), []):
+                    callback(told)
+            except BaseException:
+                self._hand_back(told)
+                raise
             if end is not None:
                 left = max(0, int((end - time.monotonic()) * 1_000_000))
                 if left == 0 and not self._told:
@@ -979,11 +1294,13 @@ class Slot:
 
     # -- the daemon -----------------------------------------------------------
 
+    @_one_at_a_time
     def begin(self) -> None:
-        """Has the node tell indications to this client from now on, by a remark, which has no answer; so it may get
-        lost. Each call does the same."""
+        """Has the node tell indications to this client from now on, by a remark, which has no answer; so over UDP it
+        may get lost. Each call does the same."""
         self._send("#")
 
+    @_one_at_a_time
     def sync(self) -> None:
         """Returns once the daemon has taken all that was sent before; answers that were under way are dropped, and
         indications kept. Raises TimeoutError where nobody is there."""
@@ -995,22 +1312,17 @@ class Slot:
                 return
         raise self._silence(self.tries, "")
 
+    @_one_at_a_time
     def check(self) -> bool:
-        """Whether the daemon still has the objects of this client; False where it was started anew since the call
-        before. Makes one call, which changes nothing. With `restore` they are there again. TimeoutError where
-        nobody is there."""
-        known = next((it for it in self._declared if it._start == self._start), None)
-        if known is None:
-            self.sync()
-            return True
-        try:
-            self._ask(["get", str(known.number)], "value", self.tries)
-        except Refused as refusal:
-            if refusal.name == "NoHandle":
-                self._begin_anew()
-                return False
-        return True
+        """Whether the slot still has all objects of this client; False where it began anew since the call before, or
+        some of them weren't there yet. Makes one call, which changes nothing. With `restore` all are there again behind
+        it. TimeoutError where nobody is there."""
+        if not self._is_whole:
+            self._restore()
+            return False
+        return self._has_objects(self.tries)
 
+    @_one_at_a_time
     def send_line(self, line: str) -> None:
         """Sends a line as it is, and waits for nothing. Its answer is read by `read_line`; don't mix this with
         calls."""
@@ -1019,81 +1331,164 @@ class Slot:
     def read_line(self, time_us: int) -> str | None:
         """The next line that comes, an answer or an indication, without its end; None where none came within
         `time_us`. Don't mix this with calls. Raises Nobody where the system knows that nobody is at the control
-        port."""
+        port, or the connection has ended."""
         end = _end_of(time_us)
         while True:
-            ready = self._selector.select(_wait(end))
-            try:
-                if ready:
-                    return _line_of(self._socket.recv(65536, socket.MSG_DONTWAIT))
-            except ConnectionRefusedError:
-                raise Nobody(f"nobody is at {self._place_text()}") from None
-            except BlockingIOError:
-                pass
+            link = self._link
+            if link is not None and (came := link.take()):
+                return next(iter(it for it in came if isinstance(it, str)), f"lost {came[0].texts}"
+                            if isinstance(came[0], Lost) else None)
+            if link is None or link.is_nobody or link.is_over:
+                if link is not None and not link.is_path:
+                    link.begin()
+                raise Nobody(f"nobody is at {self._place_text()}")
             if end is not None and time.monotonic() >= end:
                 return None
+            self._wait([link], _left(end))
 
-    # -- inside ----------------------------------------------------------------
+    # -- inside: sockets -------------------------------------------------------
 
-    def _connected(self) -> socket.socket:
-        """A socket that takes datagrams of the control port alone. Raises OSError with the place."""
-        made = socket.socket(socket.AF_INET, socket.SOCK_DGRAM)
-        try:
-            made.connect(self._place)
-        except OSError as fault:
-            made.close()
-            raise OSError(fault.errno, fault.strerror, self._place_text()) from None
-        self._selector.register(made, selectors.EVENT_READ, made)
-        return made
+    def _connected(self) -> _Link:
+        """A socket that takes datagrams of the control port alone, or a connection. A path at which nobody listens, or
+        to which this program has no right, is tried again while objects are to be made again, as a daemon that starts
+        anew makes its file, and its file's group is given a moment later. Raises OSError with the place."""
+        if self._path is None:
+            assert self._place is not None
+            link: _Link = _Port(self._place)
+        else:
+            is_restoring = self.restore and not self._is_whole
+            end = time.monotonic() + self._patience() if self._is_patient else 0.0
+            while True:
+                try:
+                    link = _Path(self._path)
+                    break
+                except OSError as fault:
+                    is_later = isinstance(fault, BlockingIOError) or is_restoring and isinstance(
+                        fault, (FileNotFoundError, ConnectionRefusedError, PermissionError))
+                    if not is_later or time.monotonic() >= end:
+                        raise self._not_there(fault) from None
+                time.sleep(_CONNECT)
+        self._epoll.register(link, select.EPOLLIN)
+        self._is_watched_out = False
+        return link
 
-    def _drop(self, port: socket.socket) -> None:
-        self._selector.unregister(port)
-        port.close()
+    def _not_there(self, fault: OSError) -> OSError:
+        """What is said of a path to which there is no connection."""
+        if isinstance(fault, (FileNotFoundError, ConnectionRefusedError)):
+            return Nobody(f"nobody is at {self._path}: {fault.strerror}")
+        if isinstance(fault, BlockingIOError):
+            return NoAnswer(f"nobody takes a connection at {self._path}")
+        return OSError(fault.errno, fault.strerror, self._path)
+
+    def _patience(self) -> float:
+        """How many seconds are waited for what may be tried again."""
+        return self.answer_us * self.tries / 1_000_000
+
+    def _drop(self, link: _Link) -> None:
+        self._epoll.unregister(link)
+        link.close()
 
     def _renew(self) -> None:
         """Goes on with a new socket: the answers that are under way go to the old one."""
-        if self._socket is not self._known:
-            self._drop(self._socket)
-        self._socket = self._connected()
-        self._awaited = None
+        assert self._path is None and self._link is not None
+        if self._link is not self._known:
+            self._drop(self._link)
+        self._link = self._connected()
+        self._awaited.clear()
         self._send("#")
 
-    def _lines(self, end: float | None) -> list[tuple[socket.socket, str]]:
-        """What comes first before the moment `end` of `time.monotonic`, at each socket; none where nothing does.
-        What is there already is read even then. Where nobody is at the port, it goes on waiting, as somebody may
-        come."""
-        while True:
-            ready = self._selector.select(_wait(end))
-            lines = []
-            for key, _ in ready:
-                port = key.data
-                try:
-                    lines.append((port, _line_of(port.recv(65536, socket.MSG_DONTWAIT))))
-                except ConnectionRefusedError:
-                    self._is_nobody = self._is_nobody or port is self._socket
-                except BlockingIOError:
-                    continue
+    def _end_link(self, is_busy: bool = False) -> NoReturn:
+        """Takes notice of the end of the connection."""
+        assert self._link is not None
+        self._drop(self._link)
+        self._link = self._known = None
+        self._awaited.clear()
+        if is_busy:
+            raise Busy(self._place_text())
+        self._void()
+        raise _Ended(f"the connection at {self._place_text()} has ended")
+
+    def _links(self) -> list[_Link]:
+        """The sockets at which something may come."""
+        return [it for it in dict.fromkeys([self._link, self._known]) if it is not None]
+
+    @staticmethod
+    def _wait(links: Sequence[_Link], seconds: float) -> list[_Link]:
+        """The sockets at which something is there, as soon as there is one. What waits to be sent is sent meanwhile."""
+        if found := [it for it in links if it.has_line]:
+            return found
+        poll = select.poll()
+        for link in links:
+            poll.register(link, select.POLLIN | (select.POLLOUT if link.is_behind else 0))
+        ready = {number for number, _ in poll.poll(math.ceil(seconds * 1000))}
+        for link in links:
+            if link.is_behind:
+                link.flush()
+        return [it for it in links if it.fileno() in ready]
+
+    def _lines(self, end: float | None) -> list[tuple[_Link, _Came]]:
+        """What comes first before the moment `end` of `time.monotonic`, at each socket; none where nothing does, or the
+        system says that nobody is at the port. What is there already is read even then. The lease is kept
+        meanwhile. Raises _Ended where the connection has ended."""
+        while self._link is not None:
+            seconds = _left(min(math.inf if end is None else end, self._beat_due()))
+            ready = self._wait(self._links(), 0.0 if self._link.is_nobody else seconds)
+            lines = [(link, it) for link in ready for it in link.take()]
             if lines:
+                self._heard = time.monotonic()
                 return lines
-            if not ready and end is not None and time.monotonic() >= end:
-                return []
+            if self._link.is_over:
+                self._end_link()
+            self._is_nobody = self._is_nobody or self._link.is_nobody
+            if self._link.is_nobody or not ready and end is not None and time.monotonic() >= end:
+                break
+            self._beat()
+        return []
+
+    def _show(self) -> None:
+        """Has `fileno` say whether something is there."""
+        if self._epoll.closed:
+            return
+        is_there = bool(self._told) or self._link is not None and self._link.has_line
+        if is_there != self._is_shown:
+            self._is_shown = is_there
+            if is_there:
+                self._rope.send(b"!")
+            else:
+                self._bell.recv(1)
+        if self._link is not None and self._link.is_behind != self._is_watched_out:
+            self._is_watched_out = self._link.is_behind
+            self._epoll.modify(self._link, select.EPOLLIN | (select.EPOLLOUT if self._is_watched_out else 0))
+
+    # -- inside: lines ---------------------------------------------------------
+
+    def _data_of(self, line: str) -> bytes:
+        """The bytes of a line. Raises ValueError where it can't be sent."""
+        data = _typed("line", line, str, "text").encode("utf-8", "surrogateescape")
+        if self._path is not None and len(data) >= LINE_MOST:
+            raise ValueError(f"the line has {len(data)} bytes, and a control socket takes {LINE_MOST - 1}")
+        if self._path is None and len(data) > DATAGRAM_MOST:
+            raise ValueError(f"the line has {len(data)} bytes, and a datagram carries {DATAGRAM_MOST}")
+        return data
 
     def _send(self, line: str) -> None:
-        data = _typed("line", line, str, "text").encode("utf-8", "surrogateescape")
-        if len(data) > DATAGRAM_MOST:
-            raise ValueError(f"the line has {len(data)} bytes, and a datagram carries {DATAGRAM_MOST}")
-        for _ in range(2):
-            try:
-                self._socket.send(data)
-                return
-            except ConnectionRefusedError:
-                # Told of what was sent before, to a port that nobody had. Then nothing was sent now.
-                self._is_nobody = True
+        """Sends a line. Raises _Ended, or Busy, where the connection has ended before."""
+        data = self._data_of(line)
+        if self._link is None:
+            self._link = self._known = self._connected()
+        self._latest = time.monotonic()
+        if not self._link.send(data):
+            # What it said before it ended is read first, as it may be `busy`.
+            while self._take_next(0.0) is not None:
+                pass
+            self._end_link()
 
     def _send_mark(self) -> None:
-        line, self._awaited = _MARKS[self._marks % len(_MARKS)]
+        line, answer = _MARKS[self._marks % len(_MARKS)]
         self._marks += 1
-        self._mark_end = time.monotonic() + self.answer_us / 1_000_000
+        self._awaited.append(answer)
+        seconds = self.answer_us / 1_000_000 if self._path is None else self._patience()
+        self._mark_end = time.monotonic() + seconds
         self._send(line)
 
     def _settle(self) -> None:
@@ -1102,6 +1497,13 @@ class Slot:
         while not is_over:
             try:
                 if not self._reads_to_mark():
+                    if self._path is not None:
+                        # A new connection would be a new application. What waits is answered in order; another mark goes
+                        # behind it, as this one may have been lost.
+                        self._mark_end = time.monotonic() + self._patience()
+                        if len(self._awaited) < len(_MARKS):
+                            self._send_mark()
+                        raise NoAnswer(f"{self._place_text()} has yet to answer an earlier call")
                     self._renew()
                 is_over = True
             except (OtherSlot, WrongAnswer):
@@ -1110,7 +1512,7 @@ class Slot:
 
     def _reads_to_mark(self) -> bool:
         """Reads up to the answer to the latest mark. Answers whether it came in its time."""
-        while self._awaited is not None:
+        while self._awaited:
             if self._take_next(self._mark_end) is None:
                 return False
         return True
@@ -1119,22 +1521,33 @@ class Slot:
         """Makes a call. Answers the words of its answer, of which `answer` is the first."""
         line = " ".join(words)
         _number_word("tries", tries, 1)
-        self._settle()
-        for number in range(1, tries + 1):
-            self._send(line)
-            self._begin_try()
-            self._send_mark()
-            found = self._answer(answer)
-            if found is None:
-                self._settle()
-            elif found[0] == "refused":
-                raise Refused(found[1], line, number)
-            else:
-                return found
+        is_taken = False
+        try:
+            self._settle()
+            for number in range(1, tries + 1):
+                self._begin_try()
+                self._send(line)
+                is_taken = True
+                self._send_mark()
+                found = self._answer(answer)
+                if found is None:
+                    if self._path is not None and self._awaited:
+                        break
+                    self._settle()
+                elif found[0] == "refused":
+                    raise Refused(found[1], line, number)
+                else:
+                    return found
+        except _Ended as end:
+            end.is_taken = is_taken
+            end.args = (f"the connection at {self._place_text()} has ended: {_cut(line)}",)
+            raise
         raise self._silence(tries, line)
 
     def _begin_try(self) -> None:
         """Forgets what the system and the port said of earlier tries."""
+        if self._link is not None:
+            self._link.begin()
         self._is_nobody = False
         self._left_out = None
 
@@ -1143,13 +1556,16 @@ class Slot:
         left_out = self._left_out
         if left_out is not None and _read_line_or_none(left_out) is None:
             return WrongAnswer(self._place_text(), left_out)
-        call = f": {line if len(line) <= 80 else line[:77] + '...'}" if line else ""
+        call = f": {_cut(line)}" if line else ""
         if self._is_nobody:
             return Nobody(f"nobody is at {self._place_text()}{call}")
         heard = "" if left_out is None else f", but {_shown(left_out)}"
         return NoAnswer(f"no answer{heard}, at {tries} tries of {self.answer_us} microseconds{call}")
 
     def _place_text(self) -> str:
+        if self._path is not None:
+            return self._path
+        assert self._place is not None
         return f"{self._place[0]}:{self._place[1]}"
 
     def _tries(self, tries: int | None) -> int:
@@ -1158,7 +1574,7 @@ class Slot:
 
     def _answer(self, answer: str) -> list[str] | None:
         """The first answer of that form, or the refusal, before the mark; None where none came."""
-        while self._awaited is not None and time.monotonic() < self._mark_end:
+        while self._awaited and time.monotonic() < self._mark_end:
             answers = self._take_next(self._mark_end)
             if answers is None:
                 return None
@@ -1170,42 +1586,63 @@ class Slot:
 
     def _take_next(self, end: float | None) -> list[list[str]] | None:
         """Takes what comes first: notes a mark, keeps indications. Answers the words of the answers among it; None
-        where nothing came. Raises OtherSlot and WrongAnswer, once the rest of it is taken."""
+        where nothing came. Raises OtherSlot and WrongAnswer, once the rest of it is taken, and Busy."""
         lines = self._lines(end)
         if not lines:
             return None
         answers = []
         fault: SlotError | None = None
-        for port, line in lines:
-            if port is self._socket and line == self._awaited:
-                self._note_mark()
+        for link, line in lines:
+            if isinstance(line, Lost):
+                self._note_lost(line)
+                continue
+            if link.is_path and self._is_busy(link, line):
+                self._end_link(is_busy=True)
+            if link is self._link and line in self._awaited:
+                self._note_mark(line)
                 continue
             try:
                 words = self._keep(line)
             except (OtherSlot, WrongAnswer) as told:
-                fault = told if port is self._socket else fault
+                fault = told if link is self._link else fault
                 continue
-            if words and port is self._socket:
+            if words and link is self._link:
                 answers.append(words)
         if fault:
             raise fault
         return answers
 
-    def _note_mark(self) -> None:
-        """The answer to the mark came. With it the node answers at this socket, and nothing more goes to another
-        one."""
-        self._awaited = None
-        if self._known is not self._socket:
-            try:
-                while True:
-                    try:
-                        self._keep(_line_of(self._known.recv(65536, socket.MSG_DONTWAIT)))
-                    except (OtherSlot, WrongAnswer):
-                        # As of a daemon before this one.
+    @staticmethod
+    def _is_busy(link: _Link, line: str) -> bool:
+        """Whether the first line of a connection says that there is another one."""
+        assert isinstance(link, _Path)
+        is_first, link.is_first = link.is_first, False
+        return is_first and line == "busy"
+
+    def _note_lost(self, lost: Lost) -> None:
+        """Tells what was lost. The answer to a mark may be among it: then another mark goes behind it."""
+        if self._told and isinstance(before := self._told[-1], Lost):
+            self._told[-1] = Lost(before.texts + lost.texts)
+        else:
+            self._told.append(lost)
+        if self._path is not None and 0 < len(self._awaited) < len(_MARKS):
+            self._send_mark()
+
+    def _note_mark(self, answer: str) -> None:
+        """The answer to a mark came, and none to an earlier one comes behind it. With it the node answers at this
+        socket, and nothing more goes to another one."""
+        del self._awaited[:self._awaited.index(answer) + 1]
+        if self._known is not None and self._known is not self._link:
+            while came := self._known.take():
+                for line in came:
+                    if isinstance(line, Lost):
+                        self._note_lost(line)
                         continue
-            except (BlockingIOError, ConnectionRefusedError):
-                self._drop(self._known)
-            self._known = self._socket
+                    # OtherSlot and WrongAnswer are as of a daemon before this one.
+                    with contextlib.suppress(OtherSlot, WrongAnswer):
+                        self._keep(line)
+            self._drop(self._known)
+            self._known = self._link
 
     def _keep(self, line: str) -> list[str]:
         """Keeps an indication, and answers the words of an answer; none of any other line. Raises OtherSlot, and
@@ -1282,18 +1719,142 @@ class Slot:
             raise DoesNotFit(f"dataset {dataset}: {_shown(value)} is no bytes, and the dataset isn't known here")
         return self.datasets.pack(dataset, value, most)
 
+    # -- inside: waiting -------------------------------------------------------
+
+    @_one_at_a_time
+    def _next_told(self, may_wait: bool) -> Indication | None:
+        """The next indication, if one is there, or comes by what is due now."""
+        self._take_what_is_there()
+        if not self._told and self._due() <= time.monotonic():
+            self._attend(may_wait)
+        return self._told.popleft() if self._told else None
+
+    @_one_at_a_time
+    def _hand_back(self, told: Indication) -> None:
+        """Has an indication be the next one again."""
+        self._told.appendleft(told)
+
+    def _take_what_is_there(self) -> None:
+        """Takes what has come, until something is to be told."""
+        with contextlib.suppress(_Ended):
+            while not self._told and self._links() and self._take_next(0.0) is not None:
+                pass
+
+    def _beat_due(self) -> float:
+        """When a remark is due, so that the lease goes on."""
+        if self._lease_us is None or self._latest is None or self._link is None:
+            return math.inf
+        return self._latest + self._lease_us / 3_000_000
+
+    def _beat(self) -> None:
+        """Says a remark where one is due."""
+        if self._beat_due() <= time.monotonic():
+            if self._lease_us is not None and self._latest is not None:
+                if time.monotonic() >= self._latest + self._lease_us / 1_000_000:
+                    # This program was silent for too long: `run` looks at once whether the lease has run out.
+                    self._heard = self._tried = -math.inf
+            self._send("#")
+
+    def _due(self) -> float:
+        """When `run` has something to do though nothing comes."""
+        if not self._is_whole:
+            return min(self._beat_due(), self._tried + _AGAIN)
+        if any(it._start == self._start for it in self._declared):
+            return min(self._beat_due(), max(self._heard, self._tried) + _LOOK)
+        return self._beat_due()
+
+    @_one_at_a_time
+    def _attend(self, may_wait: bool) -> None:
+        """Does what is due though nothing comes: keeps the lease; looks whether the slot began anew; makes objects
+        again. What can't be done is tried again later."""
+        with contextlib.suppress(NoAnswer, PermissionError):
+            self._beat()
+            if not may_wait or self._due() > time.monotonic():
+                return
+            self._is_patient = False
+            try:
+                if self._is_whole:
+                    self._has_objects(1)
+                else:
+                    self._restore()
+            finally:
+                self._is_patient = True
+                self._tried = time.monotonic()
+
+    def _has_objects(self, tries: int) -> bool:
+        """Whether the slot still has the objects of this client, by one of them. With `restore` they are made again."""
+        known = next((it for it in self._declared if it._start == self._start), None)
+        try:
+            if known is None:
+                self.sync()
+            else:
+                self._ask(["get", str(known.number)], "value", tries)
+            return True
+        except Refused as refusal:
+            if refusal.name != "NoHandle":
+                return True
+            self._void()
+        except _Ended:
+            # The end of the connection is noticed by that.
+            pass
+        self._prepare()
+        return False
+
+    # -- inside: objects -------------------------------------------------------
+
+    def _prepare(self) -> None:
+        """Sees to it that the slot is as this client has it, before a call is made: that it began anew for it, and has
+        all that is to be made again."""
+        if not self._is_whole:
+            self._restore()
+        elif self._is_reset_due:
+            self._reset_slot(self.tries)
+
+    def _reset_slot(self, tries: int) -> None:
+        """Has the slot begin anew. Returns once the answer to the mark behind the last `reset` has come, so that none
+        that was sent is taken later."""
+        self._settle()
+        for number in range(1, _whole("tries", tries, 1) + 1):
+            self._begin_try()
+            self._send("reset")
+            self._send_mark()
+            found = self._answer("done")
+            if found is not None and found[0] == "refused":
+                raise Refused(found[1], "reset", number)
+            if self._reads_to_mark() and found is not None:
+                self._is_reset_due = False
+                return
+            if self._path is not None and self._awaited:
+                break
+            self._settle()
+        raise self._silence(tries, "reset")
+
     def _open(self, kind: str, verb: str, words: Sequence[str], tries: int, dataset: int = 0) -> Handle:
         """Makes an object."""
         line = " ".join([verb, *words])
         handle = Handle(kind, 0, dataset, line)
-        self._make(handle, tries)
-        if kind in _DECLARED:
+        is_declared = kind in _DECLARED
+        self._data_of(line)
+        self._prepare()
+        try:
+            # Where its number isn't new, it is the first one of a daemon that began anew: it stays where no other one is
+            # to be made again, and else the reset before that ends it.
+            is_made = self._make(handle, tries) or self._is_whole
+        except _Ended as end:
+            # An object is gone with its connection, but a request that was sent isn't.
+            if end.is_taken and not is_declared:
+                raise
+            is_made = False
+        if not is_made:
+            self._prepare()
+            self._make(handle, tries)
+        if is_declared:
             self._declared.append(handle)
         return handle
 
-    def _make(self, handle: Handle, tries: int) -> None:
-        """Has the node make an object, by the line of its handle. A number that isn't new says that the daemon
-        began anew."""
+    def _make(self, handle: Handle, tries: int) -> bool:
+        """Has the node make an object, by the line of its handle. Answers whether its number is new: else the daemon
+        began anew, which is told; where objects are made again by a reset, this one has to be, too."""
         assert handle._line is not None
         number = int(self._ask([handle._line], "handle", tries)[1])
         is_new = number > self._highest
@@ -1301,63 +1862,115 @@ class Slot:
             self._void()
         handle.number = number
         self._note(handle)
-        if not is_new and self.restore:
-            self._make_all()
+        return is_new
 
     def _void(self) -> None:
-        """Voids all handles: the daemon that gave them is gone."""
+        """Voids all handles: the slot that gave them began anew."""
         lost = [it for it in self._handles.values() if it.kind not in _DECLARED]
+        self._begin_start()
+        self._is_whole = not (self.restore and self._declared)
+        self._told.append(Restarted(tuple(self._declared), tuple(lost)))
+
+    def _begin_start(self) -> None:
+        """From here on no handle of before is one of an object."""
         self._handles.clear()
         self._highest = 0
         self._start += 1
-        self._told.append(Restarted(tuple(self._declared), tuple(lost)))
+        # What is to be done about it is due at once.
+        self._tried = -math.inf
 
-    def _begin_anew(self) -> None:
-        """Takes notice of a daemon that was started anew."""
-        self._void()
-        if self.restore:
-            self._make_all()
+    def _restore(self) -> None:
+        """Makes all declared objects again, behind a reset, so that no half of an earlier try stays. Where that fails
+        the slot isn't whole, and whoever comes next begins again."""
+        for _ in range(_RESTORES_MOST):
+            if self._restores():
+                return
+        raise NoAnswer(f"{self._place_text()}: the slot began anew {_RESTORES_MOST} times while objects were made again")
 
-    def _make_all(self) -> None:
-        """Makes the declared objects that aren't there, in the order in which they were declared."""
-        for handle in list(self._declared):
-            self._number_of(handle)
+    def _restores(self) -> bool:
+        """The same; False where the slot began anew meanwhile."""
+        highest = self._highest
+        self._begin_start()
+        self._highest = highest
+        try:
+            self._reset_slot(self.tries)
+            for handle in list(self._declared):
+                if not self._make(handle, 1):
+                    return False
+                if handle._data is not None:
+                    self._ask(["put", str(handle.number), _hex_word(handle._data)], "done", self.tries)
+        except _Ended:
+            return False
+        except Refused as refusal:
+            if refusal.name != "NoHandle":
+                raise
+            self._void()
+            return False
+        self._is_whole = True
+        return True
 
     def _number_of(self, handle: Handle | int) -> str:
-        """The node's number of an object, which is made again where the daemon that had it is gone."""
+        """The node's number of an object."""
         if isinstance(handle, int):
             return _number_word("handle", handle)
         _typed("handle", handle, Handle, "Handle or number")
         if handle._start not in (-1, self._start):
-            if not self.restore or handle not in self._declared:
-                raise Refused("NoHandle", f"{handle} of a daemon that was started anew since")
-            self._make(handle, 1)
-            if handle._data is not None:
-                self._ask(["put", str(handle.number), _hex_word(handle._data)], "done", self.tries)
+            raise Refused("NoHandle", f"{handle} of before the slot began anew")
         return str(handle.number)
+
+    def _call(self, words: Sequence[str], tries: int) -> None:
+        """Makes a call that is of no object; once more where the connection had ended before it."""
+        self._data_of(" ".join(words))
+        self._prepare()
+        try:
+            self._ask(words, "done", tries)
+        except _Ended as end:
+            if end.is_taken:
+                raise
+            self._prepare()
+            self._ask(words, "done", tries)
 
     def _act(self, verb: str, handle: Handle | int, words: Sequence[str], tries: int,
              answer: str = "done") -> list[str]:
-        """Makes a call of an object; once more where the daemon was started anew and the object is made again."""
-        number = self._number_of(handle)
+        """Makes a call of an object; once more where the slot began anew and the object is made again."""
+        number = _number_word("handle", handle) if isinstance(handle, int) else str(
+            _typed("handle", handle, Handle, "Handle or number").number)
+        self._data_of(" ".join([verb, number, *words]))
+        _number_word("tries", tries, 1)
+        self._prepare()
         try:
-            return self._ask([verb, number, *words], answer, tries)
+            return self._ask([verb, self._number_of(handle), *words], answer, tries)
         except Refused as refusal:
-            if refusal.name != "NoHandle" or handle not in self._declared:
+            if refusal.name != "NoHandle" or handle not in self._declared or not self._is_there(handle):
                 raise
-            self._begin_anew()
+            self._void()
             if not self.restore:
                 raise
+        except _Ended as end:
+            if end.is_taken and verb not in _REPEATED:
+                raise
+        self._prepare()
         return self._ask([verb, self._number_of(handle), *words], answer, tries)
+
+    def _is_there(self, handle: Handle | int) -> bool:
+        """Whether the slot has the object, as far as this client knows."""
+        return isinstance(handle, Handle) and handle._start == self._start
 
     def _end(self, verb: str, handle: Handle | int, tries: int | None) -> None:
         """Ends an object. Where an earlier try did that, a later one finds no handle."""
         if isinstance(handle, Handle) and handle in self._declared and handle._start != self._start:
-            # Of a daemon that is gone. From here on it isn't made again.
+            # Of a slot that began anew. From here on it isn't made again.
             self._forget(handle)
             return
+        number = self._number_of(handle)
+        times = self._tries(tries)
+        self._prepare()
         try:
-            self._ask([verb, self._number_of(handle)], "done", self._tries(tries))
+            self._ask([verb, number], "done", times)
+        except _Ended:
+            # It ended with the connection.
+            self._forget(handle)
+            return
         except Refused as refusal:
             if refusal.name != "NoHandle":
                 raise
@@ -1365,10 +1978,11 @@ class Slot:
                 raise
             self._forget(handle)
             if refusal.tries == 1:
-                # No earlier try ended it, so the daemon was started anew.
-                self._begin_anew()
+                # No earlier try ended it, so the slot began anew.
+                self._void()
                 if not self.restore:
                     raise
+                self._prepare()
             return
         self._forget(handle)
 
@@ -1387,7 +2001,7 @@ def _end_of(time_us: float | None) -> float | None:
     return time.monotonic() + min(time_us, 1e18) / 1_000_000
 
 
-def _wait(end: float | None) -> float:
+def _left(end: float | None) -> float:
     """How many seconds to wait at once for what comes before that moment."""
     return _WAIT_MOST if end is None else min(_WAIT_MOST, max(0.0, end - time.monotonic()))
 
@@ -1404,12 +2018,160 @@ def _counts(etb: int, op_trn: int) -> tuple[str, str]:
     return _number_word("etb", etb), _number_word("op_trn", op_trn)
 
 
+def _cut(line: str) -> str:
+    """The beginning of a line, as a fault shows it."""
+    return line if len(line) <= 80 else line[:77] + "..."
+
+
+def _is_folder(text: str | os.PathLike[str], port: object) -> bool:
+    """Whether a folder of control sockets is named, and a port."""
+    return "/" in os.fspath(text) and isinstance(port, int) and SLOTS_MOST <= port <= 0xFFFF
+
+
+def _socket_path(name: str, folder: str | os.PathLike[str], port: int | str) -> str:
+    """The path of a control socket. Raises ValueError where it can't be one."""
+    path = os.path.join(_typed(name, os.fspath(folder), str, "path"), str(port))
+    if len(os.fsencode(path)) > PATH_MOST or "\0" in path:
+        raise ValueError(f"{name} is {_shown(folder)}, and a path of a socket has at most {PATH_MOST} bytes, none of "
+                         "them zero")
+    return path
+
+
 def _is_address(text: str | os.PathLike[str]) -> bool:
     try:
         ipaddress.IPv4Address(text)
     except ValueError:
         return False
     return True
+
+
+# -----------------------------------------------------------------------------
+# The client in a program of asyncio
+# -----------------------------------------------------------------------------
+
+_Words = ParamSpec("_Words")
+_Answer = TypeVar("_Answer")
+
+
+def _awaited(call: Callable[Concatenate[Slot, _Words], _Answer]) -> Callable[
+        Concatenate[AsyncSlot, _Words], Coroutine[Any, Any, _Answer]]:
+    """The same call, to be awaited."""
+    @functools.wraps(call)
+    async def begin(self: AsyncSlot, /, *words: _Words.args, **named: _Words.kwargs) -> _Answer:
+        return await self._call(functools.partial(call, self.slot, *words, **named))
+    return begin
+
+
+class AsyncSlot:
+    """The same application in a program of asyncio: `async with AsyncSlot(Slot("node.toml", 0)) as doors`. Its calls
+    are awaited, `await doors.put(status, value)`, and its indications come by `async for told in doors`, in one task.
+
+    **Calls** are made one after another, in the order in which they were begun, each in a thread, so that the others
+    of the program go on meanwhile. One that is cancelled before its turn isn't made. One that is cancelled later goes on
+    to its end, and nobody is told its answer: a cancelled `publish` may leave a publisher. No indication gets lost where
+    somebody is cancelled who waits for it.
+
+    **The lease** is kept in calls, and while a task waits for an indication. Its program's loop does that, and no
+    thread: where the loop hangs, nothing is said.
+
+    While it is used, nobody else calls `slot`.
+    """
+
+    def __init__(self, slot: Slot) -> None:
+        """The application of that client, which this one closes."""
+        self.slot = slot
+        self._worker = concurrent.futures.ThreadPoolExecutor(1, "trdp_slot")
+        self._turn = asyncio.Lock()  # held while a call is under way
+        self._hearing = asyncio.Lock()  # held while a task waits for an indication
+
+    async def close(self) -> None:
+        """Closes the client, once the call that is under way is over."""
+        async with self._turn:
+            self.slot.close()
+            self._worker.shutdown(wait=False)
+
+    async def __aenter__(self) -> AsyncSlot:
+        return self
+
+    async def __aexit__(self, *_: object) -> None:
+        await self.close()
+
+    def __aiter__(self) -> AsyncSlot:
+        return self
+
+    async def __anext__(self) -> Indication:
+        told = await self.next_indication()
+        assert told is not None
+        return told
+
+    async def next_indication(self, time_us: int | None = None) -> Indication | None:
+        """As `Slot.next_indication`, but that others of the program go on meanwhile."""
+        end = _end_of(time_us)
+        async with self._hearing:
+            while True:
+                async with self._turn:
+                    # Nobody has the client now, so that this waits for nothing.
+                    told = self.slot._next_told(may_wait=False)
+                now = time.monotonic()
+                if told is not None or end is not None and now >= end:
+                    return told
+                due = self.slot._due()
+                if due <= now:
+                    await self._call(functools.partial(self.slot._attend, True))
+                else:
+                    await self._can_hear(min(due, math.inf if end is None else end) - now)
+
+    async def _can_hear(self, seconds: float) -> None:
+        """Waits until something came, so many seconds at most."""
+        loop = asyncio.get_running_loop()
+        heard = asyncio.Event()
+        loop.add_reader(self.slot.fileno(), heard.set)
+        try:
+            await asyncio.wait_for(heard.wait(), min(_WAIT_MOST, seconds))
+        except TimeoutError:
+            pass
+        finally:
+            loop.remove_reader(self.slot.fileno())
+
+    async def _call(self, call: Callable[[], _Answer]) -> _Answer:
+        """Makes a call once it has its turn, which is over when the call is, also where it is cancelled before."""
+        await self._turn.acquire()
+        try:
+            made = asyncio.get_running_loop().run_in_executor(self._worker, call)
+        except BaseException:
+            self._turn.release()
+            raise
+        made.add_done_callback(self._is_over)
+        return await asyncio.shield(made)
+
+    def _is_over(self, made: asyncio.Future[Any]) -> None:
+        """A call is over. What it raises nobody is told who was cancelled."""
+        self._turn.release()
+        if not made.cancelled():
+            made.exception()
+
+    publish = _awaited(Slot.publish)
+    put = _awaited(Slot.put)
+    unpublish = _awaited(Slot.unpublish)
+    subscribe = _awaited(Slot.subscribe)
+    get = _awaited(Slot.get)
+    unsubscribe = _awaited(Slot.unsubscribe)
+    openpull = _awaited(Slot.openpull)
+    pull = _awaited(Slot.pull)
+    closepull = _awaited(Slot.closepull)
+    listen = _awaited(Slot.listen)
+    unlisten = _awaited(Slot.unlisten)
+    notify = _awaited(Slot.notify)
+    request = _awaited(Slot.request)
+    reply = _awaited(Slot.reply)
+    query = _awaited(Slot.query)
+    replyerror = _awaited(Slot.replyerror)
+    confirm = _awaited(Slot.confirm)
+    abort = _awaited(Slot.abort)
+    reset = _awaited(Slot.reset)
+    begin = _awaited(Slot.begin)
+    sync = _awaited(Slot.sync)
+    check = _awaited(Slot.check)
 
 
 # -----------------------------------------------------------------------------
@@ -1456,14 +2218,21 @@ _USAGE = re.compile("([0-9]+)" + " ([0-9]+)/([0-9]+)" * len(Kinds._fields) + " (
 class Operator:
     """The operator of a node, at its operator's port: what concerns all slots.
 
-    Each line goes from a socket of its own, so that no answer is taken for that of another line. Each method raises
-    Refused with the fault's name (NoGroup, SlotsFull), TimeoutError where no answer came (Nobody where nobody is
-    there), and WrongAnswer where no trdpd answers."""
+    Each line goes from a socket or a connection of its own, so that no answer is taken for that of another line. Each
+    method raises Refused with the fault's name (NoGroup, SlotsFull), TimeoutError where no answer came (Nobody, at once,
+    where nobody is there), Busy where four other operators have the control socket, and WrongAnswer where no trdpd
+    answers."""
 
-    def __init__(self, address: str, port: int, *, answer_us: int = 200_000, tries: int = 3) -> None:
-        """The operator at that address and port. `answer_us` is how long an answer is waited for, and `tries` how
-        often a line is sent that may be sent twice."""
-        self.place = (_address_word("address", address), _whole("port", port, 1, 0xFFFF))
+    def __init__(self, address: str, port: int | None = None, *, answer_us: int = 200_000, tries: int = 3) -> None:
+        """The operator at that address and port, as 127.0.0.1 and 18100, or at the control socket of that path, as
+        /run/trdpd/18100, without a port. `answer_us` is how long an answer is waited for, and `tries` how often a line
+        is sent over UDP that may be sent twice; over a connection it is sent once, and waited for as long in all."""
+        self.place: tuple[str, int] | str
+        if port is None and isinstance(address, str) and "/" in address:
+            folder, _, name = address.rpartition("/")
+            self.place = _socket_path("address", folder or "/", name)
+        else:
+            self.place = (_address_word("address", address), _whole("port", cast(int, port), 1, 0xFFFF))
         self.answer_us = _whole("answer_us", answer_us, 1)
         self.tries = _whole("tries", tries, 1)
 
@@ -1513,11 +2282,15 @@ class Operator:
     def _wrong(self, line: str, answer: str) -> Exception:
         """What it is that a line has such an answer: a refusal, or none of trdpd."""
         refused = re.fullmatch("(?:line )?fault ([A-Z][A-Za-z0-9]*)", answer)
-        return Refused(refused[1], line) if refused else WrongAnswer(f"{self.place[0]}:{self.place[1]}", answer)
+        return Refused(refused[1], line) if refused else WrongAnswer(self._place_text(), answer)
+
+    def _place_text(self) -> str:
+        return self.place if isinstance(self.place, str) else f"{self.place[0]}:{self.place[1]}"
 
     def _answer(self, line: str, tries: int) -> str:
         """The answer to a line, without the end of its last line."""
-        place = f"{self.place[0]}:{self.place[1]}"
+        if isinstance(self.place, str):
+            return self._answer_of(self.place, line, tries)
         is_nobody = False
         for _ in range(tries):
             with socket.socket(socket.AF_INET, socket.SOCK_DGRAM) as port:
@@ -1529,5 +2302,42 @@ class Operator:
                 except (TimeoutError, ConnectionRefusedError) as fault:
                     is_nobody = isinstance(fault, ConnectionRefusedError)
         if is_nobody:
-            raise Nobody(f"nobody is at {place}: {line}")
+            raise Nobody(f"nobody is at {self._place_text()}: {line}")
         raise NoAnswer(f"no answer, at {tries} tries of {self.answer_us} microseconds: {line}")
+
+    def _answer_of(self, path: str, line: str, tries: int) -> str:
+        """The same over a connection: the line is its last one, so that its end is that of the answer."""
+        end = time.monotonic() + tries * self.answer_us / 1_000_000
+        came = b""
+        with socket.socket(socket.AF_UNIX, socket.SOCK_STREAM) as port:
+            try:
+                self._limit(port, end)
+                port.connect(path)
+                # What it says without being asked, as `busy`, is read though the line can't be sent.
+                with contextlib.suppress(BrokenPipeError, ConnectionResetError):
+                    port.sendall(f"{line}\n".encode(), socket.MSG_NOSIGNAL)
+                    port.shutdown(socket.SHUT_WR)
+                with contextlib.suppress(ConnectionResetError):
+                    while data := self._read(port, end):
+                        came += data
+            except (FileNotFoundError, ConnectionRefusedError) as fault:
+                raise Nobody(f"nobody is at {path}: {fault.strerror}: {line}") from None
+            except (TimeoutError, BlockingIOError):
+                raise NoAnswer(f"no answer in {tries} times {self.answer_us} microseconds: {line}") from None
+            except OSError as fault:
+                raise OSError(fault.errno, fault.strerror, path) from None
+        if came == b"busy\n":
+            raise Busy(path)
+        if not came.endswith(b"\n"):
+            raise NoAnswer(f"the connection at {path} has ended: {line}")
+        return _line_of(came)
+
+    def _read(self, port: socket.socket, end: float) -> bytes:
+        """What comes next before that moment; nothing at the end of the connection."""
+        self._limit(port, end)
+        return port.recv(65536)
+
+    @staticmethod
+    def _limit(port: socket.socket, end: float) -> None:
+        """Has the socket wait until that moment at most."""
+        port.settimeout(max(0.001, end - time.monotonic()))

@@ -243,7 +243,7 @@ def asked_by(words: list[str]) -> argparse.Namespace:
 
 def open_port(asked: argparse.Namespace) -> Datagrams | Connection:
     """The control port that is asked for. Raises OSError with the place."""
-    return Connection(asked.path) if "path" in asked else Datagrams(asked.address, asked.port)
+    return Connection(asked.path) if "path" in asked else Datagrams(asked.address, asked.port, reset=False)
 
 
 def talk(port: Datagrams | Connection, lines: list[str], end: float, typed: Typed | None) -> bool:
