@@ -1539,6 +1539,8 @@ class Slot:
                 else:
                     return found
         except _Ended as end:
+            if self._left_out is not None and _read_line_or_none(self._left_out) is None:
+                raise WrongAnswer(self._place_text(), self._left_out) from None
             end.is_taken = is_taken
             end.args = (f"the connection at {self._place_text()} has ended: {_cut(line)}",)
             raise

@@ -1,0 +1,407 @@
+"""The client at either kind of control port: what it says and hears, who is busy, and how a connection ends."""
+from __future__ import annotations
+
+import contextlib
+import os
+import pathlib
+import signal
+import socket
+import subprocess
+import sys
+import tempfile
+import threading
+import time
+import unittest
+from collections.abc import Callable
+from typing import Any
+
+import testing
+import trdp_slot
+from test_controls import PAYLOAD
+from test_ports import DEVICE, HOME, Case, control, node
+from testing import CONTROL, MD, OPERATOR, PD, SECOND, Daemon, wait_until
+from trdp_slot import (Asked, Busy, Closed, Kinds, NoAnswer, Nobody, Notified, Operator, OtherSlot, Refused, Replied,
+                       Restarted, Silent, Slot, WrongAnswer)
+
+QUOTAS = "publishers = 4\nsubscriptions = 4\nrequesters = 1\nlisteners = 2\ncallers = 2\nrepliers = 2"
+ANSWER_US = SECOND
+NOBODY = 65534
+MARKS = {"mark": "line fault Unknown", "get": "line fault Count", "get mark": "line fault BadWord"}
+# How many times as long as it should take something may take.
+MARGIN = 10
+
+
+class Clients(Case):
+    """A daemon of two slots whose control ports are of one kind, and clients of it."""
+
+    is_at_paths = True
+
+    def setUp(self) -> None:
+        folder = tempfile.TemporaryDirectory()
+        self.addCleanup(folder.cleanup)
+        self.folder = folder.name
+
+    def starts(self, *words: str) -> Daemon:
+        """A daemon of the kind."""
+        self.started = self.daemon(node(control(0, QUOTAS), control(1, QUOTAS)), *self.words(), *words)
+        return self.started
+
+    def words(self) -> tuple[str, ...]:
+        """The words by which it has its control ports."""
+        return ("--controls", self.folder) if self.is_at_paths else ()
+
+    def slot(self, number: int = 0, **words: Any) -> Slot:
+        """A client of a slot."""
+        words = {"answer_us": ANSWER_US, "controls": self.folder if self.is_at_paths else None, **words}
+        slot = Slot(str(self.started.path), number, **words)
+        self.addCleanup(slot.close)
+        return slot
+
+    def operator(self) -> Operator:
+        """The node's operator."""
+        if self.is_at_paths:
+            return Operator(f"{self.folder}/{OPERATOR}", answer_us=ANSWER_US)
+        return Operator(HOME, OPERATOR, answer_us=ANSWER_US)
+
+    def told(self, slot: Slot, kind: type) -> Any:
+        """The next indication, of that kind."""
+        told = slot.next_indication(5 * SECOND)
+        self.assertIsInstance(told, kind)
+        return told
+
+
+class Both(Clients):
+    """What is the same at both kinds, here at control sockets."""
+
+    def test_process_data(self) -> None:
+        self.starts()
+        door, desk = self.slot(), self.slot(1)
+        publisher = door.publish(100, f"{HOME}:{PD}", cycle_us=10_000)
+        door.put(publisher, b"\x0a\x0b")
+        subscription = desk.subscribe(100, time_us=200_000)
+        wait_until(lambda: desk.get(subscription).state == "Valid")
+        self.assertEqual(desk.get(subscription).value, b"\x0a\x0b")
+        door.unpublish(publisher)
+        self.assertEqual(self.told(desk, Silent), Silent(subscription))
+        self.assertRaises(Refused, door.put, publisher, b"")
+        self.assertTrue(door.check() and desk.check())
+
+    def test_messages(self) -> None:
+        self.starts()
+        door, desk = self.slot(), self.slot(1)
+        listener = door.listen(300)
+        caller = desk.request(300, f"{HOME}:{MD}", b"\x0d", time_us=5 * SECOND)
+        asked = self.told(door, Asked)
+        self.assertIs(asked.listener, listener)
+        door.reply(asked.replier, 301, b"\x0c")
+        self.assertEqual(self.told(desk, Replied).payload, b"\x0c")
+        self.assertEqual(self.told(desk, Closed), Closed(caller, "Done"))
+
+    def test_the_slot_begins_anew_before_the_first_call(self) -> None:
+        self.starts()
+        for number in range(1, 4):
+            # Each has all publishers that the slot may have, though the one before ended none.
+            slot = self.slot()
+            self.assertEqual([slot.publish(100, f"{DEVICE}:{PD}").number for _ in range(4)],
+                             list(range(4 * number - 3, 4 * number + 1)))
+            self.assertRaises(Refused, slot.publish, 100, f"{DEVICE}:{PD}")
+            slot.close()
+
+    def test_what_the_operator_asks_and_says(self) -> None:
+        self.starts()
+        slot, operator = self.slot(), self.operator()
+        slot.subscribe(100)
+        for _ in range(20):
+            operator.role(3, True)
+        self.assertRaises(Refused, operator.role, 0, True)
+        first, second = operator.slots()
+        self.assertEqual((first.objects, second.objects), (Kinds(0, 1, 0, 0, 0, 0), Kinds(0, 0, 0, 0, 0, 0)))
+        self.assertIsNone(second.silent_us)
+        self.assertGreater(operator.totals().taken, 20)
+
+    def test_another_slot_is_told(self) -> None:
+        self.starts()
+        with self.assertRaises(OtherSlot) as caught:
+            if self.is_at_paths:
+                with Slot(self.folder, CONTROL + 1, answer_us=ANSWER_US, number=0) as slot:
+                    slot.listen(1)
+            else:
+                with Slot(HOME, CONTROL + 1, answer_us=ANSWER_US, number=0) as slot:
+                    slot.listen(1)
+        self.assertEqual(caught.exception.line, "1 done")
+
+
+class BothAtPorts(Both):
+    """The same at UDP ports."""
+
+    is_at_paths = False
+
+
+class Connections(Clients):
+    """What a connection has, and a datagram hasn't."""
+
+    def test_the_longest_message(self) -> None:
+        self.starts()
+        door, desk = self.slot(), self.slot(1)
+        door.listen(300)
+        payload = bytes(it % 251 for it in range(PAYLOAD))
+        desk.notify(300, f"{HOME}:{MD}", payload)
+        self.assertTrue(self.told(door, Notified).payload == payload)
+        desk.request(300, f"{HOME}:{MD}", payload)
+        asked = self.told(door, Asked)
+        self.assertTrue(asked.payload == payload)
+        door.reply(asked.replier, 301, payload)
+        self.assertTrue(self.told(desk, Replied).payload == payload)
+        self.assertRaisesRegex(ValueError, "a control socket takes 139999", desk.notify, 1, f"{HOME}:{MD}", bytes(70_000))
+
+    def test_beside_an_application_that_lives_it_is_busy(self) -> None:
+        self.starts()
+        first = self.slot()
+        publisher = first.publish(100, f"{DEVICE}:{PD}")
+        for _ in range(3):
+            second = self.slot()
+            calls: list[Callable[[], object]] = [second.sync, second.begin, lambda: second.listen(1), second.reset]
+            for call in calls:
+                with self.assertRaises(Busy) as caught:
+                    call()
+                    second.sync()
+                self.assertEqual(str(caught.exception), f"{self.folder}/{CONTROL} is busy: another one lives there")
+        first.put(publisher, b"\x01")
+        first.close()
+        self.assertEqual(second.publish(100, f"{DEVICE}:{PD}").number, 2)
+        self.assertIsNone(second.next_indication(0))
+
+    def test_four_operators_are_enough(self) -> None:
+        self.starts()
+        held = [testing.Connection(f"{self.folder}/{OPERATOR}") for _ in range(4)]
+        for connection in held:
+            self.addCleanup(connection.close)
+            connection.say(b"role 1 leader")
+            self.assertEqual(connection.hear(), b"ok\n")
+        self.assertRaises(Busy, self.operator().role, 1, True)
+
+    def test_the_end_of_the_connection_is_told(self) -> None:
+        daemon = self.starts()
+        slot = self.slot()
+        publisher, listener = slot.publish(100, f"{DEVICE}:{PD}"), slot.listen(300)
+        caller = slot.request(300, f"{DEVICE}:{MD}", time_us=100 * SECOND)
+        daemon.end()
+        self.assertEqual(self.told(slot, Restarted), Restarted((publisher, listener), (caller,)))
+        self.assertIsNone(slot.next_indication(10_000))
+        with self.assertRaisesRegex(Refused, "^NoHandle"):
+            slot.put(publisher, b"\x01")
+        daemon.start()
+        self.assertEqual(slot.publish(100, f"{DEVICE}:{PD}").number, 1)
+
+    def test_nobody_is_told_at_once(self) -> None:
+        daemon = self.starts()
+        daemon.end()
+        path = f"{self.folder}/{CONTROL}"
+        for reason in ("Connection refused", "No such file or directory"):
+            slot, begin = self.slot(answer_us=20 * SECOND), time.monotonic()
+            with self.assertRaises(Nobody) as caught:
+                slot.listen(1)
+            self.assertEqual(str(caught.exception), f"nobody is at {path}: {reason}")
+            self.assertIsInstance(caught.exception, ConnectionRefusedError)
+            with self.assertRaisesRegex(Nobody, reason):
+                self.operator().totals()
+            self.assertLess(time.monotonic() - begin, 20)
+            for number in (CONTROL, OPERATOR):
+                pathlib.Path(self.folder, str(number)).unlink(missing_ok=True)
+
+    def test_a_path_that_cant_be_one(self) -> None:
+        self.starts()
+        for controls in ("x" * 120, "a\0b"):
+            self.assertRaises(ValueError, self.slot, controls=controls)
+        self.assertRaises(ValueError, Slot, HOME, CONTROL, controls=self.folder)
+        self.assertRaises(TypeError, self.slot, controls=5)
+        self.assertRaises(ValueError, Operator, "/" + "x" * 120)
+        self.assertRaises(ValueError, self.slot, lease_us=0)
+
+    @unittest.skipUnless(os.geteuid() == 0, "root alone becomes another user")
+    def test_a_file_that_isnt_there_yet_or_isnt_allowed_yet(self) -> None:
+        daemon = self.starts()
+        os.chmod(self.folder, 0o755)
+        path = pathlib.Path(self.folder, str(CONTROL))
+        path.chmod(0o666)
+        here, there = socket.socketpair()
+        with here, there:
+            child = testing.fork(lambda: self.is_another_user(there), [there.fileno()])
+            here.settimeout(20)
+            self.assertEqual(here.recv(1), b"1")
+            daemon.end()
+            path.unlink()
+            here.send(b"2")
+            time.sleep(0.2)
+            daemon.start()
+            time.sleep(0.2)
+            path.chmod(0o666)
+            self.assertEqual(here.recv(1), b"3")
+            # Where nothing is to be made again, it is told at once.
+            path.chmod(0o600)
+            here.send(b"4")
+            self.assertEqual(os.waitpid(child, 0)[1], 0)
+
+    def is_another_user(self, there: socket.socket) -> None:
+        """An application of another user, which takes steps with the test."""
+        os.setuid(NOBODY)
+        there.settimeout(20)
+        with Slot(self.folder, CONTROL, restore=True, answer_us=5 * SECOND) as slot:
+            publisher = slot.publish(100, f"{DEVICE}:{PD}")
+            there.send(b"1")
+            self.assertEqual(there.recv(1), b"2")
+            slot.put(publisher, b"\x01")
+            self.told(slot, Restarted)
+            there.send(b"3")
+        self.assertEqual(there.recv(1), b"4")
+        with Slot(self.folder, CONTROL, answer_us=20 * SECOND) as slot:
+            self.assertRaisesRegex(PermissionError, f"{self.folder}/{CONTROL}", slot.listen, 1)
+
+    def test_a_child_that_becomes_another_program_doesnt_have_it(self) -> None:
+        self.starts()
+        slot = self.slot()
+        slot.listen(1)
+        child = subprocess.Popen([sys.executable, "-c", "input()"], stdin=subprocess.PIPE, close_fds=False)
+        slot.close()
+        self.slot().sync()
+        child.communicate(b"\n", timeout=20)
+        self.assertEqual(child.returncode, 0)
+
+    def test_a_child_of_fork_that_closes_it_ends_nothing(self) -> None:
+        self.starts()
+        slot = self.slot(restore=True)
+        publisher = slot.publish(100, f"{DEVICE}:{PD}")
+        child = os.fork()
+        if child == 0:
+            slot.close()
+            os._exit(0)
+        self.assertEqual(os.waitpid(child, 0)[1], 0)
+        slot.put(publisher, b"\x01")
+        self.assertIsNone(slot.next_indication(50_000))
+        child = os.fork()
+        if child == 0:
+            signal.pause()
+        slot.close()
+        self.assertRaises(Busy, self.slot().sync)
+        os.kill(child, signal.SIGKILL)
+        os.waitpid(child, 0)
+        self.slot().sync()
+
+
+class Made(unittest.TestCase):
+    """A control socket that is made up, by a thread of the test."""
+
+    def setUp(self) -> None:
+        folder = tempfile.TemporaryDirectory()
+        self.addCleanup(folder.cleanup)
+        self.folder = folder.name
+        self.listener = socket.socket(socket.AF_UNIX, socket.SOCK_STREAM)
+        self.addCleanup(self.listener.close)
+        self.listener.bind(f"{self.folder}/18000")
+        self.listener.listen()
+
+    def serve(self, *acts: Callable[[socket.socket], object]) -> Slot:
+        """A client, whose connections are served so, one after another."""
+        def run() -> None:
+            # Until the test is over.
+            with contextlib.suppress(OSError):
+                for act in acts:
+                    with self.listener.accept()[0] as taken:
+                        act(taken)
+
+        thread = threading.Thread(target=run, daemon=True)
+        thread.start()
+        slot = Slot(self.folder, 18000, answer_us=ANSWER_US, reset=False)
+        self.addCleanup(thread.join, 20)
+        self.addCleanup(self.listener.shutdown, socket.SHUT_RDWR)
+        self.addCleanup(slot.close)
+        return slot
+
+    @staticmethod
+    def answering(*texts: str) -> Callable[[socket.socket], None]:
+        """Answers marks, and each other line by the next of these texts, until there is none."""
+        def answer(taken: socket.socket) -> None:
+            left = list(texts)
+            with taken.makefile("r") as lines:
+                for line in lines:
+                    text = MARKS.get(line.rstrip("\n")) or (left.pop(0) if left else None)
+                    if text is None:
+                        return
+                    if text:
+                        taken.sendall(f"{text}\n".encode())
+        return answer
+
+    def test_busy_is_read_though_nothing_can_be_sent(self) -> None:
+        def busy(taken: socket.socket) -> None:
+            taken.sendall(b"busy\n")
+
+        slot = self.serve(busy, busy)
+        for _ in range(2):
+            slot.begin()
+            time.sleep(0.1)
+            self.assertRaises(Busy, slot.get, 1)
+        self.assertIsNone(slot.next_indication(0))
+
+    def test_busy_later_is_an_answer_of_no_trdpd(self) -> None:
+        slot = self.serve(self.answering("0 done", "busy", "busy", "busy"))
+        slot.put(1, b"")
+        self.assertRaises(WrongAnswer, slot.put, 1, b"")
+
+    def test_an_answer_that_was_dropped_is_asked_for_again(self) -> None:
+        slot = self.serve(self.answering("lost 3", "0 value Valid 7 0b", "lost 1", "0 done"))
+        self.assertEqual(slot.get(1).value, b"\x0b")
+        self.assertEqual(slot.next_indication(0), trdp_slot.Lost(3))
+        self.assertRaises(NoAnswer, slot.pull, 1)
+        slot.put(1, b"")
+
+    def test_a_mark_that_was_dropped_is_followed_by_another_one(self) -> None:
+        def act(taken: socket.socket) -> None:
+            with taken.makefile("r") as lines:
+                self.assertEqual([next(lines) for _ in range(2)], ["get 1\n", "mark\n"])
+                taken.sendall(b"0 value Valid 7 0b\nlost 1\n")
+                self.assertEqual([next(lines) for _ in range(1)], ["get\n"])
+                taken.sendall(b"line fault Count\n")
+                self.assertEqual([next(lines) for _ in range(2)], ["get 2\n", "get mark\n"])
+                taken.sendall(b"0 value Valid 8 0c\nline fault BadWord\n")
+
+        slot = self.serve(act)
+        self.assertEqual([slot.get(it).counter for it in (1, 2)], [7, 8])
+
+    def test_late_answers_are_never_those_of_another_call(self) -> None:
+        held: list[bytes] = []
+        freed = threading.Event()
+
+        def act(taken: socket.socket) -> None:
+            with taken.makefile("r") as lines:
+                for line in lines:
+                    if line != "#\n":
+                        answer = MARKS.get(line.rstrip("\n")) or f"0 value Valid {line.split()[1]} 00"
+                        held.append(f"{answer}\n".encode())
+                    if freed.is_set():
+                        taken.sendall(b"".join(held))
+                        held.clear()
+
+        slot = self.serve(act)
+        slot.answer_us = 10_000
+        for _ in range(3):
+            self.assertRaises(NoAnswer, slot.get, 1)
+        freed.set()
+        slot.answer_us = ANSWER_US
+        slot.begin()
+        self.assertEqual([slot.get(it).counter for it in (2, 3, 4)], [2, 3, 4])
+
+    def test_a_line_of_too_many_bytes_is_of_no_trdpd(self) -> None:
+        slot = self.serve(lambda taken: taken.sendall(b"x" * 200_000))
+        self.assertRaises(WrongAnswer, slot.get, 1)
+
+    def test_a_call_is_made_once_where_the_connection_ends_behind_it(self) -> None:
+        said: list[bytes] = []
+        slot = self.serve(lambda taken: said.append(taken.recv(1000)), lambda taken: said.append(taken.recv(1000)))
+        with self.assertRaisesRegex(NoAnswer, "has ended: notify 1 "):
+            slot.notify(1, "10.0.0.2:17225")
+        self.assertEqual(len(said), 1)
+        self.assertIsInstance(slot.next_indication(0), Restarted)
+
+
+if __name__ == "__main__":
+    unittest.main()
