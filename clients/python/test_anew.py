@@ -65,7 +65,7 @@ class Successors(test_ends.Ends):
         return client
 
     def are_seen(self, display: Display, clients: list[Slot], ends: list[test_ends.End]) -> None:
-        """From the first look on that shows a client's value none shows another one, and it is told nothing of before."""
+        """From the first look on that shows a client's value none shows another one. It is told nothing of before."""
         seen: list[list[tuple[bytes, int, bytes]]] = [[] for _ in ends]
 
         def is_enough() -> bool:

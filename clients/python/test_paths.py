@@ -152,7 +152,8 @@ class Connections(Clients):
         self.assertTrue(asked.payload == payload)
         door.reply(asked.replier, 301, payload)
         self.assertTrue(self.told(desk, Replied).payload == payload)
-        self.assertRaisesRegex(ValueError, "a control socket takes 139999", desk.notify, 1, f"{HOME}:{MD}", bytes(70_000))
+        with self.assertRaisesRegex(ValueError, "a control socket takes 139999"):
+            desk.notify(1, f"{HOME}:{MD}", bytes(70_000))
 
     def test_beside_an_application_that_lives_it_is_busy(self) -> None:
         self.starts()

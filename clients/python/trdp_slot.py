@@ -1,4 +1,4 @@
-"""A client of trdpd: the calls of one slot's application, at the control port of a daemon: a UDP port or a control socket.
+"""A client of trdpd: the calls of one slot's application, at a daemon's control port: a UDP port or a control socket.
 
     from trdp_slot import Slot
 
@@ -6,8 +6,8 @@
         status = doors.publish(2101, "10.0.0.2:17224", dataset=5002, cycle_us=100_000)
         doors.put(status, [4, [0, 0, 0, 0], 0])
 
-This one file needs Linux and the standard library of Python 3.11 alone, and can be copied. docs/CLIENTS.md tells how it is
-used, and docs/SCRIPT.md what each call does and when it is refused.
+This one file needs Linux and the standard library of Python 3.11 alone, and can be copied. docs/CLIENTS.md tells how
+it is used, and docs/SCRIPT.md what each call does and when it is refused.
 
 All times are whole numbers of microseconds, and named so: `cycle_us`. Addresses are texts as "10.0.0.2", places
 texts as "10.0.0.2:17224", URIs texts of at most 32 bytes, and sessions are `uuid.UUID`.
@@ -83,7 +83,7 @@ class Nobody(NoAnswer, ConnectionRefusedError):
 
 
 class Busy(SlotError):
-    """Another application lives at the path of the control socket, or four operators do. The call didn't take effect."""
+    """Another application lives at the path of the control socket, or four operators do. The call took no effect."""
 
     def __init__(self, place: str) -> None:
         super().__init__(f"{place} is busy: another one lives there")
@@ -956,9 +956,9 @@ class Slot:
     parent's. As long as a child keeps a connection open, its parent's end doesn't end it. What a process becomes by
     `exec` doesn't have it.
 
-    All calls raise Refused, TimeoutError where no answer came (Nobody, at once, where nobody is at the port), Busy where
-    another application has the control socket, OtherSlot where another slot answers, WrongAnswer where no trdpd does,
-    ValueError or TypeError where an argument can't stand in a line, and OSError where the system refuses, as
+    All calls raise Refused, TimeoutError where no answer came (Nobody, at once, where nobody is at the port), Busy
+    where another application has the control socket, OtherSlot where another slot answers, WrongAnswer where no trdpd
+    does, ValueError or TypeError where an argument can't stand in a line, and OSError where the system refuses, as
     PermissionError at a control socket.
     """
 
@@ -1053,9 +1053,10 @@ class Slot:
             held.close()
 
     def fileno(self) -> int:
-        """A descriptor that can be read from as long as something is there for `next_indication(0)`; it stays the same.
-        It is for `select` and the like alone. Whoever waits at it calls `next_indication(0)` now and then also where
-        nothing is there, so that the lease is kept, and `check`, so that a restart is noticed."""
+        """A descriptor that can be read from where something may be there for `next_indication(0)`, until that answers
+        None; it stays the same. It is for `select` and the like alone. Whoever waits at it calls `next_indication(0)`
+        now and then also where nothing is there, so that the lease is kept, and `check`, so that a restart is
+        noticed."""
         return self._epoll.fileno()
 
     def __enter__(self) -> Slot:
@@ -1498,8 +1499,8 @@ class Slot:
             try:
                 if not self._reads_to_mark():
                     if self._path is not None:
-                        # A new connection would be a new application. What waits is answered in order; another mark goes
-                        # behind it, as this one may have been lost.
+                        # A new connection would be a new application. What waits is answered in order; another
+                        # mark goes behind it, as this one may have been lost.
                         self._mark_end = time.monotonic() + self._patience()
                         if len(self._awaited) < len(_MARKS):
                             self._send_mark()
@@ -1839,8 +1840,8 @@ class Slot:
         self._data_of(line)
         self._prepare()
         try:
-            # Where its number isn't new, it is the first one of a daemon that began anew: it stays where no other one is
-            # to be made again, and else the reset before that ends it.
+            # Where its number isn't new, it is the first one of a daemon that began anew: it stays where no other one
+            # is to be made again, and else the reset before that ends it.
             is_made = self._make(handle, tries) or self._is_whole
         except _Ended as end:
             # An object is gone with its connection, but a request that was sent isn't.
@@ -1887,7 +1888,8 @@ class Slot:
         for _ in range(_RESTORES_MOST):
             if self._restores():
                 return
-        raise NoAnswer(f"{self._place_text()}: the slot began anew {_RESTORES_MOST} times while objects were made again")
+        raise NoAnswer(f"{self._place_text()}: the slot began anew {_RESTORES_MOST} times, and its objects weren't "
+                       "made again")
 
     def _restores(self) -> bool:
         """The same; False where the slot began anew meanwhile."""
@@ -2069,9 +2071,9 @@ class AsyncSlot:
     are awaited, `await doors.put(status, value)`, and its indications come by `async for told in doors`, in one task.
 
     **Calls** are made one after another, in the order in which they were begun, each in a thread, so that the others
-    of the program go on meanwhile. One that is cancelled before its turn isn't made. One that is cancelled later goes on
-    to its end, and nobody is told its answer: a cancelled `publish` may leave a publisher. No indication gets lost where
-    somebody is cancelled who waits for it.
+    of the program go on meanwhile. One that is cancelled before its turn isn't made. One that is cancelled later goes
+    on to its end, and nobody is told its answer: a cancelled `publish` may leave a publisher. No indication gets lost
+    where somebody is cancelled who waits for it.
 
     **The lease** is kept in calls, and while a task waits for an indication. Its program's loop does that, and no
     thread: where the loop hangs, nothing is said.
@@ -2221,9 +2223,9 @@ class Operator:
     """The operator of a node, at its operator's port: what concerns all slots.
 
     Each line goes from a socket or a connection of its own, so that no answer is taken for that of another line. Each
-    method raises Refused with the fault's name (NoGroup, SlotsFull), TimeoutError where no answer came (Nobody, at once,
-    where nobody is there), Busy where four other operators have the control socket, and WrongAnswer where no trdpd
-    answers."""
+    method raises Refused with the fault's name (NoGroup, SlotsFull), TimeoutError where no answer came (Nobody, at
+    once, where nobody is there), Busy where four other operators have the control socket, and WrongAnswer where no
+    trdpd answers."""
 
     def __init__(self, address: str, port: int | None = None, *, answer_us: int = 200_000, tries: int = 3) -> None:
         """The operator at that address and port, as 127.0.0.1 and 18100, or at the control socket of that path, as
