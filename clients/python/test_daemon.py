@@ -410,7 +410,7 @@ class Programs(Case):
         return [textwrap.dedent(it) for it in blocks]
 
     def test_the_shortest_programs(self) -> None:
-        doors, display = self.programs()
+        doors, display, *_ = self.programs()
         datasets = "[[dataset]]" + (testing.TOP / "examples/control/door.toml").read_text().partition("[[dataset]]")[2]
         for daemon in self.daemons:
             daemon.end()

@@ -130,18 +130,34 @@ class Page(unittest.TestCase):
                 self.assertEqual(self.type(line), [])
         self.programs()
         self.look()
+        self.programs_again()
         doors = self.top / "doors.toml"
         doors.write_text(doors.read_text() + self.block("[[telegram]]"))
         self.tools()
         self.doors()
+        self.paths()
         self.controls()
 
     def programs(self) -> None:
-        """The two programs in Python, at their first run; and what they come to at their second."""
-        (self.top / "doors.py").write_text(self.block("from trdp_slot import Slot\n"))
+        """The two programs in Python, at their first run, and one that looks."""
+        (self.top / "doors.py").write_text(self.block('from trdp_slot import Slot\n\nwith Slot("doors.toml", 0)'))
         (self.top / "display.py").write_text(self.block("from trdp_slot import Alive, Silent, Slot\n"))
         doors, display = commands(self.block("$ PYTHONPATH=clients/python python3 doors.py"))
         self.prints(doors)
+        self.shows(display)
+        (self.top / "look.py").write_text(self.block("from trdp_slot import Slot\n\nwith Slot.look("))
+        looking, = commands(self.block("$ PYTHONPATH=clients/python python3 look.py"))
+        wait_until(lambda: "state='Valid'" in self.type(looking[0])[-1])
+        self.prints(looking)
+
+    def programs_again(self) -> None:
+        """The same two at their second run."""
+        doors, display = commands(self.block("$ PYTHONPATH=clients/python python3 doors.py"))
+        self.prints(doors)
+        self.shows(display)
+
+    def shows(self, display: tuple[str, list[str]]) -> None:
+        """The display shows what the page says, and is ended."""
         process = self.begin(display[0])
         assert process.stdout is not None
         said: list[str] = []
@@ -152,8 +168,6 @@ class Page(unittest.TestCase):
                 said.append(COUNTS.sub("N", line.rstrip("\n")))
         self.assertEqual(said, [COUNTS.sub("N", it) for it in display[1]])
         os.killpg(process.pid, signal.SIGKILL)
-        self.assertEqual(self.type(doors[0])[-1], self.block("trdp_slot.Refused: ").rstrip("\n"))
-        self.assertIn("trdp_slot.Refused: Quota: subscribe ", self.type(display[0])[-1])
 
     def look(self) -> None:
         """The shortest program in C."""
@@ -188,6 +202,23 @@ class Page(unittest.TestCase):
             while "Valid: 4 doors, 7 bytes\n" not in said[-1:]:
                 said.append(process.stdout.readline())
                 self.assertNotEqual(said[-1], "", said)
+
+    def paths(self) -> None:
+        """The programs in Python at a control socket, of which each is there once, and hears what the other one does."""
+        self.end_all()
+        made, daemon = commands(self.block("$ mkdir -m 700 paths"))
+        self.prints(made)
+        self.start_daemons(daemon[0])
+        (self.top / "stays.py").write_text(self.block("from trdp_slot import Restarted, Slot\n"))
+        (self.top / "tasks.py").write_text(self.block("import asyncio\n"))
+        typed = commands(self.block("$ PYTHONPATH=clients/python python3 stays.py &"))
+        for first, second in (typed, [(f"{typed[1][0]} &", typed[0][1]), (typed[0][0][:-1], typed[1][1])]):
+            process = self.begin(first[0])
+            assert process.stdout is not None
+            self.assertEqual([process.stdout.readline() for _ in first[1]], [f"{it}\n" for it in first[1]])
+            self.assertEqual(self.type(second[0])[-1:], second[1])
+            os.killpg(process.pid, signal.SIGKILL)
+            process.wait(20)
 
     def controls(self) -> None:
         """Two programs at a control socket, of which one is there first."""
