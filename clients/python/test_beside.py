@@ -3,8 +3,10 @@ from __future__ import annotations
 
 import asyncio
 import contextlib
+import os
 import random
 import select
+import signal
 import threading
 import time
 import unittest
@@ -150,8 +152,9 @@ class Beside(Clients):
                 device.send(Telegram("Mn", 301).write())
                 self.assertIsInstance(fence.next_indication(5 * SECOND), Notified)
         time.sleep(max(0.0, begin + BUSY - time.monotonic()))
-        came, lost = 0, 0
+        came, lost, end = 0, 0, time.monotonic() + 15
         while came + lost < NOTIFICATIONS:
+            self.assertLess(time.monotonic(), end, (came, lost))
             told = slot.next_indication(50_000)
             if told is None:
                 # It comes with the next datagram.
@@ -244,6 +247,27 @@ class Beside(Clients):
             self.assertEqual(heard, sent, SEED)
 
         self.asynchronous(act)
+
+    def test_a_call_that_waits_holds_nobody_up(self) -> None:
+        async def act(slot: AsyncSlot) -> None:
+            handle = await slot.subscribe(140, dataset=40)
+            for is_cancelled in (False, True):
+                os.kill(self.started.process.pid, signal.SIGSTOP)
+                getting = asyncio.create_task(slot.get(handle))
+                await asyncio.sleep(0.05)
+                if is_cancelled:
+                    getting.cancel()
+                hearing = asyncio.create_task(slot.next_indication(10 * SECOND))
+                for _ in range(10):
+                    await asyncio.sleep(0.001)
+                # All that went on while the call is still under way.
+                self.assertTrue(slot._turn.locked())
+                hearing.cancel()
+                os.kill(self.started.process.pid, signal.SIGCONT)
+                await asyncio.gather(getting, hearing, return_exceptions=True)
+                self.assertEqual((await slot.get(handle)).value, [[0] * 40])
+
+        self.asynchronous(act, answer_us=5 * SECOND)
 
     def test_tasks_notice_a_restart(self) -> None:
         async def act(slot: AsyncSlot) -> None:

@@ -136,6 +136,21 @@ class BothAtPorts(Both):
 
     is_at_paths = False
 
+    def test_nobody_is_told_at_once_at_a_port(self) -> None:
+        daemon = self.starts()
+        slot = self.slot(answer_us=20 * SECOND)
+        subscription = slot.subscribe(100)
+        daemon.end()
+        begin = time.monotonic()
+        calls: list[Callable[[], object]] = [lambda: slot.get(subscription), slot.check, slot.sync, slot.reset,
+                                             lambda: self.slot(answer_us=20 * SECOND).listen(1)]
+        for call in calls:
+            with self.assertRaisesRegex(Nobody, f"^nobody is at {HOME}:{CONTROL}"):
+                call()
+        self.assertLess(time.monotonic() - begin, 20)
+        daemon.start()
+        self.assertRaises(Refused, slot.get, subscription)
+
 
 class Connections(Clients):
     """What a connection has, and a datagram hasn't."""
@@ -245,6 +260,8 @@ class Connections(Clients):
 
     def is_another_user(self, there: socket.socket) -> None:
         """An application of another user, which takes steps with the test."""
+        os.setgroups([])
+        os.setgid(NOBODY)
         os.setuid(NOBODY)
         there.settimeout(20)
         with Slot(self.folder, CONTROL, restore=True, answer_us=5 * SECOND) as slot:
@@ -390,6 +407,28 @@ class Made(unittest.TestCase):
         slot.answer_us = ANSWER_US
         slot.begin()
         self.assertEqual([slot.get(it).counter for it in (2, 3, 4)], [2, 3, 4])
+
+    def test_lines_that_find_no_room_wait(self) -> None:
+        lines = [f"# {it} ".ljust(139_999, "x") for it in range(4)]
+        came: list[str] = []
+
+        def act(taken: socket.socket) -> None:
+            with taken.makefile("r") as said:
+                for text in ("0 silent 1", "0 value Valid 7 0b"):
+                    time.sleep(0.1)
+                    came.extend(next(said).rstrip("\n") for _ in lines)
+                    taken.sendall(f"{text}\n".encode())
+                self.assertEqual([next(said), next(said)], ["get 1\n", "mark\n"])
+                taken.sendall(b"line fault Unknown\n")
+
+        slot = self.serve(act)
+        for line in lines:
+            slot.send_line(line)
+        self.assertIsInstance(slot.next_indication(5 * SECOND), Silent)
+        for line in lines:
+            slot.send_line(line)
+        self.assertEqual(slot.get(1).value, b"\x0b")
+        self.assertTrue(came == lines * 2)
 
     def test_a_line_of_too_many_bytes_is_of_no_trdpd(self) -> None:
         slot = self.serve(lambda taken: taken.sendall(b"x" * 200_000))
