@@ -204,7 +204,7 @@ class Page(unittest.TestCase):
                 self.assertNotEqual(said[-1], "", said)
 
     def paths(self) -> None:
-        """The programs in Python at a control socket, of which each is there once, and hears what the other one does."""
+        """The programs in Python at a control socket, of which each is the first one once, and the second one once."""
         self.end_all()
         made, daemon = commands(self.block("$ mkdir -m 700 paths"))
         self.prints(made)

@@ -138,18 +138,26 @@ class BothAtPorts(Both):
 
     def test_nobody_is_told_at_once_at_a_port(self) -> None:
         daemon = self.starts()
-        slot = self.slot(answer_us=20 * SECOND)
+        slot = self.slot(answer_us=5 * SECOND, tries=1)
         subscription = slot.subscribe(100)
         daemon.end()
-        begin = time.monotonic()
         calls: list[Callable[[], object]] = [lambda: slot.get(subscription), slot.check, slot.sync, slot.reset,
-                                             lambda: self.slot(answer_us=20 * SECOND).listen(1)]
-        for call in calls:
-            with self.assertRaisesRegex(Nobody, f"^nobody is at {HOME}:{CONTROL}"):
-                call()
-        self.assertLess(time.monotonic() - begin, 20)
+                                             lambda: self.slot(answer_us=5 * SECOND, tries=1).listen(1)]
+        # Linux tells it a thousand times a second at most, to all programs together.
+        self.assertTrue(any(self.are_told_at_once(calls) for _ in range(3)))
         daemon.start()
         self.assertRaises(Refused, slot.get, subscription)
+
+    def are_told_at_once(self, calls: list[Callable[[], object]]) -> bool:
+        """Whether each call is told that nobody is there, and all together sooner than one waits for its answer."""
+        begin = time.monotonic()
+        try:
+            for call in calls:
+                with self.assertRaisesRegex(Nobody, f"^nobody is at {HOME}:{CONTROL}"):
+                    call()
+        except NoAnswer:
+            return False
+        return time.monotonic() - begin < 5
 
 
 class Connections(Clients):
@@ -355,9 +363,10 @@ class Made(unittest.TestCase):
 
         slot = self.serve(busy, busy)
         for _ in range(2):
-            slot.begin()
-            time.sleep(0.1)
-            self.assertRaises(Busy, slot.get, 1)
+            with self.assertRaises(Busy):
+                slot.begin()
+                time.sleep(0.1)
+                slot.get(1)
         self.assertIsNone(slot.next_indication(0))
 
     def test_busy_later_is_an_answer_of_no_trdpd(self) -> None:

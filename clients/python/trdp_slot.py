@@ -936,8 +936,8 @@ class Slot:
     **Tries.** Over UDP a call is sent again where no answer came within `answer_us`, `tries` times in all, and raises
     TimeoutError where none came at all. That is so for calls that may be made twice: `put`, `get`, `reset`, and those
     that end an object. All others are sent once, unless `tries` is given with the call, and each says what a second try
-    may do. Over a connection the answer is waited for as long in all, and a call is sent again only where the node
-    says that it dropped the answer.
+    may do. Where the system says that nobody is there, no call is sent again. Over a connection the answer is waited
+    for as long in all, and a call is sent again only where the node says that it dropped the answer.
 
     **A slot that began anew** has no objects: the daemon was started anew, the connection has ended, or the lease has
     run out. It is noticed by the end of the connection, or where the node refuses a handle as NoHandle that this client
@@ -1311,6 +1311,8 @@ class Slot:
             self._send_mark()
             if self._reads_to_mark():
                 return
+            if self._is_nobody:
+                break
         raise self._silence(self.tries, "")
 
     @_one_at_a_time
@@ -1392,11 +1394,14 @@ class Slot:
     def _renew(self) -> None:
         """Goes on with a new socket: the answers that are under way go to the old one."""
         assert self._path is None and self._link is not None
+        # Where nobody was there, nobody hears a remark. Linux tells that so often a second, and then no more.
+        is_nobody = self._link.is_nobody
         if self._link is not self._known:
             self._drop(self._link)
         self._link = self._connected()
         self._awaited.clear()
-        self._send("#")
+        if not is_nobody:
+            self._send("#")
 
     def _end_link(self, is_busy: bool = False) -> NoReturn:
         """Takes notice of the end of the connection."""
@@ -1532,7 +1537,7 @@ class Slot:
                 self._send_mark()
                 found = self._answer(answer)
                 if found is None:
-                    if self._path is not None and self._awaited:
+                    if self._is_nobody or self._path is not None and self._awaited:
                         break
                     self._settle()
                 elif found[0] == "refused":
@@ -1827,7 +1832,7 @@ class Slot:
             if self._reads_to_mark() and found is not None:
                 self._is_reset_due = False
                 return
-            if self._path is not None and self._awaited:
+            if self._is_nobody or self._path is not None and self._awaited:
                 break
             self._settle()
         raise self._silence(tries, "reset")
@@ -2295,7 +2300,6 @@ class Operator:
         """The answer to a line, without the end of its last line."""
         if isinstance(self.place, str):
             return self._answer_of(self.place, line, tries)
-        is_nobody = False
         for _ in range(tries):
             with socket.socket(socket.AF_INET, socket.SOCK_DGRAM) as port:
                 port.connect(self.place)
@@ -2303,10 +2307,10 @@ class Operator:
                 try:
                     port.send(line.encode())
                     return _line_of(port.recv(65536))
-                except (TimeoutError, ConnectionRefusedError) as fault:
-                    is_nobody = isinstance(fault, ConnectionRefusedError)
-        if is_nobody:
-            raise Nobody(f"nobody is at {self._place_text()}: {line}")
+                except ConnectionRefusedError:
+                    raise Nobody(f"nobody is at {self._place_text()}: {line}") from None
+                except TimeoutError:
+                    pass
         raise NoAnswer(f"no answer, at {tries} tries of {self.answer_us} microseconds: {line}")
 
     def _answer_of(self, path: str, line: str, tries: int) -> str:
