@@ -248,6 +248,20 @@ class Beside(Clients):
 
         self.asynchronous(act)
 
+    def test_a_task_that_hears_ends_with_the_client(self) -> None:
+        async def hear(slot: AsyncSlot) -> list[object]:
+            return [told async for told in slot]
+
+        async def act(slot: AsyncSlot) -> None:
+            for is_begun in (True, False):
+                hearing = asyncio.create_task(hear(slot))
+                if is_begun:
+                    await asyncio.sleep(0.05)
+                await slot.close()
+                self.assertEqual(await hearing, [])
+
+        self.asynchronous(act)
+
     def test_a_call_that_waits_holds_nobody_up(self) -> None:
         async def act(slot: AsyncSlot) -> None:
             handle = await slot.subscribe(140, dataset=40)

@@ -921,8 +921,8 @@ class Slot:
     line came from, and at a control socket a second one is `Busy`.
 
     **Beginning anew.** Before the first call goes `reset`, so that the slot has no object of an earlier program; no
-    call is made before the answer to the mark behind the last `reset` that was sent. A client that only looks at the
-    objects of another one has `reset=False`: `Slot.look`.
+    call is made before the answer to the mark behind the last `reset` that was sent. `begin`, `sync`, `check` and
+    `send_line` say none. A client that only looks at the objects of another one has `reset=False`: `Slot.look`.
 
     **Answers.** An answer doesn't say to which call it is. So behind each call goes a line that can't be read,
     whose fault marks the end of the call's answers: what comes between two marks is the answer. Over UDP, where one of
@@ -2092,10 +2092,15 @@ class AsyncSlot:
         self._worker = concurrent.futures.ThreadPoolExecutor(1, "trdp_slot")
         self._turn = asyncio.Lock()  # held while a call is under way
         self._hearing = asyncio.Lock()  # held while a task waits for an indication
+        self._heard = asyncio.Event()  # that something came for it
+        self._is_closed = False
 
     async def close(self) -> None:
-        """Closes the client, once the call that is under way is over."""
-        async with self._turn:
+        """Closes the client, once the call that is under way is over. A task that waits for an indication is told that
+        none comes any more."""
+        self._is_closed = True
+        self._heard.set()
+        async with self._hearing, self._turn:
             self.slot.close()
             self._worker.shutdown(wait=False)
 
@@ -2110,14 +2115,15 @@ class AsyncSlot:
 
     async def __anext__(self) -> Indication:
         told = await self.next_indication()
-        assert told is not None
+        if told is None:
+            raise StopAsyncIteration
         return told
 
     async def next_indication(self, time_us: int | None = None) -> Indication | None:
-        """As `Slot.next_indication`, but that others of the program go on meanwhile."""
+        """As `Slot.next_indication`, but that others of the program go on meanwhile. None, too, once it is closed."""
         end = _end_of(time_us)
         async with self._hearing:
-            while True:
+            while not self._is_closed:
                 async with self._turn:
                     # Nobody has the client now, so that this waits for nothing.
                     told = self.slot._next_told(may_wait=False)
@@ -2129,18 +2135,19 @@ class AsyncSlot:
                     await self._call(functools.partial(self.slot._attend, True))
                 else:
                     await self._can_hear(min(due, math.inf if end is None else end) - now)
+        return None
 
     async def _can_hear(self, seconds: float) -> None:
         """Waits until something came, so many seconds at most."""
         loop = asyncio.get_running_loop()
-        heard = asyncio.Event()
-        loop.add_reader(self.slot.fileno(), heard.set)
+        loop.add_reader(self.slot.fileno(), self._heard.set)
         try:
-            await asyncio.wait_for(heard.wait(), min(_WAIT_MOST, seconds))
+            await asyncio.wait_for(self._heard.wait(), min(_WAIT_MOST, seconds))
         except TimeoutError:
             pass
         finally:
             loop.remove_reader(self.slot.fileno())
+            self._heard.clear()
 
     async def _call(self, call: Callable[[], _Answer]) -> _Answer:
         """Makes a call once it has its turn, which is over when the call is, also where it is cancelled before."""
