@@ -1415,8 +1415,9 @@ class Slot:
         raise _Ended(f"the connection at {self._place_text()} has ended")
 
     def _links(self) -> list[_Link]:
-        """The sockets at which something may come."""
-        return [it for it in dict.fromkeys([self._link, self._known]) if it is not None]
+        """The sockets at which something may come. That of before is first: the answer to a mark at the other one says
+        that nothing comes at it any more, and has what is there taken."""
+        return [it for it in dict.fromkeys([self._known, self._link]) if it is not None]
 
     @staticmethod
     def _wait(links: Sequence[_Link], seconds: float) -> list[_Link]:
