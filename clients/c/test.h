@@ -23,14 +23,23 @@ struct test_slot {
     uint8_t kept[4096];
 };
 
-/* Opens a slot at an address and a port, with one try of so many milliseconds. */
+/* Where the control sockets of the daemons are, in a folder for each address; NULL where their
+ * control ports are UDP ports. */
+extern const char *test_folder;
+
+/* Opens a slot at an address and a port, with one try of so many milliseconds; or at the path that
+ * stands for them in `test_folder`, or at that path. */
 bool test_open(struct test_slot *it, const char *address, uint16_t port, uint32_t timeout);
+enum trdp_slot_error test_open_path(struct test_slot *it, const char *path, uint32_t timeout);
 
 /* The address of a text that is one. */
 uint32_t test_address(const char *text);
 
 /* Reading: texts in memory, and a daemon that is a few lines of this test. */
 void test_texts(void);
+
+/* Control sockets: a daemon that is a few lines of this test, in a folder that it makes. */
+void test_paths(void);
 
 /* The calls: two daemons, which the script `check` starts and ends where it is told to. */
 void test_node(void);

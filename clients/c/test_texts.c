@@ -175,12 +175,28 @@ static void say(int socket, const struct sockaddr_in *to, const char *texts, siz
     }
 }
 
+/* The answer to a mark, by which the header finds its place among the answers; NULL for what is
+ * none. */
+static const char *mark_fault(const char *text, size_t length)
+{
+    static const char *const marks[] = { "mark", "get", "get mark" };
+    static const char *const faults[] = { "line fault Unknown\n", "line fault Count\n",
+        "line fault BadWord\n" };
+    for (int i = 0; i < 3; i++)
+        if (strlen(marks[i]) == length && memcmp(marks[i], text, length) == 0)
+            return faults[i];
+    return NULL;
+}
+
 /* The daemon: what comes from the teller with `=` before it is said to the next line of the slot,
- * and with `!` at once to where the latest line came from; `?` is answered by that line. */
+ * and with `!` at once to where the latest line came from; `?` is answered by that line. A mark is
+ * answered, and isn't the latest line; where `%` and a number came before, so many of them aren't
+ * answered. */
 static void daemon_of_test(int socket)
 {
     static char text[65536], next[65536], line[65536];
     size_t next_length = 0, line_length = 0;
+    int unanswered = 0;
     struct sockaddr_in slot, from;
     memset(&slot, 0, sizeof slot);
     for (;;) {
@@ -196,6 +212,12 @@ static void daemon_of_test(int socket)
             say(socket, &slot, text + 1, length - 1);
         } else if (text[0] == '?') {
             sendto(socket, line, line_length, 0, (struct sockaddr *)&from, size);
+        } else if (text[0] == '%') {
+            unanswered = text[1] - '0';
+        } else if (mark_fault(text, length) != NULL) {
+            const char *fault = mark_fault(text, length);
+            if (unanswered-- <= 0)
+                sendto(socket, fault, strlen(fault), 0, (struct sockaddr *)&from, size);
         } else {
             slot = from;
             memcpy(line, text, length);
@@ -266,6 +288,12 @@ static void errors(void)
     }
     tell('=', "line fault Newname\n");
     CHECK_ERROR(trdp_slot_pull(&it.slot, 3), TRDP_SLOT_FAULT_OTHERWISE);
+    tell('=', "fault NoGroup\n");
+    CHECK_ERROR(trdp_slot_pull(&it.slot, 3), TRDP_SLOT_NODE_NO_GROUP);
+    tell('=', "fault SlotsFull\n");
+    CHECK_ERROR(trdp_slot_pull(&it.slot, 3), TRDP_SLOT_NODE_SLOTS_FULL);
+    tell('=', "fault Newname\n");
+    CHECK_ERROR(trdp_slot_pull(&it.slot, 3), TRDP_SLOT_NODE_OTHERWISE);
     tell('=', "1 done\n");
     CHECK_ERROR(trdp_slot_pull(&it.slot, 3), TRDP_SLOT_OTHER_SLOT);
     CHECK(strcmp(trdp_slot_error_text((enum trdp_slot_error)77), "no error of a slot") == 0);
@@ -548,12 +576,13 @@ void test_texts(void)
     trdp_slot_close(&it.slot);
     kill(child, SIGKILL);
     waitpid(child, NULL, 0);
-    /* Nobody is there any more. */
+    /* Nobody is there any more, which is told at once. */
     int64_t start = trdp_slot_now();
-    if (test_open(&it, here, PORT, 20)) {
+    if (test_open(&it, here, PORT, 10000)) {
         it.slot.terms.tries = 2;
         CHECK_ERROR(trdp_slot_pull(&it.slot, 1), TRDP_SLOT_NOBODY);
-        CHECK(it.slot.tried == 2 && trdp_slot_now() - start >= 40);
+        CHECK_ERROR(trdp_slot_reset(&it.slot), TRDP_SLOT_NOBODY);
+        CHECK(it.slot.tried == 1 && trdp_slot_now() - start < 5000);
         trdp_slot_close(&it.slot);
     }
     close(teller);

@@ -78,6 +78,7 @@
 #include <sys/socket.h>
 #include <sys/types.h>
 #include <sys/uio.h>
+#include <sys/un.h>
 #include <time.h>
 #include <unistd.h>
 
@@ -88,6 +89,16 @@ enum {
     TRDP_SLOT_TEXT_ROOM = 3072,
     /* The longest datagram. */
     TRDP_SLOT_DATAGRAM = 65507,
+    /* The longest line at a control socket, with its end. */
+    TRDP_SLOT_LINE = 140000,
+    /* The longest payload of a message. Over UDP it has some 32,000 bytes at most. */
+    TRDP_SLOT_MESSAGE = 65388,
+    /* The bytes of a control socket's path with the zero behind it. */
+    TRDP_SLOT_PATH = 108,
+    /* The most slots of a node. */
+    TRDP_SLOT_SLOTS = 16,
+    /* How long trdp_slot_next waits before it tries again to connect, in milliseconds. */
+    TRDP_SLOT_PAUSE = 100,
     /* The longest value of a publisher or a subscription. */
     TRDP_SLOT_VALUE = 1432,
     /* The longest URI, without the zero behind it. */
@@ -103,7 +114,7 @@ enum trdp_slot_error {
     TRDP_SLOT_OK,
     /* No answer came at any try, or no indication within the wait. */
     TRDP_SLOT_TIMEOUT,
-    /* Nobody is at the control port; a call wasn't taken at any of its tries. */
+    /* Nobody is at the control port, as the system said at once; a call wasn't taken. */
     TRDP_SLOT_NOBODY,
     /* The system refused; errno says why. */
     TRDP_SLOT_SYSTEM,
@@ -113,10 +124,15 @@ enum trdp_slot_error {
     TRDP_SLOT_LONG,
     /* The bytes are more than the room that was handed in; the first of them are there. */
     TRDP_SLOT_CUT,
-    /* Indications were lost; how many is told. */
+    /* Indications were lost, or answers; how many is told. */
     TRDP_SLOT_LOST,
     /* The control port is that of another slot than `number`, which has taken the call. */
     TRDP_SLOT_OTHER_SLOT,
+    /* At a control socket: another application lives there. */
+    TRDP_SLOT_BUSY,
+    /* At a control socket: the connection has ended, and with it all objects. They are to be made
+     * again; the next call connects again. */
+    TRDP_SLOT_RESTARTED,
 
     /* The call was refused, and changed nothing. docs/SCRIPT.md says when. */
     TRDP_SLOT_REFUSED_NO_HANDLE,
@@ -143,7 +159,13 @@ enum trdp_slot_error {
     TRDP_SLOT_FAULT_COUNT,
     TRDP_SLOT_FAULT_BAD_WORD,
     /* By a name that this header doesn't know. */
-    TRDP_SLOT_FAULT_OTHERWISE
+    TRDP_SLOT_FAULT_OTHERWISE,
+
+    /* The node took no notice of an operator's line. */
+    TRDP_SLOT_NODE_NO_GROUP,
+    TRDP_SLOT_NODE_SLOTS_FULL,
+    /* By a name that this header doesn't know. */
+    TRDP_SLOT_NODE_OTHERWISE
 };
 
 /* An address and a port, as 10.0.0.2:17224. */
@@ -154,29 +176,45 @@ struct trdp_slot_place {
 
 /* What a slot is opened with. The buffers stay the slot's until it is closed. */
 struct trdp_slot_terms {
-    uint32_t address; /* of the control port */
+    uint32_t address; /* of the control port; at a control socket neither is looked at */
     uint16_t port;
     uint16_t number;  /* the slot's number: with it its answers begin */
     uint32_t timeout; /* how long a try waits for its answer, in milliseconds, 1 or more */
     uint32_t tries;   /* how often a line is sent at most, 1 or more */
     char *line;       /* for a line that goes out */
     size_t line_room; /* TRDP_SLOT_OVERHEAD and two for each byte of the longest payload */
-    char *text;       /* for a datagram that comes */
+    char *text;       /* for what comes */
     size_t text_room; /* the same, and at least TRDP_SLOT_TEXT_ROOM */
     uint8_t *kept;    /* for indications that come while an answer is awaited */
     size_t kept_room; /* their bytes and four for each; with 0 each of them is lost, and told so */
+    uint32_t lease;   /* the daemon's lease, in milliseconds; 0 where it has none */
 };
 
-/* An application's end of a control port. Read its counts; change `timeout` and `tries` alone. */
+/* An application's end of a control port. Read its counts; change `timeout`, `tries` and `lease`
+ * alone. */
 struct trdp_slot {
     struct trdp_slot_terms terms;
-    int socket;         /* for a poll of one's own; -1 where the slot isn't open */
+    int socket;         /* for a poll of one's own; -1 where the slot isn't open, or not connected */
     size_t kept_length; /* how much of `kept` is in use; 0 where no indication is kept */
     uint32_t tried;     /* how often the line of the latest call was sent */
     uint32_t lost;      /* indications that were lost and aren't told yet */
     uint32_t stale;     /* answers that belonged to no call that waited */
-    uint32_t strange;   /* datagrams that this header can't read */
+    uint32_t strange;   /* texts that this header can't read */
     uint32_t dropped;   /* the system's count of datagrams that it dropped */
+
+    /* What the functions below alone look at. */
+    char path[TRDP_SLOT_PATH];    /* of a control socket; "" at a UDP port */
+    size_t come;                  /* how many bytes of a connection are in `text` */
+    size_t taken;                 /* how many of these were read */
+    bool is_skipping;             /* the line that comes is longer than `text` */
+    bool is_unsure;               /* answers to earlier lines may still come */
+    bool is_operator;             /* the latest line was an operator's */
+    unsigned mark;                /* which mark was sent last */
+    uint32_t marks;               /* how many marks were sent whose answers haven't come */
+    int64_t spoke;                /* when the latest line went out */
+    int64_t connected;            /* when it was tried to connect, the last time */
+    enum trdp_slot_error absence; /* why there is no connection */
+    int reason;                   /* of SYSTEM: errno */
 };
 
 /* What a publisher is made of. */
@@ -306,44 +344,77 @@ struct trdp_slot_indication {
     uint32_t lost;                             /* with TRDP_SLOT_LOST: how many were lost */
 };
 
+/* So many objects of each kind. */
+struct trdp_slot_kinds {
+    uint32_t publishers;
+    uint32_t subscriptions;
+    uint32_t requesters;
+    uint32_t listeners;
+    uint32_t callers;
+    uint32_t repliers;
+};
+
+/* What a slot has and may have at most. */
+struct trdp_slot_usage {
+    uint16_t slot; /* its number */
+    struct trdp_slot_kinds objects;
+    struct trdp_slot_kinds quotas;
+    bool has_spoken; /* whether a line has come from it, and no lease has run out since */
+    uint64_t silent; /* how many microseconds ago its latest line came */
+};
+
+/* What a daemon has counted since it began. */
+struct trdp_slot_totals {
+    uint64_t taken;
+    uint64_t offered;
+    uint64_t lost;
+    uint64_t unread;
+    uint64_t memory;
+};
+
 /* ---- Texts ---- */
 
 /* The text of an error, as `refused NoHandle` and `line fault Count`. */
 static inline const char *trdp_slot_error_text(enum trdp_slot_error error)
 {
-    static const char *const texts[] = {
-        [TRDP_SLOT_OK] = "ok",
-        [TRDP_SLOT_TIMEOUT] = "nothing came in time",
-        [TRDP_SLOT_NOBODY] = "nobody is at the control port",
-        [TRDP_SLOT_SYSTEM] = "the system refused",
-        [TRDP_SLOT_ARGUMENT] = "an argument is out of its range",
-        [TRDP_SLOT_LONG] = "the line is too long",
-        [TRDP_SLOT_CUT] = "the bytes are more than the room",
-        [TRDP_SLOT_LOST] = "indications were lost",
-        [TRDP_SLOT_OTHER_SLOT] = "the control port is another slot's",
-        [TRDP_SLOT_REFUSED_NO_HANDLE] = "refused NoHandle",
-        [TRDP_SLOT_REFUSED_WRONG_KIND] = "refused WrongKind",
-        [TRDP_SLOT_REFUSED_STATE] = "refused State",
-        [TRDP_SLOT_REFUSED_CYCLE] = "refused Cycle",
-        [TRDP_SLOT_REFUSED_TIMEOUT] = "refused Timeout",
-        [TRDP_SLOT_REFUSED_EXPECTED] = "refused Expected",
-        [TRDP_SLOT_REFUSED_STATUS] = "refused Status",
-        [TRDP_SLOT_REFUSED_RANGE] = "refused Range",
-        [TRDP_SLOT_REFUSED_NO_DATASET] = "refused NoDataset",
-        [TRDP_SLOT_REFUSED_TOO_LONG] = "refused TooLong",
-        [TRDP_SLOT_REFUSED_SHAPE] = "refused Shape",
-        [TRDP_SLOT_REFUSED_SESSION_OPEN] = "refused SessionOpen",
-        [TRDP_SLOT_REFUSED_QUOTA] = "refused Quota",
-        [TRDP_SLOT_REFUSED_EXHAUSTED] = "refused Exhausted",
-        [TRDP_SLOT_REFUSED_RETRIES] = "refused Retries",
-        [TRDP_SLOT_REFUSED_OTHERWISE] = "refused by an unknown name",
-        [TRDP_SLOT_FAULT_TOO_LONG] = "line fault TooLong",
-        [TRDP_SLOT_FAULT_UNKNOWN] = "line fault Unknown",
-        [TRDP_SLOT_FAULT_COUNT] = "line fault Count",
-        [TRDP_SLOT_FAULT_BAD_WORD] = "line fault BadWord",
-        [TRDP_SLOT_FAULT_OTHERWISE] = "line fault by an unknown name",
-    };
-    return (size_t)error < sizeof texts / sizeof *texts ? texts[error] : "no error of a slot";
+    switch (error) {
+    case TRDP_SLOT_OK: return "ok";
+    case TRDP_SLOT_TIMEOUT: return "nothing came in time";
+    case TRDP_SLOT_NOBODY: return "nobody is at the control port";
+    case TRDP_SLOT_SYSTEM: return "the system refused";
+    case TRDP_SLOT_ARGUMENT: return "an argument is out of its range";
+    case TRDP_SLOT_LONG: return "the line is too long";
+    case TRDP_SLOT_CUT: return "the bytes are more than the room";
+    case TRDP_SLOT_LOST: return "indications were lost";
+    case TRDP_SLOT_OTHER_SLOT: return "the control port is another slot's";
+    case TRDP_SLOT_BUSY: return "another application is at the control socket";
+    case TRDP_SLOT_RESTARTED: return "the connection has ended, and all objects with it";
+    case TRDP_SLOT_REFUSED_NO_HANDLE: return "refused NoHandle";
+    case TRDP_SLOT_REFUSED_WRONG_KIND: return "refused WrongKind";
+    case TRDP_SLOT_REFUSED_STATE: return "refused State";
+    case TRDP_SLOT_REFUSED_CYCLE: return "refused Cycle";
+    case TRDP_SLOT_REFUSED_TIMEOUT: return "refused Timeout";
+    case TRDP_SLOT_REFUSED_EXPECTED: return "refused Expected";
+    case TRDP_SLOT_REFUSED_STATUS: return "refused Status";
+    case TRDP_SLOT_REFUSED_RANGE: return "refused Range";
+    case TRDP_SLOT_REFUSED_NO_DATASET: return "refused NoDataset";
+    case TRDP_SLOT_REFUSED_TOO_LONG: return "refused TooLong";
+    case TRDP_SLOT_REFUSED_SHAPE: return "refused Shape";
+    case TRDP_SLOT_REFUSED_SESSION_OPEN: return "refused SessionOpen";
+    case TRDP_SLOT_REFUSED_QUOTA: return "refused Quota";
+    case TRDP_SLOT_REFUSED_EXHAUSTED: return "refused Exhausted";
+    case TRDP_SLOT_REFUSED_RETRIES: return "refused Retries";
+    case TRDP_SLOT_REFUSED_OTHERWISE: return "refused by an unknown name";
+    case TRDP_SLOT_FAULT_TOO_LONG: return "line fault TooLong";
+    case TRDP_SLOT_FAULT_UNKNOWN: return "line fault Unknown";
+    case TRDP_SLOT_FAULT_COUNT: return "line fault Count";
+    case TRDP_SLOT_FAULT_BAD_WORD: return "line fault BadWord";
+    case TRDP_SLOT_FAULT_OTHERWISE: return "line fault by an unknown name";
+    case TRDP_SLOT_NODE_NO_GROUP: return "fault NoGroup";
+    case TRDP_SLOT_NODE_SLOTS_FULL: return "fault SlotsFull";
+    case TRDP_SLOT_NODE_OTHERWISE: return "fault by an unknown name";
+    }
+    return "no error of a slot";
 }
 
 /* The text of a value's state: Never, Valid, Silent. */
@@ -410,16 +481,27 @@ static inline void trdp_slot_expect(struct trdp_slot_reader *reader, const char 
 }
 
 /* A number of at most `most`, in decimal without leading zeros. */
-static inline uint32_t trdp_slot_read_number(struct trdp_slot_reader *reader, uint32_t most)
+static inline uint64_t trdp_slot_read_count(struct trdp_slot_reader *reader, uint64_t most)
 {
     const char *first = reader->at;
     uint64_t number = 0;
-    while (reader->at < reader->end && *reader->at >= '0' && *reader->at <= '9'
-        && number <= most)
-        number = 10 * number + (uint64_t)(*reader->at++ - '0');
-    if (reader->at == first || number > most || (*first == '0' && reader->at - first > 1))
+    while (reader->at < reader->end && *reader->at >= '0' && *reader->at <= '9') {
+        uint64_t digit = (uint64_t)(*reader->at - '0');
+        if (number > most / 10 || 10 * number > most - digit)
+            break;
+        number = 10 * number + digit;
+        reader->at++;
+    }
+    bool is_more = reader->at < reader->end && *reader->at >= '0' && *reader->at <= '9';
+    if (reader->at == first || is_more || (*first == '0' && reader->at - first > 1))
         reader->bad = true;
-    return reader->bad ? 0 : (uint32_t)number;
+    return reader->bad ? 0 : number;
+}
+
+/* The same of 32 bits. */
+static inline uint32_t trdp_slot_read_number(struct trdp_slot_reader *reader, uint32_t most)
+{
+    return (uint32_t)trdp_slot_read_count(reader, most);
 }
 
 /* A status, with a minus sign where it is below 0. */
@@ -522,18 +604,22 @@ static inline void trdp_slot_read_session(struct trdp_slot_reader *reader,
     }
 }
 
-/* What a datagram of a control port is. */
+/* What a text of a control port is: a datagram, or a line of a connection. */
 enum trdp_slot_form {
     TRDP_SLOT_FORM_STRANGE,    /* none of these */
     TRDP_SLOT_FORM_OTHER_SLOT, /* one of these, for another slot */
     TRDP_SLOT_FORM_HANDLE,
     TRDP_SLOT_FORM_DONE,
     TRDP_SLOT_FORM_VALUE,
-    TRDP_SLOT_FORM_ERROR,      /* a refusal or a line fault */
-    TRDP_SLOT_FORM_INDICATION
+    TRDP_SLOT_FORM_ERROR,      /* a refusal, a line fault or a node's fault */
+    TRDP_SLOT_FORM_INDICATION,
+    TRDP_SLOT_FORM_LOST,       /* so many texts were lost */
+    TRDP_SLOT_FORM_OK,         /* of the operator's port */
+    TRDP_SLOT_FORM_TOTALS,
+    TRDP_SLOT_FORM_USAGES      /* the lines of one slot or of several */
 };
 
-/* What a datagram of a control port says. */
+/* What a text of a control port says. */
 struct trdp_slot_said {
     enum trdp_slot_form form;
     enum trdp_slot_error error;       /* of an error */
@@ -541,6 +627,7 @@ struct trdp_slot_said {
     struct trdp_slot_value value;     /* of a value */
     struct trdp_slot_indication told; /* of an indication */
     struct trdp_slot_digits digits;   /* the bytes of a value or an indication, in the text */
+    struct trdp_slot_totals totals;   /* of totals */
 };
 
 /* The error from `first` on whose text is the rest of the line; `otherwise` where none before it
@@ -558,7 +645,8 @@ static inline enum trdp_slot_form trdp_slot_read_error(struct trdp_slot_reader *
             return TRDP_SLOT_FORM_ERROR;
         }
     }
-    trdp_slot_expect(reader, otherwise == TRDP_SLOT_FAULT_OTHERWISE ? "line fault " : "refused ");
+    trdp_slot_expect(reader, otherwise == TRDP_SLOT_FAULT_OTHERWISE ? "line fault "
+        : otherwise == TRDP_SLOT_NODE_OTHERWISE ? "fault " : "refused ");
     const char *name = reader->at;
     while (reader->at < reader->end && ((*reader->at >= 'A' && *reader->at <= 'Z')
         || (*reader->at >= 'a' && *reader->at <= 'z')))
@@ -697,8 +785,76 @@ static inline enum trdp_slot_form trdp_slot_read_content(struct trdp_slot_reader
     return trdp_slot_read_indication(reader, said);
 }
 
-/* What a datagram of the control port says to the slot of that number. It is of one of the forms
- * where it is that form's text exactly, a newline at its end; else it is strange. */
+/* What an operator is told of a slot: its number, its objects and quotas of each kind, and how long
+ * ago its latest line came. */
+static inline void trdp_slot_read_usage(struct trdp_slot_reader *reader,
+    struct trdp_slot_usage *usage)
+{
+    uint32_t counts[12];
+    usage->slot = (uint16_t)trdp_slot_read_number(reader, UINT16_MAX);
+    for (int kind = 0; kind < 6; kind++) {
+        trdp_slot_expect(reader, " ");
+        counts[kind] = trdp_slot_read_number(reader, UINT32_MAX);
+        trdp_slot_expect(reader, "/");
+        counts[kind + 6] = trdp_slot_read_number(reader, UINT32_MAX);
+    }
+    memcpy(&usage->objects, counts, sizeof usage->objects);
+    memcpy(&usage->quotas, counts + 6, sizeof usage->quotas);
+    trdp_slot_expect(reader, " ");
+    usage->has_spoken = !trdp_slot_reads(reader, "-");
+    usage->silent = usage->has_spoken ? trdp_slot_read_count(reader, UINT64_MAX) : 0;
+}
+
+/* The lines of slots, from the first one on. */
+static inline enum trdp_slot_form trdp_slot_read_usages(struct trdp_slot_reader *reader)
+{
+    struct trdp_slot_usage usage;
+    trdp_slot_read_usage(reader, &usage);
+    while (!reader->bad && reader->at != reader->end) {
+        trdp_slot_expect(reader, "\n");
+        trdp_slot_read_usage(reader, &usage);
+    }
+    return TRDP_SLOT_FORM_USAGES;
+}
+
+/* What a daemon has counted. */
+static inline enum trdp_slot_form trdp_slot_read_totals(struct trdp_slot_reader *reader,
+    struct trdp_slot_said *said)
+{
+    trdp_slot_expect(reader, "taken ");
+    said->totals.taken = trdp_slot_read_count(reader, UINT64_MAX);
+    trdp_slot_expect(reader, " offered ");
+    said->totals.offered = trdp_slot_read_count(reader, UINT64_MAX);
+    trdp_slot_expect(reader, " lost ");
+    said->totals.lost = trdp_slot_read_count(reader, UINT64_MAX);
+    trdp_slot_expect(reader, " unread ");
+    said->totals.unread = trdp_slot_read_count(reader, UINT64_MAX);
+    trdp_slot_expect(reader, " memory ");
+    said->totals.memory = trdp_slot_read_count(reader, UINT64_MAX);
+    return TRDP_SLOT_FORM_TOTALS;
+}
+
+/* A text that doesn't begin with a slot's number. */
+static inline enum trdp_slot_form trdp_slot_read_common(struct trdp_slot_reader *reader,
+    struct trdp_slot_said *said)
+{
+    if (trdp_slot_reads(reader, "lost ")) {
+        said->told.lost = trdp_slot_read_number(reader, UINT32_MAX);
+        if (said->told.lost == 0)
+            reader->bad = true;
+        return TRDP_SLOT_FORM_LOST;
+    }
+    if (trdp_slot_reads(reader, "ok"))
+        return TRDP_SLOT_FORM_OK;
+    if (*reader->at == 't')
+        return trdp_slot_read_totals(reader, said);
+    return *reader->at == 'f'
+        ? trdp_slot_read_error(reader, said, TRDP_SLOT_NODE_NO_GROUP, TRDP_SLOT_NODE_OTHERWISE)
+        : trdp_slot_read_error(reader, said, TRDP_SLOT_FAULT_TOO_LONG, TRDP_SLOT_FAULT_OTHERWISE);
+}
+
+/* What a text of the control port says to the slot of that number. It is of one of the forms where
+ * it is that form's text exactly, a newline at its end; else it is strange. */
 static inline void trdp_slot_read(uint16_t number, const char *text, size_t length,
     struct trdp_slot_said *said)
 {
@@ -708,13 +864,18 @@ static inline void trdp_slot_read(uint16_t number, const char *text, size_t leng
     struct trdp_slot_reader reader = { text, text + length - 1, false };
     enum trdp_slot_form form;
     uint32_t slot = number;
-    if (*text == 'l') {
-        form = trdp_slot_read_error(&reader, said, TRDP_SLOT_FAULT_TOO_LONG,
-            TRDP_SLOT_FAULT_OTHERWISE);
+    if (*text < '0' || *text > '9') {
+        form = trdp_slot_read_common(&reader, said);
     } else {
         slot = trdp_slot_read_number(&reader, UINT16_MAX);
         trdp_slot_expect(&reader, " ");
-        form = trdp_slot_read_content(&reader, said);
+        if (reader.at < reader.end && *reader.at >= '0' && *reader.at <= '9') {
+            reader.at = text;
+            slot = number;
+            form = trdp_slot_read_usages(&reader);
+        } else {
+            form = trdp_slot_read_content(&reader, said);
+        }
     }
     if (reader.bad || reader.at != reader.end)
         return;
@@ -889,6 +1050,62 @@ static inline void trdp_slot_count(uint32_t *count, uint32_t more)
     *count += more < UINT32_MAX - *count ? more : UINT32_MAX - *count;
 }
 
+/* Whether the slot's control port is a control socket. */
+static inline bool trdp_slot_has_path(const struct trdp_slot *slot)
+{
+    return slot->path[0] != '\0';
+}
+
+/* Whether errno says that nothing is there, or no room, and no more. */
+static inline bool trdp_slot_would_wait(void)
+{
+    return errno == EAGAIN || errno == EWOULDBLOCK;
+}
+
+/* Waits until the socket can be read, or written, or that moment has come. */
+static inline enum trdp_slot_error trdp_slot_poll(int socket, short events, int64_t until)
+{
+    struct pollfd wait = { socket, events, 0 };
+    int64_t left = until - trdp_slot_now();
+    if (poll(&wait, socket < 0 ? 0 : 1, left < 0 ? 0 : left < INT_MAX ? (int)left : INT_MAX) < 0
+        && errno != EINTR)
+        return TRDP_SLOT_SYSTEM;
+    return TRDP_SLOT_OK;
+}
+
+/* Drops the indications that are kept, and counts them as lost. */
+static inline void trdp_slot_drop_kept(struct trdp_slot *slot)
+{
+    size_t at = 0;
+    while (at < slot->kept_length) {
+        uint32_t size;
+        memcpy(&size, slot->terms.kept + at, sizeof size);
+        at += sizeof size + size;
+        trdp_slot_count(&slot->lost, 1);
+    }
+    slot->kept_length = 0;
+}
+
+/* Leaves a connection that has ended. What is kept of it tells of objects that are gone. */
+static inline enum trdp_slot_error trdp_slot_leave(struct trdp_slot *slot,
+    enum trdp_slot_error error)
+{
+    close(slot->socket);
+    slot->socket = -1;
+    slot->come = slot->taken = 0;
+    slot->is_skipping = slot->is_unsure = false;
+    slot->marks = 0;
+    slot->absence = error == TRDP_SLOT_BUSY ? TRDP_SLOT_BUSY : TRDP_SLOT_NOBODY;
+    trdp_slot_drop_kept(slot);
+    return error;
+}
+
+/* A text that has come, in the slot's room up to the next one. */
+struct trdp_slot_piece {
+    const char *text;
+    size_t length;
+};
+
 /* Counts as lost what the system says that it dropped before this datagram, where it says so. */
 static inline void trdp_slot_count_dropped(struct trdp_slot *slot, struct msghdr *message)
 {
@@ -908,9 +1125,10 @@ static inline void trdp_slot_count_dropped(struct trdp_slot *slot, struct msghdr
 #endif
 }
 
-/* Takes a datagram that waits at the socket into the slot's text. One that is longer can only be
- * an indication, and is counted as lost. TIMEOUT where none waits. */
-static inline enum trdp_slot_error trdp_slot_receive(struct trdp_slot *slot, size_t *length)
+/* Takes a datagram that waits at the socket. One that is longer than the slot's text can only be an
+ * indication, and is counted as lost. TIMEOUT where none waits. */
+static inline enum trdp_slot_error trdp_slot_take_datagram(struct trdp_slot *slot,
+    struct trdp_slot_piece *piece)
 {
     for (;;) {
         struct iovec part = { slot->terms.text, slot->terms.text_room };
@@ -928,73 +1146,160 @@ static inline enum trdp_slot_error trdp_slot_receive(struct trdp_slot *slot, siz
         if (count < 0 && errno == EINTR)
             continue;
         if (count < 0)
-            return errno == EAGAIN || errno == EWOULDBLOCK ? TRDP_SLOT_TIMEOUT
+            return trdp_slot_would_wait() ? TRDP_SLOT_TIMEOUT
                 : errno == ECONNREFUSED ? TRDP_SLOT_NOBODY : TRDP_SLOT_SYSTEM;
         trdp_slot_count_dropped(slot, &message);
         if ((message.msg_flags & MSG_TRUNC) != 0) {
             trdp_slot_count(&slot->lost, 1);
             continue;
         }
-        *length = (size_t)count;
+        piece->text = slot->terms.text;
+        piece->length = (size_t)count;
         return TRDP_SLOT_OK;
     }
 }
 
-/* Waits for a datagram until that moment, and takes it into the slot's text. */
-static inline enum trdp_slot_error trdp_slot_await(struct trdp_slot *slot, int64_t until,
-    size_t *length)
+/* Whether a whole line of the connection is in the slot's text; it is read then. */
+static inline bool trdp_slot_has_line(struct trdp_slot *slot, struct trdp_slot_piece *piece)
+{
+    const char *first = slot->terms.text + slot->taken;
+    size_t length = slot->come - slot->taken;
+    const char *end = length > 0 ? (const char *)memchr(first, '\n', length) : NULL;
+    if (end == NULL)
+        return false;
+    piece->text = first;
+    piece->length = (size_t)(end - first) + 1;
+    slot->taken += piece->length;
+    return true;
+}
+
+/* Reads more of the connection behind the front of a line that is there. A line that fills the
+ * slot's text is skipped; it can only be an indication, and is counted as lost. */
+static inline enum trdp_slot_error trdp_slot_read_more(struct trdp_slot *slot)
+{
+    slot->come -= slot->taken;
+    memmove(slot->terms.text, slot->terms.text + slot->taken, slot->come);
+    slot->taken = 0;
+    if (slot->come == slot->terms.text_room) {
+        if (!slot->is_skipping)
+            trdp_slot_count(&slot->lost, 1);
+        slot->is_skipping = true;
+        slot->come = 0;
+    }
+    ssize_t count;
+    do
+        count = recv(slot->socket, slot->terms.text + slot->come,
+            slot->terms.text_room - slot->come, 0);
+    while (count < 0 && errno == EINTR);
+    if (count < 0 && trdp_slot_would_wait())
+        return TRDP_SLOT_TIMEOUT;
+    if (count <= 0)
+        return trdp_slot_leave(slot, TRDP_SLOT_RESTARTED);
+    slot->come += (size_t)count;
+    return TRDP_SLOT_OK;
+}
+
+/* Takes the next line of the connection. TIMEOUT where no whole one is there; RESTARTED where the
+ * connection has ended, and BUSY where another application has it. */
+static inline enum trdp_slot_error trdp_slot_take_line(struct trdp_slot *slot,
+    struct trdp_slot_piece *piece)
 {
     for (;;) {
-        enum trdp_slot_error error = trdp_slot_receive(slot, length);
+        if (!trdp_slot_has_line(slot, piece)) {
+            enum trdp_slot_error error = trdp_slot_read_more(slot);
+            if (error != TRDP_SLOT_OK)
+                return error;
+        } else if (slot->is_skipping) {
+            slot->is_skipping = false; /* that was the rest of it */
+        } else {
+            bool is_busy = piece->length == 5 && memcmp(piece->text, "busy\n", 5) == 0;
+            return is_busy ? trdp_slot_leave(slot, TRDP_SLOT_BUSY) : TRDP_SLOT_OK;
+        }
+    }
+}
+
+/* Takes a text that is there. TIMEOUT where none is. */
+static inline enum trdp_slot_error trdp_slot_take(struct trdp_slot *slot,
+    struct trdp_slot_piece *piece)
+{
+    return trdp_slot_has_path(slot) ? trdp_slot_take_line(slot, piece)
+        : trdp_slot_take_datagram(slot, piece);
+}
+
+/* Says `#` where a third of the lease has passed since the latest line. Answers when it is to be
+ * said next. What goes wrong with it is told by what comes. */
+static inline int64_t trdp_slot_stay(struct trdp_slot *slot)
+{
+    int64_t third = slot->terms.lease / 3;
+    if (slot->terms.lease == 0 || slot->socket < 0)
+        return INT64_MAX;
+    if (trdp_slot_now() - slot->spoke >= third) {
+        (void)send(slot->socket, "#\n", trdp_slot_has_path(slot) ? 2 : 1, MSG_NOSIGNAL);
+        slot->spoke = trdp_slot_now();
+    }
+    return slot->spoke + (third > 0 ? third : 1);
+}
+
+/* Waits for a text until that moment, and takes it. */
+static inline enum trdp_slot_error trdp_slot_await(struct trdp_slot *slot, int64_t until,
+    struct trdp_slot_piece *piece)
+{
+    for (;;) {
+        enum trdp_slot_error error = trdp_slot_take(slot, piece);
         if (error != TRDP_SLOT_TIMEOUT)
             return error;
-        int64_t left = until - trdp_slot_now();
-        if (left <= 0)
+        if (trdp_slot_now() >= until)
             return TRDP_SLOT_TIMEOUT;
-        struct pollfd wait = { slot->socket, POLLIN, 0 };
-        if (poll(&wait, 1, left < INT_MAX ? (int)left : INT_MAX) < 0 && errno != EINTR)
+        int64_t due = trdp_slot_stay(slot);
+        if (trdp_slot_poll(slot->socket, POLLIN, due < until ? due : until) != TRDP_SLOT_OK)
             return TRDP_SLOT_SYSTEM;
     }
 }
 
-/* Keeps an indication, its length before it; counts it as lost where there is no room. */
-static inline void trdp_slot_keep(struct trdp_slot *slot, size_t length)
+/* Keeps an indication, or how many were lost, its length before it. Where there is no room it is
+ * counted as lost. */
+static inline void trdp_slot_keep(struct trdp_slot *slot, const struct trdp_slot_piece *piece,
+    uint32_t lost)
 {
-    uint32_t size = (uint32_t)length;
+    uint32_t size = (uint32_t)piece->length;
     size_t left = slot->terms.kept_room - slot->kept_length;
-    if (left < sizeof size || left - sizeof size < length) {
-        trdp_slot_count(&slot->lost, 1);
+    if (left < sizeof size || left - sizeof size < piece->length) {
+        trdp_slot_count(&slot->lost, lost);
         return;
     }
     uint8_t *to = slot->terms.kept + slot->kept_length;
     memcpy(to, &size, sizeof size);
-    memcpy(to + sizeof size, slot->terms.text, length);
-    slot->kept_length += sizeof size + length;
+    memcpy(to + sizeof size, piece->text, piece->length);
+    slot->kept_length += sizeof size + piece->length;
 }
 
 /* Puts aside what isn't awaited: keeps an indication, and counts all else. */
-static inline void trdp_slot_put_aside(struct trdp_slot *slot, enum trdp_slot_form form,
-    size_t length)
+static inline void trdp_slot_put_aside(struct trdp_slot *slot, const struct trdp_slot_said *said,
+    const struct trdp_slot_piece *piece)
 {
-    if (form == TRDP_SLOT_FORM_INDICATION)
-        trdp_slot_keep(slot, length);
-    else if (form == TRDP_SLOT_FORM_STRANGE || form == TRDP_SLOT_FORM_OTHER_SLOT)
+    if (said->form == TRDP_SLOT_FORM_INDICATION) {
+        trdp_slot_keep(slot, piece, 1);
+    } else if (said->form == TRDP_SLOT_FORM_LOST) {
+        trdp_slot_keep(slot, piece, said->told.lost);
+        slot->marks = 0; /* the answer to one may be lost */
+    } else if (said->form == TRDP_SLOT_FORM_STRANGE || said->form == TRDP_SLOT_FORM_OTHER_SLOT) {
         trdp_slot_count(&slot->strange, 1);
-    else
+    } else {
         trdp_slot_count(&slot->stale, 1);
+    }
 }
 
-/* Takes all that waits at the socket before a call. */
+/* Takes all that is there before a call. */
 static inline enum trdp_slot_error trdp_slot_drain(struct trdp_slot *slot)
 {
     int64_t until = trdp_slot_now() + slot->terms.timeout;
     do {
-        size_t length;
-        enum trdp_slot_error error = trdp_slot_receive(slot, &length);
+        struct trdp_slot_piece piece;
+        enum trdp_slot_error error = trdp_slot_take(slot, &piece);
         if (error == TRDP_SLOT_OK) {
             struct trdp_slot_said said;
-            trdp_slot_read(slot->terms.number, slot->terms.text, length, &said);
-            trdp_slot_put_aside(slot, said.form, length);
+            trdp_slot_read(slot->terms.number, piece.text, piece.length, &said);
+            trdp_slot_put_aside(slot, &said, &piece);
         } else if (error != TRDP_SLOT_NOBODY) { /* which is of a line before this one */
             return error == TRDP_SLOT_TIMEOUT ? TRDP_SLOT_OK : error;
         }
@@ -1002,9 +1307,9 @@ static inline enum trdp_slot_error trdp_slot_drain(struct trdp_slot *slot)
     return TRDP_SLOT_OK;
 }
 
-/* Sends bytes. Where the system tells that a line before found nobody, tries once more. */
-static inline enum trdp_slot_error trdp_slot_send(struct trdp_slot *slot, const char *bytes,
-    size_t length)
+/* Sends a datagram. Where the system tells that a line before found nobody, tries once more. */
+static inline enum trdp_slot_error trdp_slot_send_datagram(struct trdp_slot *slot,
+    const char *bytes, size_t length)
 {
     bool again = true;
     while (send(slot->socket, bytes, length, 0) < 0) {
@@ -1016,67 +1321,375 @@ static inline enum trdp_slot_error trdp_slot_send(struct trdp_slot *slot, const 
     return TRDP_SLOT_OK;
 }
 
-/* Waits for the answer to a line for the time of one try: one of that form, or an error. NOBODY
- * where the system said so, and nothing came. */
-static inline enum trdp_slot_error trdp_slot_hear(struct trdp_slot *slot,
-    enum trdp_slot_form wanted, struct trdp_slot_said *said)
+/* Sends all of these bytes by that moment. Where the connection has ended, what was said before is
+ * heard first: `busy` may be there. TIMEOUT where none of them went out; where some did, the rest
+ * would be wanting for ever, so that the connection is ended. */
+static inline enum trdp_slot_error trdp_slot_send_bytes(struct trdp_slot *slot, const char *bytes,
+    size_t length, int64_t until)
 {
-    int64_t until = trdp_slot_now() + slot->terms.timeout;
-    enum trdp_slot_error silence = TRDP_SLOT_TIMEOUT;
-    do {
-        size_t length;
-        enum trdp_slot_error error = trdp_slot_await(slot, until, &length);
-        if (error == TRDP_SLOT_NOBODY) {
-            silence = TRDP_SLOT_NOBODY;
-            continue;
+    size_t sent = 0;
+    while (sent < length) {
+        ssize_t count = send(slot->socket, bytes + sent, length - sent, MSG_NOSIGNAL);
+        if (count >= 0) {
+            sent += (size_t)count;
+        } else if (errno == EPIPE || errno == ECONNRESET) {
+            enum trdp_slot_error error = trdp_slot_drain(slot);
+            return error != TRDP_SLOT_OK ? error : trdp_slot_leave(slot, TRDP_SLOT_RESTARTED);
+        } else if (trdp_slot_would_wait() && trdp_slot_now() < until) {
+            if (trdp_slot_poll(slot->socket, POLLOUT, until) != TRDP_SLOT_OK)
+                return TRDP_SLOT_SYSTEM;
+        } else if (errno != EINTR) {
+            enum trdp_slot_error error = trdp_slot_would_wait() ? TRDP_SLOT_TIMEOUT
+                : TRDP_SLOT_SYSTEM;
+            return sent == 0 ? error : trdp_slot_leave(slot, TRDP_SLOT_RESTARTED);
         }
+    }
+    return TRDP_SLOT_OK;
+}
+
+/* Sends a line, behind which there is room for its end. */
+static inline enum trdp_slot_error trdp_slot_send(struct trdp_slot *slot, char *line,
+    size_t length, int64_t until)
+{
+    enum trdp_slot_error error;
+    if (trdp_slot_has_path(slot)) {
+        line[length] = '\n';
+        error = trdp_slot_send_bytes(slot, line, length + 1, until);
+    } else {
+        error = trdp_slot_send_datagram(slot, line, length);
+    }
+    if (error == TRDP_SLOT_OK)
+        slot->spoke = trdp_slot_now();
+    return error;
+}
+
+/* ---- Opening and closing ---- */
+
+/* A socket that never blocks, and closes where this program becomes another one; -1 where there is
+ * none. */
+static inline int trdp_slot_socket(int family, int type)
+{
+#if defined(SOCK_CLOEXEC) && defined(SOCK_NONBLOCK)
+    return socket(family, type | SOCK_CLOEXEC | SOCK_NONBLOCK, 0);
+#else
+    int made = socket(family, type, 0);
+    if (made >= 0 && (fcntl(made, F_SETFL, O_NONBLOCK) != 0
+        || fcntl(made, F_SETFD, FD_CLOEXEC) != 0)) {
+        int reason = errno;
+        close(made);
+        errno = reason;
+        return -1;
+    }
+    return made;
+#endif
+}
+
+/* Makes a socket that is connected to a place; -1 where it can't. */
+static inline int trdp_slot_connected(int family, int type, const struct sockaddr *place,
+    socklen_t length)
+{
+    int control = trdp_slot_socket(family, type);
+    if (control >= 0 && connect(control, place, length) != 0) {
+        int reason = errno;
+        close(control);
+        errno = reason;
+        return -1;
+    }
+    return control;
+}
+
+/* Connects to the control port of an address. */
+static inline enum trdp_slot_error trdp_slot_connect_port(struct trdp_slot *slot)
+{
+    struct sockaddr_in node;
+    memset(&node, 0, sizeof node);
+    node.sin_family = AF_INET;
+    node.sin_addr.s_addr = htonl(slot->terms.address);
+    node.sin_port = htons(slot->terms.port);
+    slot->socket = trdp_slot_connected(AF_INET, SOCK_DGRAM,
+        (const struct sockaddr *)&node, sizeof node);
+    if (slot->socket < 0)
+        return TRDP_SLOT_SYSTEM;
+#ifdef SO_RXQ_OVFL
+    int on = 1; /* where the system can't, it tells of nothing that it drops */
+    (void)setsockopt(slot->socket, SOL_SOCKET, SO_RXQ_OVFL, &on, sizeof on);
+#endif
+    return TRDP_SLOT_OK;
+}
+
+/* Connects to the control socket. NOBODY where nobody listens there, or it isn't there (yet);
+ * TIMEOUT where those who wait to be connected are too many. */
+static inline enum trdp_slot_error trdp_slot_connect_path(struct trdp_slot *slot)
+{
+    struct sockaddr_un node;
+    memset(&node, 0, sizeof node);
+    node.sun_family = AF_UNIX;
+    memcpy(node.sun_path, slot->path, strlen(slot->path));
+    slot->socket = trdp_slot_connected(AF_UNIX, SOCK_STREAM,
+        (const struct sockaddr *)&node, sizeof node);
+    slot->connected = trdp_slot_now();
+    slot->reason = errno;
+    slot->absence = slot->socket >= 0 ? TRDP_SLOT_OK
+        : errno == ENOENT || errno == ECONNREFUSED ? TRDP_SLOT_NOBODY
+        : trdp_slot_would_wait() ? TRDP_SLOT_TIMEOUT : TRDP_SLOT_SYSTEM;
+    return slot->absence;
+}
+
+/* Connects, and says `#`, by which this is the application. */
+static inline enum trdp_slot_error trdp_slot_connect(struct trdp_slot *slot)
+{
+    char remark[2] = { '#', '\n' };
+    enum trdp_slot_error error = trdp_slot_has_path(slot) ? trdp_slot_connect_path(slot)
+        : trdp_slot_connect_port(slot);
+    return error != TRDP_SLOT_OK ? error
+        : trdp_slot_send(slot, remark, 1, trdp_slot_now() + slot->terms.timeout);
+}
+
+/* Connects, where there is no connection, by that moment; it is tried again and again. */
+static inline enum trdp_slot_error trdp_slot_connect_by(struct trdp_slot *slot, int64_t until)
+{
+    while (slot->socket < 0) {
+        int64_t now = trdp_slot_now(), due = slot->connected + TRDP_SLOT_PAUSE;
+        if (now >= due) {
+            (void)trdp_slot_connect(slot);
+        } else if (now >= until) {
+            errno = slot->reason;
+            return slot->absence;
+        } else if (trdp_slot_poll(-1, 0, due < until ? due : until) != TRDP_SLOT_OK) {
+            return TRDP_SLOT_SYSTEM;
+        }
+    }
+    return TRDP_SLOT_OK;
+}
+
+/* Closes the socket; errno stays. What the slot has made over UDP stays in the daemon, and so do
+ * its handles, which nobody lists: an application that leaves for good ends its objects before. At
+ * a control socket they are gone with the connection, unless another process has it too: a child
+ * of `fork` closes its copy by this call, and the parent's connection stays. */
+static inline void trdp_slot_close(struct trdp_slot *slot)
+{
+    int reason = errno;
+    if (slot->socket >= 0)
+        close(slot->socket);
+    slot->socket = -1;
+    slot->path[0] = '\0';
+    errno = reason;
+}
+
+/* A slot that isn't open, of these terms; whether they can be meant. */
+static inline bool trdp_slot_begins(struct trdp_slot *slot, const struct trdp_slot_terms *terms)
+{
+    memset(slot, 0, sizeof *slot);
+    slot->terms = *terms;
+    slot->socket = -1;
+    return terms->timeout > 0 && terms->tries > 0 && terms->line != NULL && terms->text != NULL
+        && (terms->kept != NULL || terms->kept_room == 0)
+        && terms->line_room >= TRDP_SLOT_OVERHEAD && terms->text_room >= TRDP_SLOT_TEXT_ROOM;
+}
+
+/* Opens a slot: connects a socket to its control port, and has its indications come here from now
+ * on. It waits for nothing, and doesn't know whether a daemon is there: the first call tells.
+ * Errors: ARGUMENT where a buffer is missing or too small, or `timeout`, `tries` or `port` is 0;
+ * SYSTEM. */
+static inline enum trdp_slot_error trdp_slot_open(struct trdp_slot *slot,
+    const struct trdp_slot_terms *terms)
+{
+    if (!trdp_slot_begins(slot, terms) || terms->port == 0)
+        return TRDP_SLOT_ARGUMENT;
+    enum trdp_slot_error error = trdp_slot_connect(slot);
+    if (error != TRDP_SLOT_OK)
+        trdp_slot_close(slot);
+    return error;
+}
+
+/* Opens a slot at a control socket: connects to its path, as "/run/trdpd/18000", and is the
+ * application from then on. It waits for no answer: where another application lives there, the
+ * first call tells BUSY.
+ * Errors: ARGUMENT where a buffer is missing or too small, `timeout` or `tries` is 0, or the path is
+ * empty or longer than 107 bytes; the slot isn't open then. NOBODY where nobody listens there;
+ * SYSTEM, as with EACCES where this user may not connect. Then the slot is open all the same, and
+ * each call tries again to connect, until it is closed. */
+static inline enum trdp_slot_error trdp_slot_open_path(struct trdp_slot *slot, const char *path,
+    const struct trdp_slot_terms *terms)
+{
+    if (!trdp_slot_begins(slot, terms) || path == NULL || path[0] == '\0'
+        || strlen(path) >= sizeof slot->path)
+        return TRDP_SLOT_ARGUMENT;
+    memcpy(slot->path, path, strlen(path));
+    return trdp_slot_connect(slot);
+}
+
+/* ---- Calls ---- */
+
+/* Whether the slot is open, connected or not. */
+static inline bool trdp_slot_is_open(const struct trdp_slot *slot)
+{
+    return slot->socket >= 0 || trdp_slot_has_path(slot);
+}
+
+/* How often a line is sent at most. A connection loses none. */
+static inline uint32_t trdp_slot_tries(const struct trdp_slot *slot)
+{
+    return trdp_slot_has_path(slot) ? 1 : slot->terms.tries;
+}
+
+/* Until when the answer to a line that goes out now is awaited. */
+static inline int64_t trdp_slot_deadline(const struct trdp_slot *slot)
+{
+    uint32_t times = trdp_slot_has_path(slot) ? slot->terms.tries : 1;
+    return trdp_slot_now() + (int64_t)slot->terms.timeout * times;
+}
+
+/* The fault of the mark that was sent last. A mark is a line that can't be read, and does nothing:
+ * what comes before its answer is of lines before it. Three take turns, so that one that comes late
+ * isn't taken for the next one. */
+static inline enum trdp_slot_error trdp_slot_mark_fault(const struct trdp_slot *slot)
+{
+    return slot->mark == 0 ? TRDP_SLOT_FAULT_UNKNOWN
+        : slot->mark == 1 ? TRDP_SLOT_FAULT_COUNT : TRDP_SLOT_FAULT_BAD_WORD;
+}
+
+/* Sends the next mark. */
+static inline enum trdp_slot_error trdp_slot_send_mark(struct trdp_slot *slot, int64_t until)
+{
+    static const char *const marks[] = { "mark", "get", "get mark" };
+    static const char *const operators[] = { "mark", "role", "role mark mark" };
+    char line[16];
+    slot->mark = (slot->mark + 1) % 3;
+    const char *mark = slot->is_operator ? operators[slot->mark] : marks[slot->mark];
+    memcpy(line, mark, strlen(mark));
+    enum trdp_slot_error error = trdp_slot_send(slot, line, strlen(mark), until);
+    if (error == TRDP_SLOT_OK)
+        trdp_slot_count(&slot->marks, 1);
+    return error;
+}
+
+/* Waits for the answer to the latest mark. `wanted` is a form that counts as `is_heard` where it
+ * comes before. */
+static inline enum trdp_slot_error trdp_slot_hear_mark(struct trdp_slot *slot, int64_t until,
+    enum trdp_slot_form wanted, bool *is_heard)
+{
+    for (;;) {
+        struct trdp_slot_piece piece;
+        struct trdp_slot_said said;
+        enum trdp_slot_error error = trdp_slot_await(slot, until, &piece);
         if (error != TRDP_SLOT_OK)
-            return error == TRDP_SLOT_TIMEOUT ? silence : error;
-        trdp_slot_read(slot->terms.number, slot->terms.text, length, said);
+            return error;
+        trdp_slot_read(slot->terms.number, piece.text, piece.length, &said);
+        if (said.form == TRDP_SLOT_FORM_OTHER_SLOT)
+            return TRDP_SLOT_OTHER_SLOT;
+        if (said.form == wanted) {
+            *is_heard = true;
+        } else if (said.form != TRDP_SLOT_FORM_ERROR || said.error < TRDP_SLOT_FAULT_TOO_LONG
+            || said.error > TRDP_SLOT_FAULT_OTHERWISE) {
+            trdp_slot_put_aside(slot, &said, &piece);
+        } else if (said.error == trdp_slot_mark_fault(slot)) {
+            /* Of more than three that are under way, one before it may have the same answer. */
+            slot->marks = slot->marks > 3 ? slot->marks - 1 : 0;
+            slot->is_unsure = false;
+            return TRDP_SLOT_OK;
+        }
+    }
+}
+
+/* Has no answer to an earlier line under way any more: sends a mark, and waits for its answer. A
+ * connection loses no mark, unless it says so, and so has one under way at most. */
+static inline enum trdp_slot_error trdp_slot_settle(struct trdp_slot *slot)
+{
+    enum trdp_slot_error error = TRDP_SLOT_OK;
+    bool is_heard = false;
+    for (uint32_t tried = 0; slot->is_unsure && tried < trdp_slot_tries(slot); tried++) {
+        int64_t until = trdp_slot_deadline(slot);
+        if (!trdp_slot_has_path(slot) || slot->marks == 0)
+            error = trdp_slot_send_mark(slot, until);
+        if (error == TRDP_SLOT_OK)
+            error = trdp_slot_hear_mark(slot, until, TRDP_SLOT_FORM_STRANGE, &is_heard);
+        if (error == TRDP_SLOT_TIMEOUT && tried + 1 < trdp_slot_tries(slot))
+            error = TRDP_SLOT_OK;
+        else if (error != TRDP_SLOT_OK)
+            return error;
+    }
+    return error;
+}
+
+/* What comes before each call: a connection, where there is none; what waits is taken; and answers
+ * that are still under way are waited for. */
+static inline enum trdp_slot_error trdp_slot_prepare(struct trdp_slot *slot)
+{
+    slot->tried = 0;
+    enum trdp_slot_error error = slot->socket < 0 ? trdp_slot_connect(slot) : TRDP_SLOT_OK;
+    if (error == TRDP_SLOT_OK)
+        error = trdp_slot_drain(slot);
+    return error == TRDP_SLOT_OK ? trdp_slot_settle(slot) : error;
+}
+
+/* Waits for the answer to a line until that moment: one of that form, or an error. NOBODY as soon
+ * as the system says so. */
+static inline enum trdp_slot_error trdp_slot_hear(struct trdp_slot *slot,
+    enum trdp_slot_form wanted, int64_t until, struct trdp_slot_said *said,
+    struct trdp_slot_piece *piece)
+{
+    for (;;) {
+        enum trdp_slot_error error = trdp_slot_await(slot, until, piece);
+        if (error != TRDP_SLOT_OK)
+            return error;
+        trdp_slot_read(slot->terms.number, piece->text, piece->length, said);
         if (said->form == wanted)
             return TRDP_SLOT_OK;
-        if (said->form == TRDP_SLOT_FORM_ERROR)
-            return said->error;
         if (said->form == TRDP_SLOT_FORM_OTHER_SLOT)
             return TRDP_SLOT_OTHER_SLOT;
-        trdp_slot_put_aside(slot, said->form, length);
-    } while (trdp_slot_now() < until);
-    return silence;
+        if (said->form != TRDP_SLOT_FORM_ERROR)
+            trdp_slot_put_aside(slot, said, piece);
+        else if (slot->marks == 0 || said->error < TRDP_SLOT_FAULT_TOO_LONG)
+            return said->error;
+        else
+            slot->marks--; /* the answer to a mark that came late */
+    }
 }
 
 /* Makes a call: sends its line until an answer of that form or an error comes. */
+static inline enum trdp_slot_error trdp_slot_ask(struct trdp_slot *slot,
+    const struct trdp_slot_writer *line, enum trdp_slot_form wanted,
+    struct trdp_slot_said *said, struct trdp_slot_piece *piece)
+{
+    slot->tried = 0;
+    if (line->bad || !trdp_slot_is_open(slot))
+        return TRDP_SLOT_ARGUMENT;
+    if (line->full)
+        return TRDP_SLOT_LONG;
+    enum trdp_slot_error error = trdp_slot_prepare(slot);
+    if (error != TRDP_SLOT_OK)
+        return error;
+    do {
+        int64_t until = trdp_slot_deadline(slot);
+        error = trdp_slot_send(slot, line->line, line->length, until);
+        if (error != TRDP_SLOT_OK)
+            return error;
+        slot->tried++;
+        error = trdp_slot_hear(slot, wanted, until, said, piece);
+        slot->is_unsure = slot->is_unsure || error == TRDP_SLOT_TIMEOUT;
+    } while (error == TRDP_SLOT_TIMEOUT && slot->tried < trdp_slot_tries(slot));
+    /* Nobody may be there now who took an earlier try. */
+    return error == TRDP_SLOT_NOBODY && slot->tried > 1 ? TRDP_SLOT_TIMEOUT : error;
+}
+
+/* The same, where the text itself isn't looked at. */
 static inline enum trdp_slot_error trdp_slot_call(struct trdp_slot *slot,
     const struct trdp_slot_writer *line, enum trdp_slot_form wanted,
     struct trdp_slot_said *said)
 {
-    slot->tried = 0;
-    if (line->bad || slot->socket < 0)
-        return TRDP_SLOT_ARGUMENT;
-    if (line->full)
-        return TRDP_SLOT_LONG;
-    enum trdp_slot_error error = trdp_slot_drain(slot);
-    enum trdp_slot_error silence = TRDP_SLOT_NOBODY;
-    while (error == TRDP_SLOT_OK && slot->tried < slot->terms.tries) {
-        error = trdp_slot_send(slot, line->line, line->length);
-        if (error != TRDP_SLOT_OK)
-            return error;
-        slot->tried++;
-        error = trdp_slot_hear(slot, wanted, said);
-        if (error != TRDP_SLOT_TIMEOUT && error != TRDP_SLOT_NOBODY)
-            return error;
-        if (error == TRDP_SLOT_TIMEOUT)
-            silence = TRDP_SLOT_TIMEOUT;
-        error = TRDP_SLOT_OK;
-    }
-    return error == TRDP_SLOT_OK ? silence : error;
+    struct trdp_slot_piece piece;
+    return trdp_slot_ask(slot, line, wanted, said, &piece);
 }
 
-/* A line that begins with that word, in the slot's room. */
+/* A line that begins with that word, in the slot's room; its end fits in behind it. */
 static inline struct trdp_slot_writer trdp_slot_line(struct trdp_slot *slot, const char *word)
 {
-    size_t room = slot->terms.line_room;
+    size_t most = trdp_slot_has_path(slot) ? TRDP_SLOT_LINE : TRDP_SLOT_DATAGRAM;
+    size_t room = slot->terms.line_room < most ? slot->terms.line_room : most;
     struct trdp_slot_writer writer = { slot->terms.line,
-        room < TRDP_SLOT_DATAGRAM ? room : TRDP_SLOT_DATAGRAM, 0, false, false };
+        trdp_slot_has_path(slot) ? room - 1 : room, 0, false, false };
+    slot->is_operator = false;
     trdp_slot_write_text(&writer, word);
     return writer;
 }
@@ -1107,68 +1720,6 @@ static inline enum trdp_slot_error trdp_slot_do_handle(struct trdp_slot *slot, c
     struct trdp_slot_writer line = trdp_slot_line(slot, word);
     trdp_slot_write_number(&line, handle);
     return trdp_slot_do(slot, &line);
-}
-
-/* ---- Opening and closing ---- */
-
-/* Makes a socket that is connected to the control port and never blocks; -1 where it can't. */
-static inline int trdp_slot_connected(uint32_t address, uint16_t port)
-{
-    struct sockaddr_in node;
-    memset(&node, 0, sizeof node);
-    node.sin_family = AF_INET;
-    node.sin_addr.s_addr = htonl(address);
-    node.sin_port = htons(port);
-    int control = socket(AF_INET, SOCK_DGRAM, 0);
-    if (control < 0)
-        return -1;
-    if (connect(control, (const struct sockaddr *)&node, sizeof node) != 0
-        || fcntl(control, F_SETFL, O_NONBLOCK) != 0
-        || fcntl(control, F_SETFD, FD_CLOEXEC) != 0) {
-        int reason = errno;
-        close(control);
-        errno = reason;
-        return -1;
-    }
-#ifdef SO_RXQ_OVFL
-    int on = 1; /* where the system can't, it tells of nothing that it drops */
-    (void)setsockopt(control, SOL_SOCKET, SO_RXQ_OVFL, &on, sizeof on);
-#endif
-    return control;
-}
-
-/* Closes the socket; errno stays. What the slot has made stays in the daemon, and so do its
- * handles, which nobody lists: an application that leaves for good ends its objects before. */
-static inline void trdp_slot_close(struct trdp_slot *slot)
-{
-    int reason = errno;
-    if (slot->socket >= 0)
-        close(slot->socket);
-    slot->socket = -1;
-    errno = reason;
-}
-
-/* Opens a slot: connects a socket to its control port, and has its indications come here from now
- * on. It waits for nothing, and doesn't know whether a daemon is there: the first call tells.
- * Errors: ARGUMENT where a buffer is missing or too small, or `timeout`, `tries` or `port` is 0;
- * SYSTEM. */
-static inline enum trdp_slot_error trdp_slot_open(struct trdp_slot *slot,
-    const struct trdp_slot_terms *terms)
-{
-    memset(slot, 0, sizeof *slot);
-    slot->terms = *terms;
-    slot->socket = -1;
-    if (terms->port == 0 || terms->timeout == 0 || terms->tries == 0 || terms->line == NULL
-        || terms->text == NULL || (terms->kept == NULL && terms->kept_room > 0)
-        || terms->line_room < TRDP_SLOT_OVERHEAD || terms->text_room < TRDP_SLOT_TEXT_ROOM)
-        return TRDP_SLOT_ARGUMENT;
-    slot->socket = trdp_slot_connected(terms->address, terms->port);
-    if (slot->socket < 0)
-        return TRDP_SLOT_SYSTEM;
-    enum trdp_slot_error error = trdp_slot_send(slot, "#", 1);
-    if (error != TRDP_SLOT_OK)
-        trdp_slot_close(slot);
-    return error;
 }
 
 /* ---- Process data ----
@@ -1408,23 +1959,185 @@ static inline enum trdp_slot_error trdp_slot_abort(struct trdp_slot *slot, uint3
 }
 
 /* Has the slot begin anew: all its objects end at once, those of an earlier program too, and no
- * handle is given out again. The network isn't told. It is never refused, and a second try does no
- * harm. */
+ * handle is given out again. The network isn't told. A program that makes objects calls it first;
+ * one that only looks doesn't. It is never refused, and a second try does no harm.
+ *
+ * A mark goes behind each try. OK says that the mark behind the latest one was answered, so that
+ * none is under way that would end what is made from then on. Behind TIMEOUT every later call first
+ * has a mark answered. */
 static inline enum trdp_slot_error trdp_slot_reset(struct trdp_slot *slot)
 {
     struct trdp_slot_writer line = trdp_slot_line(slot, "reset");
-    return trdp_slot_do(slot, &line);
+    slot->tried = 0;
+    if (!trdp_slot_is_open(slot))
+        return TRDP_SLOT_ARGUMENT;
+    enum trdp_slot_error error = trdp_slot_prepare(slot);
+    bool is_done = false;
+    while (error == TRDP_SLOT_OK && !is_done && slot->tried < trdp_slot_tries(slot)) {
+        int64_t until = trdp_slot_deadline(slot);
+        error = trdp_slot_send(slot, line.line, line.length, until);
+        if (error != TRDP_SLOT_OK)
+            return error;
+        slot->tried++;
+        slot->is_unsure = true;
+        error = trdp_slot_send_mark(slot, until);
+        if (error == TRDP_SLOT_OK)
+            error = trdp_slot_hear_mark(slot, until, TRDP_SLOT_FORM_DONE, &is_done);
+        if (error == TRDP_SLOT_TIMEOUT) {
+            is_done = false; /* whose mark isn't answered */
+            if (slot->tried < trdp_slot_tries(slot))
+                error = TRDP_SLOT_OK;
+        }
+    }
+    return error == TRDP_SLOT_OK && !is_done ? TRDP_SLOT_TIMEOUT
+        : error == TRDP_SLOT_NOBODY && slot->tried > 1 ? TRDP_SLOT_TIMEOUT : error;
+}
+
+/* ---- The operator ----
+ *
+ * The calls below are of a slot that was opened at the operator's port, or at its path, whatever its
+ * `number`; there it is answered where it calls from, and nobody else is concerned. At a control
+ * socket four such slots are open at once, and BUSY is a fifth one. They come to the same errors as
+ * the others, to FAULT_UNKNOWN at the control port of a slot, and to what is named. */
+
+/* A line of the operator. */
+static inline struct trdp_slot_writer trdp_slot_operator_line(struct trdp_slot *slot,
+    const char *word)
+{
+    struct trdp_slot_writer writer = trdp_slot_line(slot, word);
+    slot->is_operator = true;
+    return writer;
+}
+
+/* Has an operator's line done. */
+static inline enum trdp_slot_error trdp_slot_operate(struct trdp_slot *slot,
+    const struct trdp_slot_writer *line)
+{
+    struct trdp_slot_said said;
+    return trdp_slot_call(slot, line, TRDP_SLOT_FORM_OK, &said);
+}
+
+/* The train's network has these topology counts from now on. A second try does no harm. */
+static inline enum trdp_slot_error trdp_slot_topology(struct trdp_slot *slot, uint32_t etb,
+    uint32_t op_trn)
+{
+    struct trdp_slot_writer line = trdp_slot_operator_line(slot, "topology");
+    trdp_slot_write_number(&line, etb);
+    trdp_slot_write_number(&line, op_trn);
+    return trdp_slot_operate(slot, &line);
+}
+
+/* The node leads that redundancy group, 1 to 255, from now on, or follows in it. A second try does
+ * no harm. Errors: NODE_NO_GROUP for 0. */
+static inline enum trdp_slot_error trdp_slot_role(struct trdp_slot *slot, uint8_t group,
+    bool is_leader)
+{
+    struct trdp_slot_writer line = trdp_slot_operator_line(slot, "role");
+    trdp_slot_write_number(&line, group);
+    trdp_slot_write_text(&line, is_leader ? " leader" : " follower");
+    return trdp_slot_operate(slot, &line);
+}
+
+/* Opens the next slot, for so many objects of each kind, 0 to 256. A second try may open a second
+ * one. Errors: NODE_SLOTS_FULL; FAULT_BAD_WORD for more than 256. */
+static inline enum trdp_slot_error trdp_slot_addslot(struct trdp_slot *slot,
+    const struct trdp_slot_kinds *quotas)
+{
+    struct trdp_slot_writer line = trdp_slot_operator_line(slot, "addslot");
+    trdp_slot_write_number(&line, quotas->publishers);
+    trdp_slot_write_number(&line, quotas->subscriptions);
+    trdp_slot_write_number(&line, quotas->requesters);
+    trdp_slot_write_number(&line, quotas->listeners);
+    trdp_slot_write_number(&line, quotas->callers);
+    trdp_slot_write_number(&line, quotas->repliers);
+    return trdp_slot_operate(slot, &line);
+}
+
+/* What the daemon has counted since it began, this line with it. */
+static inline enum trdp_slot_error trdp_slot_totals(struct trdp_slot *slot,
+    struct trdp_slot_totals *totals)
+{
+    struct trdp_slot_said said;
+    struct trdp_slot_writer line = trdp_slot_operator_line(slot, "totals");
+    enum trdp_slot_error error = trdp_slot_call(slot, &line, TRDP_SLOT_FORM_TOTALS, &said);
+    if (error == TRDP_SLOT_OK)
+        *totals = said.totals;
+    return error;
+}
+
+/* Takes the lines of slots in a text behind those that are there. */
+static inline void trdp_slot_take_usages(const struct trdp_slot_piece *piece,
+    struct trdp_slot_usage *usages, size_t room, size_t *count)
+{
+    struct trdp_slot_reader reader = { piece->text, piece->text + piece->length, false };
+    while (reader.at != reader.end) {
+        struct trdp_slot_usage usage;
+        trdp_slot_read_usage(&reader, &usage);
+        trdp_slot_expect(&reader, "\n");
+        if (*count < room)
+            usages[*count] = usage;
+        ++*count;
+    }
+}
+
+/* Takes the lines of slots of a connection, which end with the answer to a mark behind them. */
+static inline enum trdp_slot_error trdp_slot_hear_usages(struct trdp_slot *slot,
+    struct trdp_slot_usage *usages, size_t room, size_t *count)
+{
+    int64_t until = trdp_slot_deadline(slot);
+    slot->is_unsure = true;
+    enum trdp_slot_error error = trdp_slot_send_mark(slot, until);
+    while (error == TRDP_SLOT_OK) {
+        struct trdp_slot_piece piece;
+        struct trdp_slot_said said;
+        error = trdp_slot_await(slot, until, &piece);
+        if (error != TRDP_SLOT_OK)
+            break;
+        trdp_slot_read(slot->terms.number, piece.text, piece.length, &said);
+        if (said.form == TRDP_SLOT_FORM_USAGES) {
+            trdp_slot_take_usages(&piece, usages, room, count);
+        } else if (said.form == TRDP_SLOT_FORM_ERROR
+            && said.error == trdp_slot_mark_fault(slot)) {
+            slot->marks = 0;
+            slot->is_unsure = false;
+            break;
+        } else {
+            trdp_slot_put_aside(slot, &said, &piece);
+        }
+    }
+    return error;
+}
+
+/* What each slot has and may have at most, slots rising: as many as there are come to `count`, and
+ * the first of them to `usages`, which has room for so many; TRDP_SLOT_SLOTS is always enough. CUT
+ * where they are more. It changes nothing, so that this is how one looks at a daemon whose
+ * applications are at control sockets. */
+static inline enum trdp_slot_error trdp_slot_slots(struct trdp_slot *slot,
+    struct trdp_slot_usage *usages, size_t room, size_t *count)
+{
+    struct trdp_slot_said said;
+    struct trdp_slot_piece piece;
+    struct trdp_slot_writer line = trdp_slot_operator_line(slot, "slots");
+    enum trdp_slot_error error = trdp_slot_ask(slot, &line, TRDP_SLOT_FORM_USAGES, &said, &piece);
+    if (error != TRDP_SLOT_OK)
+        return error;
+    *count = 0;
+    trdp_slot_take_usages(&piece, usages, room, count);
+    if (trdp_slot_has_path(slot))
+        error = trdp_slot_hear_usages(slot, usages, room, count);
+    return error == TRDP_SLOT_OK && *count > room ? TRDP_SLOT_CUT : error;
 }
 
 /* ---- Indications ---- */
 
-/* Hands an indication over, with its payload in the caller's bytes. */
+/* Hands an indication over, with its payload in the caller's bytes; or how many were lost. */
 static inline enum trdp_slot_error trdp_slot_tell(const struct trdp_slot_said *said,
     struct trdp_slot_indication *told, uint8_t *bytes, size_t room)
 {
     *told = said->told;
     told->payload = bytes;
-    return trdp_slot_decode(said->digits, bytes, room);
+    return said->form == TRDP_SLOT_FORM_LOST ? TRDP_SLOT_LOST
+        : trdp_slot_decode(said->digits, bytes, room);
 }
 
 /* Takes the first indication out of those that are kept. */
@@ -1456,34 +2169,45 @@ static inline enum trdp_slot_error trdp_slot_tell_lost(struct trdp_slot *slot,
  * milliseconds, 0 to look only. Its payload comes to `bytes`, which has so much room.
  *
  * CUT where the payload is longer: all else is told, `length` is that of the whole payload, and
- * its first bytes are there; the rest is gone. LOST where indications were lost since the last
- * time, before those that are kept are told: `lost` says how many (where the system dropped them,
- * there may be answers among them). TIMEOUT where none came; NOBODY where the latest line found
- * nobody at the control port; SYSTEM; ARGUMENT for a slot that isn't open.
+ * its first bytes are there; the rest is gone. LOST where texts were lost: `lost` says how many,
+ * and there may be answers among them. What this header or the system dropped is told before those
+ * that are kept; what the daemon dropped at a control socket, in its place. TIMEOUT where none
+ * came; NOBODY where the latest line found nobody at the control port; SYSTEM; ARGUMENT for a slot
+ * that isn't open.
  *
- * A program that polls `socket` itself takes the kept ones first, until `kept_length` is 0. */
+ * At a control socket RESTARTED where the connection has ended. The next call of this connects
+ * again within its wait, without one at most once in TRDP_SLOT_PAUSE milliseconds, and answers
+ * NOBODY, SYSTEM or BUSY where it couldn't.
+ *
+ * A program that polls `socket` itself calls this with a wait of 0 before, until it answers
+ * TIMEOUT: what is kept, and what has come with another line, isn't at the socket any more. */
 static inline enum trdp_slot_error trdp_slot_next(struct trdp_slot *slot, uint32_t wait,
     struct trdp_slot_indication *told, uint8_t *bytes, size_t room)
 {
     int64_t until = trdp_slot_now() + wait;
-    if (slot->socket < 0)
+    if (!trdp_slot_is_open(slot))
         return TRDP_SLOT_ARGUMENT;
+    (void)trdp_slot_stay(slot);
     if (slot->lost > 0)
         return trdp_slot_tell_lost(slot, told);
     if (slot->kept_length > 0)
         return trdp_slot_tell_kept(slot, told, bytes, room);
     do {
-        size_t length;
+        struct trdp_slot_piece piece;
         struct trdp_slot_said said;
-        enum trdp_slot_error error = trdp_slot_await(slot, until, &length);
+        enum trdp_slot_error error = trdp_slot_connect_by(slot, until);
+        if (error == TRDP_SLOT_OK)
+            error = trdp_slot_await(slot, until, &piece);
         if (error == TRDP_SLOT_TIMEOUT)
             break;
         if (error != TRDP_SLOT_OK)
             return error;
-        trdp_slot_read(slot->terms.number, slot->terms.text, length, &said);
-        if (said.form == TRDP_SLOT_FORM_INDICATION)
+        trdp_slot_read(slot->terms.number, piece.text, piece.length, &said);
+        if (said.form == TRDP_SLOT_FORM_LOST)
+            slot->marks = 0; /* the answer to one may be lost */
+        if (said.form == TRDP_SLOT_FORM_INDICATION || said.form == TRDP_SLOT_FORM_LOST)
             return trdp_slot_tell(&said, told, bytes, room);
-        trdp_slot_put_aside(slot, said.form, length);
+        trdp_slot_put_aside(slot, &said, &piece);
     } while (trdp_slot_now() < until);
     return slot->lost > 0 ? trdp_slot_tell_lost(slot, told) : TRDP_SLOT_TIMEOUT;
 }
