@@ -3,11 +3,13 @@
  *
  *     gcc -std=c99 -Wall -Wextra -O2 -o door clients/c/door.c
  *     ./door ADDRESS PORT OTHER SECONDS
+ *     ./door PATH OTHER SECONDS
  *     ./door 127.0.9.1 18000 127.0.9.2 60
  *
- * ADDRESS and PORT are those of its slot's control port, OTHER is the address of the other side's
- * node. door.toml and other.toml configure both sides. It makes its objects anew where the daemon
- * was started anew. The exit status is 2 for other words, 1 where the slot can't be opened. */
+ * ADDRESS and PORT are those of its slot's control port, PATH is that of its control socket, with a
+ * slash in it, and OTHER is the address of the other side's node. door.toml and other.toml configure
+ * both sides. It begins with a reset, and makes its objects anew where the daemon was started anew.
+ * The exit status is 2 for other words, 1 where the slot can't be opened. */
 #include "trdp_slot.h"
 
 #include <stdio.h>
@@ -16,11 +18,20 @@
 struct doors {
     struct trdp_slot slot;
     uint32_t other;
+    bool is_reset;      /* whether what is there is this program's own */
     uint32_t publisher; /* the handles; 0 where there is none */
     uint32_t subscription;
 };
 
-/* Makes what isn't there yet: one publisher and one subscription, of comId 2101. */
+/* All that was made is gone. */
+static void begin_anew(struct doors *doors)
+{
+    doors->is_reset = false;
+    doors->publisher = doors->subscription = 0;
+}
+
+/* Makes what isn't there yet: one publisher and one subscription, of comId 2101, in a slot in which
+ * nothing is left of an earlier program. */
 static enum trdp_slot_error begin(struct doors *doors)
 {
     struct trdp_slot_publisher tells = { .com_id = 2101, .dataset = 5002, .cycle = 100000,
@@ -28,7 +39,10 @@ static enum trdp_slot_error begin(struct doors *doors)
     struct trdp_slot_subscription hears = { .com_id = 2101, .dataset = 5002,
         .low = doors->other, .high = doors->other, .time = 500000, .keep = true };
     enum trdp_slot_error error = TRDP_SLOT_OK;
-    if (doors->publisher == 0)
+    if (!doors->is_reset)
+        error = trdp_slot_reset(&doors->slot);
+    doors->is_reset = error == TRDP_SLOT_OK;
+    if (error == TRDP_SLOT_OK && doors->publisher == 0)
         error = trdp_slot_publish(&doors->slot, &tells, &doors->publisher);
     if (error == TRDP_SLOT_OK && doors->subscription == 0)
         error = trdp_slot_subscribe(&doors->slot, &hears, &doors->subscription);
@@ -48,12 +62,13 @@ static enum trdp_slot_error tell_and_show(struct doors *doors, uint8_t obstacles
     if (error == TRDP_SLOT_OK)
         printf("%s: %u doors, %u bytes\n", trdp_slot_state_text(value.state),
             (unsigned)bytes[0], (unsigned)value.length);
-    if (error == TRDP_SLOT_REFUSED_NO_HANDLE) /* the daemon was started anew */
-        doors->publisher = doors->subscription = 0;
+    /* The daemon was started anew, or the connection has ended. */
+    if (error == TRDP_SLOT_REFUSED_NO_HANDLE || error == TRDP_SLOT_RESTARTED)
+        begin_anew(doors);
     return error;
 }
 
-/* Shows what the node tells of its own accord, for some time. */
+/* Shows what the node tells of its own accord, for some time, or until the connection has ended. */
 static void listen_for(struct doors *doors, uint32_t milliseconds)
 {
     int64_t end = trdp_slot_now() + milliseconds, left;
@@ -66,6 +81,9 @@ static void listen_for(struct doors *doors, uint32_t milliseconds)
         case TRDP_SLOT_LOST:
             printf("%u lost\n", (unsigned)told.lost);
             break;
+        case TRDP_SLOT_RESTARTED:
+            begin_anew(doors);
+            return;
         default:
             break;
         }
@@ -80,27 +98,28 @@ int main(int argc, char **argv)
     struct trdp_slot_terms terms = { .timeout = 200, .tries = 1,
         .line = line, .line_room = sizeof line, .text = text, .text_room = sizeof text,
         .kept = kept, .kept_room = sizeof kept };
-    if (argc != 5 || !trdp_slot_address(argv[1], &terms.address)
-        || !trdp_slot_address(argv[3], &doors.other)) {
-        fprintf(stderr, "usage: door ADDRESS PORT OTHER SECONDS\n");
+    bool has_path = argc == 4 && strchr(argv[1], '/') != NULL;
+    if ((!has_path && (argc != 5 || !trdp_slot_address(argv[1], &terms.address)))
+        || !trdp_slot_address(argv[argc - 2], &doors.other)) {
+        fprintf(stderr, "usage: door ADDRESS PORT OTHER SECONDS\n"
+                        "       door PATH OTHER SECONDS\n");
         return 2;
     }
-    terms.port = (uint16_t)atoi(argv[2]);
-    enum trdp_slot_error error = trdp_slot_open(&doors.slot, &terms);
+    terms.port = has_path ? 0 : (uint16_t)atoi(argv[2]);
+    enum trdp_slot_error error = has_path ? trdp_slot_open_path(&doors.slot, argv[1], &terms)
+        : trdp_slot_open(&doors.slot, &terms);
     if (error != TRDP_SLOT_OK) {
         fprintf(stderr, "door: %s\n", trdp_slot_error_text(error));
         return 1;
     }
     setvbuf(stdout, NULL, _IOLBF, 0);
-    for (int second = 0; second < atoi(argv[4]); second++) {
+    for (int second = 0; second < atoi(argv[argc - 1]); second++) {
         error = tell_and_show(&doors, (uint8_t)second);
         if (error != TRDP_SLOT_OK)
             printf("%s\n", trdp_slot_error_text(error));
         listen_for(&doors, 1000);
     }
-    /* What isn't ended stays in the daemon. */
-    trdp_slot_unpublish(&doors.slot, doors.publisher);
-    trdp_slot_unsubscribe(&doors.slot, doors.subscription);
+    trdp_slot_reset(&doors.slot); /* over UDP, what isn't ended stays in the daemon */
     trdp_slot_close(&doors.slot);
     return 0;
 }

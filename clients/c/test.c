@@ -53,7 +53,9 @@ bool test_open(struct test_slot *it, const char *address, uint16_t port, uint32_
     struct trdp_slot_terms terms = terms_of(it, timeout);
     if (test_folder != NULL) {
         snprintf(path, sizeof path, "%s/%s/%u", test_folder, address, (unsigned)port);
-        return CHECK_ERROR(test_open_path(it, path, timeout), TRDP_SLOT_OK);
+        enum trdp_slot_error error = test_open_path(it, path, timeout);
+        /* Where another one lives there, the first call says so, if this doesn't. */
+        return error == TRDP_SLOT_BUSY || CHECK_ERROR(error, TRDP_SLOT_OK);
     }
     terms.address = test_address(address);
     terms.port = port;

@@ -1,6 +1,6 @@
 /* The calls and the indications, at two daemons that the script `check` starts and ends where it
- * is told to: door.toml at 127.0.9.1, with a relay before it at 127.0.9.3, and other.toml at
- * 127.0.9.2. A line with @ before it tells the script what to do; it answers when that is done. */
+ * is told to: door.toml at 127.0.9.1, over UDP with a relay before it at 127.0.9.3, and other.toml
+ * at 127.0.9.2. A line with @ before it tells the script what to do; it answers when that is done. */
 #include "test.h"
 
 #include <stdio.h>
@@ -480,11 +480,11 @@ static void started_anew(void)
     while (trdp_slot_next(other, 0, &told, payload, 1) == TRDP_SLOT_OK)
         continue;
     script("end");
-    door->terms.timeout = 30;
+    if (test_folder != NULL)
+        CHECK_ERROR(trdp_slot_put(door, publishes, opened, sizeof opened), TRDP_SLOT_RESTARTED);
     CHECK_ERROR(trdp_slot_put(door, publishes, opened, sizeof opened), TRDP_SLOT_NOBODY);
     CHECK(is_told(other, TRDP_SLOT_FELL_SILENT, follows));
     script("start");
-    door->terms.timeout = WAIT;
     CHECK_ERROR(trdp_slot_put(door, publishes, opened, sizeof opened),
         TRDP_SLOT_REFUSED_NO_HANDLE);
     CHECK(door->tried == 1); /* so it isn't that a first try took effect */
@@ -492,6 +492,104 @@ static void started_anew(void)
     CHECK(publishes == 1 && is_told(other, TRDP_SLOT_ALIVE, follows));
     CHECK_ERROR(trdp_slot_unpublish(door, publishes), TRDP_SLOT_OK);
     CHECK_ERROR(trdp_slot_unsubscribe(other, follows), TRDP_SLOT_OK);
+}
+
+/* An application at a control socket that is gone, and with it all that it made; and a second one,
+ * beside one that lives. */
+static void successor(void)
+{
+    static struct test_slot second;
+    struct trdp_slot_publisher terms = publisher();
+    uint32_t before = 0, after = 0;
+    CHECK_ERROR(trdp_slot_publish(door, &terms, &before), TRDP_SLOT_OK);
+    test_open(&second, "127.0.9.1", 18000, WAIT);
+    CHECK_ERROR(trdp_slot_pull(&second.slot, before), TRDP_SLOT_BUSY);
+    trdp_slot_close(door);
+    CHECK_ERROR(trdp_slot_publish(&second.slot, &terms, &after), TRDP_SLOT_OK);
+    CHECK_ERROR(trdp_slot_pull(&second.slot, before), TRDP_SLOT_REFUSED_NO_HANDLE);
+    CHECK(after == before + 1);
+    trdp_slot_close(&second.slot);
+    test_open(&doors, "127.0.9.1", 18000, WAIT);
+}
+
+/* The longest message of a control socket, and one of a UDP port. */
+static void longest(void)
+{
+    static char line[TRDP_SLOT_OVERHEAD + 2 * TRDP_SLOT_MESSAGE], text[sizeof line];
+    static uint8_t sent[TRDP_SLOT_MESSAGE], got[sizeof sent];
+    struct trdp_slot_terms others_terms = other->terms;
+    uint32_t all = 0;
+    struct trdp_slot_listener any = { .com_id = 700 };
+    struct trdp_slot_notification terms = { .com_id = 700, .to = { door_address, MD },
+        .payload = sent, .length = test_folder != NULL ? sizeof sent : 32000 };
+    for (size_t i = 0; i < sizeof sent; i++)
+        sent[i] = (uint8_t)(i % 251);
+    CHECK_ERROR(trdp_slot_listen(door, &any, &all), TRDP_SLOT_OK);
+    door->terms.text = text;
+    door->terms.text_room = sizeof text;
+    other->terms.line = line;
+    other->terms.line_room = sizeof line;
+    CHECK_ERROR(trdp_slot_notify(other, &terms), TRDP_SLOT_OK);
+    CHECK_ERROR(trdp_slot_next(door, WAIT, &told, got, sizeof got), TRDP_SLOT_OK);
+    CHECK(told.handle == all && told.length == terms.length
+        && memcmp(got, sent, terms.length) == 0);
+    terms.length = sizeof sent;
+    if (test_folder == NULL)
+        CHECK_ERROR(trdp_slot_notify(other, &terms), TRDP_SLOT_LONG);
+    other->terms = others_terms;
+    CHECK_ERROR(trdp_slot_unlisten(door, all), TRDP_SLOT_OK);
+}
+
+/* The operator's calls. */
+static void operate(void)
+{
+    static struct test_slot fifth[5];
+    struct trdp_slot *operates = &fifth[0].slot;
+    struct trdp_slot_usage usages[TRDP_SLOT_SLOTS];
+    struct trdp_slot_totals totals;
+    struct trdp_slot_kinds quotas = { 1, 2, 3, 4, 5, 256 };
+    uint32_t handle = 0;
+    size_t count = 0;
+    struct trdp_slot_publisher terms = publisher();
+    test_open(&fifth[0], "127.0.9.1", 18100, WAIT);
+    CHECK_ERROR(trdp_slot_publish(door, &terms, &handle), TRDP_SLOT_OK);
+    CHECK_ERROR(trdp_slot_topology(operates, 17, 4), TRDP_SLOT_OK);
+    struct trdp_slot_notification notification = { .etb = 18, .to = { other_address, MD } };
+    CHECK_ERROR(trdp_slot_notify(door, &notification), TRDP_SLOT_REFUSED_STATE);
+    CHECK_ERROR(trdp_slot_topology(operates, 0, 0), TRDP_SLOT_OK);
+    CHECK_ERROR(trdp_slot_role(operates, 0, true), TRDP_SLOT_NODE_NO_GROUP);
+    CHECK_ERROR(trdp_slot_role(operates, 3, true), TRDP_SLOT_OK);
+    CHECK_ERROR(trdp_slot_role(operates, 3, false), TRDP_SLOT_OK);
+    CHECK_ERROR(trdp_slot_totals(operates, &totals), TRDP_SLOT_OK);
+    CHECK(totals.taken >= 7 && totals.offered >= 6 && totals.memory == 0);
+    CHECK_ERROR(trdp_slot_slots(operates, usages, TRDP_SLOT_SLOTS, &count), TRDP_SLOT_OK);
+    CHECK(count == 2 && usages[0].slot == 0 && usages[0].has_spoken);
+    CHECK(usages[0].objects.publishers == 1 && usages[0].quotas.publishers == 3);
+    CHECK(usages[0].quotas.repliers == 1 && usages[0].silent < 60000000);
+    CHECK(usages[1].slot == 1 && usages[1].quotas.publishers == 1);
+    CHECK(!usages[1].has_spoken && usages[1].silent == 0);
+    CHECK_ERROR(trdp_slot_addslot(operates, &quotas), TRDP_SLOT_OK);
+    CHECK_ERROR(trdp_slot_slots(operates, usages, 1, &count), TRDP_SLOT_CUT);
+    CHECK(count == 3 && usages[0].objects.publishers == 1);
+    quotas.repliers++;
+    CHECK_ERROR(trdp_slot_addslot(operates, &quotas), TRDP_SLOT_FAULT_BAD_WORD);
+    quotas.repliers--;
+    for (int i = 3; i < TRDP_SLOT_SLOTS; i++)
+        CHECK_ERROR(trdp_slot_addslot(operates, &quotas), TRDP_SLOT_OK);
+    CHECK_ERROR(trdp_slot_addslot(operates, &quotas), TRDP_SLOT_NODE_SLOTS_FULL);
+    CHECK_ERROR(trdp_slot_slots(operates, usages, TRDP_SLOT_SLOTS, &count), TRDP_SLOT_OK);
+    CHECK(count == TRDP_SLOT_SLOTS && memcmp(&usages[15].quotas, &quotas, sizeof quotas) == 0);
+    CHECK_ERROR(trdp_slot_unpublish(door, handle), TRDP_SLOT_OK);
+    CHECK_ERROR(trdp_slot_role(door, 3, true), TRDP_SLOT_FAULT_UNKNOWN);
+    CHECK_ERROR(trdp_slot_pull(operates, 1), TRDP_SLOT_FAULT_UNKNOWN);
+    /* Each is answered at its own; over control sockets a fifth one is one too many. */
+    for (int i = 1; i < 5; i++) {
+        test_open(&fifth[i], "127.0.9.1", 18100, WAIT);
+        CHECK_ERROR(trdp_slot_role(&fifth[i].slot, 3, true),
+            i == 4 && test_folder != NULL ? TRDP_SLOT_BUSY : TRDP_SLOT_OK);
+    }
+    for (int i = 0; i < 5; i++)
+        trdp_slot_close(&fifth[i].slot);
 }
 
 void test_node(void)
@@ -512,14 +610,19 @@ void test_node(void)
     endings();
     session_refusals();
     other_slot();
-    if (test_open(&relayed, "127.0.9.3", 18000, 150))
+    if (test_folder == NULL && test_open(&relayed, "127.0.9.3", 18000, 150)) {
         late_answers(&relayed.slot, dropped_answers(&relayed.slot));
-    trdp_slot_close(&relayed.slot);
-    trdp_slot_close(door);
-    /* Behind the relay's slot the doors' indications come here again. */
-    test_open(&doors, "127.0.9.1", 18000, WAIT);
+        trdp_slot_close(&relayed.slot);
+        /* Behind the relay's slot the doors' indications come here again. */
+        trdp_slot_close(door);
+        test_open(&doors, "127.0.9.1", 18000, WAIT);
+    }
+    if (test_folder != NULL)
+        successor();
     begun_anew();
     started_anew();
+    operate();
+    longest();
     trdp_slot_close(door);
     trdp_slot_close(other);
 }

@@ -547,6 +547,102 @@ static void flood(void)
 #endif
 }
 
+/* A reset is over with the mark behind it, and sent again where that isn't answered, or the answer to
+ * the reset itself isn't there. */
+static void reset(void)
+{
+    uint32_t handle = 0, stale = it.slot.stale;
+    struct trdp_slot_requester requester = { .com_id = 1 };
+    it.slot.terms.timeout = 300;
+    it.slot.terms.tries = 3;
+    tell('=', "0 silent 1\n|0 done\n");
+    tell('%', "1");
+    CHECK_ERROR(trdp_slot_reset(&it.slot), TRDP_SLOT_OK);
+    CHECK(it.slot.tried == 2 && next(TRDP_SLOT_OK, 0).handle == 1);
+    tell('=', "");
+    CHECK_ERROR(trdp_slot_reset(&it.slot), TRDP_SLOT_TIMEOUT);
+    CHECK(it.slot.tried == 3 && had("reset"));
+    /* No mark is answered, and so nothing is made. */
+    it.slot.terms.tries = 1;
+    tell('=', "0 done\n");
+    tell('%', "2");
+    CHECK_ERROR(trdp_slot_reset(&it.slot), TRDP_SLOT_TIMEOUT);
+    tell('=', "0 handle 7\n");
+    CHECK_ERROR(trdp_slot_openpull(&it.slot, &requester, &handle), TRDP_SLOT_TIMEOUT);
+    CHECK(it.slot.tried == 0 && handle == 0 && had("reset"));
+    it.slot.terms.timeout = 2000;
+    CHECK_ERROR(trdp_slot_openpull(&it.slot, &requester, &handle), TRDP_SLOT_OK);
+    CHECK(handle == 7 && it.slot.tried == 1 && it.slot.stale == stale);
+    CHECK(next(TRDP_SLOT_OK, 0).handle == 1);
+    /* Answers to marks that come late are none to a call; and a port that is another slot's. */
+    it.slot.marks = 2;
+    tell('=', "line fault Count\n|line fault Unknown\n|line fault BadWord\n");
+    CHECK_ERROR(trdp_slot_pull(&it.slot, 1), TRDP_SLOT_FAULT_BAD_WORD);
+    tell('=', "1 done\n");
+    CHECK_ERROR(trdp_slot_reset(&it.slot), TRDP_SLOT_OTHER_SLOT);
+}
+
+/* An answer that comes behind its time isn't that to the next call. */
+static void late_answers(void)
+{
+    uint32_t handle = 0, stale = it.slot.stale;
+    struct trdp_slot_requester requester = { .com_id = 1 };
+    tell('=', "");
+    it.slot.terms.timeout = 20;
+    CHECK_ERROR(trdp_slot_openpull(&it.slot, &requester, &handle), TRDP_SLOT_TIMEOUT);
+    it.slot.terms.timeout = 2000;
+    tell('=', "0 handle 8\n");
+    tell('!', "0 handle 7\n"); /* which waits before the answer to the mark */
+    CHECK_ERROR(trdp_slot_openpull(&it.slot, &requester, &handle), TRDP_SLOT_OK);
+    CHECK(handle == 8 && it.slot.stale == stale + 1);
+}
+
+/* A remark where a third of the lease has passed. */
+static void lease(void)
+{
+    tell('=', "0 done\n");
+    CHECK_ERROR(trdp_slot_pull(&it.slot, 5), TRDP_SLOT_OK);
+    next(TRDP_SLOT_TIMEOUT, 100);
+    CHECK(had("pull 5"));
+    it.slot.terms.lease = 60;
+    next(TRDP_SLOT_TIMEOUT, 0);
+    CHECK(had("#"));
+    CHECK_ERROR(trdp_slot_pull(&it.slot, 6), TRDP_SLOT_OK);
+    next(TRDP_SLOT_TIMEOUT, 100);
+    CHECK(had("#"));
+    it.slot.terms.lease = 0;
+}
+
+/* What an operator is told. */
+static void operator_texts(void)
+{
+    struct trdp_slot_totals totals;
+    struct trdp_slot_usage usages[2];
+    size_t count = 0;
+    struct trdp_slot_kinds quotas = { 1, 2, 3, 4, 5, 6 };
+    tell('=', "taken 18446744073709551615 offered 2 lost 3 unread 4 memory 5\n");
+    CHECK_ERROR(trdp_slot_totals(&it.slot, &totals), TRDP_SLOT_OK);
+    CHECK(had("totals") && totals.taken == UINT64_MAX && totals.offered == 2);
+    CHECK(totals.lost == 3 && totals.unread == 4 && totals.memory == 5);
+    tell('=', "0 1/2 3/4 5/6 7/8 9/10 11/12 18446744073709551615\n1 0/1 0/0 0/0 0/0 0/0 0/0 -\n");
+    CHECK_ERROR(trdp_slot_slots(&it.slot, usages, 2, &count), TRDP_SLOT_OK);
+    CHECK(had("slots") && count == 2 && usages[0].slot == 0 && usages[1].slot == 1);
+    CHECK(usages[0].objects.publishers == 1 && usages[0].objects.repliers == 11);
+    CHECK(usages[0].quotas.subscriptions == 4 && usages[0].quotas.callers == 10);
+    CHECK(usages[0].has_spoken && usages[0].silent == UINT64_MAX && !usages[1].has_spoken);
+    CHECK_ERROR(trdp_slot_slots(&it.slot, usages, 1, &count), TRDP_SLOT_CUT);
+    tell('=', "0 1/2 3/4 5/6 7/8 9/10 11/12 18446744073709551616\n|"
+              "taken 1 offered 2 lost 3 unread 4\n|taken 1 offered 2 lost 3 unread 4 memory -\n|"
+              "0 1/2 3/4 5/6 7/8 9/10 11/12\n|0 1/2 3/4 5/6 7/8 9/10 11/12 1\n\n|okay\n|ok\n");
+    uint32_t strange = it.slot.strange;
+    CHECK_ERROR(trdp_slot_addslot(&it.slot, &quotas), TRDP_SLOT_OK);
+    CHECK(it.slot.strange == strange + 6 && had("addslot 1 2 3 4 5 6"));
+    tell('=', "ok\n");
+    CHECK(!trdp_slot_topology(&it.slot, 4294967295, 4) && had("topology 4294967295 4"));
+    CHECK(!trdp_slot_role(&it.slot, 255, true) && had("role 255 leader"));
+    CHECK(!trdp_slot_role(&it.slot, 3, false) && had("role 3 follower"));
+}
+
 void test_texts(void)
 {
     read_exactly();
@@ -571,6 +667,10 @@ void test_texts(void)
         stale_answers();
         kept_indications();
         overlong();
+        reset();
+        late_answers();
+        lease();
+        operator_texts();
         flood();
     }
     trdp_slot_close(&it.slot);

@@ -1273,6 +1273,13 @@ static inline void trdp_slot_keep(struct trdp_slot *slot, const struct trdp_slot
     slot->kept_length += sizeof size + piece->length;
 }
 
+/* Whether a text says that a line couldn't be read. */
+static inline bool trdp_slot_is_line_fault(const struct trdp_slot_said *said)
+{
+    return said->form == TRDP_SLOT_FORM_ERROR && said->error >= TRDP_SLOT_FAULT_TOO_LONG
+        && said->error <= TRDP_SLOT_FAULT_OTHERWISE;
+}
+
 /* Puts aside what isn't awaited: keeps an indication, and counts all else. */
 static inline void trdp_slot_put_aside(struct trdp_slot *slot, const struct trdp_slot_said *said,
     const struct trdp_slot_piece *piece)
@@ -1284,6 +1291,8 @@ static inline void trdp_slot_put_aside(struct trdp_slot *slot, const struct trdp
         slot->marks = 0; /* the answer to one may be lost */
     } else if (said->form == TRDP_SLOT_FORM_STRANGE || said->form == TRDP_SLOT_FORM_OTHER_SLOT) {
         trdp_slot_count(&slot->strange, 1);
+    } else if (slot->marks > 0 && trdp_slot_is_line_fault(said)) {
+        slot->marks--; /* the answer to one */
     } else {
         trdp_slot_count(&slot->stale, 1);
     }
@@ -1503,12 +1512,12 @@ static inline enum trdp_slot_error trdp_slot_open(struct trdp_slot *slot,
 }
 
 /* Opens a slot at a control socket: connects to its path, as "/run/trdpd/18000", and is the
- * application from then on. It waits for no answer: where another application lives there, the
- * first call tells BUSY.
+ * application from then on. It waits for no answer.
  * Errors: ARGUMENT where a buffer is missing or too small, `timeout` or `tries` is 0, or the path is
  * empty or longer than 107 bytes; the slot isn't open then. NOBODY where nobody listens there;
- * SYSTEM, as with EACCES where this user may not connect. Then the slot is open all the same, and
- * each call tries again to connect, until it is closed. */
+ * SYSTEM, as with EACCES where this user may not connect; BUSY where another application lives
+ * there, if the daemon has said so already, and else the first call tells. Then the slot is open all
+ * the same, and each call tries again to connect, until it is closed. */
 static inline enum trdp_slot_error trdp_slot_open_path(struct trdp_slot *slot, const char *path,
     const struct trdp_slot_terms *terms)
 {
@@ -1578,17 +1587,16 @@ static inline enum trdp_slot_error trdp_slot_hear_mark(struct trdp_slot *slot, i
         trdp_slot_read(slot->terms.number, piece.text, piece.length, &said);
         if (said.form == TRDP_SLOT_FORM_OTHER_SLOT)
             return TRDP_SLOT_OTHER_SLOT;
-        if (said.form == wanted) {
-            *is_heard = true;
-        } else if (said.form != TRDP_SLOT_FORM_ERROR || said.error < TRDP_SLOT_FAULT_TOO_LONG
-            || said.error > TRDP_SLOT_FAULT_OTHERWISE) {
-            trdp_slot_put_aside(slot, &said, &piece);
-        } else if (said.error == trdp_slot_mark_fault(slot)) {
+        if (said.form == TRDP_SLOT_FORM_ERROR && said.error == trdp_slot_mark_fault(slot)) {
             /* Of more than three that are under way, one before it may have the same answer. */
             slot->marks = slot->marks > 3 ? slot->marks - 1 : 0;
             slot->is_unsure = false;
             return TRDP_SLOT_OK;
         }
+        if (said.form == wanted)
+            *is_heard = true;
+        else
+            trdp_slot_put_aside(slot, &said, &piece);
     }
 }
 
@@ -1638,12 +1646,10 @@ static inline enum trdp_slot_error trdp_slot_hear(struct trdp_slot *slot,
             return TRDP_SLOT_OK;
         if (said->form == TRDP_SLOT_FORM_OTHER_SLOT)
             return TRDP_SLOT_OTHER_SLOT;
-        if (said->form != TRDP_SLOT_FORM_ERROR)
-            trdp_slot_put_aside(slot, said, piece);
-        else if (slot->marks == 0 || said->error < TRDP_SLOT_FAULT_TOO_LONG)
+        if (said->form == TRDP_SLOT_FORM_ERROR
+            && (slot->marks == 0 || !trdp_slot_is_line_fault(said)))
             return said->error;
-        else
-            slot->marks--; /* the answer to a mark that came late */
+        trdp_slot_put_aside(slot, said, piece);
     }
 }
 
