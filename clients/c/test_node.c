@@ -143,6 +143,44 @@ static void process_data(void)
     CHECK_ERROR(trdp_slot_unpublish(door, publishes), TRDP_SLOT_OK);
 }
 
+/* The status of the doors as a struct. */
+struct status {
+    uint8_t count;
+    uint8_t states[8];
+    uint16_t obstacles;
+};
+
+static const struct trdp_slot_element status_elements[] = {
+    TRDP_SLOT_ONE(struct status, count, TRDP_SLOT_UINT8),
+    TRDP_SLOT_COUNTED(struct status, states, TRDP_SLOT_UINT8),
+    TRDP_SLOT_ONE(struct status, obstacles, TRDP_SLOT_UINT16) };
+static const struct trdp_slot_dataset status_dataset =
+    TRDP_SLOT_DATASET(struct status, status_elements);
+
+/* A value of a dataset on its way. */
+static void values(void)
+{
+    uint32_t publishes = 0, follows = 0;
+    struct trdp_slot_publisher terms = publisher();
+    struct trdp_slot_subscription all = subscription(true);
+    struct trdp_slot_value shown;
+    struct status says = { 4, { 0, 2, 2, 1 }, 0x0102 }, seen = { 9, { 9 }, 9 };
+    all.time = 0;
+    CHECK_ERROR(trdp_slot_subscribe(other, &all, &follows), TRDP_SLOT_OK);
+    CHECK_ERROR(trdp_slot_get_value(other, follows, &shown, &status_dataset, &seen), TRDP_SLOT_OK);
+    CHECK(shown.state == TRDP_SLOT_NEVER && seen.count == 0 && seen.obstacles == 0);
+    CHECK_ERROR(trdp_slot_publish(door, &terms, &publishes), TRDP_SLOT_OK);
+    CHECK_ERROR(trdp_slot_put_value(door, publishes, &status_dataset, &says), TRDP_SLOT_OK);
+    CHECK(comes_to_show(other, follows, (const uint8_t *)"\4\0\2\2\1\1\2", 7));
+    CHECK_ERROR(trdp_slot_get_value(other, follows, &shown, &status_dataset, &seen), TRDP_SLOT_OK);
+    CHECK(shown.state == TRDP_SLOT_VALID && seen.count == 4 && seen.obstacles == 0x0102);
+    CHECK(memcmp(seen.states, says.states, sizeof says.states) == 0);
+    says.count = 9;
+    CHECK_ERROR(trdp_slot_put_value(door, publishes, &status_dataset, &says), TRDP_SLOT_NO_FIT);
+    CHECK_ERROR(trdp_slot_unpublish(door, publishes), TRDP_SLOT_OK);
+    CHECK_ERROR(trdp_slot_unsubscribe(other, follows), TRDP_SLOT_OK);
+}
+
 /* A value that is pulled. */
 static void pull(void)
 {
@@ -546,7 +584,7 @@ static void operate(void)
     static struct test_slot fifth[5];
     struct trdp_slot *operates = &fifth[0].slot;
     struct trdp_slot_usage usages[TRDP_SLOT_SLOTS];
-    struct trdp_slot_totals totals;
+    struct trdp_slot_tally totals;
     struct trdp_slot_kinds quotas = { 1, 2, 3, 4, 5, 256 };
     uint32_t handle = 0;
     size_t count = 0;
@@ -602,6 +640,7 @@ void test_node(void)
         || !test_open(&others, "127.0.9.2", 18000, WAIT))
         return;
     process_data();
+    values();
     pull();
     data_refusals();
     notifications();

@@ -133,6 +133,8 @@ enum trdp_slot_error {
     /* At a control socket: the connection has ended, and with it all objects. They are to be made
      * again; the next call connects again. */
     TRDP_SLOT_RESTARTED,
+    /* A value isn't one of its dataset, or bytes aren't. */
+    TRDP_SLOT_NO_FIT,
 
     /* The call was refused, and changed nothing. docs/SCRIPT.md says when. */
     TRDP_SLOT_REFUSED_NO_HANDLE,
@@ -364,7 +366,7 @@ struct trdp_slot_usage {
 };
 
 /* What a daemon has counted since it began. */
-struct trdp_slot_totals {
+struct trdp_slot_tally {
     uint64_t taken;
     uint64_t offered;
     uint64_t lost;
@@ -389,6 +391,7 @@ static inline const char *trdp_slot_error_text(enum trdp_slot_error error)
     case TRDP_SLOT_OTHER_SLOT: return "the control port is another slot's";
     case TRDP_SLOT_BUSY: return "another application is at the control socket";
     case TRDP_SLOT_RESTARTED: return "the connection has ended, and all objects with it";
+    case TRDP_SLOT_NO_FIT: return "the value is none of its dataset";
     case TRDP_SLOT_REFUSED_NO_HANDLE: return "refused NoHandle";
     case TRDP_SLOT_REFUSED_WRONG_KIND: return "refused WrongKind";
     case TRDP_SLOT_REFUSED_STATE: return "refused State";
@@ -429,7 +432,8 @@ static inline const char *trdp_slot_kind_text(enum trdp_slot_kind kind)
 {
     static const char *const texts[] = { "silent", "alive", "notified", "asked",
         "overrun", "replied", "confirmed", "closed" };
-    return (size_t)kind < 8 ? texts[kind] : "no kind";
+    unsigned number = (unsigned)kind;
+    return number < sizeof texts / sizeof *texts ? texts[number] : "no kind";
 }
 
 /* The two letters of an answer: Mp, Mq, Me. */
@@ -627,7 +631,7 @@ struct trdp_slot_said {
     struct trdp_slot_value value;     /* of a value */
     struct trdp_slot_indication told; /* of an indication */
     struct trdp_slot_digits digits;   /* the bytes of a value or an indication, in the text */
-    struct trdp_slot_totals totals;   /* of totals */
+    struct trdp_slot_tally totals;   /* of totals */
 };
 
 /* The error from `first` on whose text is the rest of the line; `otherwise` where none before it
@@ -1454,13 +1458,15 @@ static inline enum trdp_slot_error trdp_slot_connect(struct trdp_slot *slot)
         : trdp_slot_send(slot, remark, 1, trdp_slot_now() + slot->terms.timeout);
 }
 
-/* Connects, where there is no connection, by that moment; it is tried again and again. */
+/* Connects, where there is no connection, by that moment; it is tried again and again, unless
+ * another application is there. */
 static inline enum trdp_slot_error trdp_slot_connect_by(struct trdp_slot *slot, int64_t until)
 {
     while (slot->socket < 0) {
         int64_t now = trdp_slot_now(), due = slot->connected + TRDP_SLOT_PAUSE;
         if (now >= due) {
-            (void)trdp_slot_connect(slot);
+            if (trdp_slot_connect(slot) == TRDP_SLOT_BUSY)
+                return TRDP_SLOT_BUSY;
         } else if (now >= until) {
             errno = slot->reason;
             return slot->absence;
@@ -2061,7 +2067,7 @@ static inline enum trdp_slot_error trdp_slot_addslot(struct trdp_slot *slot,
 
 /* What the daemon has counted since it began, this line with it. */
 static inline enum trdp_slot_error trdp_slot_totals(struct trdp_slot *slot,
-    struct trdp_slot_totals *totals)
+    struct trdp_slot_tally *totals)
 {
     struct trdp_slot_said said;
     struct trdp_slot_writer line = trdp_slot_operator_line(slot, "totals");
@@ -2216,6 +2222,403 @@ static inline enum trdp_slot_error trdp_slot_next(struct trdp_slot *slot, uint32
         trdp_slot_put_aside(slot, &said, &piece);
     } while (trdp_slot_now() < until);
     return slot->lost > 0 ? trdp_slot_tell_lost(slot, told) : TRDP_SLOT_TIMEOUT;
+}
+
+/* ---- Values of datasets ----
+ *
+ * A program writes a dataset of the configuration down once, as constants, over a struct of its own
+ * with a member for each element:
+ *
+ *     struct doors {
+ *         uint8_t count;
+ *         uint8_t states[8];
+ *         uint16_t obstacles;
+ *     };
+ *     static const struct trdp_slot_element doors_elements[] = {
+ *         TRDP_SLOT_ONE(struct doors, count, TRDP_SLOT_UINT8),
+ *         TRDP_SLOT_COUNTED(struct doors, states, TRDP_SLOT_UINT8),
+ *         TRDP_SLOT_ONE(struct doors, obstacles, TRDP_SLOT_UINT16) };
+ *     static const struct trdp_slot_dataset doors_dataset =
+ *         TRDP_SLOT_DATASET(struct doors, doors_elements);
+ *
+ * The member of an array is an array. That of one that the element before counts has room for as
+ * many items as the program can take; there `count` says how many are in it. A value of another
+ * dataset is a struct of that one's. So all memory is the program's, and nothing is allocated.
+ *
+ * Datasets nest 5 deep at most, the outermost one with them, and have 1 to 256 elements each. A
+ * value of process data has at most TRDP_SLOT_VALUE bytes, and one of a message TRDP_SLOT_MESSAGE. */
+
+/* The types of elements, by the standard's numbers, with the type of the member. */
+enum trdp_slot_type {
+    TRDP_SLOT_NESTED = 0, /* a value of another dataset: its struct */
+    TRDP_SLOT_BOOL8 = 1,  /* uint8_t; BITSET8 too */
+    TRDP_SLOT_CHAR8 = 2,  /* uint8_t or char */
+    TRDP_SLOT_UTF16 = 3,  /* uint16_t */
+    TRDP_SLOT_INT8 = 4,   /* int8_t, and so on */
+    TRDP_SLOT_INT16 = 5,
+    TRDP_SLOT_INT32 = 6,
+    TRDP_SLOT_INT64 = 7,
+    TRDP_SLOT_UINT8 = 8,
+    TRDP_SLOT_UINT16 = 9,
+    TRDP_SLOT_UINT32 = 10,
+    TRDP_SLOT_UINT64 = 11,
+    TRDP_SLOT_TIMEDATE32 = 14, /* uint32_t, in seconds */
+    TRDP_SLOT_TIMEDATE48 = 15, /* struct trdp_slot_timedate48 */
+    TRDP_SLOT_TIMEDATE64 = 16  /* struct trdp_slot_timedate64 */
+};
+
+struct trdp_slot_timedate48 {
+    uint32_t seconds;
+    uint16_t ticks; /* of 1/65536 second */
+};
+
+struct trdp_slot_timedate64 {
+    uint32_t seconds;
+    uint32_t microseconds;
+};
+
+enum { TRDP_SLOT_DEPTH = 5, TRDP_SLOT_ELEMENTS = 256 };
+
+struct trdp_slot_dataset;
+
+/* An element of a dataset, and the member that holds it. The macros below make one. */
+struct trdp_slot_element {
+    enum trdp_slot_type type;
+    uint32_t size; /* 1: one item; more: an array of so many; 0: of as many as the one before says */
+    size_t offset; /* of the member in its struct */
+    size_t item;   /* the bytes of an item of the member */
+    size_t room;   /* how many items the member has room for */
+    const struct trdp_slot_dataset *dataset; /* of TRDP_SLOT_NESTED */
+};
+
+/* A dataset, and the struct that holds its values. */
+struct trdp_slot_dataset {
+    const struct trdp_slot_element *elements;
+    size_t count; /* of the elements */
+    size_t size;  /* of the struct */
+};
+
+#define TRDP_SLOT_ROOM(in, member) (sizeof(((in *)0)->member) / sizeof(((in *)0)->member[0]))
+#define TRDP_SLOT_MANY(in, member, type, size, dataset) \
+    { type, size, offsetof(in, member), sizeof(((in *)0)->member[0]), TRDP_SLOT_ROOM(in, member), \
+        dataset }
+
+/* An element of a basic type: one item, an array of as many as the member has, and an array of as
+ * many as the element before says. */
+#define TRDP_SLOT_ONE(in, member, type) \
+    { type, 1, offsetof(in, member), sizeof(((in *)0)->member), 1, NULL }
+#define TRDP_SLOT_ARRAY(in, member, type) \
+    TRDP_SLOT_MANY(in, member, type, (uint32_t)TRDP_SLOT_ROOM(in, member), NULL)
+#define TRDP_SLOT_COUNTED(in, member, type) TRDP_SLOT_MANY(in, member, type, 0, NULL)
+
+/* The same of another dataset, by its address. */
+#define TRDP_SLOT_NESTED_ONE(in, member, dataset) \
+    { TRDP_SLOT_NESTED, 1, offsetof(in, member), sizeof(((in *)0)->member), 1, dataset }
+#define TRDP_SLOT_NESTED_ARRAY(in, member, dataset) \
+    TRDP_SLOT_MANY(in, member, TRDP_SLOT_NESTED, (uint32_t)TRDP_SLOT_ROOM(in, member), dataset)
+#define TRDP_SLOT_NESTED_COUNTED(in, member, dataset) \
+    TRDP_SLOT_MANY(in, member, TRDP_SLOT_NESTED, 0, dataset)
+
+/* A dataset of an array of these. */
+#define TRDP_SLOT_DATASET(in, elements) \
+    { elements, sizeof(elements) / sizeof((elements)[0]), sizeof(in) }
+
+/* How many bytes a number of that type has; 0 for what is none. */
+static inline size_t trdp_slot_width(enum trdp_slot_type type)
+{
+    switch (type) {
+    case TRDP_SLOT_BOOL8:
+    case TRDP_SLOT_CHAR8:
+    case TRDP_SLOT_INT8:
+    case TRDP_SLOT_UINT8:
+        return 1;
+    case TRDP_SLOT_UTF16:
+    case TRDP_SLOT_INT16:
+    case TRDP_SLOT_UINT16:
+        return 2;
+    case TRDP_SLOT_INT32:
+    case TRDP_SLOT_UINT32:
+    case TRDP_SLOT_TIMEDATE32:
+        return 4;
+    case TRDP_SLOT_INT64:
+    case TRDP_SLOT_UINT64:
+        return 8;
+    case TRDP_SLOT_NESTED:
+    case TRDP_SLOT_TIMEDATE48:
+    case TRDP_SLOT_TIMEDATE64:
+        break;
+    }
+    return 0;
+}
+
+/* How many bytes an item of the member has to have; 0 where there is no such type. */
+static inline size_t trdp_slot_item(const struct trdp_slot_element *element)
+{
+    return element->type == TRDP_SLOT_TIMEDATE48 ? sizeof(struct trdp_slot_timedate48)
+        : element->type == TRDP_SLOT_TIMEDATE64 ? sizeof(struct trdp_slot_timedate64)
+        : element->type != TRDP_SLOT_NESTED ? trdp_slot_width(element->type)
+        : element->dataset != NULL ? element->dataset->size : 0;
+}
+
+/* Whether an element counts the array behind it. */
+static inline bool trdp_slot_counts_array(const struct trdp_slot_element *element)
+{
+    return element->size == 1 && (element->type == TRDP_SLOT_UINT8
+        || element->type == TRDP_SLOT_UINT16 || element->type == TRDP_SLOT_UINT32);
+}
+
+/* Whether a dataset is one that values can be of, nested so deep at most. */
+static inline bool trdp_slot_is_dataset(const struct trdp_slot_dataset *dataset, int depth)
+{
+    bool counts = false;
+    if (depth == 0 || dataset->elements == NULL || dataset->count == 0
+        || dataset->count > TRDP_SLOT_ELEMENTS)
+        return false;
+    for (size_t i = 0; i < dataset->count; i++) {
+        const struct trdp_slot_element *element = &dataset->elements[i];
+        size_t item = trdp_slot_item(element);
+        if (item == 0 || element->item != item || element->size > element->room
+            || (element->size == 0 && !counts) || element->offset > dataset->size
+            || element->room > (dataset->size - element->offset) / item
+            || (element->type == TRDP_SLOT_NESTED
+                && !trdp_slot_is_dataset(element->dataset, depth - 1)))
+            return false;
+        counts = trdp_slot_counts_array(element);
+    }
+    return true;
+}
+
+/* The number that is in a member of so many bytes. */
+static inline uint64_t trdp_slot_load(const uint8_t *member, size_t width)
+{
+    uint16_t two;
+    uint32_t four;
+    uint64_t eight;
+    switch (width) {
+    case 1:
+        return *member;
+    case 2:
+        memcpy(&two, member, sizeof two);
+        return two;
+    case 4:
+        memcpy(&four, member, sizeof four);
+        return four;
+    default:
+        memcpy(&eight, member, sizeof eight);
+        return eight;
+    }
+}
+
+/* Puts a number into a member of so many bytes. */
+static inline void trdp_slot_store(uint8_t *member, size_t width, uint64_t number)
+{
+    uint16_t two = (uint16_t)number;
+    uint32_t four = (uint32_t)number;
+    switch (width) {
+    case 1:
+        *member = (uint8_t)number;
+        break;
+    case 2:
+        memcpy(member, &two, sizeof two);
+        break;
+    case 4:
+        memcpy(member, &four, sizeof four);
+        break;
+    default:
+        memcpy(member, &number, sizeof number);
+    }
+}
+
+/* Bytes that are written; `length` counts those too for which there is no room. */
+struct trdp_slot_packer {
+    uint8_t *bytes;
+    size_t room;
+    size_t length;
+};
+
+/* Appends a number, with the highest byte first. */
+static inline void trdp_slot_pack_number(struct trdp_slot_packer *packer, uint64_t number,
+    size_t width)
+{
+    for (size_t i = width; i-- > 0; packer->length++)
+        if (packer->length < packer->room)
+            packer->bytes[packer->length] = (uint8_t)(number >> (8 * i) & 255);
+}
+
+/* Appends the item of a basic type. */
+static inline void trdp_slot_pack_item(struct trdp_slot_packer *packer, enum trdp_slot_type type,
+    const uint8_t *member)
+{
+    if (type == TRDP_SLOT_TIMEDATE48) {
+        struct trdp_slot_timedate48 time;
+        memcpy(&time, member, sizeof time);
+        trdp_slot_pack_number(packer, time.seconds, 4);
+        trdp_slot_pack_number(packer, time.ticks, 2);
+    } else if (type == TRDP_SLOT_TIMEDATE64) {
+        struct trdp_slot_timedate64 time;
+        memcpy(&time, member, sizeof time);
+        trdp_slot_pack_number(packer, time.seconds, 4);
+        trdp_slot_pack_number(packer, time.microseconds, 4);
+    } else {
+        size_t width = trdp_slot_width(type);
+        trdp_slot_pack_number(packer, trdp_slot_load(member, width), width);
+    }
+}
+
+/* Appends a value. Answers whether each counted array has room for so many items. */
+static inline bool trdp_slot_pack_value(struct trdp_slot_packer *packer,
+    const struct trdp_slot_dataset *dataset, const uint8_t *value)
+{
+    uint64_t counted = 0;
+    for (size_t i = 0; i < dataset->count; i++) {
+        const struct trdp_slot_element *element = &dataset->elements[i];
+        const uint8_t *member = value + element->offset;
+        uint64_t items = element->size > 0 ? element->size : counted;
+        if (items > element->room)
+            return false;
+        for (uint64_t item = 0; item < items; item++) {
+            const uint8_t *at = member + item * element->item;
+            if (element->type != TRDP_SLOT_NESTED)
+                trdp_slot_pack_item(packer, element->type, at);
+            else if (!trdp_slot_pack_value(packer, element->dataset, at))
+                return false;
+        }
+        counted = trdp_slot_counts_array(element) ? trdp_slot_load(member, element->item) : 0;
+    }
+    return true;
+}
+
+/* Makes the bytes of a value, which is a struct of this dataset, as the node has them: packed, with
+ * the highest byte first. They come to `bytes`, which has so much room, and how many they are to
+ * `length`.
+ * Errors: CUT where they are more: `length` is how many, and the first of them are there. NO_FIT
+ * where a count is more than its array has room for. ARGUMENT where the dataset isn't one, as for a
+ * member of another width than its type. */
+static inline enum trdp_slot_error trdp_slot_pack(const struct trdp_slot_dataset *dataset,
+    const void *value, uint8_t *bytes, size_t room, size_t *length)
+{
+    struct trdp_slot_packer packer = { bytes, room, 0 };
+    if (!trdp_slot_is_dataset(dataset, TRDP_SLOT_DEPTH))
+        return TRDP_SLOT_ARGUMENT;
+    if (!trdp_slot_pack_value(&packer, dataset, (const uint8_t *)value))
+        return TRDP_SLOT_NO_FIT;
+    *length = packer.length;
+    return packer.length > room ? TRDP_SLOT_CUT : TRDP_SLOT_OK;
+}
+
+/* Bytes that are read. */
+struct trdp_slot_unpacker {
+    const uint8_t *at;
+    size_t left;
+    bool is_short; /* they were too few */
+    bool is_cut;   /* an array has more items than its member has room for */
+};
+
+/* The next number. */
+static inline uint64_t trdp_slot_unpack_number(struct trdp_slot_unpacker *unpacker, size_t width)
+{
+    uint64_t number = 0;
+    if (unpacker->left < width) {
+        unpacker->is_short = true;
+        return 0;
+    }
+    for (size_t i = 0; i < width; i++)
+        number = number << 8 | *unpacker->at++;
+    unpacker->left -= width;
+    return number;
+}
+
+/* The item of a basic type, which comes to a member where there is one. Answers the number. */
+static inline uint64_t trdp_slot_unpack_item(struct trdp_slot_unpacker *unpacker,
+    enum trdp_slot_type type, uint8_t *member)
+{
+    size_t width = trdp_slot_width(type);
+    if (width > 0) {
+        uint64_t number = trdp_slot_unpack_number(unpacker, width);
+        if (member != NULL)
+            trdp_slot_store(member, width, number);
+        return number;
+    }
+    uint32_t seconds = (uint32_t)trdp_slot_unpack_number(unpacker, 4);
+    if (type == TRDP_SLOT_TIMEDATE48) {
+        struct trdp_slot_timedate48 time;
+        memset(&time, 0, sizeof time);
+        time.seconds = seconds;
+        time.ticks = (uint16_t)trdp_slot_unpack_number(unpacker, 2);
+        if (member != NULL)
+            memcpy(member, &time, sizeof time);
+    } else {
+        struct trdp_slot_timedate64 time = { seconds,
+            (uint32_t)trdp_slot_unpack_number(unpacker, 4) };
+        if (member != NULL)
+            memcpy(member, &time, sizeof time);
+    }
+    return 0;
+}
+
+/* A value, which comes to a struct where there is one. Each item has a byte at least, so that this
+ * ends where the bytes do. */
+static inline void trdp_slot_unpack_value(struct trdp_slot_unpacker *unpacker,
+    const struct trdp_slot_dataset *dataset, uint8_t *value)
+{
+    uint64_t counted = 0;
+    for (size_t i = 0; i < dataset->count && !unpacker->is_short; i++) {
+        const struct trdp_slot_element *element = &dataset->elements[i];
+        uint64_t items = element->size > 0 ? element->size : counted;
+        uint64_t number = 0;
+        unpacker->is_cut = unpacker->is_cut || items > element->room;
+        for (uint64_t item = 0; item < items && !unpacker->is_short; item++) {
+            uint8_t *at = value != NULL && item < element->room
+                ? value + element->offset + item * element->item : NULL;
+            if (element->type == TRDP_SLOT_NESTED)
+                trdp_slot_unpack_value(unpacker, element->dataset, at);
+            else
+                number = trdp_slot_unpack_item(unpacker, element->type, at);
+        }
+        counted = trdp_slot_counts_array(element) ? number : 0;
+    }
+}
+
+/* Makes a value, which is a struct of this dataset, of its bytes.
+ * Errors: NO_FIT where they are none: too few, or some are left over. CUT where they are one, but
+ * an array has more items than its member has room for. ARGUMENT where the dataset isn't one. All
+ * bytes of the struct are zero then; it is left as it is by ARGUMENT alone. */
+static inline enum trdp_slot_error trdp_slot_unpack(const struct trdp_slot_dataset *dataset,
+    const uint8_t *bytes, size_t length, void *value)
+{
+    struct trdp_slot_unpacker unpacker = { bytes, length, false, false };
+    if (!trdp_slot_is_dataset(dataset, TRDP_SLOT_DEPTH))
+        return TRDP_SLOT_ARGUMENT;
+    memset(value, 0, dataset->size);
+    trdp_slot_unpack_value(&unpacker, dataset, (uint8_t *)value);
+    enum trdp_slot_error error = unpacker.is_short || unpacker.left > 0 ? TRDP_SLOT_NO_FIT
+        : unpacker.is_cut ? TRDP_SLOT_CUT : TRDP_SLOT_OK;
+    if (error != TRDP_SLOT_OK)
+        memset(value, 0, dataset->size);
+    return error;
+}
+
+/* Gives a publisher its value, which is a struct of this dataset. Its bytes are on the stack
+ * meanwhile, TRDP_SLOT_VALUE of them. Errors: those of trdp_slot_pack, by which nothing is sent, and
+ * of trdp_slot_put. */
+static inline enum trdp_slot_error trdp_slot_put_value(struct trdp_slot *slot, uint32_t handle,
+    const struct trdp_slot_dataset *dataset, const void *value)
+{
+    uint8_t bytes[TRDP_SLOT_VALUE];
+    size_t length = 0;
+    enum trdp_slot_error error = trdp_slot_pack(dataset, value, bytes, sizeof bytes, &length);
+    return error != TRDP_SLOT_OK ? error : trdp_slot_put(slot, handle, bytes, length);
+}
+
+/* Looks at a subscription: how good its value is comes to `shown`, and the value to a struct of this
+ * dataset. Its bytes are on the stack meanwhile, TRDP_SLOT_VALUE of them. Errors: those of
+ * trdp_slot_get, and of trdp_slot_unpack. */
+static inline enum trdp_slot_error trdp_slot_get_value(struct trdp_slot *slot, uint32_t handle,
+    struct trdp_slot_value *shown, const struct trdp_slot_dataset *dataset, void *value)
+{
+    uint8_t bytes[TRDP_SLOT_VALUE];
+    enum trdp_slot_error error = trdp_slot_get(slot, handle, shown, bytes, sizeof bytes);
+    return error != TRDP_SLOT_OK ? error : trdp_slot_unpack(dataset, bytes, shown->length, value);
 }
 
 #endif
