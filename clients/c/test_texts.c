@@ -682,6 +682,7 @@ static void reset(void)
     CHECK(next(TRDP_SLOT_OK, 0).handle == 1);
     /* Answers to marks that come late are none to a call; and a port that is another slot's. */
     it.slot.marks = 2;
+    it.slot.mark = 0;
     tell('=', "line fault Count\n|line fault Unknown\n|line fault BadWord\n");
     CHECK_ERROR(trdp_slot_pull(&it.slot, 1), TRDP_SLOT_FAULT_BAD_WORD);
     tell('=', "1 done\n");

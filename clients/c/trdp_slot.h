@@ -1,5 +1,6 @@
 /* The calls of an application at the control port of trdpd, a node of the Train Real-time Data
- * Protocol: C99 and POSIX, one header, no allocation, no thread, no global state.
+ * Protocol, and those of its operator: C99 and POSIX, one header, no allocation, no thread, no global
+ * state. It compiles as C++11 and later too.
  *
  *     static char line[512], text[TRDP_SLOT_TEXT_ROOM];
  *     static uint8_t kept[8192];
@@ -10,20 +11,31 @@
  *     trdp_slot_address("127.0.0.1", &terms.address);
  *     enum trdp_slot_error error = trdp_slot_open(&slot, &terms);
  *
+ * At a control socket the same terms do without an address and a port:
+ *
+ *     enum trdp_slot_error error = trdp_slot_open_path(&slot, "/run/trdpd/18000", &terms);
+ *
  * Where it is compiled with -std=c99 it comes before the system's headers, or _DEFAULT_SOURCE is
  * defined: else the system hides its clock. docs/SCRIPT.md says what each call means, with all its
- * words, and docs/DAEMON.md what a control port is. Addresses and ports are in host order, times
- * of calls in microseconds, waits in milliseconds. A slot is for one thread at a time.
+ * words, and docs/DAEMON.md what a control port and a control socket are. Addresses and ports are in
+ * host order, times of calls in microseconds, waits and the lease in milliseconds. A slot is for one
+ * thread at a time.
  *
  * Every function answers an enum trdp_slot_error, and TRDP_SLOT_OK where it did what it says.
  *
- * LOST ANSWERS. A call waits `timeout` milliseconds for its answer, and then sends the same line
- * again, `tries` times in all. The node may have taken the line all the same, where it was the
+ * BEGINNING ANEW. A program that makes objects calls trdp_slot_reset before, and again whenever it
+ * learns that its objects are gone: nothing of an earlier program, or of half a try, is left then.
+ * No other function does that, so that one that only looks disturbs nobody's objects.
+ *
+ * LOST ANSWERS. A call waits `timeout` milliseconds for its answer. Over UDP it then sends the same
+ * line again, `tries` times in all. The node may have taken the line all the same, where it was the
  * answer that got lost or comes late. Then a second try is a second call:
  *
- *     put, get, reset                the same again: no harm
+ *     put, get, reset, topology,     the same again: no harm
+ *     role, totals, slots
  *     publish, subscribe, openpull,  a second object, which takes its place in the quota too; the
  *     listen                         handle of one of the two stays unknown
+ *     addslot                        a second slot
  *     pull, notify                   the telegram goes out twice
  *     request                        refused SessionOpen; the caller's handle stays unknown until
  *                                    `replied` or `closed` tells it
@@ -35,30 +47,45 @@
  *
  * With `tries` 1 none of these happens, and TRDP_SLOT_TIMEOUT says that it isn't known whether the
  * call took effect. `timeout`, `tries` may be changed between two calls; `tried` of the slot says
- * how often the line of the latest call was sent.
+ * how often the line of the latest call was sent. At a control socket a line is sent once, and
+ * `tries` times `timeout` is how long its answer is waited for.
  *
- * WHAT CAN'T BE TOLD APART. Answers have no number. Before each call what waits at the socket is
- * taken: answers are dropped and counted in `stale`, indications are kept. An answer that comes
- * after that, but belongs to a call before, or was doubled on its way, is known by its form alone:
- * `done` is none of publish's. One of the same form is taken for the call's own, as the late
- * `handle 1` of a publish that timed out for that of the subscribe behind it; so is every late
- * refusal. On one machine no datagram is doubled or overtakes another one, so that only an answer
- * that takes longer than all tries, or a second one to a line that was sent twice, can do that.
- * Whoever must be certain after TRDP_SLOT_TIMEOUT, or where `tried` is above 1, takes what is
- * there by trdp_slot_next with a wait of 0, closes the slot and opens it anew: that is another
- * port, which no late answer finds. Indications that were on their way are lost with it.
+ * WHICH ANSWER IS WHOSE. Answers have no number. Before each call what is there is taken: answers
+ * are dropped and counted in `stale`, indications are kept. Behind a call whose answer didn't come,
+ * or that was sent more than once, the next one first sends a *mark*, a line that can't be read and
+ * does nothing, and waits for its answer: by then all earlier answers have come that come at all.
+ * Where that doesn't come either the call answers TIMEOUT, with `tried` 0: it wasn't sent. So where
+ * the way keeps the order, as within a machine, no answer is taken for that to another call, but
+ * for one that the way brings twice, which the one within a machine doesn't.
  *
- * A DAEMON THAT WAS STARTED ANEW has no objects, and refuses handles that it once gave:
- * TRDP_SLOT_REFUSED_NO_HANDLE of a handle that should be there says that all objects are to be
- * made again. (At a second try it may also say that the first one took effect.) Indications alone
- * don't tell it, so an application that only waits for them calls `get` now and then: that also
- * has the indications come here again.
+ * OBJECTS THAT ARE GONE. A daemon that was started anew has no objects, and refuses handles that it
+ * once gave; so does one whose lease for this slot has run out. TRDP_SLOT_REFUSED_NO_HANDLE of a
+ * handle that should be there says that all objects are to be made again. (At a second try it may
+ * also say that the first one took effect.) Over UDP indications alone don't tell it, so an
+ * application that only waits for them calls `get` now and then: that also has the indications come
+ * here again. At a control socket the end of the connection tells it, once, by
+ * TRDP_SLOT_RESTARTED, whether a call or trdp_slot_next finds it. The next call connects again.
+ * While the daemon is gone that answers TRDP_SLOT_NOBODY, or TRDP_SLOT_SYSTEM with EACCES while the
+ * path isn't this application's yet; TRDP_SLOT_BUSY where another application came before. What was
+ * kept of the connection is dropped, and counted as lost.
  *
  * INDICATIONS THAT COME WHILE AN ANSWER IS AWAITED are kept in the caller's `kept` and told by
  * trdp_slot_next in their order. One that finds no room there, or is longer than `text`, is
  * dropped and counted, and the next trdp_slot_next answers TRDP_SLOT_LOST and how many. On Linux
  * the same is told of datagrams that the system dropped since the socket's buffer was full, once
- * another one comes. What the daemon itself couldn't send, nobody is told (docs/DAEMON.md). */
+ * another one comes. At a control socket the daemon says how many texts it dropped, and
+ * trdp_slot_next tells that in their place. What the daemon couldn't send over UDP, nobody is told
+ * (docs/DAEMON.md).
+ *
+ * A LEASE. Where the daemon has one, `lease` of the terms says how long it is. The slot then says a
+ * remark, `#`, whenever a third of it has passed since its latest line, in a call that waits and in
+ * trdp_slot_next. There is no thread for it: a program that hangs says nothing, and loses its
+ * objects, as it should. One that computes for longer than that calls trdp_slot_next with a wait of
+ * 0 meanwhile.
+ *
+ * FORK AND EXEC. The socket closes where this program becomes another one. A child of `fork` that
+ * keeps it keeps the slot's application alive; it calls trdp_slot_close, which ends its own copy
+ * alone, and nothing else of the slot. */
 #ifndef TRDP_SLOT_H
 #define TRDP_SLOT_H
 
@@ -182,9 +209,9 @@ struct trdp_slot_terms {
     uint16_t port;
     uint16_t number;  /* the slot's number: with it its answers begin */
     uint32_t timeout; /* how long a try waits for its answer, in milliseconds, 1 or more */
-    uint32_t tries;   /* how often a line is sent at most, 1 or more */
+    uint32_t tries;   /* how often a line is sent at most, 1 or more; at a control socket once */
     char *line;       /* for a line that goes out */
-    size_t line_room; /* TRDP_SLOT_OVERHEAD and two for each byte of the longest payload */
+    size_t line_room; /* TRDP_SLOT_OVERHEAD, and two for each byte of the longest payload */
     char *text;       /* for what comes */
     size_t text_room; /* the same, and at least TRDP_SLOT_TEXT_ROOM */
     uint8_t *kept;    /* for indications that come while an answer is awaited */
@@ -1284,6 +1311,29 @@ static inline bool trdp_slot_is_line_fault(const struct trdp_slot_said *said)
         && said->error <= TRDP_SLOT_FAULT_OTHERWISE;
 }
 
+/* The fault of the mark that was sent last. A mark is a line that can't be read, and does nothing:
+ * what comes before its answer is of lines before it. Three take turns, so that one that comes late
+ * isn't taken for the next one. */
+static inline enum trdp_slot_error trdp_slot_mark_fault(const struct trdp_slot *slot)
+{
+    return slot->mark == 0 ? TRDP_SLOT_FAULT_UNKNOWN
+        : slot->mark == 1 ? TRDP_SLOT_FAULT_COUNT : TRDP_SLOT_FAULT_BAD_WORD;
+}
+
+/* Takes the answer to a mark. Answers whether it is that to the latest one, behind which no answer to
+ * a line before it comes. */
+static inline bool trdp_slot_takes_mark(struct trdp_slot *slot, enum trdp_slot_error fault)
+{
+    if (fault != trdp_slot_mark_fault(slot)) {
+        slot->marks -= slot->marks > 0;
+        return false;
+    }
+    /* Of more than three that are under way, one before it may have the same answer. */
+    slot->marks = slot->marks > 3 ? slot->marks - 1 : 0;
+    slot->is_unsure = false;
+    return true;
+}
+
 /* Puts aside what isn't awaited: keeps an indication, and counts all else. */
 static inline void trdp_slot_put_aside(struct trdp_slot *slot, const struct trdp_slot_said *said,
     const struct trdp_slot_piece *piece)
@@ -1296,7 +1346,7 @@ static inline void trdp_slot_put_aside(struct trdp_slot *slot, const struct trdp
     } else if (said->form == TRDP_SLOT_FORM_STRANGE || said->form == TRDP_SLOT_FORM_OTHER_SLOT) {
         trdp_slot_count(&slot->strange, 1);
     } else if (slot->marks > 0 && trdp_slot_is_line_fault(said)) {
-        slot->marks--; /* the answer to one */
+        (void)trdp_slot_takes_mark(slot, said->error);
     } else {
         trdp_slot_count(&slot->stale, 1);
     }
@@ -1555,15 +1605,6 @@ static inline int64_t trdp_slot_deadline(const struct trdp_slot *slot)
     return trdp_slot_now() + (int64_t)slot->terms.timeout * times;
 }
 
-/* The fault of the mark that was sent last. A mark is a line that can't be read, and does nothing:
- * what comes before its answer is of lines before it. Three take turns, so that one that comes late
- * isn't taken for the next one. */
-static inline enum trdp_slot_error trdp_slot_mark_fault(const struct trdp_slot *slot)
-{
-    return slot->mark == 0 ? TRDP_SLOT_FAULT_UNKNOWN
-        : slot->mark == 1 ? TRDP_SLOT_FAULT_COUNT : TRDP_SLOT_FAULT_BAD_WORD;
-}
-
 /* Sends the next mark. */
 static inline enum trdp_slot_error trdp_slot_send_mark(struct trdp_slot *slot, int64_t until)
 {
@@ -1593,16 +1634,12 @@ static inline enum trdp_slot_error trdp_slot_hear_mark(struct trdp_slot *slot, i
         trdp_slot_read(slot->terms.number, piece.text, piece.length, &said);
         if (said.form == TRDP_SLOT_FORM_OTHER_SLOT)
             return TRDP_SLOT_OTHER_SLOT;
-        if (said.form == TRDP_SLOT_FORM_ERROR && said.error == trdp_slot_mark_fault(slot)) {
-            /* Of more than three that are under way, one before it may have the same answer. */
-            slot->marks = slot->marks > 3 ? slot->marks - 1 : 0;
-            slot->is_unsure = false;
-            return TRDP_SLOT_OK;
-        }
         if (said.form == wanted)
             *is_heard = true;
-        else
+        else if (!trdp_slot_is_line_fault(&said))
             trdp_slot_put_aside(slot, &said, &piece);
+        else if (trdp_slot_takes_mark(slot, said.error))
+            return TRDP_SLOT_OK;
     }
 }
 
@@ -1736,9 +1773,9 @@ static inline enum trdp_slot_error trdp_slot_do_handle(struct trdp_slot *slot, c
 
 /* ---- Process data ----
  *
- * Every call below may come to TIMEOUT, NOBODY, SYSTEM, OTHER_SLOT, to ARGUMENT for a slot that
- * isn't open, and, where it carries bytes, to LONG. Named are the refusals that docs/SCRIPT.md has
- * for it. */
+ * Every call below may come to TIMEOUT, NOBODY, SYSTEM, OTHER_SLOT, at a control socket to BUSY and
+ * RESTARTED, to ARGUMENT for a slot that isn't open, and, where it carries bytes, to LONG. Named are
+ * the refusals that docs/SCRIPT.md has for it. */
 
 /* Makes a publisher, whose handle comes. A second try may make a second one.
  * Refusals: CYCLE, NO_DATASET, TOO_LONG, QUOTA, EXHAUSTED. */
@@ -1844,8 +1881,9 @@ static inline enum trdp_slot_error trdp_slot_closepull(struct trdp_slot *slot, u
 
 /* ---- Messages ----
  *
- * A payload has some 32,000 bytes at most: two digits each fit in a datagram. ARGUMENT where a URI
- * is longer than 32 bytes, or `payload` is NULL and `length` isn't 0. */
+ * A payload has TRDP_SLOT_MESSAGE bytes at most, and over UDP some 32,000: two digits each fit in a
+ * datagram. ARGUMENT where a URI is longer than 32 bytes, or `payload` is NULL and `length` isn't
+ * 0. */
 
 /* Makes a listener, whose handle comes. A second try may make a second one.
  * Refusals: RANGE, QUOTA, EXHAUSTED. */
@@ -2108,13 +2146,10 @@ static inline enum trdp_slot_error trdp_slot_hear_usages(struct trdp_slot *slot,
         trdp_slot_read(slot->terms.number, piece.text, piece.length, &said);
         if (said.form == TRDP_SLOT_FORM_USAGES) {
             trdp_slot_take_usages(&piece, usages, room, count);
-        } else if (said.form == TRDP_SLOT_FORM_ERROR
-            && said.error == trdp_slot_mark_fault(slot)) {
-            slot->marks = 0;
-            slot->is_unsure = false;
-            break;
-        } else {
+        } else if (!trdp_slot_is_line_fault(&said)) {
             trdp_slot_put_aside(slot, &said, &piece);
+        } else if (trdp_slot_takes_mark(slot, said.error)) {
+            break;
         }
     }
     return error;
@@ -2197,6 +2232,7 @@ static inline enum trdp_slot_error trdp_slot_next(struct trdp_slot *slot, uint32
     struct trdp_slot_indication *told, uint8_t *bytes, size_t room)
 {
     int64_t until = trdp_slot_now() + wait;
+    memset(told, 0, sizeof *told);
     if (!trdp_slot_is_open(slot))
         return TRDP_SLOT_ARGUMENT;
     (void)trdp_slot_stay(slot);
