@@ -7,9 +7,9 @@
  *     ./door 127.0.9.1 18000 127.0.9.2 60
  *
  * ADDRESS and PORT are those of its slot's control port, PATH is that of its control socket, with a
- * slash in it, and OTHER is the address of the other side's node. door.toml and other.toml configure
- * both sides. It begins with a reset, and makes its objects anew where the daemon was started anew.
- * The exit status is 2 for other words, 1 where the slot can't be opened. */
+ * slash in it, and OTHER is the address of the other side's node. door.toml and other.toml
+ * configure both sides. It begins with a reset, and makes its objects anew where they are gone. The
+ * exit status is 2 for other words, 1 where the slot can't be opened. */
 #include "trdp_slot.h"
 
 #include <stdio.h>

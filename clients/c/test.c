@@ -71,14 +71,17 @@ enum trdp_slot_error test_open_path(struct test_slot *it, const char *path, uint
 int main(int argc, char **argv)
 {
     test_folder = argc == 3 ? argv[2] : NULL;
-    if (argc == 2 && strcmp(argv[1], "texts") == 0)
+    if (argc == 2 && strcmp(argv[1], "texts") == 0) {
         test_texts();
-    else if (argc == 2 && strcmp(argv[1], "paths") == 0)
+        test_datasets();
+        test_teller();
+    } else if (argc == 2 && strcmp(argv[1], "paths") == 0) {
         test_paths();
-    else if (argc >= 2 && argc <= 3 && strcmp(argv[1], "node") == 0)
+    } else if (argc >= 2 && argc <= 3 && strcmp(argv[1], "node") == 0) {
         test_node();
-    else
+    } else {
         return 2;
+    }
     printf("%u passed, %u failed\n", passed, failed);
     return failed == 0 ? 0 : 1;
 }

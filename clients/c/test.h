@@ -35,8 +35,12 @@ enum trdp_slot_error test_open_path(struct test_slot *it, const char *path, uint
 /* The address of a text that is one. */
 uint32_t test_address(const char *text);
 
-/* Reading: texts in memory, and a daemon that is a few lines of this test. */
+/* Reading texts, and values of datasets, in memory. */
 void test_texts(void);
+void test_datasets(void);
+
+/* A control port of a daemon that is a few lines of this test. */
+void test_teller(void);
 
 /* Control sockets: a daemon that is a few lines of this test, in a folder that it makes. */
 void test_paths(void);

@@ -3,11 +3,11 @@
  *
  *     test_values
  *
- * A line has: how many datasets; of each, how many elements, and of each of these its type (a number
- * of the header, or 100 and the index of a dataset before), its size and the room of its member; the
- * index of the dataset of the value; how many numbers that has, and these; its bytes; how many other
- * bytes, and these. A line comes back: the error and the bytes of pack; the error and the numbers of
- * unpack; and of the other bytes the error, and what pack makes of them again. */
+ * A line has: how many datasets; of each, how many elements, and of each of these its type (a
+ * number of the header, or 100 and the index of a dataset before), its size and the room of its
+ * member; the index of the dataset of the value; how many numbers that has, and these; its bytes;
+ * how many other bytes, and these. A line comes back: the error and the bytes of pack; the error
+ * and the numbers of unpack; and of the other bytes the error, and what pack makes of them. */
 #include "trdp_slot.h"
 
 #include <stdio.h>

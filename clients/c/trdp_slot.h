@@ -1,6 +1,6 @@
 /* The calls of an application at the control port of trdpd, a node of the Train Real-time Data
- * Protocol, and those of its operator: C99 and POSIX, one header, no allocation, no thread, no global
- * state. It compiles as C++11 and later too.
+ * Protocol, and those of its operator: C99 and POSIX, one header, no allocation, no thread, no
+ * global state. It compiles as C++11 and later too.
  *
  *     static char line[512], text[TRDP_SLOT_TEXT_ROOM];
  *     static uint8_t kept[8192];
@@ -17,9 +17,9 @@
  *
  * Where it is compiled with -std=c99 it comes before the system's headers, or _DEFAULT_SOURCE is
  * defined: else the system hides its clock. docs/SCRIPT.md says what each call means, with all its
- * words, and docs/DAEMON.md what a control port and a control socket are. Addresses and ports are in
- * host order, times of calls in microseconds, waits and the lease in milliseconds. A slot is for one
- * thread at a time.
+ * words, and docs/DAEMON.md what a control port and a control socket are. Addresses and ports are
+ * in host order, times of calls in microseconds, waits and the lease in milliseconds. A slot is for
+ * one thread at a time.
  *
  * Every function answers an enum trdp_slot_error, and TRDP_SLOT_OK where it did what it says.
  *
@@ -223,7 +223,7 @@ struct trdp_slot_terms {
  * alone. */
 struct trdp_slot {
     struct trdp_slot_terms terms;
-    int socket;         /* for a poll of one's own; -1 where the slot isn't open, or not connected */
+    int socket;         /* for a poll of one's own; -1 where there is no connection */
     size_t kept_length; /* how much of `kept` is in use; 0 where no indication is kept */
     uint32_t tried;     /* how often the line of the latest call was sent */
     uint32_t lost;      /* indications that were lost and aren't told yet */
@@ -1320,8 +1320,8 @@ static inline enum trdp_slot_error trdp_slot_mark_fault(const struct trdp_slot *
         : slot->mark == 1 ? TRDP_SLOT_FAULT_COUNT : TRDP_SLOT_FAULT_BAD_WORD;
 }
 
-/* Takes the answer to a mark. Answers whether it is that to the latest one, behind which no answer to
- * a line before it comes. */
+/* Takes the answer to a mark. Answers whether it is that to the latest one, behind which no answer
+ * to a line before it comes. */
 static inline bool trdp_slot_takes_mark(struct trdp_slot *slot, enum trdp_slot_error fault)
 {
     if (fault != trdp_slot_mark_fault(slot)) {
@@ -1569,11 +1569,11 @@ static inline enum trdp_slot_error trdp_slot_open(struct trdp_slot *slot,
 
 /* Opens a slot at a control socket: connects to its path, as "/run/trdpd/18000", and is the
  * application from then on. It waits for no answer.
- * Errors: ARGUMENT where a buffer is missing or too small, `timeout` or `tries` is 0, or the path is
- * empty or longer than 107 bytes; the slot isn't open then. NOBODY where nobody listens there;
+ * Errors: ARGUMENT where a buffer is missing or too small, `timeout` or `tries` is 0, or the path
+ * is empty or longer than 107 bytes; the slot isn't open then. NOBODY where nobody listens there;
  * SYSTEM, as with EACCES where this user may not connect; BUSY where another application lives
- * there, if the daemon has said so already, and else the first call tells. Then the slot is open all
- * the same, and each call tries again to connect, until it is closed. */
+ * there, if the daemon has said so already, and else the first call tells. Then the slot is open
+ * all the same, and each call tries again to connect, until it is closed. */
 static inline enum trdp_slot_error trdp_slot_open_path(struct trdp_slot *slot, const char *path,
     const struct trdp_slot_terms *terms)
 {
@@ -1774,8 +1774,8 @@ static inline enum trdp_slot_error trdp_slot_do_handle(struct trdp_slot *slot, c
 /* ---- Process data ----
  *
  * Every call below may come to TIMEOUT, NOBODY, SYSTEM, OTHER_SLOT, at a control socket to BUSY and
- * RESTARTED, to ARGUMENT for a slot that isn't open, and, where it carries bytes, to LONG. Named are
- * the refusals that docs/SCRIPT.md has for it. */
+ * RESTARTED, to ARGUMENT for a slot that isn't open, and, where it carries bytes, to LONG. Named
+ * are the refusals that docs/SCRIPT.md has for it. */
 
 /* Makes a publisher, whose handle comes. A second try may make a second one.
  * Refusals: CYCLE, NO_DATASET, TOO_LONG, QUOTA, EXHAUSTED. */
@@ -2045,10 +2045,10 @@ static inline enum trdp_slot_error trdp_slot_reset(struct trdp_slot *slot)
 
 /* ---- The operator ----
  *
- * The calls below are of a slot that was opened at the operator's port, or at its path, whatever its
- * `number`; there it is answered where it calls from, and nobody else is concerned. At a control
- * socket four such slots are open at once, and BUSY is a fifth one. They come to the same errors as
- * the others, to FAULT_UNKNOWN at the control port of a slot, and to what is named. */
+ * The calls below are of a slot that was opened at the operator's port, or at its path, whatever
+ * its `number`. At a control socket four operators may be connected at once, and a fifth one is
+ * BUSY. They come to the same errors as the others, to FAULT_UNKNOWN at the control port of a slot,
+ * and to what is named. */
 
 /* A line of the operator. */
 static inline struct trdp_slot_writer trdp_slot_operator_line(struct trdp_slot *slot,
@@ -2282,7 +2282,7 @@ static inline enum trdp_slot_error trdp_slot_next(struct trdp_slot *slot, uint32
  * dataset is a struct of that one's. So all memory is the program's, and nothing is allocated.
  *
  * Datasets nest 5 deep at most, the outermost one with them, and have 1 to 256 elements each. A
- * value of process data has at most TRDP_SLOT_VALUE bytes, and one of a message TRDP_SLOT_MESSAGE. */
+ * value of process data has at most TRDP_SLOT_VALUE bytes, one of a message TRDP_SLOT_MESSAGE. */
 
 /* The types of elements, by the standard's numbers, with the type of the member. */
 enum trdp_slot_type {
@@ -2320,7 +2320,7 @@ struct trdp_slot_dataset;
 /* An element of a dataset, and the member that holds it. The macros below make one. */
 struct trdp_slot_element {
     enum trdp_slot_type type;
-    uint32_t size; /* 1: one item; more: an array of so many; 0: of as many as the one before says */
+    uint32_t size; /* 1: one; more: an array of so many; 0: of as many as the one before says */
     size_t offset; /* of the member in its struct */
     size_t item;   /* the bytes of an item of the member */
     size_t room;   /* how many items the member has room for */
@@ -2635,8 +2635,8 @@ static inline enum trdp_slot_error trdp_slot_unpack(const struct trdp_slot_datas
 }
 
 /* Gives a publisher its value, which is a struct of this dataset. Its bytes are on the stack
- * meanwhile, TRDP_SLOT_VALUE of them. Errors: those of trdp_slot_pack, by which nothing is sent, and
- * of trdp_slot_put. */
+ * meanwhile, TRDP_SLOT_VALUE of them. Errors: those of trdp_slot_pack, by which nothing is sent,
+ * and of trdp_slot_put. */
 static inline enum trdp_slot_error trdp_slot_put_value(struct trdp_slot *slot, uint32_t handle,
     const struct trdp_slot_dataset *dataset, const void *value)
 {
@@ -2646,8 +2646,8 @@ static inline enum trdp_slot_error trdp_slot_put_value(struct trdp_slot *slot, u
     return error != TRDP_SLOT_OK ? error : trdp_slot_put(slot, handle, bytes, length);
 }
 
-/* Looks at a subscription: how good its value is comes to `shown`, and the value to a struct of this
- * dataset. Its bytes are on the stack meanwhile, TRDP_SLOT_VALUE of them. Errors: those of
+/* Looks at a subscription: how good its value is comes to `shown`, and the value to a struct of
+ * this dataset. Its bytes are on the stack meanwhile, TRDP_SLOT_VALUE of them. Errors: those of
  * trdp_slot_get, and of trdp_slot_unpack. */
 static inline enum trdp_slot_error trdp_slot_get_value(struct trdp_slot *slot, uint32_t handle,
     struct trdp_slot_value *shown, const struct trdp_slot_dataset *dataset, void *value)

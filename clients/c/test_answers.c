@@ -1,0 +1,208 @@
+/* Answers that come late or twice or not at all, marks, indications that are kept, and a lease. */
+#include "test_teller.h"
+
+#include <stdio.h>
+
+/* Answers that come late or twice, and what isn't an answer. */
+static void stale_answers(void)
+{
+    uint32_t handle = 0, stale = at_port.slot.stale, strange = at_port.slot.strange;
+    struct trdp_slot_requester requester = { .com_id = 1 };
+    struct trdp_slot_value value = { .length = 0 };
+    uint8_t bytes[4];
+    tell('=', "0 done\n|0 handle 8\n|0 handle 8\n");
+    CHECK_ERROR(trdp_slot_openpull(&at_port.slot, &requester, &handle), TRDP_SLOT_OK);
+    CHECK(handle == 8 && at_port.slot.stale == stale + 1);
+    latest();
+    tell('=', "0 value Valid 1 0a0b0c0d0e\n");
+    CHECK_ERROR(trdp_slot_get(&at_port.slot, 1, &value, bytes, sizeof bytes), TRDP_SLOT_CUT);
+    CHECK(at_port.slot.stale == stale + 2 && value.length == 5 && bytes[3] == 0x0d);
+    CHECK_ERROR(trdp_slot_get(&at_port.slot, 1, &value, NULL, 0), TRDP_SLOT_CUT);
+    tell('=', "0 value Valid 1 0|0 handle x\n|done\n|\n|0 opened\n|0 done|0 done\n");
+    CHECK_ERROR(trdp_slot_pull(&at_port.slot, 1), TRDP_SLOT_OK);
+    CHECK(at_port.slot.strange == strange + 6);
+    /* What waits before a call isn't its answer, though it is of its form. */
+    stale = at_port.slot.stale;
+    tell('!', "0 done\n|0 refused Range\n|0 silent 9\n");
+    latest();
+    tell('=', "0 refused State\n");
+    CHECK_ERROR(trdp_slot_pull(&at_port.slot, 1), TRDP_SLOT_REFUSED_STATE);
+    struct trdp_slot_indication told;
+    CHECK_ERROR(trdp_slot_next(&at_port.slot, 0, &told, NULL, 0), TRDP_SLOT_OK);
+    CHECK(at_port.slot.stale == stale + 2 && told.handle == 9);
+    /* No answer at all: so many tries of so many milliseconds. */
+    tell('=', "");
+    int64_t start = trdp_slot_now();
+    at_port.slot.terms.timeout = 20;
+    at_port.slot.terms.tries = 3;
+    CHECK_ERROR(trdp_slot_pull(&at_port.slot, 1), TRDP_SLOT_TIMEOUT);
+    CHECK(at_port.slot.tried == 3 && trdp_slot_now() - start >= 60);
+    at_port.slot.terms.timeout = 2000;
+    at_port.slot.terms.tries = 1;
+}
+
+/* The next indication. */
+static struct trdp_slot_indication next(enum trdp_slot_error wanted, uint32_t wait)
+{
+    static uint8_t bytes[4];
+    struct trdp_slot_indication told;
+    memset(&told, 0, sizeof told);
+    CHECK_ERROR(trdp_slot_next(&at_port.slot, wait, &told, bytes, sizeof bytes), wanted);
+    return told;
+}
+
+/* Indications that come while an answer is awaited are kept in their order; and those for which
+ * there is no room are told as lost. */
+static void kept_indications(void)
+{
+    tell('=', "0 silent 1\n|0 alive 2\n|0 closed 3 Done\n|0 done\n|0 silent 4\n");
+    CHECK_ERROR(trdp_slot_pull(&at_port.slot, 1), TRDP_SLOT_OK);
+    CHECK(at_port.slot.kept_length > 0 && next(TRDP_SLOT_OK, 0).kind == TRDP_SLOT_FELL_SILENT);
+    CHECK(next(TRDP_SLOT_OK, 0).handle == 2 && next(TRDP_SLOT_OK, 0).reason == TRDP_SLOT_DONE);
+    CHECK(at_port.slot.kept_length == 0 && next(TRDP_SLOT_OK, 2000).handle == 4);
+    next(TRDP_SLOT_TIMEOUT, 10);
+    /* Room for two of eleven bytes and four each, and not for a third. */
+    size_t room = at_port.slot.terms.kept_room;
+    at_port.slot.terms.kept_room = 44;
+    tell('=', "0 silent 1\n|0 silent 2\n|0 silent 3\n|0 silent 4\n|0 done\n");
+    CHECK_ERROR(trdp_slot_pull(&at_port.slot, 1), TRDP_SLOT_OK);
+    CHECK(next(TRDP_SLOT_LOST, 0).lost == 2 && next(TRDP_SLOT_OK, 0).handle == 1);
+    CHECK(next(TRDP_SLOT_OK, 0).handle == 2);
+    next(TRDP_SLOT_TIMEOUT, 0);
+    at_port.slot.terms.kept_room = 0;
+    CHECK_ERROR(trdp_slot_pull(&at_port.slot, 1), TRDP_SLOT_OK);
+    CHECK(next(TRDP_SLOT_LOST, 0).lost == 4);
+    at_port.slot.terms.kept_room = room;
+    /* A payload that is longer than the room. */
+    tell('=', "0 notified 1 10.0.0.2:17225 300 - 61 0102030405\n|0 done\n");
+    CHECK_ERROR(trdp_slot_pull(&at_port.slot, 1), TRDP_SLOT_OK);
+    struct trdp_slot_indication told = next(TRDP_SLOT_CUT, 0);
+    CHECK(told.length == 5 && told.payload[3] == 4 && told.com_id == 300);
+}
+
+/* A datagram that is longer than the slot's text is told as lost. */
+static void overlong(void)
+{
+    static char text[6000];
+    size_t front = (size_t)snprintf(text, sizeof text, "0 notified 1 10.0.0.2:17225 300 - - ");
+    memset(text + front, '0', 5000);
+    memcpy(text + front + 5000, "\n|0 done\n", 10);
+    tell('=', text);
+    CHECK_ERROR(trdp_slot_pull(&at_port.slot, 1), TRDP_SLOT_OK);
+    CHECK(next(TRDP_SLOT_LOST, 0).lost == 1);
+    memcpy(text + front + 5000, "\n", 2);
+    tell('!', text);
+    CHECK(next(TRDP_SLOT_LOST, 100).lost == 1);
+    next(TRDP_SLOT_TIMEOUT, 0);
+}
+
+/* Takes all that waits; counts what is told, and what is told as lost. */
+static void take_all(uint32_t *told_of, uint32_t *lost)
+{
+    struct trdp_slot_indication told;
+    enum trdp_slot_error error;
+    while ((error = trdp_slot_next(&at_port.slot, 0, &told, NULL, 0)) != TRDP_SLOT_TIMEOUT) {
+        if (!CHECK(error == TRDP_SLOT_OK || error == TRDP_SLOT_LOST))
+            return;
+        *told_of += error == TRDP_SLOT_OK;
+        *lost += told.lost;
+    }
+}
+
+/* What the system drops since its buffer is full is told with the next datagram, where the system
+ * counts it. */
+static void flood(void)
+{
+    int room = 4096;
+    uint32_t lost = 0, told_of = 0;
+    setsockopt(at_port.slot.socket, SOL_SOCKET, SO_RCVBUF, &room, sizeof room);
+    for (int i = 0; i < 200; i++)
+        tell('!', "0 silent 1\n");
+    latest();
+    take_all(&told_of, &lost);
+    CHECK(told_of > 0 && told_of < 200);
+    tell('!', "0 silent 1\n");
+    latest();
+    take_all(&told_of, &lost);
+#ifdef SO_RXQ_OVFL
+    CHECK(lost > 0 && told_of + lost == 201);
+#endif
+}
+
+/* A reset is over with the mark behind it, and sent again where that isn't answered, or the answer
+ * to the reset itself isn't there. */
+static void reset(void)
+{
+    uint32_t handle = 0, stale = at_port.slot.stale;
+    struct trdp_slot_requester requester = { .com_id = 1 };
+    at_port.slot.terms.timeout = 300;
+    at_port.slot.terms.tries = 3;
+    tell('=', "0 silent 1\n|0 done\n");
+    tell('%', "1");
+    CHECK_ERROR(trdp_slot_reset(&at_port.slot), TRDP_SLOT_OK);
+    CHECK(at_port.slot.tried == 2 && next(TRDP_SLOT_OK, 0).handle == 1);
+    tell('=', "");
+    CHECK_ERROR(trdp_slot_reset(&at_port.slot), TRDP_SLOT_TIMEOUT);
+    CHECK(at_port.slot.tried == 3 && had("reset"));
+    /* No mark is answered, and so nothing is made. */
+    at_port.slot.terms.tries = 1;
+    tell('=', "0 done\n");
+    tell('%', "2");
+    CHECK_ERROR(trdp_slot_reset(&at_port.slot), TRDP_SLOT_TIMEOUT);
+    tell('=', "0 handle 7\n");
+    CHECK_ERROR(trdp_slot_openpull(&at_port.slot, &requester, &handle), TRDP_SLOT_TIMEOUT);
+    CHECK(at_port.slot.tried == 0 && handle == 0 && had("reset"));
+    at_port.slot.terms.timeout = 2000;
+    CHECK_ERROR(trdp_slot_openpull(&at_port.slot, &requester, &handle), TRDP_SLOT_OK);
+    CHECK(handle == 7 && at_port.slot.tried == 1 && at_port.slot.stale == stale);
+    CHECK(next(TRDP_SLOT_OK, 0).handle == 1);
+    /* Answers to marks that come late are none to a call; and a port that is another slot's. */
+    at_port.slot.marks = 2;
+    at_port.slot.mark = 0;
+    tell('=', "line fault Count\n|line fault Unknown\n|line fault BadWord\n");
+    CHECK_ERROR(trdp_slot_pull(&at_port.slot, 1), TRDP_SLOT_FAULT_BAD_WORD);
+    tell('=', "1 done\n");
+    CHECK_ERROR(trdp_slot_reset(&at_port.slot), TRDP_SLOT_OTHER_SLOT);
+}
+
+/* An answer that comes behind its time isn't that to the next call. */
+static void late_answers(void)
+{
+    uint32_t handle = 0, stale = at_port.slot.stale;
+    struct trdp_slot_requester requester = { .com_id = 1 };
+    tell('=', "");
+    at_port.slot.terms.timeout = 20;
+    CHECK_ERROR(trdp_slot_openpull(&at_port.slot, &requester, &handle), TRDP_SLOT_TIMEOUT);
+    at_port.slot.terms.timeout = 2000;
+    tell('=', "0 handle 8\n");
+    tell('!', "0 handle 7\n"); /* which waits before the answer to the mark */
+    CHECK_ERROR(trdp_slot_openpull(&at_port.slot, &requester, &handle), TRDP_SLOT_OK);
+    CHECK(handle == 8 && at_port.slot.stale == stale + 1);
+}
+
+/* A remark where a third of the lease has passed. */
+static void lease(void)
+{
+    tell('=', "0 done\n");
+    CHECK_ERROR(trdp_slot_pull(&at_port.slot, 5), TRDP_SLOT_OK);
+    next(TRDP_SLOT_TIMEOUT, 100);
+    CHECK(had("pull 5"));
+    at_port.slot.terms.lease = 60;
+    next(TRDP_SLOT_TIMEOUT, 0);
+    CHECK(had("#"));
+    CHECK_ERROR(trdp_slot_pull(&at_port.slot, 6), TRDP_SLOT_OK);
+    next(TRDP_SLOT_TIMEOUT, 100);
+    CHECK(had("#"));
+    at_port.slot.terms.lease = 0;
+}
+
+void test_answers(void)
+{
+    stale_answers();
+    kept_indications();
+    overlong();
+    reset();
+    late_answers();
+    lease();
+    flood();
+}

@@ -1,0 +1,231 @@
+/* Control sockets: `busy`, ends, answers that come late, resets and leases. */
+#include "test_paths.h"
+
+/* Another application lives there, as often as is said; then it doesn't. The first time may be told
+ * when the path is opened. */
+static void says_busy(int listener)
+{
+    for (int i = 0; i < 4; i++) {
+        int connection = takes(listener);
+        says(connection, "busy\n");
+        close(connection);
+    }
+    int connection = begins(listener);
+    hears(connection, "pull 1");
+    says(connection, "0 done\n");
+    hears(connection, "pull 2");
+    /* What is said before the end is `busy` though the line behind it isn't heard. */
+    says(connection, "0 silent 1\nbusy\n");
+    close(connection);
+    listen(listener, 0);
+    hears(begins(listener), "pull 3");
+}
+
+static void busy(void)
+{
+    if (!open_at(says_busy, WAIT))
+        return;
+    if (slot->socket >= 0)
+        CHECK_ERROR(trdp_slot_pull(slot, 1), TRDP_SLOT_BUSY);
+    CHECK(slot->socket == -1);
+    CHECK_ERROR(trdp_slot_pull(slot, 1), TRDP_SLOT_BUSY);
+    CHECK_ERROR(trdp_slot_pull(slot, 1), TRDP_SLOT_BUSY);
+    /* One that waits for indications alone doesn't hammer at it. */
+    int64_t start = trdp_slot_now();
+    CHECK_ERROR(next(WAIT), TRDP_SLOT_BUSY);
+    CHECK(trdp_slot_now() - start >= TRDP_SLOT_PAUSE / 2);
+    CHECK_ERROR(trdp_slot_pull(slot, 1), TRDP_SLOT_OK);
+    /* A line that can't be sent is told by what was said before. */
+    char line[] = "pull 2";
+    CHECK_ERROR(trdp_slot_send(slot, line, 6, trdp_slot_now() + WAIT), TRDP_SLOT_OK);
+    struct pollfd wait = { slot->socket, 0, 0 };
+    CHECK(poll(&wait, 1, WAIT) == 1 && (wait.revents & POLLHUP) != 0);
+    CHECK_ERROR(trdp_slot_send_bytes(slot, "pull 2\n", 7, 0), TRDP_SLOT_BUSY);
+    CHECK(next(0) == TRDP_SLOT_LOST && told_at_path.lost == 1);
+    CHECK_ERROR(trdp_slot_pull(slot, 3), TRDP_SLOT_RESTARTED);
+    close_and_wait();
+}
+
+/* A connection that ends, and a daemon that is gone for a while. */
+static void ends(int listener)
+{
+    int connection = begins(listener);
+    hears(connection, "pull 1");
+    says(connection, "0 silent 1\n0 done\n0 silent 2\n0 sil");
+    close(connection);
+    connection = begins(listener);
+    hears(connection, "pull 2");
+    close(connection);
+    connection = begins(listener);
+    hears(connection, "pull 3");
+    says(connection, "0 silent 3\n0 done\n");
+    hears(connection, "reset");
+    close(connection);
+    close(listener);
+}
+
+/* The same, that comes late. */
+static void comes_late(int listener)
+{
+    close(listener);
+    poll(NULL, 0, 250);
+    int connection = begins(listens());
+    says(connection, "0 silent 5\n");
+    hears(connection, "pull 5");
+}
+
+static void ended(void)
+{
+    if (!open_at(ends, WAIT))
+        return;
+    CHECK_ERROR(trdp_slot_pull(slot, 1), TRDP_SLOT_OK);
+    CHECK(next(0) == TRDP_SLOT_OK && told_at_path.handle == 1);
+    CHECK(next(WAIT) == TRDP_SLOT_OK && told_at_path.handle == 2);
+    /* Told once; the next one connects again. */
+    CHECK(next(WAIT) == TRDP_SLOT_RESTARTED && slot->socket == -1);
+    CHECK_ERROR(trdp_slot_pull(slot, 2), TRDP_SLOT_RESTARTED);
+    CHECK_ERROR(trdp_slot_pull(slot, 3), TRDP_SLOT_OK);
+    /* What was kept tells of objects that are gone. */
+    CHECK(slot->kept_length > 0);
+    CHECK_ERROR(trdp_slot_reset(slot), TRDP_SLOT_RESTARTED);
+    CHECK(child_is_done() && slot->kept_length == 0);
+    CHECK(next(0) == TRDP_SLOT_LOST && told_at_path.lost == 1);
+    /* Nobody listens at the path, or there is none: a call says so at once, and who waits waits. */
+    CHECK_ERROR(trdp_slot_pull(slot, 3), TRDP_SLOT_NOBODY);
+    int64_t start = trdp_slot_now();
+    CHECK_ERROR(next(50), TRDP_SLOT_NOBODY);
+    CHECK(trdp_slot_now() - start >= 50);
+    unlink(path);
+    CHECK_ERROR(trdp_slot_pull(slot, 3), TRDP_SLOT_NOBODY);
+    child_does(comes_late);
+    CHECK(next(WAIT) == TRDP_SLOT_OK && told_at_path.handle == 5);
+    char line[] = "pull 5";
+    CHECK_ERROR(trdp_slot_send(slot, line, 6, trdp_slot_now() + WAIT), TRDP_SLOT_OK);
+    close_and_wait();
+    CHECK_ERROR(trdp_slot_pull(slot, 3), TRDP_SLOT_ARGUMENT);
+    CHECK_ERROR(next(0), TRDP_SLOT_ARGUMENT);
+}
+
+/* Answers that come late. */
+static void answers_late(int listener)
+{
+    int connection = begins(listener);
+    hears(connection, "pull 1");
+    hears(connection, "get");
+    says(connection, "0 done\n0 silent 1\nline fault Count\n");
+    hears(connection, "pull 2");
+    says(connection, "0 refused State\n");
+    hears(connection, "pull 3");
+    hears(connection, "get mark"); /* said once, as nothing is lost, and answered late */
+    hears_front(connection, "#");
+    says(connection, "0 done\nline fault BadWord\n");
+    hears(connection, "pull 6");
+    says(connection, "0 refused State\n");
+    hears(connection, "pull 7"); /* whose answer is lost, and that to the mark behind it */
+    hears(connection, "mark");
+    says(connection, "lost 2\n");
+    hears(connection, "get");
+    says(connection, "line fault Count\n");
+    hears(connection, "pull 9");
+    says(connection, "0 done\n");
+}
+
+static void late_answers(void)
+{
+    if (!open_at(answers_late, 60))
+        return;
+    CHECK_ERROR(trdp_slot_pull(slot, 1), TRDP_SLOT_TIMEOUT);
+    slot->terms.timeout = WAIT;
+    CHECK_ERROR(trdp_slot_pull(slot, 2), TRDP_SLOT_REFUSED_STATE);
+    CHECK(slot->stale == 1 && next(0) == TRDP_SLOT_OK && told_at_path.handle == 1);
+    slot->terms.timeout = 30;
+    CHECK_ERROR(trdp_slot_pull(slot, 3), TRDP_SLOT_TIMEOUT);
+    CHECK(slot->tried == 1);
+    CHECK_ERROR(trdp_slot_pull(slot, 4), TRDP_SLOT_TIMEOUT);
+    CHECK_ERROR(trdp_slot_pull(slot, 5), TRDP_SLOT_TIMEOUT);
+    CHECK(slot->tried == 0);
+    char line[] = "# ";
+    CHECK_ERROR(trdp_slot_send(slot, line, 1, trdp_slot_now() + WAIT), TRDP_SLOT_OK);
+    slot->terms.timeout = WAIT;
+    CHECK_ERROR(trdp_slot_pull(slot, 6), TRDP_SLOT_REFUSED_STATE);
+    CHECK(slot->tried == 1 && slot->stale == 2);
+    slot->terms.timeout = 30;
+    CHECK_ERROR(trdp_slot_pull(slot, 7), TRDP_SLOT_TIMEOUT);
+    CHECK_ERROR(trdp_slot_pull(slot, 8), TRDP_SLOT_TIMEOUT);
+    CHECK(next(WAIT) == TRDP_SLOT_LOST && told_at_path.lost == 2);
+    slot->terms.timeout = WAIT;
+    CHECK_ERROR(trdp_slot_pull(slot, 9), TRDP_SLOT_OK);
+    close_and_wait();
+}
+
+/* A reset isn't over before the mark behind it is answered. */
+static void resets(int listener)
+{
+    int connection = begins(listener);
+    hears(connection, "reset");
+    hears(connection, "get");
+    says(connection, "0 silent 1\n0 done\n");
+    poll(NULL, 0, 100);
+    says(connection, "line fault Count\n");
+    hears(connection, "pull 1");
+    says(connection, "0 done\n");
+}
+
+static void reset(void)
+{
+    if (!open_at(resets, WAIT))
+        return;
+    int64_t start = trdp_slot_now();
+    CHECK_ERROR(trdp_slot_reset(slot), TRDP_SLOT_OK);
+    CHECK(trdp_slot_now() - start >= 90 && slot->tried == 1);
+    CHECK_ERROR(trdp_slot_pull(slot, 1), TRDP_SLOT_OK);
+    CHECK(next(0) == TRDP_SLOT_OK && told_at_path.handle == 1);
+    close_and_wait();
+}
+
+/* A remark while the slot waits, and while a call does; none without a lease, and none behind a
+ * line that is younger than a third of it. */
+static void hears_remarks(int listener)
+{
+    int connection = begins(listener);
+    for (int i = 0; i < 3; i++)
+        hears(connection, "#");
+    says(connection, "0 silent 1\n");
+    hears_front(connection, "");
+    while (hears_front(connection, "") == 1)
+        continue; /* further remarks up to the call */
+    for (int i = 0; i < 3; i++)
+        hears(connection, "#");
+    says(connection, "0 done\n");
+    while (hears_front(connection, "") == 1)
+        continue; /* and up to the next one, which has no lease */
+    struct pollfd wait = { connection, POLLIN, 0 };
+    if (poll(&wait, 1, 100) != 0)
+        fail("a remark without a lease");
+    says(connection, "0 done\n");
+}
+
+static void lease(void)
+{
+    int64_t start = trdp_slot_now();
+    if (!open_at(hears_remarks, WAIT))
+        return;
+    slot->terms.lease = 90;
+    CHECK(next(WAIT) == TRDP_SLOT_OK && told_at_path.handle == 1);
+    CHECK(trdp_slot_now() - start >= 80);
+    poll(NULL, 0, 40);
+    CHECK(next(0) == TRDP_SLOT_TIMEOUT); /* a third has passed, so that this says one */
+    CHECK_ERROR(trdp_slot_pull(slot, 1), TRDP_SLOT_OK);
+    slot->terms.lease = 0;
+    CHECK_ERROR(trdp_slot_pull(slot, 2), TRDP_SLOT_OK);
+    close_and_wait();
+}
+
+void test_ends(void)
+{
+    busy();
+    ended();
+    late_answers();
+    reset();
+    lease();
+}
