@@ -189,6 +189,9 @@ static void longest(void)
     notification.length = sizeof payload;
     slot->terms.line_room = 2 * TRDP_SLOT_MESSAGE;
     CHECK_ERROR(trdp_slot_notify(slot, &notification), TRDP_SLOT_LONG);
+    slot->terms.line_room = strlen("unlisten 4"); /* and none for its end */
+    CHECK_ERROR(trdp_slot_unlisten(slot, 4), TRDP_SLOT_LONG);
+    slot->terms.line_room++;
     CHECK_ERROR(trdp_slot_unlisten(slot, 4), TRDP_SLOT_OK);
     close_and_wait();
 }
@@ -274,6 +277,7 @@ static void forbidden(void)
         abort();
     CHECK(test_open_path(&at_path, path, WAIT) == TRDP_SLOT_SYSTEM && errno == EACCES);
     CHECK(trdp_slot_pull(slot, 1) == TRDP_SLOT_SYSTEM && errno == EACCES);
+    errno = 0;
     CHECK(next(0) == TRDP_SLOT_SYSTEM && errno == EACCES);
     if (getuid() == 0 && seteuid(0) != 0)
         abort();

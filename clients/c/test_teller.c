@@ -121,6 +121,24 @@ bool had(const char *line)
     return is_so;
 }
 
+/* The daemon ends while the answer to the first try is waited for. The second one finds nobody, but
+ * it isn't known whether the first one took effect. */
+static void ends_meanwhile(pid_t child)
+{
+    tell('=', "");
+    at_port.slot.terms.timeout = 1000;
+    at_port.slot.terms.tries = 3;
+    pid_t killer = fork();
+    if (killer == 0) {
+        poll(NULL, 0, 100);
+        kill(child, SIGKILL);
+        _exit(0);
+    }
+    CHECK_ERROR(trdp_slot_pull(&at_port.slot, 1), TRDP_SLOT_TIMEOUT);
+    CHECK(at_port.slot.tried == 2);
+    waitpid(killer, NULL, 0);
+}
+
 /* Nobody is there any more, which is told at once. */
 static void nobody(void)
 {
@@ -148,6 +166,7 @@ void test_teller(void)
         CHECK(had("#"));
         test_lines();
         test_answers();
+        ends_meanwhile(child);
     }
     trdp_slot_close(&at_port.slot);
     kill(child, SIGKILL);

@@ -2265,17 +2265,17 @@ static inline enum trdp_slot_error trdp_slot_next(struct trdp_slot *slot, uint32
  * A program writes a dataset of the configuration down once, as constants, over a struct of its own
  * with a member for each element:
  *
- *     struct doors {
+ *     struct status {
  *         uint8_t count;
  *         uint8_t states[8];
  *         uint16_t obstacles;
  *     };
- *     static const struct trdp_slot_element doors_elements[] = {
- *         TRDP_SLOT_ONE(struct doors, count, TRDP_SLOT_UINT8),
- *         TRDP_SLOT_COUNTED(struct doors, states, TRDP_SLOT_UINT8),
- *         TRDP_SLOT_ONE(struct doors, obstacles, TRDP_SLOT_UINT16) };
- *     static const struct trdp_slot_dataset doors_dataset =
- *         TRDP_SLOT_DATASET(struct doors, doors_elements);
+ *     static const struct trdp_slot_element status_elements[] = {
+ *         TRDP_SLOT_ONE(struct status, count, TRDP_SLOT_UINT8),
+ *         TRDP_SLOT_COUNTED(struct status, states, TRDP_SLOT_UINT8),
+ *         TRDP_SLOT_ONE(struct status, obstacles, TRDP_SLOT_UINT16) };
+ *     static const struct trdp_slot_dataset status_dataset =
+ *         TRDP_SLOT_DATASET(struct status, status_elements);
  *
  * The member of an array is an array. That of one that the element before counts has room for as
  * many items as the program can take; there `count` says how many are in it. A value of another
