@@ -66,6 +66,11 @@ static void late_answers(struct trdp_slot *slot, uint32_t first)
     CHECK_ERROR(trdp_slot_unpublish(slot, first), TRDP_SLOT_OK);
     CHECK(slot->stale == stale + 3 && slot->strange == 0);
     CHECK_ERROR(trdp_slot_unpublish(slot, handle + 1), TRDP_SLOT_OK);
+    /* A reset whose answer is lost, though that to the mark behind it isn't. */
+    slot->terms.tries = 3;
+    script("drop 1");
+    CHECK_ERROR(trdp_slot_reset(slot), TRDP_SLOT_OK);
+    CHECK(slot->tried == 2);
 }
 
 /* Makes the doors' objects, as an application does at its start. */
@@ -115,6 +120,29 @@ static void started_anew(void)
     CHECK(publishes == 1 && is_told(other, TRDP_SLOT_ALIVE, follows));
     CHECK_ERROR(trdp_slot_unpublish(door, publishes), TRDP_SLOT_OK);
     CHECK_ERROR(trdp_slot_unsubscribe(other, follows), TRDP_SLOT_OK);
+}
+
+/* A daemon that has a lease of a second: an application keeps its objects that knows, though it only
+ * waits, and one that says nothing loses them. */
+static void leased(void)
+{
+    uint32_t publishes = 0;
+    script("end");
+    script("lease 1");
+    if (test_folder != NULL)
+        CHECK_ERROR(trdp_slot_reset(door), TRDP_SLOT_RESTARTED);
+    CHECK_ERROR(begin(&publishes), TRDP_SLOT_OK);
+    door->terms.lease = 1000;
+    CHECK_ERROR(trdp_slot_next(door, 2200, &told, payload, sizeof payload), TRDP_SLOT_TIMEOUT);
+    CHECK_ERROR(trdp_slot_put(door, publishes, opened, sizeof opened), TRDP_SLOT_OK);
+    door->terms.lease = 0;
+    CHECK_ERROR(trdp_slot_next(door, 2200, &told, payload, sizeof payload), TRDP_SLOT_TIMEOUT);
+    CHECK_ERROR(trdp_slot_put(door, publishes, opened, sizeof opened),
+        TRDP_SLOT_REFUSED_NO_HANDLE);
+    script("end");
+    script("start");
+    if (test_folder != NULL)
+        CHECK_ERROR(trdp_slot_reset(door), TRDP_SLOT_RESTARTED);
 }
 
 /* An application at a control socket that is gone, and with it all that it made; and a second one,
@@ -293,6 +321,7 @@ void test_anew(void)
         successor();
     begun_anew();
     started_anew();
+    leased();
     operate();
     unread();
     longest();
