@@ -228,9 +228,11 @@ class Loses(Relay):
     """A network that loses one answer, by its number, behind the moment at which that is said."""
 
     lost_one: int | None = None
+    answers = 0  # that came to it
 
     def times(self) -> int:
         """How often a datagram is brought."""
+        self.answers += 1
         if self.lost_one is None:
             return 1
         self.lost_one -= 1
@@ -287,7 +289,8 @@ class Restores(Makers):
         os.kill(self.started.process.pid, signal.SIGSTOP)
         self.assertRaises(NoAnswer, slot.publish, 100, f"{DEVICE}:{PD}")
         os.kill(self.started.process.pid, signal.SIGCONT)
-        self.operator().totals()
+        # Of each try the answer to the reset, and to the mark behind it.
+        wait_until(lambda: relay.answers == 2 * slot.tries)
         said: list[str] = []
         send = slot._send
 
