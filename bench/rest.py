@@ -6,8 +6,11 @@
 For each of the two: the share of a processor that a node takes at which nothing comes, with three ports and a publisher of 100 ms;
 how late its telegrams leave, by the system's stamp at the socket that they come to, from the earliest one on; and how long a call
 waits for its answer, behind a pause of 5 to 50 ms. Then how long it waits while the control port of the slot beside it is sent to
-without end. All is at 127.0.0.1.
+without end, and while the ports of process data and of message data are. All is at 127.0.0.1.
 """
+from __future__ import annotations
+
+import contextlib
 import os
 import random
 import signal
@@ -17,40 +20,33 @@ import subprocess
 import sys
 import tempfile
 import time
+import zlib
+from collections.abc import Callable, Iterator, Sequence
+
+from control_lines import free_ports, notification
 
 TOP = os.path.dirname(os.path.dirname(os.path.abspath(__file__)))
 HOST = "127.0.0.1"
 CYCLE = 0.1                                       # seconds
 CALLS = 300
 SO_TIMESTAMPNS = 35                               # Linux: the moment at which a datagram came, in nanoseconds
-TICKS = os.sysconf("SC_CLK_TCK")
+CLOCK_OF = 2                                      # Linux: of a process's clocks, that of its processor time as it is scheduled
+LOOKS = 0.005                                     # seconds between two looks at what came, so that no telegram has a process wake
 
 
-def free_ports(count):
-    """Numbers of so many UDP ports that nobody has at the moment."""
-    held = [socket.socket(socket.AF_INET, socket.SOCK_DGRAM) for _ in range(count)]
-    for taken in held:
-        taken.bind((HOST, 0))
-    numbers = [taken.getsockname()[1] for taken in held]
-    for taken in held:
-        taken.close()
-    return numbers
+class Started:
+    """A program as a process, and a client of each of its control ports."""
 
-
-class Node:
-    """A node of so many slots, each with these quotas and a control port, as a process."""
-
-    def __init__(self, program, words, slots, quotas="publishers = 1\n"):
-        pd, self.md, *self.controls = free_ports(2 + slots)
-        self.config = tempfile.NamedTemporaryFile("w", suffix=".toml")
-        self.config.write(f'[node]\naddress = "{HOST}"\npd_port = {pd}\nmd_port = {self.md}\n')
-        self.config.writelines(f"[[slot]]\n{quotas}control_port = {it}\n" for it in self.controls)
-        self.config.flush()
-        words = [program, words[0], self.config.name, *words[1:]]
+    def __init__(self, words: Sequence[str], controls: list[int]) -> None:
+        self.controls = controls
         self.process = subprocess.Popen(words, stdout=subprocess.DEVNULL, stderr=subprocess.DEVNULL)
-        self.clients = [self.client(it) for it in self.controls]
+        try:
+            self.clients = [self.client(it) for it in controls]
+        except BaseException:
+            self.end()
+            raise
 
-    def client(self, port):
+    def client(self, port: int) -> socket.socket:
         """A socket whose `#` is taken, so that the node is there."""
         made = socket.socket(socket.AF_INET, socket.SOCK_DGRAM)
         made.connect((HOST, port))
@@ -65,53 +61,83 @@ class Node:
                 time.sleep(0.01)
         sys.exit("the program doesn't answer")
 
-    def call(self, line, slot=0):
+    def call(self, line: str, slot: int = 0) -> str:
         self.clients[slot].send(line.encode())
         return self.clients[slot].recv(128).decode().strip()
 
-    def used(self):
-        """The processor seconds that it has used."""
-        with open(f"/proc/{self.process.pid}/stat") as it:
-            words = it.read().rpartition(")")[2].split()
-        return (int(words[11]) + int(words[12])) / TICKS
+    def used(self) -> float:
+        """The processor seconds that it has used, of its own and the system's."""
+        return time.clock_gettime(~self.process.pid << 3 | CLOCK_OF)
 
-    def end(self):
+    def end(self) -> None:
         self.process.terminate()
         self.process.wait()
 
 
-def share(values, part):
+class Node(Started):
+    """A node of so many slots, each with these quotas and a control port, as a process."""
+
+    def __init__(self, program: str, words: Sequence[str], slots: int, quotas: str = "publishers = 1\n") -> None:
+        self.pd, self.md, *controls = free_ports(2 + slots)
+        with tempfile.NamedTemporaryFile("w", suffix=".toml") as config:
+            config.write(f'[node]\naddress = "{HOST}"\npd_port = {self.pd}\nmd_port = {self.md}\n')
+            config.writelines(f"[[slot]]\n{quotas}control_port = {it}\n" for it in controls)
+            config.flush()
+            # Once it answers it has read that.
+            super().__init__([program, words[0], config.name, *words[1:]], controls)
+
+
+def share(values: Sequence[float], part: float) -> float:
     """The value that this part of the values doesn't go beyond."""
     values = sorted(values)
     return values[min(len(values) - 1, int(part * len(values)))]
 
 
-def telegrams(node, seconds, cycle=CYCLE):
-    """When the telegrams of a publisher of that cycle came, in seconds, and the share of a processor that the node took meanwhile."""
+def stamped() -> socket.socket:
+    """A socket to which the system says of each datagram when it came."""
     sink = socket.socket(socket.AF_INET, socket.SOCK_DGRAM)
     sink.bind((HOST, 0))
     sink.setsockopt(socket.SOL_SOCKET, SO_TIMESTAMPNS, 1)
-    sink.settimeout(2)
+    return sink
+
+
+def arrivals(sink: socket.socket, seconds: float) -> Iterator[tuple[float, bytes]]:
+    """What comes to such a socket for so long, and when, in seconds."""
+    end = time.monotonic() + seconds
+    sink.setblocking(False)
+    while time.monotonic() < end:
+        time.sleep(LOOKS)
+        with contextlib.suppress(BlockingIOError):
+            while True:
+                telegram, extra, _, _ = sink.recvmsg(128, 64)
+                whole, nanos = struct.unpack("qq", extra[0][2])
+                yield whole + nanos / 1e9, telegram
+
+
+def telegrams(node: Started, seconds: float, cycle: float = CYCLE) -> tuple[list[float], float]:
+    """When the telegrams of a publisher of that cycle came, in seconds, and the share of a processor that the node took meanwhile."""
+    sink = stamped()
     node.call(f"publish 100 0 {int(cycle * 1e6)} 0 0 0 {HOST}:{sink.getsockname()[1]}")
     node.call("put 1 0a0b")
-    came, start, used = [], time.monotonic(), node.used()
-    while time.monotonic() < start + seconds:
-        _, extra, _, _ = sink.recvmsg(128, 64)
-        whole, nanos = struct.unpack("qq", extra[0][2])
-        came.append(whole + nanos / 1e9)
+    start, used = time.monotonic(), node.used()
+    came = [moment for moment, _ in arrivals(sink, seconds)]
     return came, (node.used() - used) / (time.monotonic() - start)
 
 
-def lateness(came):
-    """How much later than the earliest each telegram left, in microseconds, where one leaves each cycle."""
-    ahead = [moment - index * CYCLE for index, moment in enumerate(came)]
-    return [(it - min(ahead)) * 1e6 for it in ahead]
+def lateness(came: Sequence[float], cycle: float = CYCLE) -> list[float]:
+    """How much later than the earliest each telegram left, in microseconds, where one is due each cycle. Half of them are on time, and
+    none is three quarters of a cycle late. A moment that was missed has no telegram, so that each is behind the moment before it."""
+    phases = [(moment - came[0]) % cycle for moment in came]
+    usual = share(phases, 0.5)
+    behind = [(phase - usual + cycle / 4) % cycle * 1e6 for phase in phases]
+    earliest = min(behind)
+    return [it - earliest for it in behind]
 
 
-def answer_times(node, pause):
+def answer_times(node: Started, pause: Callable[[], float], count: int = CALLS) -> list[float]:
     """How long calls wait for their answers, in microseconds."""
     times = []
-    for _ in range(CALLS):
+    for _ in range(count):
         time.sleep(pause())
         start = time.perf_counter()
         node.call("get 1")
@@ -119,41 +145,68 @@ def answer_times(node, pause):
     return times
 
 
-def flood(port):
-    """Starts a process that sends calls to a port without end. Answers its id."""
+def short_while() -> float:
+    """A pause in seconds out of which a call finds the node quiet."""
+    return random.uniform(0.005, 0.05)
+
+
+def process_data(com_id: int, payload: bytes, counter: int = 0) -> bytes:
+    """A `Pd` telegram."""
+    head = struct.pack(">IH2s7I", counter, 0x0100, b"Pd", com_id, 0, 0, len(payload), 0, 0, 0)
+    return head + struct.pack("<I", zlib.crc32(head)) + payload + bytes(-len(payload) % 4)
+
+
+def flood(port: int, datagram: bytes) -> int:
+    """Starts a process that sends a datagram to a port without end. Answers its id."""
     child = os.fork()
     if child == 0:
         out = socket.socket(socket.AF_INET, socket.SOCK_DGRAM)
         out.connect((HOST, port))
         while True:
             try:
-                out.send(b"get 1")
+                out.send(datagram)
             except OSError:
                 os._exit(0)
     return child
 
 
-def main(words):
+def quiet_row(program: str, name: str, kind: Sequence[str], seconds: float) -> None:
+    """Tells of a node at which nothing comes but calls."""
+    node = Node(program, kind, 1)
+    came, used = telegrams(node, seconds)
+    late = lateness(came)
+    times = answer_times(node, short_while)
+    node.end()
+    print(f"{name:36}{100 * used:12.2f}{share(late, 0.5):14.0f}{share(late, 0.99):8.0f}"
+          f"{share(times, 0.5):16.0f}{share(times, 0.99):8.0f}")
+
+
+def flooded_row(program: str, name: str, kind: Sequence[str], port_of: Callable[[Node], int], datagram: bytes) -> None:
+    """Tells how long a call waits at a node one port of which is sent to without end."""
+    node = Node(program, kind, 2)
+    child = flood(port_of(node), datagram)
+    times = answer_times(node, lambda: 0.001)
+    os.kill(child, signal.SIGKILL)
+    os.waitpid(child, 0)
+    node.end()
+    print(f"{name:36}{'':34}{share(times, 0.5):16.0f}{share(times, 0.99):8.0f}")
+
+
+def main(words: list[str]) -> None:
     seconds = int(words[0]) if words else 60
     program = words[1] if len(words) > 1 else f"{TOP}/crates/trdpd/out/trdpd"
     kinds = {"daemon": ["daemon"], "serve": ["serve", "--turns", "4294967295"]}
-    print(f"{'':28}{'processor':>12}{'late: median':>14}{'99 %':>8}{'answer: median':>16}{'99 %':>8}   (%, microseconds)")
+    print(f"{'':36}{'processor':>12}{'late: median':>14}{'99 %':>8}{'answer: median':>16}{'99 %':>8}   (%, microseconds)")
     for name, kind in kinds.items():
-        node = Node(program, kind, 1)
-        came, used = telegrams(node, seconds)
-        late = lateness(came)
-        times = answer_times(node, lambda: random.uniform(0.005, 0.05))
-        node.end()
-        print(f"{name:28}{100 * used:12.2f}{share(late, 0.5):14.0f}{share(late, 0.99):8.0f}"
-              f"{share(times, 0.5):16.0f}{share(times, 0.99):8.0f}")
-    for name, kind in kinds.items():
-        node = Node(program, kind, 2)
-        child = flood(node.controls[1])
-        times = answer_times(node, lambda: 0.001)
-        os.kill(child, signal.SIGKILL)
-        os.waitpid(child, 0)
-        node.end()
-        print(f"{name + ', other slot flooded':28}{'':34}{share(times, 0.5):16.0f}{share(times, 0.99):8.0f}")
+        quiet_row(program, name, kind, seconds)
+    floods: list[tuple[str, Callable[[Node], int], bytes]] = [
+        ("other slot flooded", lambda node: node.controls[1], b"get 1"),
+        ("process data flooded", lambda node: node.pd, process_data(300, bytes(8))),
+        ("message data flooded", lambda node: node.md, notification(300, bytes(8))),
+    ]
+    for flooded, port_of, datagram in floods:
+        for name, kind in kinds.items():
+            flooded_row(program, f"{name}, {flooded}", kind, port_of, datagram)
 
 
 if __name__ == "__main__":

@@ -1,0 +1,163 @@
+#!/usr/bin/env python3
+"""What `trdpd daemon` costs that has nothing to do but to send on time, beside a loop without a node.
+
+    bench/idle_cost.py [SECONDS] [BEFORE] [AFTER] [ROUNDS]        default: 10 crates/trdpd/out/trdpd, both times, 5
+
+bench/bare_rest.rs, which rustc builds, is that loop: it sleeps until the next telegram is due, at most a millisecond at a time, or in one
+piece; behind each sleep it answers what came. It, the program before a change and the one after it send the telegrams of so many
+publishers, whose phases are spread over the cycle, to a socket on this machine, in turns. For each the median over the rounds of
+
+    processor     the share of a processor that it takes meanwhile (user and system), by the clock of its processor time
+    perf          the same by `perf stat`, where that works, over a second beside
+    late          how much later than the earliest of its publisher a telegram came, by the system's stamp, median and 99 %
+    answer        how long a call waits for its answer, behind a pause of 5 to 50 ms, median and 99 %
+
+Behind each row of these stands what the program after the change is to reach: at most 1.3 times the processor time of the loop, and
+telegrams and answers at most 50 microseconds later. All is at 127.0.0.1.
+"""
+from __future__ import annotations
+
+import os
+import shutil
+import socket
+import statistics
+import subprocess
+import sys
+import tempfile
+import time
+from collections.abc import Callable
+from typing import NamedTuple
+
+from control_lines import free_ports
+from rest import HOST, TOP, Node, Started, answer_times, arrivals, lateness, share, short_while, stamped
+
+CALLS = 100                                       # of a round
+PERF_SECONDS = 1.0
+PAYLOAD = 8                                       # bytes
+TELEGRAM = 40 + PAYLOAD                           # bytes
+NUMBER = slice(8, 12)                             # of a telegram: its comId, which is the publisher's number
+ANSWER = len("0 refused WrongKind\n")
+TIMES, LATER = 1.3, 50.0                          # the goals: as much processor time, so many microseconds later
+
+
+class Row(NamedTuple):
+    """So many publishers of a cycle, in seconds."""
+
+    publishers: int
+    cycle: float
+
+
+ROWS = [Row(100, 0.02), Row(50, 0.1), Row(1, 0.01)]
+
+
+class Cost(NamedTuple):
+    """What was measured in a round: shares of a processor, and microseconds."""
+
+    used: float
+    perf: float
+    late: float
+    late_most: float
+    answer: float
+    answer_most: float
+
+
+def started_node(program: str, row: Row, sink: int) -> Started:
+    """A daemon with these publishers, the first put of each a part of the cycle behind that of the one before."""
+    node = Node(program, ["daemon"], 1, f"publishers = {row.publishers}\n")
+    for number in range(row.publishers):
+        node.call(f"publish {number} 0 {row.cycle * 1e6:.0f} 0 0 0 {HOST}:{sink}")
+    begin = time.monotonic()
+    for number in range(row.publishers):
+        time.sleep(max(0.0, begin + row.cycle * number / row.publishers - time.monotonic()))
+        if node.call(f"put {number + 1} {bytes(PAYLOAD).hex()}") != "0 done":
+            sys.exit("idle_cost.py: the daemon refuses a put")
+    return node
+
+
+def started_bare(program: str, row: Row, sink: int, pieces: bool) -> Started:
+    """The loop with these publishers, at as many ports as the daemon."""
+    ports = free_ports(3)
+    numbers = [round(row.cycle * 1e6), row.publishers, TELEGRAM, ANSWER, int(pieces), sink, *ports]
+    return Started([program, *map(str, numbers)], ports[2:])
+
+
+def perf_share(process: int) -> float:
+    """The share of a processor that a process takes, by perf; not a number where perf doesn't work."""
+    if not shutil.which("perf"):
+        return float("nan")
+    words = ["perf", "stat", "-x", ",", "-e", "task-clock", "-p", str(process), "--", "sleep", str(PERF_SECONDS)]
+    said = subprocess.run(words, capture_output=True, text=True).stderr
+    counts = [line.split(",")[0] for line in said.splitlines() if "task-clock" in line]
+    return float(counts[0]) / 1e3 / PERF_SECONDS if counts and counts[0][:1].isdigit() else float("nan")
+
+
+def cost(start: Callable[[Row, int], Started], row: Row, seconds: float) -> Cost:
+    """What a program costs that sends the telegrams of a row."""
+    with stamped() as sink:
+        node = start(row, sink.getsockname()[1])
+        try:
+            for _ in arrivals(sink, 2 * row.cycle):
+                pass
+            begin, used = time.monotonic(), node.used()
+            came = list(arrivals(sink, seconds))
+            used = (node.used() - used) / (time.monotonic() - begin)
+            perf = perf_share(node.process.pid)
+            answers = answer_times(node, short_while, CALLS)
+        finally:
+            node.end()
+    of: dict[bytes, list[float]] = {}
+    for moment, telegram in came:
+        of.setdefault(telegram[NUMBER], []).append(moment)
+    if len(of) != row.publishers:
+        sys.exit(f"idle_cost.py: telegrams of {len(of)} publishers came, not of {row.publishers}")
+    late = [it for moments in of.values() for it in lateness(moments, row.cycle)]
+    return Cost(used, perf, share(late, 0.5), share(late, 0.99), share(answers, 0.5), share(answers, 0.99))
+
+
+def tell(name: str, found: Cost) -> None:
+    """Prints a line."""
+    print(f"  {name:24}{100 * found.used:10.2f}{100 * found.perf:8.2f}{found.late:14.0f}{found.late_most:8.0f}"
+          f"{found.answer:16.0f}{found.answer_most:8.0f}")
+
+
+def tell_goals(after: Cost, bare: Cost, beside: str) -> None:
+    """Prints how the program after the change compares with the loop, beside what it is to reach."""
+    later = [one - other for one, other in zip(after[2:], bare[2:])]
+    is_met = after.used <= TIMES * bare.used and max(later) <= LATER
+    print(f"  after, beside {beside}: {after.used / bare.used:.2f} times (at most {TIMES}), later by "
+          f"{', '.join(f'{it:.0f}' for it in later)} (at most {LATER:.0f} each): {'met' if is_met else 'NOT MET'}")
+
+
+def measure(starts: dict[str, Callable[[Row, int], Started]], row: Row, seconds: float, rounds: int) -> None:
+    """Measures a row, the programs in turns, and tells of it."""
+    found: dict[str, list[Cost]] = {name: [] for name in starts}
+    for _ in range(rounds):
+        for name, start in starts.items():
+            found[name].append(cost(start, row, seconds))
+    medians = {name: Cost(*(statistics.median(it) for it in zip(*costs))) for name, costs in found.items()}
+    print(f"{row.publishers} publishers of {row.cycle * 1e3:.0f} ms")
+    for name, it in medians.items():
+        tell(name, it)
+    for name in list(starts)[2:]:
+        tell_goals(medians["after"], medians[name], name)
+    sys.stdout.flush()
+
+
+def main(seconds: str = "10", before: str = f"{TOP}/crates/trdpd/out/trdpd", after: str = "", rounds: str = "5") -> None:
+    after = after or before
+    with tempfile.TemporaryDirectory() as folder:
+        bare = os.path.join(folder, "bare_rest")
+        subprocess.run(["rustc", "-O", "-o", bare, f"{TOP}/bench/bare_rest.rs"], check=True)
+        starts: dict[str, Callable[[Row, int], Started]] = {
+            "before": lambda row, sink: started_node(before, row, sink),
+            "after": lambda row, sink: started_node(after, row, sink),
+            "bare, in pieces": lambda row, sink: started_bare(bare, row, sink, True),
+            "bare, in one piece": lambda row, sink: started_bare(bare, row, sink, False),
+        }
+        print(f"{'':26}{'processor':>10}{'perf':>8}{'late: median':>14}{'99 %':>8}{'answer: median':>16}{'99 %':>8}   (%, microseconds)")
+        for row in ROWS:
+            measure(starts, row, float(seconds), int(rounds))
+
+
+if __name__ == "__main__":
+    main(*sys.argv[1:])
