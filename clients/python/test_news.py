@@ -192,7 +192,7 @@ def may_go_first() -> bool:
     policy, usual = os.sched_getscheduler(0), os.sched_getparam(0)
     try:
         os.sched_setscheduler(0, os.SCHED_FIFO, os.sched_param(PRIORITY))
-    except PermissionError:
+    except OSError:
         return False
     os.sched_setscheduler(0, policy, usual)
     return True
@@ -211,6 +211,8 @@ class First(Case):
         told, tells = os.pipe()
         number = flood((HOME, CONTROL), b"get 9", AT_ONCE, tells)
         os.sched_setaffinity(number, {other})
+        # Whoever else is at that processor would have the flood pause, and the daemon rest.
+        os.sched_setscheduler(number, os.SCHED_FIFO, os.sched_param(1))
         os.close(tells)
         answered = 0
         while not os.waitid(os.P_PID, number, os.WEXITED | os.WNOWAIT | os.WNOHANG):
@@ -225,10 +227,11 @@ class First(Case):
 
     def processors(self) -> tuple[int, int]:
         """A processor that nobody else here is at from now on, and one for the flood. The test has the others."""
-        own, *others = sorted(os.sched_getaffinity(0))
+        # The first one may have more of the system's own work.
+        *others, own = sorted(os.sched_getaffinity(0))
         self.addCleanup(os.sched_setaffinity, 0, {own, *others})
         os.sched_setaffinity(0, others)
-        return own, others[0]
+        return own, others[-1]
 
     @staticmethod
     def shell_answers(processor: int) -> bool:
