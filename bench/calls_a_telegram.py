@@ -142,7 +142,10 @@ def cost(program: str, slots: int, seconds: float, says: str) -> Cost:
 def tell_goals(after: dict[int, Cost]) -> None:
     """Prints what the program after the change reaches, beside the goals."""
     calls = max(it.calls for it in after.values())
-    print(f"after: at most {calls:.2f} calls (goal {CALLS}): {'met' if calls <= CALLS else 'NOT MET'}")
+    if calls != calls:
+        print("after: calls weren't counted, by neither perf nor strace")
+    else:
+        print(f"after: at most {calls:.2f} calls (goal {CALLS}): {'met' if calls <= CALLS else 'NOT MET'}")
     one, many = after[min(after)], after[max(after)]
     for name, times in ((f"{RATE}", many.at_rate / one.at_rate), (f"{FAST}", many.at_fast / one.at_fast)):
         print(f"after: at {name} a second with {max(after)} slots {times:.2f} times the time with one (goal {TIMES}): "
