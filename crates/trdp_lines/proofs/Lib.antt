@@ -24,4 +24,6 @@ pub mod NextLineLemmas
 pub mod PlaceLemmas
 pub mod ControlLemmas
 pub mod AskingLemmas
+pub mod HearingLemmas
 pub mod ListeningLemmas
+pub mod WritingLemmas

@@ -7,8 +7,8 @@ use Rattle.std.proofs.Common.{◌∙◌, subst, map, inl, inr}
 use Rattle.std.proofs.lemmas.Bool.{eq-eqb}
 use Rattle.trdp_lines.specs.declared.connections.Accepted.{Accepted}
 use Rattle.trdp_lines.specs.Askings.{AsksNext, AsksOne, AsksSpeaker, IsTurnOf, Listens, NoneFails}
-use Rattle.trdp_lines.specs.Askings.{TakesTurn, WasClosed, asks_for, closes, fails, is_failed}
-use Rattle.trdp_lines.specs.Askings.{reads_from, was_closed, was_read}
+use Rattle.trdp_lines.specs.Askings.{ReadsSpeaker, TakesTurn, WasClosed, asks_for, closes, fails}
+use Rattle.trdp_lines.specs.Askings.{is_failed, reads_from, was_closed, was_read}
 use Rattle.trdp_lines.specs.Connections.{ConnectionCall, Accepts, Closes, Reads, Writes}
 use Rattle.trdp_lines.specs.Connections.{TellsMore}
 use Rattle.trdp_lines.specs.Conversations.{ConversationState, HasRead, HasWritten, is_done}
@@ -135,6 +135,27 @@ listens_none calls speaking none = record {
   unfailed = refl;
 }
 
+-- who speaks behind a read is the one that was read from
+read_whose : (n k : ℕ) (c c_then : ConversationState)
+    (calls calls_then : Option (List ConnectionCall)) → c.number ≡ Some n
+    → (read : HasRead n c c_then calls calls_then) → c_then.number ≡ Some k
+    → was_read k (Reads n read.reading ∷ []) ≡ true
+read_whose n k c c_then calls calls_then number read some =
+    let whose : Some n ≡ Some k = sym number
+    ∙ sym (ap (λ (s : ConversationState). s.number) read.read) ∙ some in
+    let same : n ≡ k = cc in
+    subst (λ (m : ℕ). was_read m (Reads n read.reading ∷ []) ≡ true) same (only_same n)
+
+-- the one that speaks was read from, and none in its place
+pub reads_one : (n : ℕ) (c c_then : ConversationState)
+    (calls calls_then : Option (List ConnectionCall)) → c.number ≡ Some n
+    → HasRead n c c_then calls calls_then → ReadsSpeaker calls calls_then c_then.number
+reads_one n c c_then calls calls_then number read = record {
+  more = Reads n read.reading ∷ [];
+  told = read.told;
+  reads = λ k some. read_whose n k c c_then calls calls_then number read some;
+}
+
 -- the one that speaks was read from
 pub listens_read : (n : ℕ) (c c_then : ConversationState)
     (calls calls_then : Option (List ConnectionCall)) → c.number ≡ Some n
@@ -142,11 +163,7 @@ pub listens_read : (n : ℕ) (c c_then : ConversationState)
 listens_read n c c_then calls calls_then number read = record {
   more = Reads n read.reading ∷ [];
   told = read.told;
-  reads = λ k some.
-      let whose : Some n ≡ Some k = sym number
-      ∙ sym (ap (λ (s : ConversationState). s.number) read.read) ∙ some in
-      let same : n ≡ k = cc in
-      inl (subst (λ (m : ℕ). was_read m (Reads n read.reading ∷ []) ≡ true) same (only_same n));
+  reads = λ k some. inl (read_whose n k c c_then calls calls_then number read some);
   unfailed = refl;
 }
 

@@ -157,3 +157,14 @@ pub record Listens (calls calls_then : Option (List ConnectionCall)) (speaking_t
   pub told : TellsMore calls calls_then more
   pub reads : (n : ℕ) → speaking_then ≡ Some n → IsTurnOf n more
   pub unfailed : has_failed more ≡ false
+
+-- between these calls the one that speaks then was read from
+pub record ReadsSpeaker (calls calls_then : Option (List ConnectionCall))
+    (speaking_then : Option ℕ) : Type 0 where
+  pub more : List ConnectionCall
+  pub told : TellsMore calls calls_then more
+  pub reads : (n : ℕ) → speaking_then ≡ Some n → was_read n more ≡ true
+
+-- who speaks then spoke before
+abbrev pub StillSpeaks : (speaking speaking_then : Option ℕ) → Type 0
+StillSpeaks speaking speaking_then = (n : ℕ) → speaking_then ≡ Some n → speaking ≡ Some n

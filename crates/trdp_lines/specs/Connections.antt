@@ -1,5 +1,6 @@
 -- What the connections at a path tell of what was asked of them.
-use Rattle.std.specs.Prelude.{◌≡◌, ℕ, ◌<◌, ◌≤◌, List, [], ◌++◌, take, Option, Some, None}
+use Rattle.std.specs.Prelude.{◌≡◌, ℕ, ◌<◌, ◌≤◌, Bool, true, false, List, [], ◌++◌, take, Option}
+use Rattle.std.specs.Prelude.{Some, None}
 use Rattle.trdp_lines.specs.declared.connections.Accepted.{Accepted}
 use Rattle.trdp_lines.specs.declared.connections.Came.{Came}
 use Rattle.trdp_lines.specs.declared.connections.Came.TheVariants.{Bytes, Nothing, Ended}
@@ -37,6 +38,12 @@ abbrev pub came_count : Came → ℕ
 came_count (Bytes n) = n
 came_count Nothing = 0
 came_count Ended = 0
+
+-- bytes came, or the end
+abbrev pub has_come : Came → Bool
+has_come (Bytes n) = true
+has_come Nothing = false
+has_come Ended = true
 
 -- how many bytes went
 abbrev pub went_count : Went → ℕ

@@ -12,3 +12,4 @@ pub mod OperatorPaths
 pub mod Seats
 pub mod ControlPaths
 pub mod Askings
+pub mod Hearings

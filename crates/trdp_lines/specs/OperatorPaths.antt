@@ -12,11 +12,13 @@ use Rattle.trdp_lines.specs.Outgoings.{lost_told, takes_text}
 use Rattle.trdp_lines.specs.Paths.{speaks}
 use Rattle.trdp_lines.specs.Said.{Said, HandsIn, is_over, lines_of}
 
--- the connections of the path, its seats, each of a connection or free, and how many came
+-- the connections of the path, its seats, each of a connection or free, and how many came; and
+-- whether something was heard there, at the takes since that was asked the last time
 pub record OperatorState (C : Type 0) : Type 0 where
   pub connections : C
   pub seats : List ConversationState
   pub came : ℕ
+  pub heard : Bool
 
 -- a seat of no connection
 abbrev pub free_seat : ConversationState
@@ -26,9 +28,14 @@ free_seat = conversation_of None
 abbrev pub free_seats : List ConversationState
 free_seats = replicate 4 free_seat
 
--- the connections of a path, none of which came yet
+-- the connections of a path, none of which came yet, and where nothing was heard
 abbrev pub path_of : {C : Type 0} → C → OperatorState C
-path_of connections = record { connections = connections; seats = free_seats; came = 0 }
+path_of connections = record {
+  connections = connections;
+  seats = free_seats;
+  came = 0;
+  heard = false;
+}
 
 -- the seat at a place
 abbrev pub seat_at : List ConversationState → ℕ → ConversationState

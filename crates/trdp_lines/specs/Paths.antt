@@ -16,12 +16,14 @@ abbrev pub last_number : ℕ
 last_number = 281474976710655
 
 -- the connections of a path; the one whose lines are handed in, the one that waits behind it,
--- unread, until that has said whether it lives, and how many came
+-- unread, until that has said whether it lives, and how many came; and whether something was heard
+-- there, at the takes since that was asked the last time
 pub record PathState (C : Type 0) : Type 0 where
   pub connections : C
   pub speaker : ConversationState
   pub waiting : Option ℕ
   pub came : ℕ
+  pub heard : Bool
 
 -- from this number on no connection was read from
 abbrev pub IsUnreadFrom : ℕ → List ConnectionCall → Type 0

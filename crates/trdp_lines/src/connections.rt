@@ -3,6 +3,7 @@
 ghost use Rattle.std.specs.Prelude.{◌≡◌, ◌<◌, [], ◌∷◌, length};
 ghost use Rattle.trdp_lines.specs.Connections.{CameWithin, WentWithin, TellsMore};
 ghost use Rattle.trdp_lines.specs.Connections.{reading_of, writing_of, came_count, went_count};
+ghost use Rattle.trdp_lines.specs.Connections.{has_come};
 ghost use Rattle.trdp_lines.specs.Connections.{Accepts, Reads, Writes, Closes};
 
 /// What a read comes to.
@@ -87,6 +88,16 @@ impl Came {
         match self {
             Came::Bytes(count) => count,
             Came::Nothing | Came::Ended => 0,
+        }
+    }
+
+    /// Whether bytes came, or the end.
+    pub(crate) fn has_come(self) -> bool
+        ensures { result ≡ has_come self }
+    {
+        match self {
+            Came::Bytes(_) | Came::Ended => true,
+            Came::Nothing => false,
         }
     }
 }

@@ -27,7 +27,7 @@ pub struct ControlPath<C: Connections> {
     waiting: Option<u64>,
     /// How many connections came.
     came: u64,
-    /// Whether something came or failed at a take since this was asked the last time.
+    /// Whether something was heard at a take since this was asked the last time.
     heard: bool,
 }
 
@@ -42,6 +42,7 @@ impl<C: Connections> Model for ControlPath<C> {
       speaker = p.speaker;
       waiting = p.waiting;
       came = p.came;
+      heard = p.heard;
     } };
 
     ghost invariant = { λ p. IsControlPath (C.calls p.connections) p.speaker p.waiting p.came };
@@ -49,13 +50,14 @@ impl<C: Connections> Model for ControlPath<C> {
 
 impl<C: Connections> ControlPath<C> {
     ghost use Rattle.std.specs.Prelude.{◌≡◌, ◌≤◌, ℕ, true, [], length, IfOk, IfErr, IfSome};
-    ghost use Rattle.std.specs.Prelude.{IfNone, Some, None, is_err};
+    ghost use Rattle.std.specs.Prelude.{IfNone, Some, None, is_err, is_some, ◌||◌, false};
     ghost use Rattle.trdp_lines.specs.Askings.{AsksNext, AsksSpeaker, IfNothing, Listens};
-    ghost use Rattle.trdp_lines.specs.Askings.{NoneFails, TakesTurn};
+    ghost use Rattle.trdp_lines.specs.Askings.{NoneFails, ReadsSpeaker, StillSpeaks, TakesTurn};
     ghost use Rattle.trdp_lines.specs.Comings.{ComesNext, HaveCome};
     ghost use Rattle.trdp_lines.specs.ControlPaths.{AreServed, ProceedsIfTold, has_place};
     ghost use Rattle.trdp_lines.specs.ControlPaths.{no_places, places_of};
     ghost use Rattle.trdp_lines.specs.Conversations.{conversation_of};
+    ghost use Rattle.trdp_lines.specs.Hearings.{Hears, IsQuiet, has_found};
     ghost use Rattle.trdp_lines.specs.Paths.{HandsInNext, IsReadyIf, SaysTo, left_at, speaks};
     ghost use Rattle.trdp_lines.specs.Said.{HandsIn, applications_say};
 
@@ -69,6 +71,7 @@ impl<C: Connections> ControlPath<C> {
         ensures made { IfOk result (λ path. path.connections ≡ connections) }
         ensures nothing_left { IfOk result (λ path. left_at path ≡ []) }
         ensures none_came { IfOk result (λ path. places_of path ≡ no_places) }
+        ensures unheard { IfOk result (λ path. path.heard ≡ false) }
         ensures returned { IfErr result (λ back. back ≡ connections) }
     {
         match Conversation::new(alloc) {
@@ -90,9 +93,11 @@ impl<C: Connections> ControlPath<C> {
         &self.connections
     }
 
-    /// Whether something came or failed at a take since this was asked the last time.
+    /// Whether something was heard at a take since this was asked the last time: a connection
+    /// came, or bytes of one, or its end; a line was handed in; or a connection waited.
     pub fn has_heard(&mut self) -> bool
-        ensures { self.new ≡ self.old }
+        ensures heard { result ≡ self.old.heard }
+        ensures forgotten { self.new ≡ record self.old { heard = false } }
     {
         let heard = self.heard;
         self.heard = false;
@@ -103,7 +108,8 @@ impl<C: Connections> ControlPath<C> {
     /// last one where it has ended: it is put at the front of the room, cut to it, and the answer
     /// is the number of the connection and how many bytes it has there. Where none is there all is
     /// handed in that came. It makes one read at most, accepts one connection at most, and has the
-    /// application take what waits for it.
+    /// application take what waits for it. Where nothing is heard at it, neither a connection nor
+    /// anything of the application came.
     ///
     /// # Errors
     /// [`AcceptFault`] where nothing is there and the system refuses the next connection.
@@ -124,8 +130,18 @@ impl<C: Connections> ControlPath<C> {
         ensures asked { IfNothing result (λ fault. AsksSpeaker
             (C.calls self.old.connections) (C.calls self.new.connections)
             self.old.waiting self.old.came self.new.speaker.number fault) }
+        ensures heard { Hears (C.calls self.old.connections) (C.calls self.new.connections)
+            (has_found result || self.old.heard || is_some self.old.waiting) self.new.heard }
+        ensures quiet { self.new.heard ≡ false → IsQuiet
+            (C.calls self.old.connections) (C.calls self.new.connections)
+            self.old.heard self.old.waiting (has_found result) }
+        ensures read { self.new.heard ≡ false → ReadsSpeaker
+            (C.calls self.old.connections) (C.calls self.new.connections)
+            self.new.speaker.number }
         ensures kept { C.file_number self.new.connections ≡ C.file_number self.old.connections }
     {
+        // One that waits is decided in this take, or speaks from then on: more may be behind it.
+        self.heard |= self.waiting.is_some();
         self.flush();
         if let Some(found) = self.next_text(room) {
             self.heard = true;
@@ -156,6 +172,7 @@ impl<C: Connections> ControlPath<C> {
             (speaks self.old.speaker.number number) number text.now self.old self.new result }
         ensures waiting { self.new.waiting ≡ self.old.waiting }
         ensures came { self.new.came ≡ self.old.came }
+        ensures heard { self.new.heard ≡ self.old.heard }
         ensures left { left_at self.new ≡ left_at self.old }
         ensures hands_in { HandsIn applications_say
             (C.calls self.old.connections) (C.calls self.new.connections)
@@ -186,6 +203,8 @@ impl<C: Connections> ControlPath<C> {
         ensures asked { NoneFails
             (C.calls self.old.connections) (C.calls self.new.connections) }
         ensures waiting { self.new.waiting ≡ self.old.waiting }
+        ensures heard { Hears (C.calls self.old.connections) (C.calls self.new.connections)
+            self.old.heard self.new.heard }
         ensures low { (n : ℕ) → has_place n (places_of self.old) ≡ true → n ≤ self.old.came }
         ensures kept { C.file_number self.new.connections ≡ C.file_number self.old.connections }
     {
@@ -212,7 +231,11 @@ impl<C: Connections> ControlPath<C> {
         ensures asked { TakesTurn
             (C.calls self.old.connections) (C.calls self.new.connections)
             self.old.speaker.number self.new.speaker.number }
+        ensures heard { Hears (C.calls self.old.connections) (C.calls self.new.connections)
+            self.old.heard self.new.heard }
         ensures unwaited { self.old.waiting ≡ None → self.new.waiting ≡ None }
+        ensures stays { self.old.waiting ≡ None
+            → StillSpeaks self.old.speaker.number self.new.speaker.number }
         ensures kept { C.file_number self.new.connections ≡ C.file_number self.old.connections }
     {
         let number = self.speaker.number()?;
@@ -250,6 +273,9 @@ impl<C: Connections> ControlPath<C> {
         ensures asked { AsksNext
             (C.calls self.old.connections) (C.calls self.new.connections)
             (self.old.waiting ≡ None) self.old.came (is_err result) }
+        ensures heard { Hears (C.calls self.old.connections) (C.calls self.new.connections)
+            self.old.heard self.new.heard }
+        ensures waiting { self.new.heard ≡ false → self.new.waiting ≡ self.old.waiting }
         ensures kept { C.file_number self.new.connections ≡ C.file_number self.old.connections }
     {
         if self.waiting.is_some() || self.came >= LAST_NUMBER {
@@ -287,6 +313,12 @@ impl<C: Connections> ControlPath<C> {
         ensures asked { Listens
             (C.calls self.old.connections) (C.calls self.new.connections)
             self.new.speaker.number }
+        ensures heard { Hears (C.calls self.old.connections) (C.calls self.new.connections)
+            self.old.heard self.new.heard }
+        ensures unwaited { self.old.waiting ≡ None → self.new.waiting ≡ None }
+        ensures read { self.old.waiting ≡ None → ReadsSpeaker
+            (C.calls self.old.connections) (C.calls self.new.connections)
+            self.new.speaker.number }
         ensures kept { C.file_number self.new.connections ≡ C.file_number self.old.connections }
     {
         let Some(number) = self.speaker.number() else {
@@ -314,12 +346,16 @@ impl<C: Connections> ControlPath<C> {
         ensures asked { TakesTurn
             (C.calls self.old.connections) (C.calls self.new.connections)
             self.old.speaker.number self.new.speaker.number }
+        ensures heard { Hears (C.calls self.old.connections) (C.calls self.new.connections)
+            self.old.heard self.new.heard }
+        ensures unwaited { self.old.waiting ≡ None → self.new.waiting ≡ None }
+        ensures stays { self.old.waiting ≡ None
+            → StillSpeaks self.old.speaker.number self.new.speaker.number }
         ensures kept { C.file_number self.new.connections ≡ C.file_number self.old.connections }
     {
         let Some(next) = self.waiting.take() else {
             return;
         };
-        self.heard = true;
         let lives = self.speaker.spoke();
         if lives {
             refuse(&mut self.connections, next);

@@ -3,8 +3,9 @@
 ghost use Rattle.std.specs.Prelude.{◌≡◌, ◌<◌, ◌≤◌, [], ◌∷◌, length, take, true, false, not};
 ghost use Rattle.std.specs.Prelude.{Some, None, IfOk, IfSome, IfNone};
 ghost use Rattle.trdp_lines.specs.declared.connections.Came.TheVariants.{Nothing};
-ghost use Rattle.trdp_lines.specs.Connections.{came_count};
+ghost use Rattle.trdp_lines.specs.Connections.{came_count, has_come};
 ghost use Rattle.trdp_lines.specs.Conversations.{HasRead, HasWritten, conversation_of, is_done};
+ghost use Rattle.trdp_lines.specs.Hearings.{Hears};
 ghost use Rattle.trdp_lines.specs.Intakes.{intake_room};
 ghost use Rattle.trdp_lines.specs.Lines.{has_line, first_line, behind_line};
 ghost use Rattle.trdp_lines.specs.Outgoings.{lost_told, takes_text};
@@ -120,6 +121,7 @@ impl Conversation {
         requires { length self.old.bytes < intake_room }
         ensures read { HasRead number self.old self.new (C.calls from.old) (C.calls from.new) }
         ensures nothing { result ≡ Nothing → self.new ≡ self.old }
+        ensures heard { Hears (C.calls from.old) (C.calls from.new) false (has_come result) }
         ensures kept { C.file_number from.new ≡ C.file_number from.old }
     {
         let came = self.intake.fill(from, number);
@@ -142,17 +144,30 @@ impl Conversation {
         stands
     }
 
-    /// Tells its connection, which has this number, what was dropped, and writes once what waits.
+    /// Tells its connection, which has this number, what was dropped, and writes what waits.
     pub(crate) fn flush<C: Connections>(&mut self, to: &mut C, number: u64)
         ensures written { HasWritten number [] self.old self.new (C.calls to.old) (C.calls to.new) }
         ensures kept { C.file_number to.new ≡ C.file_number to.old }
     {
-        self.outgoing.tell_lost();
+        let _ = self.outgoing.tell_lost();
         self.write(to, number);
     }
 
-    /// Writes once what waits, if anything does.
+    /// Writes what waits, and where that made room for the line that tells what was dropped, that
+    /// line too. So where something is left to be told, something waits, and the system tells when
+    /// the other side can take it.
     fn write<C: Connections>(&mut self, to: &mut C, number: u64)
+        ensures written { HasWritten number [] self.old self.new (C.calls to.old) (C.calls to.new) }
+        ensures kept { C.file_number to.new ≡ C.file_number to.old }
+    {
+        self.write_once(to, number);
+        if self.outgoing.tell_lost() {
+            self.write_once(to, number);
+        }
+    }
+
+    /// Writes once what waits, if anything does.
+    fn write_once<C: Connections>(&mut self, to: &mut C, number: u64)
         ensures written { HasWritten number [] self.old self.new (C.calls to.old) (C.calls to.new) }
         ensures kept { C.file_number to.new ≡ C.file_number to.old }
     {

@@ -27,6 +27,7 @@
 //! that a search for the end of a line begins where the one before it ended. Each that comes has
 //! the next number, which no later one gets. A take that finds nothing has asked for the next
 //! connection, unless one waits or the last number was given, and read from those that speak.
+//! Where nothing is heard at it, no call of the connections brought anything, and nobody waited.
 #![tactic(auto)]
 
 mod admission;

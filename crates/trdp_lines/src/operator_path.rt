@@ -20,7 +20,7 @@ pub struct OperatorPath<C: Connections> {
     came: u64,
     /// Behind which seat the next take begins: how many stand before the first that it asks.
     next: usize,
-    /// Whether something came or failed at a take since this was asked the last time.
+    /// Whether something was heard at a take since this was asked the last time.
     heard: bool,
 }
 
@@ -34,6 +34,7 @@ impl<C: Connections> Model for OperatorPath<C> {
       connections = p.connections;
       seats = p.seats.items;
       came = p.came;
+      heard = p.heard;
     } };
 
     ghost invariant = { λ p. IsPath (C.calls p.connections) p.seats.items p.came p.next };
@@ -41,13 +42,14 @@ impl<C: Connections> Model for OperatorPath<C> {
 
 impl<C: Connections> OperatorPath<C> {
     ghost use Rattle.std.specs.Prelude.{◌≡◌, ◌+◌, ◌<◌, ◌≤◌, ℕ, [], length, option_map};
-    ghost use Rattle.std.specs.Prelude.{false, is_err};
+    ghost use Rattle.std.specs.Prelude.{false, is_err, is_some, ◌||◌};
     ghost use Rattle.std.specs.Prelude.{IfOk, IfErr, IfSome, IfNone, Some, None};
     ghost use Rattle.trdp_lines.specs.Lines.{IsUnended};
     ghost use Rattle.trdp_lines.specs.Askings.{AsksNext, AsksOne, AsksPlaces, AsksSeats};
     ghost use Rattle.trdp_lines.specs.Askings.{IfNothing, NoneFails, Stay};
     ghost use Rattle.trdp_lines.specs.Comings.{ComesNext};
     ghost use Rattle.trdp_lines.specs.Conversations.{is_done};
+    ghost use Rattle.trdp_lines.specs.Hearings.{Hears, IsQuietRound, has_found};
     ghost use Rattle.trdp_lines.specs.OperatorPaths.{AreOver, HandsInFound};
     ghost use Rattle.trdp_lines.specs.OperatorPaths.{HandsInLines, HandsInNextLine, IsServed};
     ghost use Rattle.trdp_lines.specs.OperatorPaths.{NothingLeft, SaysToSeat, has_seat, left_in};
@@ -85,9 +87,11 @@ impl<C: Connections> OperatorPath<C> {
         &self.connections
     }
 
-    /// Whether something came or failed at a take since this was asked the last time.
+    /// Whether something was heard at a take since this was asked the last time: a connection
+    /// came, or bytes of one, or its end; or a line was handed in.
     pub fn has_heard(&mut self) -> bool
-        ensures { self.new ≡ self.old }
+        ensures heard { result ≡ self.old.heard }
+        ensures forgotten { self.new ≡ record self.old { heard = false } }
     {
         let heard = self.heard;
         self.heard = false;
@@ -98,7 +102,8 @@ impl<C: Connections> OperatorPath<C> {
     /// cut to it, and the answer is the number of the connection and how many bytes it has there.
     /// Where none is there all is handed in that came. It accepts one connection at most, reads
     /// once at most from each that has a seat, and has each that it asks take what waits for it. It
-    /// begins behind the one that was asked last.
+    /// begins behind the one that was asked last. Where nothing is heard at it, neither a
+    /// connection nor anything of one came.
     ///
     /// # Errors
     /// [`AcceptFault`] where nothing is there and the system refuses the next connection.
@@ -120,6 +125,11 @@ impl<C: Connections> OperatorPath<C> {
         ensures asked { IfNothing result (λ fault. AsksSeats
             (C.calls self.old.connections) (C.calls self.new.connections)
             self.old.came self.new.seats fault) }
+        ensures heard { Hears (C.calls self.old.connections) (C.calls self.new.connections)
+            (has_found result || self.old.heard) self.new.heard }
+        ensures quiet { self.new.heard ≡ false → IsQuietRound
+            (C.calls self.old.connections) (C.calls self.new.connections)
+            self.old.heard (has_found result) }
         ensures kept { C.file_number self.new.connections ≡ C.file_number self.old.connections }
     {
         let admitted = self.admit();
@@ -142,6 +152,7 @@ impl<C: Connections> OperatorPath<C> {
         ensures says { SaysToSeat (C.calls self.old.connections) (C.calls self.new.connections)
             (has_seat number self.old.seats) number text.now self.old.seats self.new.seats result }
         ensures came { self.new.came ≡ self.old.came }
+        ensures heard { self.new.heard ≡ self.old.heard }
         ensures left { (n : ℕ) → left_in n self.new.seats ≡ left_in n self.old.seats }
         ensures hands_in { HandsInLines
             (C.calls self.old.connections) (C.calls self.new.connections)
@@ -176,6 +187,8 @@ impl<C: Connections> OperatorPath<C> {
         ensures asked { AsksNext
             (C.calls self.old.connections) (C.calls self.new.connections)
             (Unit {0}) self.old.came (is_err result) }
+        ensures heard { Hears (C.calls self.old.connections) (C.calls self.new.connections)
+            self.old.heard self.new.heard }
         ensures kept { C.file_number self.new.connections ≡ C.file_number self.old.connections }
     {
         if self.came >= LAST_NUMBER {
@@ -208,6 +221,8 @@ impl<C: Connections> OperatorPath<C> {
             (C.calls self.old.connections) (C.calls self.new.connections)
             self.old.seats self.new.seats }
         ensures came { self.new.came ≡ self.old.came }
+        ensures heard { Hears (C.calls self.old.connections) (C.calls self.new.connections)
+            (is_some result || self.old.heard) self.new.heard }
         ensures asked { IfNone result (AsksPlaces 0 4
             (C.calls self.old.connections) (C.calls self.new.connections)
             self.old.seats self.new.seats) }
@@ -237,6 +252,8 @@ impl<C: Connections> OperatorPath<C> {
             (C.calls self.old.connections) (C.calls self.new.connections)
             self.old.seats self.new.seats }
         ensures came { self.new.came ≡ self.old.came }
+        ensures heard { Hears (C.calls self.old.connections) (C.calls self.new.connections)
+            (is_some result || self.old.heard) self.new.heard }
         ensures asked { IfNone result (AsksPlaces first «end»
             (C.calls self.old.connections) (C.calls self.new.connections)
             self.old.seats self.new.seats) }
@@ -273,6 +290,8 @@ impl<C: Connections> OperatorPath<C> {
             (C.calls self.old.connections) (C.calls self.new.connections)
             self.old.seats self.new.seats }
         ensures came { self.new.came ≡ self.old.came }
+        ensures heard { Hears (C.calls self.old.connections) (C.calls self.new.connections)
+            (is_some result || self.old.heard) self.new.heard }
         ensures asked { IfNone result (AsksPlaces place (place + 1)
             (C.calls self.old.connections) (C.calls self.new.connections)
             self.old.seats self.new.seats) }
@@ -313,6 +332,8 @@ impl<C: Connections> OperatorPath<C> {
             (C.calls self.old.connections) (C.calls self.new.connections)
             self.old.seats self.new.seats }
         ensures came { self.new.came ≡ self.old.came }
+        ensures heard { Hears (C.calls self.old.connections) (C.calls self.new.connections)
+            (is_some result || self.old.heard) self.new.heard }
         ensures asked { IfNone result (AsksOne number
             (C.calls self.old.connections) (C.calls self.new.connections)
             (seat_at self.new.seats place)) }
@@ -340,6 +361,8 @@ impl<C: Connections> OperatorPath<C> {
         ensures came { self.new.came ≡ self.old.came }
         ensures asked { NoneFails
             (C.calls self.old.connections) (C.calls self.new.connections) }
+        ensures heard { Hears (C.calls self.old.connections) (C.calls self.new.connections)
+            self.old.heard self.new.heard }
         ensures stay { Stay self.old.seats self.new.seats }
         ensures going { (n : ℕ) → (seat_at self.new.seats place).number ≡ Some n
             → is_done (seat_at self.old.seats place) ≡ false }

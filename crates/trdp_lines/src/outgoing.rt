@@ -5,7 +5,8 @@ ghost use Rattle.std.specs.Prelude.{vec_len, vec_capacity};
 ghost use Rattle.trdp_lines.specs.Connections.{WentWithin, TellsMore, Writes, went_count};
 ghost use Rattle.trdp_lines.specs.Connections.{writing_of};
 ghost use Rattle.trdp_lines.specs.Outgoings.{no_outgoing, outgoing_room, lost_line, lost_told};
-ghost use Rattle.trdp_lines.specs.Outgoings.{finds_room, with_bytes, takes_text, with_text};
+ghost use Rattle.trdp_lines.specs.Outgoings.{can_tell, finds_room, with_bytes, takes_text};
+ghost use Rattle.trdp_lines.specs.Outgoings.{with_text};
 
 use crate::connections::{Connections, Went};
 use std::alloc::{AllocError, Global};
@@ -82,7 +83,7 @@ impl Outgoing {
         ensures answer { result ≡ takes_text (lost_told self.old) text.now }
         ensures changed { self.new ≡ with_text (lost_told self.old) text.now }
     {
-        self.tell_lost();
+        let _ = self.tell_lost();
         if self.lost == 0 && self.has_room(text) {
             self.put(text);
             true
@@ -93,19 +94,22 @@ impl Outgoing {
     }
 
     /// Tells how many texts were dropped, by a line behind what waits, if any was and there is
-    /// room for it.
+    /// room for it. Answers whether it did.
     #[tactic(auto, unfolding(crate::specs::Outgoings::lost_told))]
-    pub(crate) fn tell_lost(&mut self)
-        ensures { self.new ≡ lost_told self.old }
+    pub(crate) fn tell_lost(&mut self) -> bool
+        ensures answer { result ≡ can_tell self.old }
+        ensures changed { self.new ≡ lost_told self.old }
     {
         if self.lost == 0 {
-            return;
+            return false;
         }
         write_lost(&mut self.line, self.lost);
-        if self.line.len() <= OUT_ROOM - self.waiting.len() {
+        let is_told = self.line.len() <= OUT_ROOM - self.waiting.len();
+        if is_told {
             self.waiting.extend_from_slice(&self.line).unwrap();
             self.lost = 0;
         }
+        is_told
     }
 
     /// Writes once what waits to the connection of that number; what the other side takes of it

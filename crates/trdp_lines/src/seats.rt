@@ -1,13 +1,14 @@
 //! The seats at the path of the operator's port.
 
 ghost use Rattle.std.specs.Prelude.{◌≡◌, ◌<◌, ◌≤◌, ℕ, length, replicate, Some, None};
-ghost use Rattle.std.specs.Prelude.{IfOk, IfSome, IfNone, MatchOption};
+ghost use Rattle.std.specs.Prelude.{IfOk, IfSome, IfNone, MatchOption, is_some, ◌||◌};
 ghost use Rattle.trdp_lines.specs.Askings.{AsksOne};
+ghost use Rattle.trdp_lines.specs.Hearings.{Hears};
 ghost use Rattle.trdp_lines.specs.Lines.{IsUnended};
 ghost use Rattle.trdp_lines.specs.OperatorPaths.{free_seat, free_seats, seat_at};
 ghost use Rattle.trdp_lines.specs.Seats.{HandsInIf, HasNoPlace, IsPlaceOf};
 
-use crate::connections::{Came, Connections};
+use crate::connections::Connections;
 use crate::conversation::Conversation;
 use std::alloc::{AllocError, Global};
 
@@ -55,6 +56,8 @@ pub(crate) fn hear<C: Connections>(
         (length room.old) result room.new }
     ensures number { seat.new.number ≡ seat.old.number }
     ensures silent { IfNone result (IsUnended seat.new.bytes) }
+    ensures heard { Hears (C.calls from.old) (C.calls from.new)
+        (is_some result || heard.old) heard.new }
     ensures asked { IfNone result
         (AsksOne number (C.calls from.old) (C.calls from.new) seat.new) }
     ensures kept { C.file_number from.new ≡ C.file_number from.old }
@@ -67,8 +70,6 @@ pub(crate) fn hear<C: Connections>(
     if seat.is_done() {
         return None;
     }
-    if seat.listen(from, number) != Came::Nothing {
-        *heard = true;
-    }
+    *heard |= seat.listen(from, number).has_come();
     seat.next_line(room)
 }

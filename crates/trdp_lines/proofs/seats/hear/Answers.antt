@@ -1,6 +1,9 @@
 use Rattle.trdp_lines.proofs.AskingLemmas.{if_none}
 use Rattle.trdp_lines.proofs.ListeningLemmas.{asks_done, asks_read}
-use Rattle.std.proofs.Common.{Some, sym, ◌∙◌}
+use Rattle.std.proofs.Common.{[], Some, ap, sym, ◌∙◌}
+use Rattle.trdp_lines.specs.Conversations.{ConversationState}
+use Rattle.trdp_lines.specs.Lines.{has_line}
+use Rattle.trdp_lines.proofs.HearingLemmas.{hears_line, hears_written, line_came}
 use Rattle.trdp_lines.proofs.TurnLemmas.{written_turn, heard_turn, still_turn, turn_next}
 use Rattle.trdp_lines.proofs.TurnLemmas.{line_if}
 use Rattle.trdp_lines.proofs.seats.hear.Goals as goal
@@ -31,3 +34,16 @@ returns-then-is_done-clause-asked g c = asks_done c.args.number _ _ _ _ _ c.flus
 pub returns-clause-asked : goal.returns-clause-asked
 returns-clause-asked g c = if_none c.next_line-2.result (asks_read c.args.number _ _ _ _ _ _ _ _
     c.flush.ensures.written c.listen.ensures.read)
+
+pub returns-then-is_done-clause-heard : goal.returns-then-is_done-clause-heard
+returns-then-is_done-clause-heard g c =
+    hears_written c.args.number [] _ _ _ _ _ c.flush.ensures.written
+
+pub returns-clause-heard : goal.returns-clause-heard
+returns-clause-heard g c =
+    let none = ap (λ (s : ConversationState). has_line s.bytes) c.in_default.ensures.kept
+    ∙ c.in_default.ensures.none in
+    rw c.has_come.ensures (hears_line _ _ _ c.next_line-2.result c.args.heard.now _
+    (hears_written c.args.number [] _ _ _ _ _ c.flush.ensures.written) c.listen.ensures.heard
+    (line_came c.listen.result c.next_line-2.result _ _ c.listen.ensures.nothing none
+    c.next_line-2.ensures.some))

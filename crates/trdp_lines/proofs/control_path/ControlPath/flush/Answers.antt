@@ -4,6 +4,7 @@ use Rattle.trdp_lines.specs.Conversations.{ConversationState}
 use Rattle.trdp_lines.proofs.CallLemmas.{writes_quiet}
 use Rattle.trdp_lines.proofs.ComingLemmas.{none_quiet}
 use Rattle.trdp_lines.proofs.ControlLemmas.{path_kept, placed_low}
+use Rattle.trdp_lines.proofs.HearingLemmas.{hears_written}
 use Rattle.trdp_lines.proofs.PlaceLemmas.{proceeds_quiet}
 use Rattle.trdp_lines.proofs.ToldLemmas.{written_kept, written_handed_in}
 use Rattle.trdp_lines.proofs.control_path.ControlPath.flush.Goals as goal
@@ -48,3 +49,8 @@ pub returns-in-Some-clause-asked : goal.returns-in-Some-clause-asked
 returns-in-Some-clause-asked g c =
     rw (← c.self.view_is) (written_fails c.in-Some.number [] c.self.inside.speaker
     c.flush.new.self _ _ c.flush.ensures.written)
+
+pub returns-in-Some-clause-heard : goal.returns-in-Some-clause-heard
+returns-in-Some-clause-heard g c =
+    rw (← c.self.view_is) (hears_written c.in-Some.number [] c.self.inside.speaker
+    c.flush.new.self _ _ _ c.flush.ensures.written)

@@ -1,4 +1,4 @@
-use Rattle.trdp_lines.proofs.ListeningLemmas.{listens_read, listens_then}
+use Rattle.trdp_lines.proofs.ListeningLemmas.{listens_read, listens_then, reads_one}
 use Rattle.std.proofs.Common.{[], ◌∙◌, ap, sym, subst, arith}
 use Rattle.trdp_lines.specs.Conversations.{ConversationState, left_of}
 use Rattle.trdp_lines.specs.Paths.{IsReadyIf, left_at}
@@ -6,6 +6,8 @@ use Rattle.trdp_lines.specs.Said.{applications_say}
 use Rattle.trdp_lines.proofs.ComingLemmas.{have_come, have_come_next}
 use Rattle.trdp_lines.proofs.ControlLemmas.{path_kept}
 use Rattle.trdp_lines.proofs.HandingLemmas.{both_handed_in}
+use Rattle.trdp_lines.proofs.HearingLemmas.{hears_next, hears_none, hears_nothing}
+use Rattle.trdp_lines.proofs.HearingLemmas.{reads_among}
 use Rattle.trdp_lines.proofs.PlaceLemmas.{at, proceeds_next, proceeds_read}
 use Rattle.trdp_lines.proofs.ToldLemmas.{read_kept, read_handed_in}
 use Rattle.trdp_lines.proofs.control_path.ControlPath.listen.Goals as goal
@@ -81,3 +83,18 @@ returns-in-Nothing-clause-asked g c =
     rw (← c.self.view_is) (listens_then _ _ _ c.listen.new.self.number _ (listens_read
     c.in-Some.number inside.speaker c.listen.new.self _ _ (sym c.number.ensures ∙ c.in-Some.is)
     c.listen.ensures.read) c.decide.ensures.asked)
+
+pub returns-in-Nothing-clause-heard : goal.returns-in-Nothing-clause-heard
+returns-in-Nothing-clause-heard g c =
+    let inside = c.self.inside in
+    let nothing = hears_nothing _ _ inside.heard (rw c.in-Nothing.is at c.listen.ensures.heard) in
+    rw (← c.self.view_is) (hears_next _ _ _ inside.heard inside.heard _ nothing
+    c.decide.ensures.heard)
+
+pub returns-in-Nothing-clause-read : goal.returns-in-Nothing-clause-read
+returns-in-Nothing-clause-read g c =
+    let inside = c.self.inside in
+    rw (← c.self.view_is) (λ unwaited. reads_among _ _ _ _ c.listen.new.self.number _ inside.heard
+    inside.heard _ _ (hears_none _ inside.heard) (reads_one c.in-Some.number inside.speaker
+    c.listen.new.self _ _ (sym c.number.ensures ∙ c.in-Some.is) c.listen.ensures.read)
+    c.decide.ensures.heard (c.decide.ensures.stays unwaited))

@@ -7,4 +7,4 @@ pub returns-clause-written : goal.returns-clause-written
 returns-clause-written g c =
     rw (← c.self.view_is) (more_written c.args.number Told _ c.tell_lost.new.self
     c.write.new.self (g.C.Connections.calls c.args.to.now) (g.C.Connections.calls c.write.new.to)
-    c.tell_lost.ensures refl c.write.ensures.written)
+    c.tell_lost.ensures.changed refl c.write.ensures.written)

@@ -1,35 +1,24 @@
-use Rattle.std.proofs.Common.{[], ◌∷◌, ap, refl}
-use Rattle.trdp_lines.specs.Connections.{went_count, writing_of}
-use Rattle.trdp_lines.specs.Outgoings.{OutgoingState}
-use Rattle.trdp_lines.specs.OutgoingRuns.{Took}
-use Rattle.trdp_lines.proofs.HandingLemmas.{tells_nothing}
+use Rattle.std.proofs.Common.{refl}
+use Rattle.trdp_lines.specs.OutgoingRuns.{Told}
+use Rattle.trdp_lines.proofs.ConversationLemmas.{more_written}
+use Rattle.trdp_lines.proofs.WritingLemmas.{told_alone, written_both}
 use Rattle.trdp_lines.proofs.conversation.Conversation.write.Goals as goal
 
-pub returns-then-not-is_empty-clause-written : goal.returns-then-not-is_empty-clause-written
-returns-then-not-is_empty-clause-written g c =
-    let inside = c.self.inside in
-    let went = c.flush.result in
-    rw (← c.self.view_is) (record {
-      steps = Took (went_count went) ∷ [];
-      writings = writing_of inside.outgoing.waiting went ∷ [];
-      texts_are = refl;
-      told = c.flush.ensures.told;
-      took = refl;
-      written = ap (λ (o : OutgoingState). record {
-        number = inside.number;
-        bytes = inside.intake;
-        spoke = inside.spoke;
-        ended = inside.ended;
-        outgoing = o;
-      }) c.flush.ensures.rest;
-    })
+pub returns-then-tell_lost-clause-written : goal.returns-then-tell_lost-clause-written
+returns-then-tell_lost-clause-written g c =
+    let calls = g.C.Connections.calls in
+    written_both c.args.number c.args.self.now c.write_once.new.self
+    c.write_once-then-tell_lost.new.self (calls c.args.to.now) (calls c.write_once.new.to)
+    (calls c.write_once-then-tell_lost.new.to) c.write_once.ensures.written
+    (rw (← c.self.view_is) (more_written c.args.number Told _ c.tell_lost.new.self
+    c.write_once-then-tell_lost.new.self (calls c.write_once.new.to)
+    (calls c.write_once-then-tell_lost.new.to) c.tell_lost.ensures.changed refl
+    c.write_once-then-tell_lost.ensures.written))
 
-pub returns-else-not-is_empty-clause-written : goal.returns-else-not-is_empty-clause-written
-returns-else-not-is_empty-clause-written g c = record {
-  steps = [];
-  writings = [];
-  texts_are = refl;
-  told = tells_nothing (g.C.Connections.calls c.args.to.now);
-  took = refl;
-  written = refl;
-}
+pub returns-else-tell_lost-clause-written : goal.returns-else-tell_lost-clause-written
+returns-else-tell_lost-clause-written g c =
+    let calls = g.C.Connections.calls in
+    written_both c.args.number c.args.self.now c.write_once.new.self _ (calls c.args.to.now)
+    (calls c.write_once.new.to) (calls c.write_once.new.to) c.write_once.ensures.written
+    (rw (← c.self.view_is) (told_alone c.args.number _ c.tell_lost.new.self
+    (calls c.write_once.new.to) c.tell_lost.ensures.changed))

@@ -1,11 +1,14 @@
 use Rattle.trdp_lines.proofs.ListeningLemmas.{asks_accept, refused_fails}
 use Rattle.trdp_lines.specs.declared.connections.Accepted.TheVariants.{Came}
-use Rattle.std.proofs.Common.{◌+◌, ◌≤◌, None, Some, false, refl, arith, set}
+use Rattle.std.proofs.Common.{◌+◌, ◌≤◌, None, Some, false, true, refl, sym, arith, set}
+use Rattle.std.proofs.Math.Bool.{or-true}
+use Rattle.trdp_lines.specs.Connections.{Accepts}
 use Rattle.trdp_lines.specs.Conversations.{conversation_of}
 use Rattle.trdp_lines.specs.Paths.{last_number}
 use Rattle.trdp_lines.specs.Seats.{IsPlaceOf}
 use Rattle.trdp_lines.proofs.CallLemmas.{accept_unheard}
 use Rattle.trdp_lines.proofs.ComingLemmas.{keep_seats}
+use Rattle.trdp_lines.proofs.HearingLemmas.{hears_call, hears_next, hears_refused}
 use Rattle.trdp_lines.proofs.OperatorLemmas.{number_read}
 use Rattle.trdp_lines.proofs.QuietLemmas.{lines_quiet, path_quiet, path_seated, seated_left}
 use Rattle.trdp_lines.proofs.ServedLemmas.{served_seated}
@@ -73,3 +76,11 @@ pub returns-in-None-clause-asked : goal.returns-in-None-clause-asked
 returns-in-None-clause-asked g c = rw (← c.self.view_is) (asks_accept _ _ _ (Unit {0})
     c.self.inside.came Came false (rw c.in-Came.is at c.accept.ensures.told) refl
     (refused_fails (c.self.inside.came + 1) _ _ c.refuse.ensures.refused))
+
+pub returns-in-None-clause-heard : goal.returns-in-None-clause-heard
+returns-in-None-clause-heard g c =
+    let inside = c.self.inside in
+    rw (← c.self.view_is) (hears_next _ _ _ inside.heard true true
+    (hears_call _ _ (Accepts (inside.came + 1) Came) inside.heard true
+    (rw c.in-Came.is at c.accept.ensures.told) (sym (or-true inside.heard)))
+    (hears_refused (inside.came + 1) _ _ true c.refuse.ensures.refused))

@@ -1,6 +1,7 @@
 use Rattle.trdp_lines.proofs.AskingLemmas.{asks_one}
 use Rattle.std.proofs.Common.{sym, ◌∙◌}
 use Rattle.trdp_lines.proofs.GoingOnLemmas.{goes_on_next}
+use Rattle.trdp_lines.proofs.HearingLemmas.{hears_next}
 use Rattle.trdp_lines.proofs.operator_path.OperatorPath.ask.Goals as goal
 
 pub returns-clause-goes_on : goal.returns-clause-goes_on
@@ -13,3 +14,7 @@ returns-clause-asked g c =
     asks_one c.args.place c.in_ok-number.number _ _ _ c.args.self.now.seats c.hear.new.self.seats
     c.dismiss.new.self.seats (sym c.number_at.ensures.number ∙ c.in_ok-number.was) asked.number
     asked.others asked.asked c.dismiss.ensures.asked c.dismiss.ensures.stay c.dismiss.ensures.going
+
+pub returns-clause-heard : goal.returns-clause-heard
+returns-clause-heard g c =
+    hears_next _ _ _ _ _ _ c.in_default.ensures.heard c.dismiss.ensures.heard

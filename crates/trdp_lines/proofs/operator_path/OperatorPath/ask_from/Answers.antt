@@ -1,8 +1,9 @@
-use Rattle.std.proofs.Common.{◌≡◌, [], inl, inr, subst, ◌∙◌, arith}
+use Rattle.std.proofs.Common.{◌≡◌, [], inl, inr, subst, true, ◌∙◌, arith}
 use Rattle.std.proofs.lemmas.Bool.{cases_lt}
 use Rattle.trdp_lines.specs.Seats.{IsSilentAt}
 use Rattle.trdp_lines.proofs.AskingLemmas.{asks_more, asks_within}
 use Rattle.trdp_lines.proofs.GoingOnLemmas.{goes_on_next}
+use Rattle.trdp_lines.proofs.HearingLemmas.{hears_more, hears_next}
 use Rattle.trdp_lines.proofs.NextLineLemmas.{lines_next}
 use Rattle.trdp_lines.proofs.operator_path.OperatorPath.ask_from.Goals as goal
 
@@ -23,6 +24,7 @@ loop-place-preserved g c =
           before.goes_on asked.goes_on;
       came = asked.came ∙ before.came;
       kept = asked.kept ∙ before.kept;
+      heard = hears_next _ _ _ _ _ _ before.heard asked.heard;
       asked = asks_more c.args.first c.loop-place.place _ _ _ c.args.self.now.seats
           c.loop-place.self.seats seats before.asked asked.asked;
       silent = λ k low high. elim (cases_lt k c.loop-place.place) [
@@ -37,3 +39,7 @@ loop-place-preserved g c =
 pub returns-clause-asked : goal.returns-clause-asked
 returns-clause-asked g c = asks_within c.args.first c.loop-place.place c.args.end _ _
     c.args.self.now.seats c.loop-place.self.seats (omega arith) c.loop-place.invariant.asked
+
+pub returns-in-Some-clause-heard : goal.returns-in-Some-clause-heard
+returns-in-Some-clause-heard g c =
+    hears_more _ _ _ true _ _ _ c.loop-place.invariant.heard c.in-Some.ensures.heard

@@ -1,6 +1,8 @@
 use Rattle.trdp_lines.proofs.AskingLemmas.{asks_round, if_none_then}
 use Rattle.std.proofs.Common.{◌≡◌, length, arith}
+use Rattle.std.specs.Prelude.{is_some}
 use Rattle.trdp_lines.proofs.GoingOnLemmas.{goes_on_next}
+use Rattle.trdp_lines.proofs.HearingLemmas.{hears_more}
 use Rattle.trdp_lines.proofs.NextLineLemmas.{next_found, none_found}
 use Rattle.trdp_lines.proofs.operator_path.OperatorPath.next_line.Goals as goal
 
@@ -25,3 +27,7 @@ pub returns-clause-asked : goal.returns-clause-asked
 returns-clause-asked g c = if_none_then c.ask_from-2.result (asks_round c.self.inside.next _ _ _
     c.args.self.now.seats c.ask_from.new.self.seats c.ask_from-2.new.self.seats
     c.in_default.ensures.asked) c.ask_from-2.ensures.asked
+
+pub returns-clause-heard : goal.returns-clause-heard
+returns-clause-heard g c = hears_more _ _ _ (is_some c.ask_from-2.result) _ _ _
+    c.in_default.ensures.heard c.ask_from-2.ensures.heard

@@ -1,4 +1,6 @@
+use Rattle.std.proofs.Common.{false, true}
 use Rattle.trdp_lines.proofs.AskingLemmas.{asks_seats}
+use Rattle.trdp_lines.proofs.HearingLemmas.{hears_more, hears_next, quiet_round}
 use Rattle.trdp_lines.proofs.ServedLemmas.{comes_served}
 use Rattle.trdp_lines.proofs.operator_path.OperatorPath.take.Goals as goal
 
@@ -28,3 +30,23 @@ returns-in-Err-clause-asked g c = asks_seats _ _ _ c.args.self.now.came _
     c.admit-admitted.new.self.seats c.next_line.new.self.seats
     (rw c.in-Err.is at c.admit-admitted.ensures.asked) c.in-None.ensures.asked
     c.in-None.ensures.four
+
+pub returns-in-Some-clause-heard : goal.returns-in-Some-clause-heard
+returns-in-Some-clause-heard g c =
+    hears_more _ _ _ true _ _ _ c.admit-admitted.ensures.heard c.in-Some.ensures.heard
+
+pub returns-in-Ok-clause-heard : goal.returns-in-Ok-clause-heard
+returns-in-Ok-clause-heard g c =
+    hears_next _ _ _ _ _ _ c.admit-admitted.ensures.heard c.in-None.ensures.heard
+
+pub returns-in-Err-clause-heard : goal.returns-in-Err-clause-heard
+returns-in-Err-clause-heard g c =
+    hears_next _ _ _ _ _ _ c.admit-admitted.ensures.heard c.in-None.ensures.heard
+
+pub returns-in-Ok-clause-quiet : goal.returns-in-Ok-clause-quiet
+returns-in-Ok-clause-quiet g c = quiet_round _ _ _ _ false
+    (hears_next _ _ _ _ _ _ c.admit-admitted.ensures.heard c.in-None.ensures.heard)
+
+pub returns-in-Err-clause-quiet : goal.returns-in-Err-clause-quiet
+returns-in-Err-clause-quiet g c = quiet_round _ _ _ _ false
+    (hears_next _ _ _ _ _ _ c.admit-admitted.ensures.heard c.in-None.ensures.heard)
