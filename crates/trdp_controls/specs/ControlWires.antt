@@ -1,6 +1,7 @@
 -- What a wire makes of its network and of its paths.
 use Rattle.std.specs.Prelude.{◌≡◌, ℕ, ◌^◌, ◌-◌, ◌&&◌, nat_lt, List, [], ◌∷◌, length}
-use Rattle.std.specs.Prelude.{Option, Some, None, Result, Ok, Err, Bool, option_map, is_err}
+use Rattle.std.specs.Prelude.{Option, Some, None, Result, Ok, Err, Bool, true, false}
+use Rattle.std.specs.Prelude.{option_map, is_err}
 use Rattle.std.specs.Prelude.{slice_index_or, slice_set}
 use Rattle.trdp_base.specs.declared.place.Place.{Place}
 use Rattle.trdp_lines.specs.Connections.{ConnectionCall}
@@ -136,22 +137,39 @@ pub record GivesAtOperator {C : Type 0} (calls_of : C → Option (List Connectio
   pub says : SaysAtOperator calls_of operator operator_then to text answer
   pub fault : is_err result ≡ is_err answer && nat_lt failures (2 ^ 64 - 1)
 
--- a take at a port: of the network, or at the operator's path or that of a slot, and nowhere else
+-- of the network nothing was taken, and nothing given to it
+pub record IsUnasked {N : Type 0} (takings_in : N → Option (List Taking))
+    (gives_in : N → Option (List Give)) (network network_then : N) : Type 0 where
+  pub takings : takings_in network_then ≡ takings_in network
+  pub gives : gives_in network_then ≡ gives_in network
+
+-- a take at the path of a port where the system has told news, and one where it hasn't
+abbrev pub IfNews : {N C : Type 0} → Bool → (old new : ControlWire N C)
+    → Result (Option (Place × ℕ)) WireFault → Type 0 → Type 0
+IfNews true old new result Takes = Takes
+IfNews false old new result Takes = (result ≡ Ok None) × (new ≡ old)
+
+-- a take at a port: of the network, or at the operator's path or that of a slot, and nowhere else;
+-- at a path of which there are no news nothing is asked, and nothing found
 abbrev pub TakesAtPort : {N C : Type 0} → (takings_in : N → Option (List Taking))
-    → (calls_of : C → Option (List ConnectionCall)) → (old new : ControlWire N C) → Port
+    → (gives_in : N → Option (List Give)) → (calls_of : C → Option (List ConnectionCall))
+    → (has_news : Bool) → (old new : ControlWire N C) → Port
     → (room : ℕ) → Result (Option (Place × ℕ)) WireFault → (room_then : List ℕ) → Type 0
-TakesAtPort takings_in calls_of old new Pd room result room_then =
+TakesAtPort takings_in gives_in calls_of has_news old new Pd room result room_then =
     TakesOverNetwork (takings_in old.network) (takings_in new.network) Pd result room_then
     × (new.operator ≡ old.operator) × (new.controls.items ≡ old.controls.items)
-TakesAtPort takings_in calls_of old new Md room result room_then =
+TakesAtPort takings_in gives_in calls_of has_news old new Md room result room_then =
     TakesOverNetwork (takings_in old.network) (takings_in new.network) Md result room_then
     × (new.operator ≡ old.operator) × (new.controls.items ≡ old.controls.items)
-TakesAtPort takings_in calls_of old new Operator room result room_then =
-    TakesAtOperator calls_of old.operator new.operator room result room_then
-    × (new.network ≡ old.network) × (new.controls.items ≡ old.controls.items)
-TakesAtPort takings_in calls_of old new (Control slot) room result room_then =
-    TakesAtControl calls_of slot old.controls.items new.controls.items room result room_then
-    × (new.network ≡ old.network) × (new.operator ≡ old.operator)
+TakesAtPort takings_in gives_in calls_of has_news old new Operator room result room_then =
+    IfNews has_news old new result
+    (TakesAtOperator calls_of old.operator new.operator room result room_then
+    × IsUnasked takings_in gives_in old.network new.network
+    × (new.controls.items ≡ old.controls.items))
+TakesAtPort takings_in gives_in calls_of has_news old new (Control slot) room result room_then =
+    IfNews has_news old new result
+    (TakesAtControl calls_of slot old.controls.items new.controls.items room result room_then
+    × IsUnasked takings_in gives_in old.network new.network × (new.operator ≡ old.operator))
 
 -- a give at a port: to the network, or at the operator's path or that of a slot, and nowhere else
 abbrev pub GivesAtPort : {N C : Type 0} → (gives_in : N → Option (List Give))

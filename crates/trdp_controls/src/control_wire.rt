@@ -2,15 +2,14 @@
 
 ghost use Rattle.std.specs.Prelude.{◌≡◌, ◌<◌, ◌≤◌, length, IfOk, IfSome, OnErr, None};
 ghost use Rattle.trdp_controls.specs.ControlWires.{GivesAtControl, GivesAtOperator};
-ghost use Rattle.trdp_controls.specs.ControlWires.{SaysAtControl, SaysAtOperator, SaysAtPath};
 ghost use Rattle.trdp_controls.specs.ControlWires.{GivesOverNetwork, TakesAtControl};
 ghost use Rattle.trdp_controls.specs.ControlWires.{TakesAtOperator, TakesOverNetwork};
-ghost use Rattle.trdp_controls.specs.ControlWires.{GivesAtPort, TakesAtPort, TakesAtPath};
+ghost use Rattle.trdp_controls.specs.ControlWires.{GivesAtPort, IsUnasked, TakesAtPort};
 
-use crate::place::{number_of, place_of};
+use crate::path_calls::{give_line, give_text_at, nothing, take_line, take_operators_line};
 use trdp_base::Place;
 use trdp_daemon::{Port, Refusal, SocketFault, Wire, WireFault, fail};
-use trdp_lines::{Connections, ControlPath, LostText, OperatorPath};
+use trdp_lines::{Connections, ControlPath, OperatorPath};
 
 /// The system's number of its error where there is no room for what is to go out (ENOBUFS).
 const NO_BUFFER_SPACE: i32 = 105;
@@ -31,14 +30,17 @@ pub struct ControlWire<N: Wire, C: Connections> {
     failures: u64,
     /// The latest give that was refused; None before the first.
     refusal: Option<Refusal>,
+    /// Whether something came or failed at a path since the latest rest.
+    heard: bool,
 }
 
 impl<N: Wire, C: Connections> ControlWire<N, C> {
     ghost use Rattle.std.specs.Prelude.{◌≡◌, ◌<◌, ◌≤◌, ◌-◌, ◌^◌, length, IfOk, IfSome, OnErr};
     ghost use Rattle.std.specs.Prelude.{is_err, nat_lt, None};
-    ghost use Rattle.trdp_controls.specs.ControlWires.{GivesAtControl, GivesAtOperator, SaysAtPath};
+    ghost use Rattle.trdp_controls.specs.ControlWires.{GivesAtControl, GivesAtOperator};
     ghost use Rattle.trdp_controls.specs.ControlWires.{GivesOverNetwork, TakesAtControl};
-    ghost use Rattle.trdp_controls.specs.ControlWires.{TakesAtOperator, TakesOverNetwork};
+    ghost use Rattle.trdp_controls.specs.ControlWires.{IsUnasked, TakesAtOperator};
+    ghost use Rattle.trdp_controls.specs.ControlWires.{TakesOverNetwork};
 
     /// A wire over a network and paths, before its first take: `controls` has at the index of each
     /// slot the path of its control port.
@@ -59,6 +61,7 @@ impl<N: Wire, C: Connections> ControlWire<N, C> {
             controls,
             failures: 0,
             refusal: None,
+            heard: false,
         }
     }
 
@@ -90,21 +93,24 @@ impl<N: Wire, C: Connections> ControlWire<N, C> {
     /// `WireFault`, where nothing is there and the system refuses the next connection.
     fn take_control(
         &mut self,
-        slot: usize,
+        slot: u16,
         room: &mut [u8],
     ) -> Result<Option<(Place, usize)>, WireFault>
         ensures within { IfOk result (λ found. IfSome found (λ f. f.1 ≤ length room.new)) }
         ensures takes { TakesAtControl C.calls slot self.old.controls.items
             self.new.controls.items (length room.old) result room.new }
         ensures fault { OnErr result (self.old.failures < self.new.failures) }
-        ensures network { self.new.network ≡ self.old.network }
+        ensures network { IsUnasked N.takings N.gives self.old.network self.new.network }
         ensures operator { self.new.operator ≡ self.old.operator }
     {
-        if slot >= self.controls.len() {
+        let index = usize::from(slot);
+        if index >= self.controls.len() {
             return Ok(None);
         }
-        let control = &mut self.controls[slot];
-        take_line(control, room, &mut self.failures)
+        let control = &mut self.controls[index];
+        let (found, heard) = take_line(control, room, &mut self.failures);
+        self.note(Port::Control(slot), heard, found.is_ok());
+        found
     }
 
     /// Takes the next line of the operator.
@@ -116,16 +122,26 @@ impl<N: Wire, C: Connections> ControlWire<N, C> {
         ensures takes { TakesAtOperator C.calls self.old.operator self.new.operator
             (length room.old) result room.new }
         ensures fault { OnErr result (self.old.failures < self.new.failures) }
-        ensures network { self.new.network ≡ self.old.network }
+        ensures network { IsUnasked N.takings N.gives self.old.network self.new.network }
         ensures controls { self.new.controls ≡ self.old.controls }
     {
-        let Some(path) = &mut self.operator else {
-            return Ok(None);
-        };
-        match path.take(room) {
-            Ok(Some((number, len))) => Ok(Some((place_of(number), len))),
-            Ok(None) => Ok(None),
-            Err(_) => nothing(&mut self.failures),
+        let (found, heard) = take_operators_line(&mut self.operator, room, &mut self.failures);
+        self.note(Port::Operator, heard, found.is_ok());
+        found
+    }
+
+    /// Notes what a take at a path came to. Where nothing was heard nothing is there, up to the next
+    /// news of it; one that failed is made again.
+    fn note(&mut self, port: Port, heard: bool, is_sound: bool)
+        ensures network { IsUnasked N.takings N.gives self.old.network self.new.network }
+        ensures failures { self.new.failures ≡ self.old.failures }
+        ensures operator { self.new.operator ≡ self.old.operator }
+        ensures controls { self.new.controls ≡ self.old.controls }
+    {
+        if heard {
+            self.heard = true;
+        } else if is_sound {
+            self.network.set_news(port, false);
         }
     }
 
@@ -200,20 +216,6 @@ impl<N: Wire, C: Connections> ControlWire<N, C> {
         self.refusal = Some(Refusal { port, to, fault });
         fail(&mut self.failures)
     }
-
-    /// Whether something came or failed at a path since this was asked the last time.
-    fn has_heard(&mut self) -> bool
-        ensures network { self.new.network ≡ self.old.network }
-        ensures failures { self.new.failures ≡ self.old.failures }
-        ensures operator { self.new.operator ≡ self.old.operator }
-        ensures controls { self.new.controls.items ≡ self.old.controls.items }
-    {
-        let operator = match &mut self.operator {
-            Some(path) => path.has_heard(),
-            None => false,
-        };
-        controls_have_heard(&mut self.controls) || operator
-    }
 }
 
 impl<N: Wire, C: Connections> Wire for ControlWire<N, C> {
@@ -225,16 +227,19 @@ impl<N: Wire, C: Connections> Wire for ControlWire<N, C> {
 
     ghost faults = { λ wire. wire.failures };
 
+    ghost news = { λ wire. N.news wire.network };
+
     fn take(&mut self, port: Port, room: &mut [u8]) -> Result<Option<(Place, usize)>, WireFault>
         ensures within { IfOk result (λ found. IfSome found (λ f. f.1 ≤ length room.new)) }
         ensures fault { OnErr result (self.old.failures < self.new.failures) }
-        ensures takes { TakesAtPort N.takings C.calls self.old self.new port (length room.old)
-            result room.new }
+        ensures takes { TakesAtPort N.takings N.gives C.calls (N.news self.old.network port)
+            self.old self.new port (length room.old) result room.new }
     {
         match port {
             Port::Pd | Port::Md => self.take_telegram(port, room),
+            _ if !self.network.has_news(port) => Ok(None),
             Port::Operator => self.take_operator(room),
-            Port::Control(slot) => self.take_control(usize::from(slot), room),
+            Port::Control(slot) => self.take_control(slot, room),
         }
     }
 
@@ -254,11 +259,23 @@ impl<N: Wire, C: Connections> Wire for ControlWire<N, C> {
         ensures operator { self.new.operator ≡ self.old.operator }
         ensures controls { self.new.controls.items ≡ self.old.controls.items }
     {
-        // The system tells what comes, and not what is there: a rest begins only where each path
-        // had nothing since the rest before.
-        if !self.has_heard() {
-            self.network.rest(most);
-        }
+        // More may be where something was heard: then no time is left for the network to wait.
+        let most = if self.heard { 0 } else { most };
+        self.heard = false;
+        self.network.rest(most);
+    }
+
+    fn has_news(&self, port: Port) -> bool {
+        self.network.has_news(port)
+    }
+
+    fn set_news(&mut self, port: Port, may_be: bool)
+        ensures fault { self.new.failures ≡ self.old.failures }
+        ensures network { IsUnasked N.takings N.gives self.old.network self.new.network }
+        ensures operator { self.new.operator ≡ self.old.operator }
+        ensures controls { self.new.controls ≡ self.old.controls }
+    {
+        self.network.set_news(port, may_be);
     }
 
     fn failures(&self) -> u64 {
@@ -269,119 +286,5 @@ impl<N: Wire, C: Connections> Wire for ControlWire<N, C> {
         ensures { result ≡ self.now.refusal }
     {
         self.refusal
-    }
-}
-
-/// What a take finds that failed: nothing, and that is counted.
-///
-/// # Errors
-/// `WireFault`, where the count of failures rose.
-fn nothing(failures: &mut u64) -> Result<Option<(Place, usize)>, WireFault>
-    ensures found { IfOk result (λ found. found ≡ None) }
-    ensures fault { OnErr result (failures.old < failures.new) }
-{
-    match fail(failures) {
-        Ok(()) => Ok(None),
-        Err(fault) => Err(fault),
-    }
-}
-
-/// Takes the next line at a path, or the end of its application; nothing ever comes where there is
-/// none.
-///
-/// # Errors
-/// `WireFault`, where nothing is there and the system refuses the next connection.
-fn take_line<C: Connections>(
-    control: &mut Option<ControlPath<C>>,
-    room: &mut [u8],
-    failures: &mut u64,
-) -> Result<Option<(Place, usize)>, WireFault>
-    ensures within { IfOk result (λ found. IfSome found (λ f. f.1 ≤ length room.new)) }
-    ensures takes { TakesAtPath C.calls control.old control.new (length room.old) result room.new }
-    ensures fault { OnErr result (failures.old < failures.new) }
-{
-    let Some(path) = control else {
-        return Ok(None);
-    };
-    match path.take(room) {
-        Ok(Some((number, len))) => Ok(Some((place_of(number), len))),
-        Ok(None) => Ok(None),
-        Err(_) => nothing(failures),
-    }
-}
-
-/// Says a text at a slot's path to the connection of the place, if that is the one that speaks.
-///
-/// # Errors
-/// `LostText`, where there is no room for it.
-fn give_text_at<C: Connections>(
-    controls: &mut Vec<Option<ControlPath<C>>>,
-    slot: usize,
-    to: Place,
-    text: &[u8],
-) -> Result<(), LostText>
-    ensures { SaysAtControl C.calls slot controls.old.items controls.new.items to text.now
-        result }
-{
-    if slot >= controls.len() {
-        return Ok(());
-    }
-    let control = &mut controls[slot];
-    give_text(control, to, text)
-}
-
-/// Says a text at a path to the connection of the place, if that is the one that speaks.
-///
-/// # Errors
-/// `LostText`, where there is no room for it.
-fn give_text<C: Connections>(
-    control: &mut Option<ControlPath<C>>,
-    to: Place,
-    text: &[u8],
-) -> Result<(), LostText>
-    ensures { SaysAtPath C.calls control.old control.new to text.now result }
-{
-    match control {
-        Some(path) => path.give(number_of(to), text),
-        None => Ok(()),
-    }
-}
-
-/// Says a text at the operator's path to the connection of the place, if it has a seat there.
-///
-/// # Errors
-/// `LostText`, where there is no room for it.
-fn give_line<C: Connections>(
-    operator: &mut Option<OperatorPath<C>>,
-    to: Place,
-    text: &[u8],
-) -> Result<(), LostText>
-    ensures { SaysAtOperator C.calls operator.old operator.new to text.now result }
-{
-    match operator {
-        Some(path) => path.give(number_of(to), text),
-        None => Ok(()),
-    }
-}
-
-/// Whether something came or failed at one of these paths since this was asked the last time.
-fn controls_have_heard<C: Connections>(controls: &mut Vec<Option<ControlPath<C>>>) -> bool
-    ensures { controls.new.items ≡ controls.old.items }
-{
-    let mut heard = false;
-    for slot in 0..controls.len() {
-        let control = &mut controls[slot];
-        heard = path_has_heard(control) || heard;
-    }
-    heard
-}
-
-/// Whether something came or failed at a path since this was asked the last time.
-fn path_has_heard<C: Connections>(control: &mut Option<ControlPath<C>>) -> bool
-    ensures { control.new ≡ control.old }
-{
-    match control {
-        Some(path) => path.has_heard(),
-        None => false,
     }
 }

@@ -18,10 +18,11 @@ pub trait Folder<C: Connections> {
     ghost listenings: { Self → Option (List Listening) };
 
     /// Listens at the file of that number: the answer is what comes in there, which nothing did yet.
+    /// Of what comes the system tells by the number of the socket that the port would have.
     ///
     /// # Errors
     /// [`ListenFault`] where nobody listens there then.
-    fn listen(&mut self, number: u16) -> Result<C, ListenFault>
+    fn listen(&mut self, number: u16, socket: usize) -> Result<C, ListenFault>
         ensures told { TellsMore (listenings self.old) (listenings self.new)
             (ListensAt number (fault_of result) ∷ []) }
         ensures number { IfOk result (λ connections. C.file_number connections ≡ number) }

@@ -24,9 +24,13 @@
 //! The file's mode is 0660, whatever the umask: its owner and its group may connect. Nobody else
 //! ever could, since the file comes with no wider mode.
 //!
+//! What comes at a path the system tells to the network's wire, by the number of the socket that
+//! the port would have: a take at a path of which there are no news asks nothing.
+//!
 //! What the system does at a call no contract can say: each call here is one of its own, with no
-//! more than bounds and what its answer is taken for. Nor does one say when a rest of the wire
-//! waits: whether something was heard at a path is no part of what the path's contracts tell.
+//! more than bounds and what its answer is taken for. Nor does one say by which number it tells,
+//! when the news of a path end, or when a rest of the wire waits: the wire forgets the news where
+//! the path heard nothing, and rests where none did. The tests over daemons try it.
 #![tactic(auto)]
 
 mod answers;
@@ -35,10 +39,12 @@ mod folder;
 mod listen_fault;
 mod opening;
 mod path;
+mod path_calls;
 mod place;
 mod socket_file;
 mod system_connections;
 mod system_folder;
+mod teller;
 
 pub use control_wire::ControlWire;
 pub use folder::Folder;
@@ -47,3 +53,4 @@ pub use path::socket_path;
 pub use socket_file::refused_path;
 pub use system_connections::SystemConnections;
 pub use system_folder::SystemFolder;
+pub use teller::Teller;

@@ -13,7 +13,7 @@ use crate::control_wire::ControlWire;
 use crate::folder::Folder;
 use crate::listen_fault::ListenFault;
 use std::alloc::Global;
-use trdp_daemon::{Wire, control_number};
+use trdp_daemon::{Port, Wire, control_number, socket_of};
 use trdp_dataset::NodeConfig;
 use trdp_lines::{Connections, ControlPath, OperatorPath};
 
@@ -66,7 +66,7 @@ fn operator_path<C: Connections + Drop, F: Folder<C>>(
     ensures number { IfOk result (λ path. number_of_operator C.file_number path
         ≡ number_unless_0 number) }
 {
-    match connections_at(folder, number) {
+    match connections_at(folder, number, socket_of(Port::Operator)) {
         Ok(Some(connections)) => match OperatorPath::new(alloc, connections) {
             Ok(path) => Ok(Some(path)),
             Err(_) => Err(ListenFault::OutOfMemory),
@@ -93,9 +93,14 @@ fn control_paths<C: Connections + Drop, F: Folder<C>>(
     let mut paths = Vec::new(alloc);
     for slot in 0..config.slots() + config.spare_control_ports() {
         let number = control_number(config, slot).unwrap_or(0);
-        push_path(alloc, folder, number, &mut paths)?;
+        push_path(alloc, folder, number, socket_of_slot(slot), &mut paths)?;
     }
     Ok(paths)
+}
+
+/// The number of the socket that the control port of a slot would have.
+fn socket_of_slot(slot: usize) -> usize {
+    socket_of(Port::Control(u16::try_from(slot).unwrap_or(u16::MAX)))
 }
 
 /// Adds the path of one more control port: None where its number is 0.
@@ -106,6 +111,7 @@ fn push_path<C: Connections + Drop, F: Folder<C>>(
     alloc: Global,
     folder: &mut F,
     number: u16,
+    socket: usize,
     paths: &mut Vec<Option<ControlPath<C>>>,
 ) -> Result<(), ListenFault>
     ensures listens { ListensInTurn (file_unless_0 number) (fault_of result)
@@ -113,7 +119,7 @@ fn push_path<C: Connections + Drop, F: Folder<C>>(
     ensures pushed { OnOk result (numbers_of C.file_number paths.new.items
         ≡ numbers_of C.file_number paths.old.items ++ number_unless_0 number ∷ []) }
 {
-    let path = control_path(alloc, folder, number)?;
+    let path = control_path(alloc, folder, number, socket)?;
     match paths.push(path) {
         Ok(()) => Ok(()),
         Err(_) => Err(ListenFault::OutOfMemory),
@@ -128,13 +134,14 @@ fn control_path<C: Connections + Drop, F: Folder<C>>(
     alloc: Global,
     folder: &mut F,
     number: u16,
+    socket: usize,
 ) -> Result<Option<ControlPath<C>>, ListenFault>
     ensures listens { ListensInTurn (file_unless_0 number) (fault_of result)
         (F.listenings folder.old) (F.listenings folder.new) }
     ensures number { IfOk result (λ path. number_of_path C.file_number path
         ≡ number_unless_0 number) }
 {
-    match connections_at(folder, number) {
+    match connections_at(folder, number, socket) {
         Ok(Some(connections)) => match ControlPath::new(alloc, connections) {
             Ok(path) => Ok(Some(path)),
             Err(_) => Err(ListenFault::OutOfMemory),
@@ -151,6 +158,7 @@ fn control_path<C: Connections + Drop, F: Folder<C>>(
 fn connections_at<C: Connections, F: Folder<C>>(
     folder: &mut F,
     number: u16,
+    socket: usize,
 ) -> Result<Option<C>, ListenFault>
     ensures listens { ListensInTurn (file_unless_0 number) (fault_of result)
         (F.listenings folder.old) (F.listenings folder.new) }
@@ -162,7 +170,7 @@ fn connections_at<C: Connections, F: Folder<C>>(
     if number == 0 {
         return Ok(None);
     }
-    match folder.listen(number) {
+    match folder.listen(number, socket) {
         Ok(connections) => Ok(Some(connections)),
         Err(fault) => Err(fault),
     }

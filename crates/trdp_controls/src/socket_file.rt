@@ -2,9 +2,9 @@
 
 ghost use Rattle.std.specs.Prelude.{◌↔◌, pos, ◌≤ℤ◌, IsOk};
 
+use crate::teller::Teller;
 use mio::event::Source;
 use mio::net::{UnixListener, UnixStream};
-use mio::{Interest, Registry, Token};
 use std::fs::{Files, Permissions};
 use std::net::Net;
 use std::os::fd::{AsFd, AsRawFd, OwnedFd};
@@ -35,7 +35,7 @@ pub fn refused_path<R: Files + Net>(rt: &R, path: &str) -> Option<io::Error> {
 pub(crate) fn listen_at<R: Files + Net>(
     rt: &R,
     path: &str,
-    registry: &Option<Registry>,
+    teller: &Option<Teller>,
 ) -> io::Result<UnixListener> {
     let address = net::SocketAddr::from_pathname(path)?;
     let socket = new_socket(rt)?;
@@ -43,7 +43,7 @@ pub(crate) fn listen_at<R: Files + Net>(
         fs::remove_file(rt, path)?;
     }
     rt.bind_unix(socket.as_fd(), &address)?;
-    match begin(rt, path, socket, registry) {
+    match begin(rt, path, socket, teller) {
         Ok(listener) => Ok(listener),
         Err(error) => {
             // Where it can't be removed, it is one at which nobody listens.
@@ -88,14 +88,14 @@ fn begin<R: Files>(
     rt: &R,
     path: &str,
     socket: OwnedFd,
-    registry: &Option<Registry>,
+    teller: &Option<Teller>,
 ) -> io::Result<UnixListener> {
     fs::set_permissions(rt, path, Permissions::from_mode(MODE))?;
     check(libc::net::listen(socket.as_raw_fd(), BACKLOG))?;
     let listener = net::UnixListener::from(socket);
     listener.set_nonblocking(true)?;
     let mut listener = UnixListener::from_std(listener);
-    watch(registry, &mut listener)?;
+    watch(teller, &mut listener)?;
     Ok(listener)
 }
 
@@ -117,24 +117,18 @@ fn check(status: i32) -> io::Result<()>
 ///
 /// # Errors
 /// What the system says to it.
-pub(crate) fn watch<S: Source>(registry: &Option<Registry>, source: &mut S) -> io::Result<()> {
-    match registry {
-        // The token is of no use: a turn takes at each port.
-        Some(registry) => registry.register(source, Token(0), Interest::READABLE),
+pub(crate) fn watch<S: Source>(teller: &Option<Teller>, source: &mut S) -> io::Result<()> {
+    match teller {
+        Some(teller) => teller.watch(source),
         None => Ok(()),
     }
 }
 
-/// Has the system tell of a source that is watched, from now on, when it has something to read, and
-/// if so asked, when it has room for what is written.
-pub(crate) fn watch_room<S: Source>(registry: &Option<Registry>, source: &mut S, room: bool) {
-    let interest = if room {
-        Interest::READABLE | Interest::WRITABLE
-    } else {
-        Interest::READABLE
-    };
-    if let Some(registry) = registry {
+/// Has the system tell of a source that is watched, where it tells at all, from now on when it has
+/// something to read, and if so asked, when it has room for what is written.
+pub(crate) fn watch_room<S: Source>(teller: &Option<Teller>, source: &mut S, room: bool) {
+    if let Some(teller) = teller {
         // Where the system refuses it, a rest ends by its time.
-        let _ = registry.reregister(source, Token(0), interest);
+        let _ = teller.watch_room(source, room);
     }
 }

@@ -7,7 +7,7 @@ use crate::answers::{came_of, unaccepted_of, went_of};
 use crate::listen_fault::{ListenFault, listen_fault};
 use crate::path::socket_path;
 use crate::socket_file::{listen_at, watch, watch_room};
-use mio::Registry;
+use crate::teller::Teller;
 use mio::net::{UnixListener, UnixStream};
 use std::alloc::Global;
 use std::fs::Files;
@@ -33,7 +33,7 @@ pub struct SystemConnections {
     /// Those that are open, and room for more.
     seats: [Option<Seated>; OPEN_MAX],
     /// Where the system tells that one came, or can go on; None where it doesn't.
-    registry: Option<Registry>,
+    teller: Option<Teller>,
 }
 
 /// A connection that is open.
@@ -48,8 +48,8 @@ struct Seated {
 }
 
 impl SystemConnections {
-    /// Listens at the file of that number in a folder. The system tells the registry, if there is
-    /// one, when a connection, bytes, room for more or an end comes.
+    /// Listens at the file of that number in a folder. The system tells, if it tells at all, when a
+    /// connection, bytes, room for more or an end comes.
     ///
     /// # Errors
     /// `Refused` where somebody listens there, where something else than the file of a socket
@@ -60,17 +60,17 @@ impl SystemConnections {
         alloc: Global,
         folder: &str,
         file_number: u16,
-        registry: Option<Registry>,
+        teller: Option<Teller>,
     ) -> Result<SystemConnections, ListenFault>
         ensures { IfOk result (λ connections. connections.file_number ≡ file_number) }
     {
         let path = socket_path(alloc, folder, file_number)?;
-        match listen_at(rt, path.as_str(), &registry) {
+        match listen_at(rt, path.as_str(), &teller) {
             Ok(listener) => Ok(SystemConnections {
                 file_number,
                 listener,
                 seats: array::from_fn(|_| None),
-                registry,
+                teller,
             }),
             Err(error) => Err(listen_fault(error)),
         }
@@ -93,7 +93,7 @@ impl SystemConnections {
     {
         for seat in self.seats.iter_mut() {
             if seat.is_none() {
-                if watch(&self.registry, &mut stream).is_err() {
+                if watch(&self.teller, &mut stream).is_err() {
                     return Accepted::Failed;
                 }
                 *seat = Some(Seated {
@@ -114,14 +114,14 @@ impl Seated {
 
     /// Writes once. The system tells of room only while some is missing: it would else tell each
     /// time that the other side reads.
-    fn write(&mut self, bytes: &[u8], registry: &Option<Registry>) -> Went
+    fn write(&mut self, bytes: &[u8], teller: &Option<Teller>) -> Went
         ensures { WentWithin (length bytes.now) result }
     {
         let went = went_of(write_to(&self.stream, bytes));
         let is_behind = went.count() < bytes.len();
         if is_behind != self.is_behind {
             self.is_behind = is_behind;
-            watch_room(registry, &mut self.stream, is_behind);
+            watch_room(teller, &mut self.stream, is_behind);
         }
         went
     }
@@ -152,7 +152,7 @@ impl Connections for SystemConnections {
         for seat in self.seats.iter_mut() {
             match seat {
                 Some(seated) if seated.number == number => {
-                    return seated.write(bytes, &self.registry);
+                    return seated.write(bytes, &self.teller);
                 }
                 _ => {}
             }

@@ -3,6 +3,7 @@
 use crate::folder::Folder;
 use crate::listen_fault::{ListenFault, listen_fault};
 use crate::system_connections::SystemConnections;
+use crate::teller::Teller;
 use mio::Registry;
 use std::alloc::Global;
 use std::fs::Files;
@@ -40,13 +41,16 @@ impl<'a, R: Files + Net> SystemFolder<'a, R> {
         }
     }
 
-    /// The registry for one more path.
+    /// Who tells of one more path, by the number of this socket.
     ///
     /// # Errors
     /// What the system says to it.
-    fn registry(&self) -> io::Result<Option<Registry>> {
+    fn teller(&self, socket: usize) -> io::Result<Option<Teller>> {
         match &self.registry {
-            Some(registry) => Ok(Some(registry.try_clone()?)),
+            Some(registry) => Ok(Some(Teller {
+                registry: registry.try_clone()?,
+                socket,
+            })),
             None => Ok(None),
         }
     }
@@ -57,11 +61,9 @@ impl<'a, R: Files + Net> Folder<SystemConnections> for SystemFolder<'a, R> {
 
     ghost listenings = { λ _. None };
 
-    fn listen(&mut self, number: u16) -> Result<SystemConnections, ListenFault> {
-        match self.registry() {
-            Ok(registry) => {
-                SystemConnections::listen(self.rt, self.alloc, self.path, number, registry)
-            }
+    fn listen(&mut self, number: u16, socket: usize) -> Result<SystemConnections, ListenFault> {
+        match self.teller(socket) {
+            Ok(teller) => SystemConnections::listen(self.rt, self.alloc, self.path, number, teller),
             Err(error) => Err(listen_fault(error)),
         }
     }

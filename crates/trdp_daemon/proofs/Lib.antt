@@ -20,3 +20,4 @@ pub mod LossLemmas
 pub mod SilenceLemmas
 pub mod TakeRowLemmas
 pub mod MemoryWireLemmas
+pub mod RestingWireLemmas

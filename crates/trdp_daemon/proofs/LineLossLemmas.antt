@@ -33,6 +33,7 @@ use Rattle.trdp_daemon.specs.Effects.{records_telling, records_unless, slots_rec
 use Rattle.trdp_daemon.specs.Effects.{telling_only, then_effect}
 use Rattle.trdp_daemon.specs.Visits.{OpensNoSlot, control_effect, control_event, datagram_effect}
 use Rattle.trdp_daemon.specs.Visits.{operator_answer, operator_effect, operator_event, heard_from}
+use Rattle.trdp_daemon.specs.Visits.{lives_still}
 use Rattle.trdp_daemon.proofs.ServiceLemmas.{operator_not_lost}
 use Rattle.trdp_daemon.proofs.TurnLemmas.{effect_of}
 
@@ -146,7 +147,7 @@ unfolding control_effect control_event
 control_sure s slot from (Err fault) none = refl
 control_sure s slot from (Ok None) none = refl
 control_sure s slot from (Ok (Some event)) none =
-    ap (λ b. if b then telling_only s missing
+    ap (λ b. if b then telling_only (lives_still s slot) missing
     else event_effect (heard_from s slot from) event (TextsLost [])) none
 
 -- a control line is read that carries no bytes

@@ -24,7 +24,7 @@ use Rattle.trdp_daemon.specs.Effects.{event_taken, Effect, may_take_memory, miss
 use Rattle.trdp_daemon.specs.Leases.{is_silent, forgotten, quiet_effect}
 use Rattle.trdp_daemon.specs.Visits.{operator_answer, operator_taken, operator_event}
 use Rattle.trdp_daemon.specs.Visits.{operator_effect, heard_from, control_event}
-use Rattle.trdp_daemon.specs.Visits.{control_effect, datagram_effect, taking_effect}
+use Rattle.trdp_daemon.specs.Visits.{control_effect, datagram_effect, lives_still, taking_effect}
 use Rattle.trdp_daemon.specs.Turns.{Visit, visit_effect, visits_effect, Turn, turn_effect}
 use Rattle.trdp_daemon.specs.Turns.{begun, moment_effect, turns_effect, moment_of, unlost, unlost_visit}
 use Rattle.trdp_daemon.proofs.TurnLemmas.{effect_of}
@@ -106,7 +106,7 @@ control_event_kept : (s : ServiceState) (slot : ℕ) (from : Place) (event : Eve
     → control_event s slot from event loss ≡ control_event s slot from event (TextsLost [])
 unfolding control_event
 control_event_kept s slot from event LineLost none =
-    lost_kept (carries_bytes (Some event)) s
+    lost_kept (carries_bytes (Some event)) (lives_still s slot)
     (event_effect (heard_from s slot from) event (TextsLost [])) none
 control_event_kept s slot from event EventLost none =
     event_kept (heard_from s slot from) event EventLost none

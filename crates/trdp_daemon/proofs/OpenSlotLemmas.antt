@@ -28,6 +28,7 @@ use Rattle.trdp_daemon.specs.Leases.{is_silent, forgotten, quiet_effect}
 use Rattle.trdp_daemon.specs.Turns.{Visit, visit_effect, visits_effect, Turn, turn_effect}
 use Rattle.trdp_daemon.specs.Turns.{begun, moment_effect, moment_of}
 use Rattle.trdp_daemon.specs.Visits.{operator_event, operator_effect, operator_taken, heard_from}
+use Rattle.trdp_daemon.specs.Visits.{lives_still}
 use Rattle.trdp_daemon.specs.Visits.{control_event, control_effect, datagram_effect, taking_effect}
 
 -- the slots that are there stay
@@ -91,7 +92,8 @@ operator_keeps s from totals (Ok (Some (Asks question))) loss = omega arith
 control_event_keeps : (s : ServiceState) (slot : ℕ) (from : Place) (event : EventModel)
     (loss : Loss) → KeepsSlots s (control_event s slot from event loss)
 unfolding control_event
-control_event_keeps s slot from event LineLost = lost_keeps (carries_bytes (Some event)) s
+control_event_keeps s slot from event LineLost =
+    lost_keeps (carries_bytes (Some event)) (lives_still s slot)
     (event_effect (heard_from s slot from) event (TextsLost []))
     (event_keeps (heard_from s slot from) event (TextsLost []))
 control_event_keeps s slot from event EventLost =

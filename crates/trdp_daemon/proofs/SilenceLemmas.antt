@@ -4,7 +4,7 @@
 use Rattle.std.proofs.Common.{◌≡◌, ℕ, zero, suc, ◌+◌, ◌≤◌, Bool, true, false}
 use Rattle.std.proofs.Common.{if◌then◌else◌, List, [], ◌∷◌, Option, Some, None, Result, Ok, Err}
 use Rattle.std.proofs.Common.{refl, sym, ◌∙◌, ap, subst, arith}
-use Rattle.std.specs.Prelude.{◌==◌, ◌&&◌, is_ok, slice_set}
+use Rattle.std.specs.Prelude.{◌==◌, ◌&&◌, is_ok, option_map, slice_set}
 use Rattle.std.proofs.lemmas.Bool.{eq-eqb, eqb-true}
 use Rattle.std.proofs.lemmas.List.{get_or-set_other}
 use Rattle.trdp_base.specs.declared.place.Place.{Place}
@@ -20,7 +20,7 @@ use Rattle.trdp_daemon.specs.declared.totals.Totals.{Totals}
 use Rattle.trdp_daemon.specs.Told.{Arrived, Failed, Nothing, Came}
 use Rattle.trdp_daemon.specs.Effects.{ServiceState, Effect, Loss, LineLost, EventLost, TextsLost}
 use Rattle.trdp_daemon.specs.Effects.{contact_of, event_effect, event_taken, may_take_memory}
-use Rattle.trdp_daemon.specs.Effects.{missing, still, telling_only}
+use Rattle.trdp_daemon.specs.Effects.{missing, read_again, still, telling_only}
 use Rattle.trdp_daemon.specs.Leases.{forgotten, has_run_out, is_silent, quiet_effect}
 use Rattle.trdp_daemon.specs.Silences.{is_line_of, BringsNoLine, BringNoLine, HaveNoLine}
 use Rattle.trdp_daemon.specs.Silences.{is_control_of, runs_out, times_out, times_out_in}
@@ -28,7 +28,7 @@ use Rattle.trdp_daemon.specs.Turns.{Visit, visit_effect, visits_effect, Turn, tu
 use Rattle.trdp_daemon.specs.Turns.{begun, moment_effect, moment_of}
 use Rattle.trdp_daemon.specs.Visits.{operator_event, operator_effect, operator_taken, heard_from}
 use Rattle.trdp_daemon.specs.Visits.{control_event, control_effect, datagram_effect, taking_effect}
-use Rattle.trdp_daemon.specs.Visits.{contact_from}
+use Rattle.trdp_daemon.specs.Visits.{contact_from, lives_still}
 
 -- a slot whose latest line is forgotten has none
 none_there : (contacts : List (Option Contact)) (slot : ℕ)
@@ -53,6 +53,18 @@ none_elsewhere : (contacts : List (Option Contact)) (s slot : ℕ) (contact : Op
 none_elsewhere contacts s slot contact other none =
     get_or-set_other contacts s slot contact None
     (λ same. let is = eq-eqb s slot (sym same) in absurd (cc)) ∙ none
+
+-- nor where that of a slot would have come again
+none_again : (contacts : List (Option Contact)) (s slot reading : ℕ)
+    → contact_of contacts slot ≡ None
+    → contact_of (slice_set contacts s (option_map (read_again reading) (contact_of contacts s)))
+    slot ≡ None
+none_again [] s slot reading none = none
+none_again (contact ∷ contacts) zero zero reading none = rw none refl
+none_again (contact ∷ contacts) zero (suc slot) reading none = none
+none_again (contact ∷ contacts) (suc s) zero reading none = none
+none_again (contact ∷ contacts) (suc s) (suc slot) reading none =
+    none_again contacts s slot reading none
 
 -- an effect after which a slot has no latest line
 abbrev HasNone : ℕ → Effect → Type 0
@@ -99,8 +111,9 @@ control_event_none : (slot : ℕ) (s : ServiceState) (heard : ℕ) (from : Place
     → HasNone slot (control_event s heard from event loss)
 unfolding control_event
 control_event_none slot s heard from event LineLost none after =
-    either_none (carries_bytes (Some event)) slot (telling_only s missing)
-    (event_effect (heard_from s heard from) event (TextsLost [])) none
+    either_none (carries_bytes (Some event)) slot (telling_only (lives_still s heard) missing)
+    (event_effect (heard_from s heard from) event (TextsLost []))
+    (none_again s.contacts heard slot s.reading none)
     (event_none slot (heard_from s heard from) event (TextsLost []) after)
 control_event_none slot s heard from event EventLost none after =
     event_none slot (heard_from s heard from) event EventLost after
@@ -117,7 +130,8 @@ control_none : (slot : ℕ) (s : ServiceState) (heard : ℕ) (from : Place)
     → (heard == slot && is_ok line) ≡ false → contact_of s.contacts slot ≡ None
     → HasNone slot (control_effect s heard from line loss)
 unfolding control_effect
-control_none slot s heard from (Err fault) loss other none = none
+control_none slot s heard from (Err fault) loss other none =
+    none_again s.contacts heard slot s.reading none
 control_none slot s heard from (Ok None) loss other none = none_elsewhere s.contacts heard slot
     (Some (contact_from s from)) (first_false (heard == slot) other) none
 control_none slot s heard from (Ok (Some event)) loss other none =

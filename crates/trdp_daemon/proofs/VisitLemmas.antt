@@ -32,7 +32,7 @@ use Rattle.trdp_daemon.specs.Services.{Comes, ComesWith, TakesOnce, service_stat
 use Rattle.trdp_daemon.specs.Turns.{Visit, visit_effect, take_room}
 use Rattle.trdp_daemon.specs.Visits.{fault_telling, operator_event, operator_effect}
 use Rattle.trdp_daemon.specs.Visits.{question_effect}
-use Rattle.trdp_daemon.specs.Visits.{line_lost_or, control_effect, control_event}
+use Rattle.trdp_daemon.specs.Visits.{line_lost_or, lives_still, control_effect, control_event}
 use Rattle.trdp_daemon.specs.Ports.{place_of_port}
 use Rattle.trdp_daemon.specs.Visits.{datagram_effect, taking_effect, heard_from}
 use Rattle.trdp_daemon.proofs.LinkLemmas.{carries_none, carries_both}
@@ -120,30 +120,35 @@ operator_asked old new from totals meaning question is comes =
 
 -- a line that carries bytes was lost
 line_lost : {W : Type 0} {takings_in : W → Option (List Taking)} {gives_in : W → Option (List Give)}
-    {a b : Link W} (s : Service) (event : EventModel) (effect : Effect)
+    {a b : Link W} (old new : Service) (slot : ℕ) (event : EventModel) (effect : Effect)
+    → service_state new ≡ lives_still (service_state old) slot
     → carries_bytes (Some event) ≡ true → Carries takings_in gives_in a b [] missing
-    → Comes takings_in gives_in s s a b [] (line_lost_or (service_state s) event effect)
-line_lost {W} {takings_in} {gives_in} {a} {b} s event effect carries carried =
-    rw carries (record { service_is = refl; carried = carried })
+    → Comes takings_in gives_in old new a b [] (line_lost_or (service_state old) slot event effect)
+line_lost {W} {takings_in} {gives_in} {a} {b} old new slot event effect lives carries carried =
+    rw carries (record { service_is = lives; carried = carried })
 
 pub control_refused : {W : Type 0} {takings_in : W → Option (List Taking)}
-    {gives_in : W → Option (List Give)} {a b : Link W} (s : Service) (slot : ℕ) (from : Place)
+    {gives_in : W → Option (List Give)} {a b : Link W} (old new : Service) (slot : ℕ) (from : Place)
     (meaning : Result (Option EventModel) LineFault) (fault : LineFault) → Reads meaning (Err fault)
+    → service_state new ≡ lives_still (service_state old) slot
     → Carries takings_in gives_in a b [] (fault_telling (Control slot) from fault)
-    → ComesWith takings_in gives_in s s a b (control_effect (service_state s) slot from meaning)
+    → ComesWith takings_in gives_in old new a b
+    (control_effect (service_state old) slot from meaning)
 unfolding control_effect control_event
-control_refused s slot from (Ok None) fault reads carried = let none = reads.1 in absurd (cc)
-control_refused s slot from (Ok (Some event)) fault reads carried = record {
+control_refused old new slot from (Ok None) fault reads lives carried =
+    let none = reads.1 in absurd (cc)
+control_refused old new slot from (Ok (Some event)) fault reads lives carried = record {
   loss = LineLost;
-  comes = line_lost s event
-      (event_effect (heard_from (service_state s) slot from) event (TextsLost [])) reads.1
+  comes = line_lost old new slot event
+      (event_effect (heard_from (service_state old) slot from) event (TextsLost [])) lives reads.1
       (refused_telling (Control slot) from fault reads.0 carried);
 }
-control_refused {W} {takings_in} {gives_in} {a} {b} s slot from (Err bad) fault reads carried =
+control_refused {W} {takings_in} {gives_in} {a} {b} old new slot from (Err bad) fault reads lives
+    carried =
     record {
       loss = TextsLost [];
       comes = record {
-        service_is = refl;
+        service_is = lives;
         carried = subst (λ (f : LineFault).
             Carries takings_in gives_in a b [] (fault_telling (Control slot) from f)) reads carried;
       };

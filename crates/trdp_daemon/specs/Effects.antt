@@ -63,6 +63,10 @@ port_of MdData = Md
 abbrev pub contact_of : List (Option Contact) → ℕ → Option Contact
 contact_of contacts slot = slice_index_or contacts slot None
 
+-- the latest line of a slot, had it come in the turn of this reading
+abbrev pub read_again : ℕ → Contact → Contact
+read_again reading contact = record contact { reading = reading }
+
 -- the control place of a slot, if it has one: where its latest line came from
 abbrev pub control_place : List (Option Contact) → ℕ → Option Place
 control_place contacts slot = option_map (λ contact. contact.place) (contact_of contacts slot)

@@ -7,11 +7,14 @@ pub mod Links
 pub mod MemoryClocks
 pub mod MemorySockets
 pub mod MemoryWires
+pub mod News
 pub mod Openings
 pub mod Ports
 pub mod Questions
 pub mod Refusals
 pub mod Resting
+pub mod RestingWires
+pub mod RestSteps
 pub mod Rows
 pub mod RunClocks
 pub mod Services

@@ -3,6 +3,7 @@ use Rattle.std.specs.Prelude.{ℕ, zero, suc, ◌-◌, min, List, [], ◌∷◌,
 use Rattle.std.specs.Prelude.{slice_index_or}
 use Rattle.std.specs.Prelude.{Option, Some, None, if◌then◌else◌}
 use Rattle.trdp_daemon.specs.declared.memory_clock.MemoryClock.{MemoryClock}
+use Rattle.trdp_daemon.specs.MemoryWires.{told}
 
 -- the reading of that index, from 0: the list in order, and then its last again and again; 0 of an
 -- empty list
@@ -14,7 +15,11 @@ abbrev pub readings_first : List ℕ → ℕ → List ℕ
 readings_first moments zero = []
 readings_first moments (suc n) = readings_first moments n ++ reading_at moments n ∷ []
 
--- what a clock tells
+-- what a clock tells of its sleeps
+abbrev pub told_sleeps : MemoryClock → Option (List ℕ)
+told_sleeps clock = told clock.tells_sleeps clock.sleeps.items
+
+-- what it tells of its readings
 abbrev pub told_readings : MemoryClock → Option (List ℕ)
 told_readings clock =
     if clock.tells then Some (readings_first clock.moments.items clock.count) else None

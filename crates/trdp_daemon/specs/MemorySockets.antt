@@ -21,7 +21,7 @@ call_of (row.Taken socket room (Some found)) =
 call_of (row.Given socket to bytes) = GivesFrom socket to bytes.items None
 call_of (row.Refused socket to bytes fault) = GivesFrom socket to bytes.items (Some fault)
 call_of (row.Watched socket) = Watches socket None
-call_of (row.Waited millis) = Waits millis
+call_of (row.Waited millis told) = Waits millis told.items
 
 -- the fault of a give for an address, where no way leads to this one
 abbrev pub give_fault : Option Ip → Ip → Option SocketFault

@@ -1,6 +1,6 @@
 -- What a wire over sockets makes of its calls.
-use Rattle.std.specs.Prelude.{◌≡◌, ℕ, ◌-◌, ◌/◌, ◌^◌, nat_lt, List, [], ◌∷◌, length, codes}
-use Rattle.std.specs.Prelude.{Bool, true, false, ◌&&◌, ◌||◌, ◌==◌, if◌then◌else◌}
+use Rattle.std.specs.Prelude.{◌≡◌, ℕ, ◌-◌, ◌^◌, nat_lt, List, [], ◌∷◌, length, codes}
+use Rattle.std.specs.Prelude.{Bool, true, false, ◌&&◌, ◌==◌, if◌then◌else◌}
 use Rattle.std.specs.Prelude.{Option, is_some, Result, is_err}
 use Rattle.std.specs.List.{starts_with}
 use Rattle.trdp_base.specs.declared.place.Place.{Place}
@@ -12,7 +12,7 @@ use Rattle.trdp_daemon.specs.declared.socket_fault.SocketFault.{SocketFault}
 use Rattle.trdp_daemon.specs.Counting.{has_failed}
 use Rattle.trdp_daemon.specs.MemoryWires.{failure_after, one_more_if}
 use Rattle.trdp_daemon.specs.Refusals.{refusal_after}
-use Rattle.trdp_daemon.specs.Sockets.{SocketCall, TakesFrom, GivesFrom, Waits, socket_of}
+use Rattle.trdp_daemon.specs.Sockets.{SocketCall, TakesFrom, GivesFrom, socket_of}
 use Rattle.trdp_daemon.specs.Told.{TellsMore, Arrived, Failed, Nothing, Came, arrived_in}
 
 -- whether what comes to a port is a line
@@ -46,15 +46,15 @@ is_heard Nothing = false
 is_heard (Came from bytes) = true
 
 -- one take was made, at the port's socket and with the whole room, and it answers what is handed in
--- of what arrived there
+-- of what arrived there; whether something was heard
 pub record TakesAtSocket (old new : Option (List SocketCall)) (port : Port) (room : List ℕ)
     (result : Result (Option (Place × ℕ)) WireFault) (failures failures_then : ℕ)
-    (heard heard_then : Bool) : Type 0 where
+    (heard : Bool) : Type 0 where
   pub arrived : Arrived
   pub asked : TellsMore old new (TakesFrom (socket_of port) (length room) arrived ∷ [])
   pub answer : arrived_in result room ≡ handed_in failures port arrived
   pub counted : failures_then ≡ one_more_if (has_failed (arrived_in result room)) failures
-  pub noted : heard_then ≡ heard || is_heard arrived
+  pub noted : heard ≡ is_heard arrived
 
 -- one give was made, from the port's socket, of these bytes to that place, and it answers whether
 -- that was refused, unless the count of failures is at its last value; the latest refusal is then
@@ -67,10 +67,3 @@ pub record GivesAtSocket (old new : Option (List SocketCall)) (port : Port) (to 
   pub answer : is_err result ≡ is_some fault && nat_lt failures (2 ^ 64 - 1)
   pub counted : failures_then ≡ one_more_if (is_err result) failures
   pub kept : refusal_then ≡ refusal_after port to fault refusal
-
--- the waits of a rest of at most so many microseconds: none where something was heard since the
--- rest before, since more may be there; else one of whole milliseconds, which ends some 200
--- microseconds early, as the system comes late; none where no millisecond is left
-unfoldable pub waits_of : Bool → ℕ → List SocketCall
-waits_of heard most =
-    if heard || nat_lt (most - 200) 1000 then [] else Waits ((most - 200) / 1000) ∷ []

@@ -12,13 +12,14 @@ use Rattle.trdp_daemon.specs.Told.{TellsMore, Arrived}
 
 -- one call, with its answer: a socket is bound at a place; with room for so many bytes, what was
 -- taken from it; what was given to it, and the fault if it refused that; a wait ends when a
--- datagram comes there; and a wait, of at most so many milliseconds
+-- datagram comes there; and a wait, of at most so many milliseconds, which tells at which sockets
+-- something came
 pub data SocketCall : Type 0 where
   Binds : (socket : ℕ) (place : Place) (fault : Option BindFault) → SocketCall
   TakesFrom : (socket room : ℕ) (arrived : Arrived) → SocketCall
   GivesFrom : (socket : ℕ) (to : Place) (bytes : List ℕ) (fault : Option SocketFault) → SocketCall
   Watches : (socket : ℕ) (fault : Option BindFault) → SocketCall
-  Waits : (millis : ℕ) → SocketCall
+  Waits : (millis : ℕ) (told : List ℕ) → SocketCall
 
 -- the fault of an answer
 abbrev pub fault_of : {X E : Type 0} → Result X E → Option E
@@ -31,7 +32,7 @@ refused fault (Binds socket place answer) = Binds socket place (Some fault)
 refused fault (TakesFrom socket room arrived) = TakesFrom socket room arrived
 refused fault (GivesFrom socket to bytes answer) = GivesFrom socket to bytes answer
 refused fault (Watches socket answer) = Watches socket (Some fault)
-refused fault (Waits millis) = Waits millis
+refused fault (Waits millis told) = Waits millis told
 
 -- of these calls, which are told as granted, the first ones were made, and then one that was
 -- refused with this fault

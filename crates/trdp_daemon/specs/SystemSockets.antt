@@ -9,10 +9,16 @@ use Rattle.std.specs.Net.Socket.{v4_ip, v4_port}
 use Rattle.std.specs.declared.net.socket_addr.SocketAddr.{SocketAddr}
 use Rattle.std.specs.declared.net.socket_addr.SocketAddr.TheVariants.{V4, V6}
 use Rattle.std.specs.declared.net.socket_addr.SocketAddrV4.{SocketAddrV4}
+use Rattle.mio.specs.Event.{event_token}
+use Rattle.mio.specs.declared.event.event.Event.{Event}
 use Rattle.trdp_base.specs.declared.place.Place.{Place}
 use Rattle.trdp_daemon.specs.declared.bind_fault.BindFault.{BindFault}
 use Rattle.trdp_daemon.specs.declared.bind_fault.BindFault.TheVariants.{Bind, OutOfMemory}
 use Rattle.trdp_daemon.specs.declared.socket_fault.SocketFault.{SocketFault}
+
+-- the number by which a system tells of a source
+abbrev pub number_of : Event → ℕ
+number_of event = (event_token event).0
 
 -- a system's address as a place
 abbrev pub place_at : SocketAddrV4 → Place

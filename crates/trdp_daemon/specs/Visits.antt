@@ -1,6 +1,6 @@
 -- What a datagram at one of the ports gives.
 use Rattle.std.specs.Prelude.{◌≡◌, ℕ, List, [], ◌++◌, length, codes, Bool}
-use Rattle.std.specs.Prelude.{Option, Some, None, Result, Ok, Err, if◌then◌else◌}
+use Rattle.std.specs.Prelude.{Option, Some, None, option_map, Result, Ok, Err, if◌then◌else◌}
 use Rattle.trdp_base.specs.declared.place.Place.{Place}
 use Rattle.trdp_model.specs.declared.fault.NodeFault.{NodeFault}
 use Rattle.trdp_model.specs.declared.record.Protocol.TheVariants.{Pd as PdData, Md as MdData}
@@ -24,7 +24,7 @@ use Rattle.trdp_daemon.specs.Questions.{text_of_question}
 use Rattle.trdp_daemon.specs.Told.{Arrived, Failed, Nothing, Came}
 use Rattle.trdp_daemon.specs.Effects.{Telling, missing, offering, ServiceState, Effect, still}
 use Rattle.trdp_daemon.specs.Effects.{telling_only, then_effect, event_effect, lost_or}
-use Rattle.trdp_daemon.specs.Effects.{with_contact}
+use Rattle.trdp_daemon.specs.Effects.{contact_of, read_again, with_contact}
 use Rattle.trdp_daemon.specs.Effects.{Loss, LineLost, EventLost, TextsLost}
 
 -- the answer to a datagram that is no line
@@ -94,14 +94,20 @@ contact_from service from = record { place = from; reading = service.reading }
 abbrev pub heard_from : ServiceState → ℕ → Place → ServiceState
 heard_from service slot from = with_contact service slot (Some (contact_from service from))
 
+-- a line with a fault, or one that is lost, shows that the slot's application lives, if that had a
+-- line before; it doesn't show where
+abbrev pub lives_still : ServiceState → ℕ → ServiceState
+lives_still service slot = with_contact service slot
+    (option_map (read_again service.reading) (contact_of service.contacts slot))
+
 -- a line is lost where it carries bytes; elsewhere it comes to this effect
-abbrev pub line_lost_or : ServiceState → EventModel → Effect → Effect
-line_lost_or service event effect =
-    if carries_bytes (Some event) then telling_only service missing else effect
+abbrev pub line_lost_or : ServiceState → ℕ → EventModel → Effect → Effect
+line_lost_or service slot event effect = if carries_bytes (Some event)
+    then telling_only (lives_still service slot) missing else effect
 
 -- a call of a slot
 unfoldable pub control_event : ServiceState → ℕ → Place → EventModel → Loss → Effect
-control_event service slot from event LineLost = line_lost_or service event
+control_event service slot from event LineLost = line_lost_or service slot event
     (event_effect (heard_from service slot from) event (TextsLost []))
 control_event service slot from event EventLost =
     event_effect (heard_from service slot from) event EventLost
@@ -112,7 +118,7 @@ control_event service slot from event (TextsLost marks) =
 unfoldable pub control_effect : ServiceState → ℕ → Place → Result (Option EventModel) LineFault
     → Loss → Effect
 control_effect service slot from (Err fault) loss =
-    telling_only service (fault_telling (Control slot) from fault)
+    telling_only (lives_still service slot) (fault_telling (Control slot) from fault)
 control_effect service slot from (Ok None) loss = still (heard_from service slot from)
 control_effect service slot from (Ok (Some event)) loss =
     control_event service slot from event loss

@@ -1,7 +1,7 @@
 //! When a slot was heard, and from where.
 
-ghost use Rattle.std.specs.Prelude.{◌≡◌, slice_set};
-ghost use Rattle.trdp_daemon.specs.Effects.{contact_of};
+ghost use Rattle.std.specs.Prelude.{◌≡◌, option_map, slice_set};
+ghost use Rattle.trdp_daemon.specs.Effects.{contact_of, read_again};
 
 use trdp_base::Place;
 
@@ -10,7 +10,8 @@ use trdp_base::Place;
 pub(crate) struct Contact {
     /// Where the datagram came from that read as the line: the slot's control place.
     pub(crate) place: Place,
-    /// The reading of the clock of the turn that took it, in microseconds.
+    /// The reading of the clock of the turn that took it, or a later one with a fault, in
+    /// microseconds.
     pub(crate) reading: u64,
 }
 
@@ -20,6 +21,16 @@ pub(crate) fn contact_of(contacts: &[Option<Contact>], slot: u16) -> Option<Cont
 {
     match contacts.get(usize::from(slot)) {
         Some(contact) => *contact,
+        None => None,
+    }
+}
+
+/// The latest line of a slot, if it had one, had it come in the turn of this reading.
+pub(crate) fn read_again(contact: Option<Contact>, reading: u64) -> Option<Contact>
+    ensures { result ≡ option_map (read_again reading) contact }
+{
+    match contact {
+        Some(contact) => Some(Contact { reading, ..contact }),
         None => None,
     }
 }

@@ -1,7 +1,8 @@
 //! A lease: how long the application of a slot may be silent.
 
 ghost use Rattle.std.specs.Prelude.{◌≡◌};
-ghost use Rattle.trdp_daemon.specs.Leases.{has_run_out, quiet_effect, silence_effect};
+ghost use Rattle.trdp_daemon.specs.Leases.{has_run_out, is_silent, quiet_effect};
+ghost use Rattle.trdp_daemon.specs.Leases.{silence_effect};
 ghost use Rattle.trdp_daemon.specs.Services.{ComesWith, IsSoundService, service_state};
 
 use crate::contact::{Contact, contact_of};
@@ -26,6 +27,21 @@ impl Service {
         }
     }
 
+    /// Whether the lease has run out for the slot of a port, if that is a control port.
+    pub(crate) fn is_silent_at(&self, port: Port) -> bool {
+        match port {
+            Port::Control(slot) => self.is_silent(slot),
+            Port::Pd | Port::Md | Port::Operator => false,
+        }
+    }
+
+    /// Whether the lease has run out for a slot by the reading of the turn.
+    fn is_silent(&self, slot: u16) -> bool
+        ensures { result ≡ is_silent (service_state self.now) slot }
+    {
+        has_run_out(self.lease, self.reading, contact_of(&self.contacts, slot))
+    }
+
     /// Lets a slot begin anew for which the lease has run out. Its latest line is forgotten before,
     /// so that the lease runs out for it once, and its answer goes to nobody.
     fn end_silence<W: Wire>(&mut self, slot: u16, link: &mut Link<W>)
@@ -35,8 +51,7 @@ impl Service {
         ensures comes { ComesWith W.takings W.gives self.old self.new link.old link.new
             (silence_effect (service_state self.old) slot) }
     {
-        let contact = contact_of(&self.contacts, slot);
-        if has_run_out(self.lease, self.reading, contact) {
+        if self.is_silent(slot) {
             self.note(slot, None);
             let reset = Event::Call {
                 slot,

@@ -20,7 +20,7 @@
 //!
 //! An application may fall silent for ever, killed or hung. A daemon with a lease
 //! ([`Daemon::with_lease`]) lets its slot begin anew once for each such silence, by the clock of
-//! the turns: any line of the slot counts as a sign of life.
+//! the turns: any line at the slot's control port counts as a sign of life, also one with a fault.
 //!
 //! What no contract can say is that memory is there: a daemon that loses every text, each line that
 //! carries bytes, and each event for which memory may be wanting, and counts them in `memory`,
@@ -38,13 +38,14 @@
 //! What the wires make of these is proved for all sockets that tell what was asked of them: which
 //! sockets are bound, where and in which order, and with which fault that ends; that a take and a
 //! give are one call each, at the socket of their port; which datagrams aren't handed in; when a
-//! failure is counted; which refusal is kept; which sockets a wait watches, when a rest waits, and
-//! how long. So is how [`RunClock`] makes numbers of the moments that it is told. What is left to
-//! the system is one function a call in [`SystemSockets`], and the one reading in [`RunClock`]:
-//! that a socket is bound where it is asked for and never waits, that what came is taken whole and
-//! what is given is sent, that a wait ends when a datagram comes, and that the moment is now. The
-//! system tells nothing of it, so a system at which nothing ever comes meets the contracts, as a
-//! network may be so; the tests over loopback try it. [`MemorySockets`] tell, and are for tests.
+//! failure is counted; which refusal is kept; which sockets a wait watches, when a rest waits or
+//! sleeps, and how long; at which ports a wire that rests asks, by what its waits told. So is how
+//! [`RunClock`] makes numbers of the moments that it is told. What is left to the system is one
+//! function a call in [`SystemSockets`] and [`RunClock`]: that a socket is bound where it is asked
+//! for and never waits, that what came is taken whole and what is given is sent, that a wait ends
+//! when a datagram comes and tells of each that did, and that the moment is now. The system tells
+//! nothing of it, so a system at which nothing ever comes meets the contracts, as a network may be
+//! so; the tests over loopback try it. [`MemorySockets`] tell, and are for tests.
 #![tactic(auto)]
 
 mod answer;
@@ -62,12 +63,14 @@ mod lists;
 mod memory_clock;
 mod memory_sockets;
 mod memory_wire;
+mod news;
 mod offers;
 mod opening;
 mod port;
 mod ports;
 mod question;
 mod refusal;
+mod rest_step;
 mod resting_wire;
 mod rows;
 mod run_clock;
@@ -98,6 +101,7 @@ pub use refusal::Refusal;
 pub use resting_wire::RestingWire;
 pub use rows::Rest;
 pub use run_clock::RunClock;
+pub use seats::socket_of;
 pub use socket_fault::SocketFault;
 pub use sockets::Sockets;
 pub use system_sockets::SystemSockets;

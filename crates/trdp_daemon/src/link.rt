@@ -43,22 +43,37 @@ impl<W: Wire> Link<W> {
     }
 
     /// Takes the next datagram at a port, if one is there: it is put at the front of the room, and
-    /// the answer is where it came from and how many bytes it has there. What came is counted.
+    /// the answer is where it came from and how many bytes it has there. What came is counted. Where
+    /// `anew`, the wire looks for one whatever news it has of the port.
     ///
     /// # Errors
     /// `WireFault`, where the wire fails, which is counted.
     pub(crate) fn take(
         &mut self,
         port: Port,
+        anew: bool,
         room: &mut [u8],
     ) -> Result<Option<(Place, usize)>, WireFault>
         ensures within { IfOk result (λ found. IfSome found (λ f. f.1 ≤ length room.new)) }
         ensures takes { Carries W.takings W.gives self.old self.new
             (taking_of port result room.new ∷ []) silence }
     {
+        self.renew(port, anew);
         let taken = self.wire.take(port, room);
         count_take(&mut self.totals, taken);
         taken
+    }
+
+    /// Notes that something may be at a port, if so asked.
+    fn renew(&mut self, port: Port, anew: bool)
+        ensures takes_nothing { W.takings self.new.wire ≡ W.takings self.old.wire }
+        ensures gives_nothing { W.gives self.new.wire ≡ W.gives self.old.wire }
+        ensures totals { self.new.totals ≡ self.old.totals }
+        ensures asked { self.new.asked ≡ self.old.asked }
+    {
+        if anew {
+            self.wire.set_news(port, true);
+        }
     }
 
     /// Offers a datagram to the wire. One at which the wire fails is counted, and lost.

@@ -1,15 +1,15 @@
 //! A clock that reads a list, for tests.
 
-ghost use Rattle.std.specs.Prelude.{◌≡◌, ◌+◌, ◌∷◌, [], min, ◌-◌, ◌^◌, IfOk, true};
-ghost use Rattle.trdp_daemon.specs.MemoryClocks.{reading_at, told_readings};
+ghost use Rattle.std.specs.Prelude.{◌≡◌, ◌+◌, ◌∷◌, [], min, ◌-◌, ◌^◌, IfOk, IfSome, Some, true};
+ghost use Rattle.trdp_daemon.specs.MemoryClocks.{reading_at, told_readings, told_sleeps};
 ghost use Rattle.trdp_daemon.specs.Told.{TellsMore};
 
 use crate::clock::Clock;
 use std::alloc::{AllocError, Global};
 
 /// A clock that reads the numbers of a list in order, and then the last one again and again; of an
-/// empty list it reads 0. It tells its readings, up to 2^64 - 1 of them; after that it tells
-/// nothing.
+/// empty list it reads 0. It tells its readings, up to 2^64 - 1 of them; after that it tells none.
+/// It sleeps not at all, and tells for how long it was asked to, until memory is wanting.
 #[derive(Drop)]
 pub struct MemoryClock {
     /// What it reads, in order.
@@ -18,6 +18,10 @@ pub struct MemoryClock {
     count: u64,
     /// Whether it tells them.
     tells: bool,
+    /// How long it would have slept, in microseconds and in order.
+    sleeps: Vec<u64>,
+    /// Whether it tells these.
+    tells_sleeps: bool,
 }
 
 impl MemoryClock {
@@ -29,24 +33,37 @@ impl MemoryClock {
         ensures moments { IfOk result (λ clock. clock.moments.items ≡ moments.now) }
         ensures count { IfOk result (λ clock. clock.count ≡ 0) }
         ensures tells { IfOk result (λ clock. clock.tells ≡ true) }
+        ensures sleeps { IfOk result (λ clock. told_sleeps clock ≡ Some []) }
     {
         let moments = moments.to_vec(alloc)?;
         Ok(MemoryClock {
             moments,
             count: 0,
             tells: true,
+            sleeps: Vec::new(alloc),
+            tells_sleeps: true,
         })
+    }
+
+    /// How long it would have slept, in microseconds and in order, until memory was wanting.
+    pub fn sleeps(&self) -> &[u64]
+        ensures { IfSome (told_sleeps self.now) (λ sleeps. sleeps ≡ result.now) }
+    {
+        &self.sleeps
     }
 }
 
 impl Clock for MemoryClock {
     ghost readings = { told_readings };
 
+    ghost sleeps = { told_sleeps };
+
     fn now(&mut self) -> u64
         ensures told { TellsMore (told_readings self.old) (told_readings self.new) (result ∷ []) }
         ensures reading { result ≡ reading_at self.old.moments.items self.old.count }
         ensures moments { self.new.moments.items ≡ self.old.moments.items }
         ensures count { self.new.count ≡ min (self.old.count + 1) (2 ^ 64 - 1) }
+        ensures sleeps_nothing { told_sleeps self.new ≡ told_sleeps self.old }
     {
         let reading = reading_at(&self.moments, self.count);
         if self.count < u64::MAX {
@@ -55,6 +72,17 @@ impl Clock for MemoryClock {
             self.tells = false;
         }
         reading
+    }
+
+    fn sleep(&mut self, micros: u64)
+        ensures told { TellsMore (told_sleeps self.old) (told_sleeps self.new) (micros ∷ []) }
+        ensures reads_nothing { told_readings self.new ≡ told_readings self.old }
+        ensures moments { self.new.moments.items ≡ self.old.moments.items }
+        ensures count { self.new.count ≡ self.old.count }
+    {
+        if self.sleeps.push(micros).is_err() {
+            self.tells_sleeps = false;
+        }
     }
 }
 

@@ -8,6 +8,7 @@ ghost use Rattle.trdp_daemon.specs.Told.{TellsMore, arrival_in};
 
 use crate::arrivals::fill;
 use crate::bind_fault::BindFault;
+use crate::news::note_all;
 use crate::socket_fault::{NO_WAY, SocketFault};
 use crate::sockets::Sockets;
 use std::alloc::{AllocError, Global};
@@ -27,8 +28,8 @@ pub enum SocketRow {
     Refused(usize, Place, Vec<u8>, SocketFault),
     /// It was watched.
     Watched(usize),
-    /// A wait, of so many milliseconds.
-    Waited(u64),
+    /// A wait, of so many milliseconds, and the numbers of the sockets of which it told.
+    Waited(u64, Vec<usize>),
 }
 
 /// A datagram that waits at a socket.
@@ -117,6 +118,18 @@ impl MemorySockets {
         Some((arrival.from, len))
     }
 
+    /// The numbers of the sockets at which datagrams wait, for each of these.
+    ///
+    /// # Errors
+    /// Want of memory for them.
+    fn sockets_of_arrivals(&self) -> Result<Vec<usize>, AllocError> {
+        let mut sockets = Vec::new(self.alloc);
+        for arrival in self.arrivals.iter() {
+            sockets.push(arrival.socket)?;
+        }
+        Ok(sockets)
+    }
+
     /// Whether a way leads to an address.
     ///
     /// # Errors
@@ -180,8 +193,15 @@ impl Sockets for MemorySockets {
         Ok(())
     }
 
-    fn wait(&mut self, millis: u64) {
-        self.note(Ok(SocketRow::Waited(millis)));
+    /// Tells of each datagram that waits.
+    fn wait(&mut self, millis: u64, news: &mut [bool]) {
+        match self.sockets_of_arrivals() {
+            Ok(told) => {
+                note_all(news, &told);
+                self.note(Ok(SocketRow::Waited(millis, told)));
+            }
+            Err(_) => self.tells = false,
+        }
     }
 }
 

@@ -220,7 +220,7 @@ impl MemoryWire {
 
 impl Wire for MemoryWire {
     ghost use Rattle.std.specs.Prelude.{◌≡◌, ◌<◌, ◌≤◌, ◌+◌, ◌∷◌, [], length, IfOk, IfSome, OnErr};
-    ghost use Rattle.std.specs.Prelude.{is_err};
+    ghost use Rattle.std.specs.Prelude.{is_err, true};
     ghost use Rattle.trdp_daemon.specs.MemoryWires.{after_give, after_take, next_arrival};
     ghost use Rattle.trdp_daemon.specs.MemoryWires.{next_give_fails, room_after, told};
     ghost use Rattle.trdp_daemon.specs.MemoryWires.{after_rest, rest_of};
@@ -231,6 +231,8 @@ impl Wire for MemoryWire {
     ghost gives = { λ w. told w.tells w.gives };
 
     ghost faults = { λ w. w.failures };
+
+    ghost news = { λ _ _. true };
 
     fn take(&mut self, port: Port, room: &mut [u8]) -> Result<Option<(Place, usize)>, WireFault>
         ensures within { IfOk result (λ found. IfSome found (λ f. f.1 ≤ length room.new)) }
@@ -305,6 +307,10 @@ impl Wire for MemoryWire {
         if self.rested.len() < self.rested.capacity() {
             push_rest(&mut self.rested, Rest { takes, most });
         }
+    }
+
+    fn has_news(&self, _port: Port) -> bool {
+        true
     }
 
     fn failures(&self) -> u64 {

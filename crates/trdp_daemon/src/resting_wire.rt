@@ -1,44 +1,71 @@
 //! The UDP ports of a node, for a daemon that rests.
 
-ghost use Rattle.std.specs.Prelude.{◌≡◌, ◌<◌, ◌≤◌, ◌-◌, ◌/◌, ◌++◌, length, None, Some, IfOk, IfErr};
-ghost use Rattle.std.specs.Prelude.{IfSome, OnErr, false};
+ghost use Rattle.std.specs.Prelude.{◌≡◌, ◌<◌, ◌≤◌, ◌++◌, length, map, None, Some, IfOk, IfErr};
+ghost use Rattle.std.specs.Prelude.{IfSome, OnErr, false, true, slice_set};
+ghost use Rattle.trdp_daemon.specs.News.{WaitsIf, has_news};
+ghost use Rattle.trdp_daemon.specs.RestSteps.{PausesSo, left_after, step_of, wait_in};
+ghost use Rattle.trdp_daemon.specs.RestSteps.{Breathes, is_breathless};
+ghost use Rattle.trdp_daemon.specs.RestingWires.{TakesIfNews};
 ghost use Rattle.trdp_daemon.specs.Sockets.{MadeInTurn, binds_of, watches_of};
-ghost use Rattle.trdp_daemon.specs.Sockets.{network_binds_of, network_watches};
-ghost use Rattle.trdp_daemon.specs.SocketWires.{GivesAtSocket, TakesAtSocket, waits_of};
-ghost use Rattle.trdp_daemon.specs.Told.{TellsMore};
+ghost use Rattle.trdp_daemon.specs.Sockets.{network_binds_of, network_watches, socket_of};
+ghost use Rattle.trdp_daemon.specs.SocketWires.{GivesAtSocket};
 
 use crate::bind_fault::BindFault;
+use crate::clock::Clock;
 use crate::fault::WireFault;
+use crate::news::{has_news, set_news};
 use crate::opening::{bind_and_watch_network, bind_and_watch_ports};
 use crate::port::Port;
 use crate::refusal::Refusal;
+use crate::rest_step::{RestStep, TURNS_BETWEEN};
+use crate::run_clock::RunClock;
+use crate::seats::socket_of;
 use crate::sockets::Sockets;
-use crate::system_sockets::SystemSockets;
+use crate::system_sockets::{SOCKETS_MAX, SystemSockets};
 use crate::udp_wire::UdpWire;
 use crate::wire::Wire;
 use mio::Registry;
 use std::alloc::Global;
-use std::io;
 use std::net::Net;
+use std::{io, time};
 use trdp_base::Place;
 use trdp_dataset::NodeConfig;
 
-/// How much earlier than asked a rest ends, in microseconds: the system comes late.
-const WAKE_TIME: u64 = 200;
+/// How many microseconds there may be without a rest: a quarter of what the unit's limit lets a
+/// process of a real-time policy run without one.
+const BREATHLESS: u64 = 50_000;
 
-/// How many microseconds the system counts its waits by.
-const WAIT_STEP: u64 = 1_000;
+/// How many microseconds a sleep has that begins such a limit anew.
+const BREATH: u64 = 50;
 
-/// The UDP ports of a node, which wait in a rest alone: until a datagram comes at one of them, by
-/// whole milliseconds, and some 200 microseconds less than asked. It tells no takes and gives; what
-/// it makes of the calls of its sockets its contracts say.
+/// The UDP ports of a node, which wait in a rest alone: until something comes at one of them, by
+/// whole milliseconds, and asleep in the last one. It tells no takes and gives; what it makes of
+/// the calls of its sockets its contracts say.
+///
+/// It asks the system only at ports of which there are news. No arrival is missed by that. The
+/// system is asked to tell of each arrival (the edge of epoll) before the first take, when there
+/// are news of each port. They end at a take that found nothing. What arrives before that take is
+/// found by it; what arrives behind it is an edge, which the next wait tells, whether it had begun
+/// before or not; and what the system tells twice is taken once. A wait comes in each rest that
+/// isn't cut short, and in each sixteenth turn that has none.
 #[derive(Drop)]
-pub struct RestingWire<S> {
+pub struct RestingWire<S, C> {
     /// The ports.
-    wire: UdpWire<S>,
+    pub(crate) wire: UdpWire<S>,
+    /// What it sleeps by.
+    pub(crate) clock: C,
+    /// For the number of each socket, whether something may be there.
+    pub(crate) news: [bool; SOCKETS_MAX],
+    /// Whether something came or failed at a take since the latest rest.
+    pub(crate) heard: bool,
+    /// How many turns without a rest are left before the system is asked for news.
+    pub(crate) left: u32,
+    /// The reading of the clock when news were asked for the first time without a rest; None where
+    /// none were since the latest rest.
+    pub(crate) busy: Option<u64>,
 }
 
-impl<'a, R: Net> RestingWire<SystemSockets<'a, R>> {
+impl<'a, R: Net + time::Clock> RestingWire<SystemSockets<'a, R>, RunClock<'a, R>> {
     /// Binds the system's sockets at the ports that a configuration names, as [`UdpWire::bind`]
     /// does, and then takes what their waits need, so that no wait takes memory.
     ///
@@ -49,11 +76,11 @@ impl<'a, R: Net> RestingWire<SystemSockets<'a, R>> {
         rt: &'a R,
         alloc: Global,
         config: &NodeConfig,
-    ) -> Result<RestingWire<SystemSockets<'a, R>>, BindFault>
+    ) -> Result<RestingWire<SystemSockets<'a, R>, RunClock<'a, R>>, BindFault>
         ensures failures { IfOk result (λ wire. wire.wire.failures ≡ 0) }
         ensures refusal { IfOk result (λ wire. wire.wire.refusal ≡ None) }
     {
-        match RestingWire::open(alloc, SystemSockets::new(rt), config) {
+        match RestingWire::open(alloc, SystemSockets::new(rt), RunClock::new(rt), config) {
             Ok(wire) => Ok(wire),
             Err((fault, _)) => Err(fault),
         }
@@ -68,17 +95,18 @@ impl<'a, R: Net> RestingWire<SystemSockets<'a, R>> {
         rt: &'a R,
         alloc: Global,
         config: &NodeConfig,
-    ) -> Result<RestingWire<SystemSockets<'a, R>>, BindFault>
+    ) -> Result<RestingWire<SystemSockets<'a, R>, RunClock<'a, R>>, BindFault>
         ensures failures { IfOk result (λ wire. wire.wire.failures ≡ 0) }
         ensures refusal { IfOk result (λ wire. wire.wire.refusal ≡ None) }
     {
-        match RestingWire::open_network(alloc, SystemSockets::new(rt), config) {
+        match RestingWire::open_network(alloc, SystemSockets::new(rt), RunClock::new(rt), config) {
             Ok(wire) => Ok(wire),
             Err((fault, _)) => Err(fault),
         }
     }
 
-    /// Where the system is asked to end a rest for something else too; None where it never waits.
+    /// Where the system is asked to tell of something else too, by the number of the socket of its
+    /// port (`socket_of`); None where it never waits.
     ///
     /// # Errors
     /// What the system says to it.
@@ -87,7 +115,13 @@ impl<'a, R: Net> RestingWire<SystemSockets<'a, R>> {
     }
 }
 
-impl<S: Sockets> RestingWire<S> {
+impl<S: Sockets, C: Clock + Drop> RestingWire<S, C> {
+    ghost use Rattle.trdp_daemon.specs.RestSteps.{Breathes, PausesSo};
+    ghost use Rattle.std.specs.Prelude.{◌≡◌, ◌++◌, IfOk, IfErr, None, Some};
+    ghost use Rattle.trdp_daemon.specs.Sockets.{MadeInTurn, binds_of, watches_of};
+    ghost use Rattle.trdp_daemon.specs.Sockets.{network_binds_of, network_watches};
+    ghost use Rattle.trdp_daemon.specs.RestingWires.{IsFresh};
+
     /// Binds sockets at the ports that a configuration names, as [`UdpWire::open`] does, and then
     /// has waits end when a datagram comes at one of them.
     ///
@@ -96,22 +130,19 @@ impl<S: Sockets> RestingWire<S> {
     pub fn open(
         alloc: Global,
         mut sockets: S,
+        clock: C,
         config: &NodeConfig,
-    ) -> Result<RestingWire<S>, (BindFault, S)>
+    ) -> Result<RestingWire<S, C>, (BindFault, S)>
         ensures bound { IfOk result (λ wire. MadeInTurn
             (binds_of config.now ++ watches_of config.now) None
             (S.calls sockets) (S.calls wire.wire.sockets)) }
         ensures refused { IfErr result (λ back. MadeInTurn
             (binds_of config.now ++ watches_of config.now) (Some back.0)
             (S.calls sockets) (S.calls back.1)) }
-        ensures failures { IfOk result (λ wire. wire.wire.failures ≡ 0) }
-        ensures heard { IfOk result (λ wire. wire.wire.heard ≡ false) }
-        ensures refusal { IfOk result (λ wire. wire.wire.refusal ≡ None) }
+        ensures fresh { IfOk result (λ wire. IsFresh clock wire) }
     {
         match bind_and_watch_ports(&mut sockets, alloc, config) {
-            Ok(()) => Ok(RestingWire {
-                wire: UdpWire::over(sockets),
-            }),
+            Ok(()) => Ok(RestingWire::over(sockets, clock)),
             Err(fault) => Err((fault, sockets)),
         }
     }
@@ -124,23 +155,36 @@ impl<S: Sockets> RestingWire<S> {
     pub fn open_network(
         alloc: Global,
         mut sockets: S,
+        clock: C,
         config: &NodeConfig,
-    ) -> Result<RestingWire<S>, (BindFault, S)>
+    ) -> Result<RestingWire<S, C>, (BindFault, S)>
         ensures bound { IfOk result (λ wire. MadeInTurn
             (network_binds_of config.now ++ network_watches) None
             (S.calls sockets) (S.calls wire.wire.sockets)) }
         ensures refused { IfErr result (λ back. MadeInTurn
             (network_binds_of config.now ++ network_watches) (Some back.0)
             (S.calls sockets) (S.calls back.1)) }
-        ensures failures { IfOk result (λ wire. wire.wire.failures ≡ 0) }
-        ensures heard { IfOk result (λ wire. wire.wire.heard ≡ false) }
-        ensures refusal { IfOk result (λ wire. wire.wire.refusal ≡ None) }
+        ensures fresh { IfOk result (λ wire. IsFresh clock wire) }
     {
         match bind_and_watch_network(&mut sockets, alloc, config) {
-            Ok(()) => Ok(RestingWire {
-                wire: UdpWire::over(sockets),
-            }),
+            Ok(()) => Ok(RestingWire::over(sockets, clock)),
             Err(fault) => Err((fault, sockets)),
+        }
+    }
+
+    /// A wire over sockets that are bound and watched, before its first take: something may be at
+    /// each.
+    fn over(sockets: S, clock: C) -> RestingWire<S, C>
+        ensures sockets { result.wire.sockets ≡ sockets }
+        ensures fresh { IsFresh clock result }
+    {
+        RestingWire {
+            wire: UdpWire::over(sockets),
+            clock,
+            news: [true; SOCKETS_MAX],
+            heard: false,
+            left: TURNS_BETWEEN,
+            busy: None,
         }
     }
 
@@ -150,25 +194,80 @@ impl<S: Sockets> RestingWire<S> {
     {
         self.wire.sockets()
     }
+
+    /// What it sleeps by.
+    pub fn clock(&self) -> &C
+        ensures { result.now ≡ self.now.clock }
+    {
+        &self.clock
+    }
+
+    /// Makes the pause of a step.
+    fn pause(&mut self, step: RestStep)
+        ensures pauses { PausesSo step (C.readings self.old.clock) (C.readings self.new.clock)
+            (C.sleeps self.old.clock) (C.sleeps self.new.clock) self.old.busy self.new.busy }
+        ensures wire { self.new.wire ≡ self.old.wire }
+        ensures news { self.new.news ≡ self.old.news }
+        ensures heard { self.new.heard ≡ self.old.heard }
+        ensures left { self.new.left ≡ self.old.left }
+    {
+        match step {
+            RestStep::GoOn => {}
+            RestStep::Look => self.breathe(),
+            RestStep::Sleep(micros) => {
+                self.clock.sleep(micros);
+                self.busy = None;
+            }
+            RestStep::Wait(_) => self.busy = None,
+        }
+    }
+
+    /// Sleeps for a moment where there was no rest for long, so that a flood neither has the system
+    /// end the daemon nor leaves nothing of its processor to others.
+    fn breathe(&mut self)
+        ensures breathes { Breathes (C.readings self.old.clock) (C.readings self.new.clock)
+            (C.sleeps self.old.clock) (C.sleeps self.new.clock) self.old.busy self.new.busy }
+        ensures wire { self.new.wire ≡ self.old.wire }
+        ensures news { self.new.news ≡ self.old.news }
+        ensures heard { self.new.heard ≡ self.old.heard }
+        ensures left { self.new.left ≡ self.old.left }
+    {
+        let reading = self.clock.now();
+        if is_breathless(self.busy, reading) {
+            self.clock.sleep(BREATH);
+            self.busy = None;
+        } else if self.busy.is_none() {
+            self.busy = Some(reading);
+        }
+    }
 }
 
-impl<S: Sockets> Wire for RestingWire<S> {
+impl<S: Sockets, C: Clock + Drop> Wire for RestingWire<S, C> {
     ghost takings = { λ _. None };
 
     ghost gives = { λ _. None };
 
     ghost faults = { λ wire. wire.wire.failures };
 
+    ghost news = { λ wire port. has_news wire.news (socket_of port) };
+
     fn take(&mut self, port: Port, room: &mut [u8]) -> Result<Option<(Place, usize)>, WireFault>
         ensures within { IfOk result (λ found. IfSome found (λ f. f.1 ≤ length room.new)) }
         ensures fault { OnErr result (self.old.wire.failures < self.new.wire.failures) }
-        ensures takes { TakesAtSocket (S.calls self.old.wire.sockets)
-            (S.calls self.new.wire.sockets) port room.new result
-            self.old.wire.failures self.new.wire.failures
-            self.old.wire.heard self.new.wire.heard }
+        ensures takes { TakesIfNews (has_news self.old.news (socket_of port)) S.calls
+            self.old self.new port room.new result }
         ensures refusal { self.new.wire.refusal ≡ self.old.wire.refusal }
     {
-        self.wire.take(port, room)
+        if !self.has_news(port) {
+            return Ok(None);
+        }
+        let (found, heard) = self.wire.ask(port, room);
+        if heard {
+            self.heard = true;
+        } else {
+            self.set_news(port, false);
+        }
+        found
     }
 
     fn give(&mut self, port: Port, to: Place, bytes: &[u8]) -> Result<(), WireFault>
@@ -177,27 +276,49 @@ impl<S: Sockets> Wire for RestingWire<S> {
             (S.calls self.new.wire.sockets) port to bytes.now result
             self.old.wire.failures self.new.wire.failures
             self.old.wire.refusal self.new.wire.refusal }
-        ensures heard { self.new.wire.heard ≡ self.old.wire.heard }
+        ensures heard { self.new.heard ≡ self.old.heard }
+        ensures news { self.new.news ≡ self.old.news }
     {
         self.wire.give(port, to, bytes)
     }
 
     fn rest(&mut self, most: u64)
         ensures fault { self.new.wire.failures ≡ self.old.wire.failures }
-        ensures waits { TellsMore (S.calls self.old.wire.sockets) (S.calls self.new.wire.sockets)
-            (waits_of self.old.wire.heard most) }
-        ensures forgotten { self.new.wire.heard ≡ false }
+        ensures waits { WaitsIf (wait_in (step_of self.old.heard most self.old.left))
+            (S.calls self.old.wire.sockets) (S.calls self.new.wire.sockets)
+            self.old.news self.new.news }
+        ensures pauses { PausesSo (step_of self.old.heard most self.old.left)
+            (C.readings self.old.clock) (C.readings self.new.clock)
+            (C.sleeps self.old.clock) (C.sleeps self.new.clock) self.old.busy self.new.busy }
+        ensures left { self.new.left
+            ≡ left_after (step_of self.old.heard most self.old.left) self.old.left }
+        ensures forgotten { self.new.heard ≡ false }
         ensures refusal { self.new.wire.refusal ≡ self.old.wire.refusal }
     {
-        // The system tells what comes, and not what is there: a wait begins only where each port
-        // had nothing since the rest before.
-        if self.wire.has_heard() {
-            return;
+        let step = RestStep::of(self.heard, most, self.left);
+        self.heard = false;
+        self.left = step.left_after(self.left);
+        self.pause(step);
+        if let Some(millis) = step.wait() {
+            self.wire.sockets.wait(millis, &mut self.news);
         }
-        let millis = wait_of(most);
-        if millis > 0 {
-            self.wire.sockets.wait(millis);
-        }
+    }
+
+    fn has_news(&self, port: Port) -> bool
+        ensures { result ≡ has_news self.now.news (socket_of port) }
+    {
+        has_news(&self.news, socket_of(port))
+    }
+
+    fn set_news(&mut self, port: Port, may_be: bool)
+        ensures news { self.new.news ≡ slice_set self.old.news (socket_of port) may_be }
+        ensures wire { self.new.wire ≡ self.old.wire }
+        ensures clock { self.new.clock ≡ self.old.clock }
+        ensures heard { self.new.heard ≡ self.old.heard }
+        ensures left { self.new.left ≡ self.old.left }
+        ensures busy { self.new.busy ≡ self.old.busy }
+    {
+        set_news(&mut self.news, socket_of(port), may_be);
     }
 
     fn failures(&self) -> u64 {
@@ -211,9 +332,13 @@ impl<S: Sockets> Wire for RestingWire<S> {
     }
 }
 
-/// How many milliseconds a rest of at most so many microseconds waits.
-fn wait_of(most: u64) -> u64
-    ensures { result ≡ (most - 200) / 1000 }
+/// Whether there was no rest for long up to this reading of the clock.
+#[tactic(auto, unfolding(crate::specs::RestSteps::is_breathless))]
+fn is_breathless(busy: Option<u64>, reading: u64) -> bool
+    ensures { result ≡ is_breathless busy reading }
 {
-    most.saturating_sub(WAKE_TIME) / WAIT_STEP
+    match busy {
+        Some(since) => BREATHLESS <= reading.saturating_sub(since),
+        None => false,
+    }
 }

@@ -5,11 +5,11 @@ ghost use Rattle.std.specs.declared.time.Instant.{Instant};
 ghost use Rattle.trdp_daemon.specs.RunClocks.{Reads, micros_between};
 
 use crate::clock::Clock;
-use std::time;
-use std::time::Instant;
+use std::time::{Duration, Instant};
+use std::{thread, time};
 
 /// The microseconds since the first moment that the system's clock told. Where that clock fails it
-/// repeats its last number, at first 0. It tells no readings.
+/// repeats its last number, at first 0. It tells no readings and no sleeps.
 #[derive(Drop)]
 pub struct RunClock<'a, R: time::Clock> {
     /// The system, which has the clock.
@@ -44,6 +44,8 @@ impl<'a, R: time::Clock> RunClock<'a, R> {
 impl<'a, R: time::Clock> Clock for RunClock<'a, R> {
     ghost readings = { λ _. None };
 
+    ghost sleeps = { λ _. None };
+
     fn now(&mut self) -> u64
         ensures told { (moment : Option Instant)
             × Reads self.old.count self.new.count moment result }
@@ -52,6 +54,12 @@ impl<'a, R: time::Clock> Clock for RunClock<'a, R> {
             Ok(moment) => self.count.read(Some(moment)),
             Err(_) => self.count.read(None),
         }
+    }
+
+    fn sleep(&mut self, micros: u64)
+        ensures { self.new.count ≡ self.old.count }
+    {
+        thread::sleep(self.rt, Duration::from_micros(micros));
     }
 }
 

@@ -9,8 +9,9 @@ use crate::ports::control_number;
 use trdp_base::Place;
 use trdp_dataset::NodeConfig;
 
-/// The number of a port's socket: those of control ports stand behind the three others.
-pub(crate) fn socket_of(port: Port) -> usize
+/// The number of a port's socket, by which news are told of it too: those of control ports stand
+/// behind the three others.
+pub fn socket_of(port: Port) -> usize
     ensures { result ≡ socket_of port }
 {
     match port {

@@ -16,10 +16,10 @@ ghost use Rattle.trdp_daemon.specs.Services.{TakesAtPorts, service_state};
 ghost use Rattle.trdp_daemon.specs.Questions.{answer_room, text_of_question};
 ghost use Rattle.trdp_daemon.specs.Turns.{begun, opened_service, take_room};
 ghost use Rattle.trdp_daemon.specs.Visits.{control_effect, heard_from, operator_effect};
-ghost use Rattle.trdp_daemon.specs.Visits.{datagram_effect, question_effect};
+ghost use Rattle.trdp_daemon.specs.Visits.{datagram_effect, lives_still, question_effect};
 
 use crate::answer::{operator_text, refuse};
-use crate::contact::{Contact, set_contact};
+use crate::contact::{Contact, contact_of, read_again, set_contact};
 use crate::home::{Home, home_of};
 use crate::link::Link;
 use crate::lists::Lists;
@@ -128,7 +128,10 @@ impl Service {
         if !is_there {
             return;
         }
-        match link.take(port, room) {
+        // Where nothing there would end an application's objects, the wire has to look: the daemon
+        // itself may have been stopped since it was told of news.
+        let anew = self.is_silent_at(port);
+        match link.take(port, anew, room) {
             Ok(Some((from, len))) => {
                 let (bytes, _) = room.split_at(len);
                 self.take_datagram(buffer, port, from, bytes, link);
@@ -252,7 +255,10 @@ impl Service {
                 let _ = self.take_event(&event, link);
             }
             Ok(None) => self.hear(slot, from),
-            Err(fault) => refuse(Port::Control(slot), from, fault, link),
+            Err(fault) => {
+                self.hear_again(slot);
+                refuse(Port::Control(slot), from, fault, link);
+            }
         }
     }
 
@@ -347,6 +353,18 @@ impl Service {
             reading: self.reading,
         };
         self.note(slot, Some(contact));
+    }
+
+    /// Notes that the application of a slot lives, if it had a line before, by a line with a fault
+    /// in this turn: where it is stays as it was.
+    fn hear_again(&mut self, slot: u16)
+        requires sound { IsSoundService self.old }
+        ensures sound { IsSoundService self.new }
+        ensures node { self.new.node ≡ self.old.node }
+        ensures heard { service_state self.new ≡ lives_still (service_state self.old) slot }
+    {
+        let contact = contact_of(&self.contacts, slot);
+        self.note(slot, read_again(contact, self.reading));
     }
 
     /// Notes the latest line of a slot, or that it had none, if there is such a slot.

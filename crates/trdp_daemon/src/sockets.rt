@@ -1,7 +1,8 @@
 //! What a wire takes datagrams from and gives them to.
 
 ghost use Rattle.std.specs.Prelude.{[], ◌∷◌, ◌≤◌, length, IfOk, IfSome};
-ghost use Rattle.trdp_daemon.specs.Sockets.{Binds, TakesFrom, GivesFrom, Watches, Waits, fault_of};
+ghost use Rattle.trdp_daemon.specs.News.{WaitsForNews};
+ghost use Rattle.trdp_daemon.specs.Sockets.{Binds, TakesFrom, GivesFrom, Watches, fault_of};
 ghost use Rattle.trdp_daemon.specs.Told.{TellsMore, arrived_in};
 
 use crate::bind_fault::BindFault;
@@ -56,8 +57,9 @@ pub trait Sockets {
         ensures { TellsMore (calls self.old) (calls self.new)
             (Watches socket (fault_of result) ∷ []) };
 
-    /// Waits until a datagram comes at one of the sockets that are watched, at most so many
-    /// milliseconds.
-    fn wait(&mut self, millis: u64)
-        ensures { TellsMore (calls self.old) (calls self.new) (Waits millis ∷ []) };
+    /// Waits until something comes at one of the sockets that are watched, or came there since it
+    /// was told the last time, at most so many milliseconds; and tells where, by the places of
+    /// their numbers among the news.
+    fn wait(&mut self, millis: u64, news: &mut [bool])
+        ensures { WaitsForNews millis (calls self.old) (calls self.new) news.old news.new };
 }

@@ -3,13 +3,16 @@
 //! What the system does at a call no contract can say: each call here is one of its own, with no
 //! more than what names its arguments and its answer. They are tested over loopback.
 
-ghost use Rattle.std.specs.Prelude.{◌≡◌, ◌*◌};
+ghost use Rattle.std.specs.Prelude.{◌≡◌, ◌*◌, ℕ, List, map};
 ghost use Rattle.std.specs.IoError.{error_kind, raw_os_error};
 ghost use Rattle.std.specs.Duration.{as_nanos};
+ghost use Rattle.mio.specs.Events.{items};
+ghost use Rattle.trdp_daemon.specs.News.{with_news};
 ghost use Rattle.trdp_daemon.specs.SystemSockets.{fault_of_kind, place_at, received_of, sent_of};
-ghost use Rattle.trdp_daemon.specs.SystemSockets.{socket_fault};
+ghost use Rattle.trdp_daemon.specs.SystemSockets.{number_of, socket_fault};
 
 use crate::bind_fault::BindFault;
+use crate::news::set_news;
 use crate::socket_fault::SocketFault;
 use crate::sockets::Sockets;
 use mio::unix::SourceFd;
@@ -22,10 +25,11 @@ use std::{array, io};
 use trdp_base::{Ip, Place};
 
 /// The most sockets of a node: three, and the control ports of 16 slots and 15 spare ones.
-const SOCKETS_MAX: usize = 34;
+pub(crate) const SOCKETS_MAX: usize = 34;
 
-/// How many sockets the system tells of at one wait. One is enough to end it.
-const EVENTS: usize = 4;
+/// How many sources the system tells of at one wait. It is more than a node has, so that one wait
+/// tells of all that came before it: its sockets, or two of these, 32 paths and what is open there.
+const EVENTS: usize = 256;
 
 /// The UDP sockets of the system. They tell nothing.
 #[derive(Drop)]
@@ -108,22 +112,21 @@ impl<'a, R: Net> Sockets for SystemSockets<'a, R> {
     }
 
     fn watch(&mut self, alloc: Global, socket: usize) -> Result<(), BindFault> {
-        let Some(Some(socket)) = self.sockets.get(socket) else {
+        let Some(Some(bound)) = self.sockets.get(socket) else {
             return Err(BindFault::Bind);
         };
         if self.waits.is_none() {
             self.waits = Some(Waits::new(self.rt, alloc)?);
         }
         match &self.waits {
-            Some(waits) => waits.watch(socket),
+            Some(waits) => waits.watch(socket, bound),
             None => Err(BindFault::Bind),
         }
     }
 
-    fn wait(&mut self, millis: u64) {
+    fn wait(&mut self, millis: u64, news: &mut [bool]) {
         if let Some(waits) = &mut self.waits {
-            // Where the system refuses a wait, there is none.
-            let _ = waits.poll.poll(&mut waits.events, Some(time_of(millis)));
+            waits.wait(millis, news);
         }
     }
 }
@@ -143,18 +146,37 @@ impl Waits {
         }
     }
 
-    /// Has the system tell when a datagram comes at a socket.
+    /// Has the system tell when a datagram comes at the socket of that number.
     ///
     /// # Errors
     /// `OutOfMemory` where the system has no memory for it, and else `Bind`.
-    fn watch(&self, socket: &UdpSocket) -> Result<(), BindFault> {
+    fn watch(&self, number: usize, socket: &UdpSocket) -> Result<(), BindFault> {
         let mut source = SourceFd(&socket.as_raw_fd());
-        // The token is of no use: a turn takes at each port.
         let registry = self.poll.registry();
-        match registry.register(&mut source, Token(0), Interest::READABLE) {
+        match registry.register(&mut source, Token(number), Interest::READABLE) {
             Ok(()) => Ok(()),
             Err(error) => Err(bind_fault(error)),
         }
+    }
+
+    /// Waits for at most so many milliseconds, and notes of which numbers the system tells. It does
+    /// so once for each arrival that comes after the one it told of before, whether that was taken
+    /// or not.
+    fn wait(&mut self, millis: u64, news: &mut [bool])
+        ensures { (told : List ℕ) × (news.new ≡ with_news told news.old) }
+    {
+        // Where the system refuses a wait, there is none.
+        let _ = self.poll.poll(&mut self.events, Some(time_of(millis)));
+        note_events(news, &self.events);
+    }
+}
+
+/// Notes that there are news of the numbers of these events.
+fn note_events(news: &mut [bool], events: &Events<Global>)
+    ensures { news.new ≡ with_news (map number_of (items events.now)) news.old }
+{
+    for event in events.iter() {
+        set_news(news, event.token().0, true);
     }
 }
 

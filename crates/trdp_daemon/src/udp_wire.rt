@@ -1,7 +1,7 @@
 //! The UDP ports of a node.
 
 ghost use Rattle.std.specs.Prelude.{◌≡◌, ◌<◌, ◌≤◌, ◌∷◌, [], length, None, Some};
-ghost use Rattle.std.specs.Prelude.{IfOk, IfErr, IfSome, OnErr, false};
+ghost use Rattle.std.specs.Prelude.{IfOk, IfErr, IfSome, OnErr, Bool, true};
 ghost use Rattle.trdp_daemon.specs.Sockets.{MadeInTurn, binds_of, network_binds_of};
 ghost use Rattle.trdp_daemon.specs.SocketWires.{GivesAtSocket, TakesAtSocket, begins_as_answer};
 ghost use Rattle.trdp_daemon.specs.SocketWires.{is_answer};
@@ -34,8 +34,6 @@ pub struct UdpWire<S> {
     pub(crate) sockets: S,
     /// How often a take or a give failed, at most 2^64 - 1.
     pub(crate) failures: u64,
-    /// Whether something came or failed at a take since this was asked the last time.
-    pub(crate) heard: bool,
     /// The latest give that was refused; None before the first.
     pub(crate) refusal: Option<Refusal>,
 }
@@ -91,7 +89,6 @@ impl<S: Sockets> UdpWire<S> {
         ensures refused { IfErr result (λ back. MadeInTurn (binds_of config.now) (Some back.0)
             (S.calls sockets) (S.calls back.1)) }
         ensures failures { IfOk result (λ wire. wire.failures ≡ 0) }
-        ensures heard { IfOk result (λ wire. wire.heard ≡ false) }
         ensures refusal { IfOk result (λ wire. wire.refusal ≡ None) }
     {
         match bind_ports(&mut sockets, config) {
@@ -111,7 +108,6 @@ impl<S: Sockets> UdpWire<S> {
         ensures refused { IfErr result (λ back. MadeInTurn (network_binds_of config.now)
             (Some back.0) (S.calls sockets) (S.calls back.1)) }
         ensures failures { IfOk result (λ wire. wire.failures ≡ 0) }
-        ensures heard { IfOk result (λ wire. wire.heard ≡ false) }
         ensures refusal { IfOk result (λ wire. wire.refusal ≡ None) }
     {
         match bind_network(&mut sockets, config) {
@@ -131,28 +127,42 @@ impl<S: Sockets> UdpWire<S> {
     pub(crate) fn over(sockets: S) -> UdpWire<S>
         ensures sockets { result.sockets ≡ sockets }
         ensures failures { result.failures ≡ 0 }
-        ensures heard { result.heard ≡ false }
         ensures refusal { result.refusal ≡ None }
     {
         UdpWire {
             sockets,
             failures: 0,
-            heard: false,
             refusal: None,
         }
     }
 
-    /// Whether something came or failed at a take since this was asked the last time.
-    pub(crate) fn has_heard(&mut self) -> bool
-        ensures heard { result ≡ self.old.heard }
-        ensures forgotten { self.new.heard ≡ false }
-        ensures sockets { self.new.sockets ≡ self.old.sockets }
-        ensures failures { self.new.failures ≡ self.old.failures }
+    /// Takes the next datagram at a port, and tells too whether something was heard there: a
+    /// datagram, also one that isn't handed in, or a failure.
+    pub(crate) fn ask(
+        &mut self,
+        port: Port,
+        room: &mut [u8],
+    ) -> (Result<Option<(Place, usize)>, WireFault>, bool)
+        ensures within { IfOk result.0 (λ found. IfSome found (λ f. f.1 ≤ length room.new)) }
+        ensures fault { OnErr result.0 (self.old.failures < self.new.failures) }
+        ensures takes { TakesAtSocket (S.calls self.old.sockets) (S.calls self.new.sockets)
+            port room.new result.0 self.old.failures self.new.failures result.1 }
         ensures refusal { self.new.refusal ≡ self.old.refusal }
     {
-        let heard = self.heard;
-        self.heard = false;
-        heard
+        match self.sockets.take(socket_of(port), room) {
+            Ok(None) => (Ok(None), false),
+            Ok(Some((from, len))) => {
+                let (bytes, _) = room.split_at(len);
+                if is_answer(port, bytes) {
+                    return (Ok(None), true);
+                }
+                (Ok(Some((from, len))), true)
+            }
+            Err(_) => match fail(&mut self.failures) {
+                Ok(()) => (Ok(None), true),
+                Err(fault) => (Err(fault), true),
+            },
+        }
     }
 }
 
@@ -163,32 +173,18 @@ impl<S: Sockets> Wire for UdpWire<S> {
 
     ghost faults = { λ wire. wire.failures };
 
+    ghost news = { λ _ _. true };
+
     fn take(&mut self, port: Port, room: &mut [u8]) -> Result<Option<(Place, usize)>, WireFault>
         ensures within { IfOk result (λ found. IfSome found (λ f. f.1 ≤ length room.new)) }
         ensures fault { OnErr result (self.old.failures < self.new.failures) }
-        ensures takes { TakesAtSocket (S.calls self.old.sockets) (S.calls self.new.sockets)
-            port room.new result self.old.failures self.new.failures
-            self.old.heard self.new.heard }
+        ensures takes { (heard : Bool) × TakesAtSocket (S.calls self.old.sockets)
+            (S.calls self.new.sockets) port room.new result self.old.failures self.new.failures
+            heard }
         ensures refusal { self.new.refusal ≡ self.old.refusal }
     {
-        match self.sockets.take(socket_of(port), room) {
-            Ok(None) => Ok(None),
-            Ok(Some((from, len))) => {
-                self.heard = true;
-                let (bytes, _) = room.split_at(len);
-                if is_answer(port, bytes) {
-                    return Ok(None);
-                }
-                Ok(Some((from, len)))
-            }
-            Err(_) => {
-                self.heard = true;
-                match fail(&mut self.failures) {
-                    Ok(()) => Ok(None),
-                    Err(fault) => Err(fault),
-                }
-            }
-        }
+        let (found, _) = self.ask(port, room);
+        found
     }
 
     fn give(&mut self, port: Port, to: Place, bytes: &[u8]) -> Result<(), WireFault>
@@ -196,7 +192,6 @@ impl<S: Sockets> Wire for UdpWire<S> {
         ensures gives { GivesAtSocket (S.calls self.old.sockets) (S.calls self.new.sockets)
             port to bytes.now result self.old.failures self.new.failures
             self.old.refusal self.new.refusal }
-        ensures heard { self.new.heard ≡ self.old.heard }
     {
         match self.sockets.give(socket_of(port), to, bytes) {
             Ok(()) => Ok(()),
@@ -210,6 +205,10 @@ impl<S: Sockets> Wire for UdpWire<S> {
     fn rest(&mut self, _most: u64)
         ensures { self.new ≡ self.old }
     {}
+
+    fn has_news(&self, _port: Port) -> bool {
+        true
+    }
 
     fn failures(&self) -> u64 {
         self.failures

@@ -11,7 +11,8 @@ use trdp_base::Place;
 /// A wire at the ports of a node. A take and a give never wait; only a rest may. It may tell what
 /// it took and gave.
 pub trait Wire {
-    ghost use Rattle.std.specs.Prelude.{ℕ, List, Option};
+    ghost use Rattle.std.specs.Prelude.{ℕ, Bool, List, Option};
+    ghost use Rattle.trdp_daemon.specs.declared.port.Port.{Port};
     ghost use Rattle.trdp_daemon.specs.Told.{Give, Taking};
 
     /// What each take answered, in order; none where this wire doesn't tell.
@@ -23,6 +24,9 @@ pub trait Wire {
 
     /// How often the wire has failed.
     ghost faults: { Self → ℕ };
+
+    /// Whether something may be at a port, as far as the wire knows; true where it keeps no news.
+    ghost news: { Self → Port → Bool };
 
     /// Takes the next datagram at a port, if one is there: it is put at the front of the room, cut
     /// to it, and the answer is where it came from and how many bytes it has there.
@@ -50,6 +54,18 @@ pub trait Wire {
     /// come back at once, as one does that has no rest of its own: a rest changes nothing of what
     /// is taken and given.
     fn rest(&mut self, _most: u64)
+        ensures takes_nothing { takings self.new ≡ takings self.old }
+        ensures gives_nothing { gives self.new ≡ gives self.old }
+        ensures fault { faults self.new ≡ faults self.old }
+    {}
+
+    /// Whether something may be at a port: it may, unless a take found nothing there and the system
+    /// has told no news since.
+    fn has_news(&self, port: Port) -> bool
+        ensures { result ≡ news self.now port };
+
+    /// Notes whether something may be at a port, up to the next news of it.
+    fn set_news(&mut self, _port: Port, _may_be: bool)
         ensures takes_nothing { takings self.new ≡ takings self.old }
         ensures gives_nothing { gives self.new ≡ gives self.old }
         ensures fault { faults self.new ≡ faults self.old }

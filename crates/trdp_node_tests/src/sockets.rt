@@ -7,7 +7,8 @@ use std::process::Abort;
 use std::test::Fail;
 use trdp_base::{Ip, Place};
 use trdp_daemon::{
-    MemorySockets, Port, Refusal, RestingWire, SocketFault, SocketRow, UdpWire, Wire, WireFault,
+    MemoryClock, MemorySockets, Port, Refusal, RestingWire, SocketFault, SocketRow, UdpWire, Wire,
+    WireFault,
 };
 use trdp_dataset::NodeConfig;
 
@@ -198,10 +199,30 @@ fn plain(alloc: Global) -> Option<UdpWire<MemorySockets>> {
     UdpWire::open(sockets(alloc)?, &config).ok()
 }
 
-/// A wire that rests over the sockets of the node; None for want of memory.
-fn resting(alloc: Global) -> Option<RestingWire<MemorySockets>> {
+/// A wire that rests.
+type Resting = RestingWire<MemorySockets, MemoryClock>;
+
+/// The readings of its clock: 50 milliseconds are between them.
+const READINGS: [u64; 2] = [7, 50_007];
+
+/// A wire that rests over these sockets; None for want of memory.
+fn over(alloc: Global, sockets: MemorySockets) -> Option<Resting> {
     let config = config(alloc)?;
-    RestingWire::open(alloc, sockets(alloc)?, &config).ok()
+    let clock = MemoryClock::new(alloc, &READINGS).ok()?;
+    RestingWire::open(alloc, sockets, clock, &config).ok()
+}
+
+/// A wire that rests over the sockets of the node; None for want of memory.
+fn resting(alloc: Global) -> Option<Resting> {
+    over(alloc, sockets(alloc)?)
+}
+
+/// Whether a row says that a wait of so many milliseconds told of these sockets.
+fn is_wait(row: Option<&SocketRow>, millis: u64, sockets: &[usize]) -> bool {
+    match row {
+        Some(SocketRow::Waited(most, told)) => *most == millis && told.as_slice() == sockets,
+        _ => false,
+    }
 }
 
 /// A wire that doesn't rest binds its sockets, and takes and gives at them.
@@ -214,24 +235,45 @@ fn works(rt: &(impl Abort + AllocGlobal), wire: &mut UdpWire<MemorySockets>) {
     assert_used(rt, rows, 5);
 }
 
-/// A wire that rests watches its sockets too, and waits where nothing was heard.
-fn works_and_rests(rt: &(impl Abort + AllocGlobal), wire: &mut RestingWire<MemorySockets>) {
+/// A wire that rests watches its sockets too, and waits or sleeps where nothing was heard.
+fn works_and_rests(rt: &(impl Abort + AllocGlobal), wire: &mut Resting) {
     uses(rt, wire);
     for most in [10_000, 10_000, 1_199, 1_200] {
         wire.rest(most);
     }
     let rows = wire.sockets().rows();
-    same(rt, "calls", rows.len(), 17);
+    same(rt, "calls", rows.len(), 18);
     assert_bound(rt, rows);
     for (i, socket) in SOCKETS.iter().enumerate() {
         let row = rows.get(i.saturating_add(5));
         same(rt, i, row == Some(&SocketRow::Watched(*socket)), true);
     }
     assert_used(rt, rows, 10);
-    let wait = rows.get(15) == Some(&SocketRow::Waited(9));
-    same(rt, "9 ms", wait, true);
-    let wait = rows.get(16) == Some(&SocketRow::Waited(1));
-    same(rt, "1 ms", wait, true);
+    for (i, millis) in [9, 0, 1].iter().enumerate() {
+        let row = rows.get(i.saturating_add(15));
+        same(rt, i, is_wait(row, *millis, &[]), true);
+    }
+    same(rt, "sleeps", wire.clock().sleeps(), [1_199].as_slice());
+}
+
+/// A wire that rests asks nothing at a port where it found nothing, before the system tells of it.
+/// It asks the system in each sixteenth turn without a rest, and sleeps for a moment where there
+/// was none for 50 milliseconds.
+fn asks_where_news_are(rt: &(impl Abort + AllocGlobal), wire: &mut Resting) {
+    let mut room = [0; 16];
+    for found in [true, false, false] {
+        let taken = wire.take(Port::Control(0), &mut room);
+        same(rt, "a line", taken != Ok(None), found);
+    }
+    for _turn in 0..32 {
+        wire.rest(0);
+    }
+    let rows = wire.sockets().rows();
+    same(rt, "calls", rows.len(), 14);
+    for i in [12, 13] {
+        same(rt, i, is_wait(rows.get(i), 0, &[0, 1, 2]), true);
+    }
+    same(rt, "sleeps", wire.clock().sleeps(), [50].as_slice());
 }
 
 #[test]
@@ -250,6 +292,14 @@ fn a_wire_that_rests_waits_at_its_sockets(rt: HostRuntime) {
     }
 }
 
+#[test]
+fn a_wire_that_rests_asks_where_news_are(rt: HostRuntime) {
+    match resting(rt.alloc()) {
+        Some(mut wire) => asks_where_news_are(&rt, &mut wire),
+        None => assert!(rt; false, "no memory"),
+    }
+}
+
 /// What a wire answers to gives, and the latest refusal that it keeps behind each.
 fn keeps_refusals<W: Wire>(rt: &(impl Abort + AllocGlobal), wire: &mut W) {
     same(rt, "before the first give", wire.refusal(), None);
@@ -261,11 +311,10 @@ fn keeps_refusals<W: Wire>(rt: &(impl Abort + AllocGlobal), wire: &mut W) {
 }
 
 /// A wire that rests, over sockets from which no way leads to one address; None for want of memory.
-fn cut_off(alloc: Global) -> Option<RestingWire<MemorySockets>> {
-    let config = config(alloc)?;
+fn cut_off(alloc: Global) -> Option<Resting> {
     let mut sockets = MemorySockets::new(alloc);
     sockets.cut_off(FAR.ip);
-    RestingWire::open(alloc, sockets, &config).ok()
+    over(alloc, sockets)
 }
 
 #[test]

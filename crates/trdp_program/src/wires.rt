@@ -8,15 +8,16 @@ use mio::Registry;
 use std::fs::Files;
 use std::io;
 use std::net::Net;
+use std::time::Clock;
 use trdp_controls::{ControlWire, ListenFault, SystemConnections, SystemFolder};
-use trdp_daemon::{BindFault, RestingWire, SystemSockets, UdpWire, Wire};
+use trdp_daemon::{BindFault, RestingWire, RunClock, SystemSockets, UdpWire, Wire};
 use trdp_dataset::NodeConfig;
 
 /// The UDP ports of a service.
 type Udp<'a, H> = UdpWire<SystemSockets<'a, H>>;
 
 /// The UDP ports of a service that rests.
-type Resting<'a, H> = RestingWire<SystemSockets<'a, H>>;
+type Resting<'a, H> = RestingWire<SystemSockets<'a, H>, RunClock<'a, H>>;
 
 /// Binds the ports of a configuration.
 ///
@@ -38,7 +39,7 @@ pub(crate) fn bind<'a, H: Net + AllocGlobal>(
 ///
 /// # Errors
 /// As [`bind`].
-pub(crate) fn bind_resting<'a, H: Net + AllocGlobal>(
+pub(crate) fn bind_resting<'a, H: Net + Clock + AllocGlobal>(
     rt: &'a H,
     config: &NodeConfig,
 ) -> Result<Resting<'a, H>, ServeFault>
@@ -72,7 +73,7 @@ pub(crate) fn bind_controls<'a, H: Files + Net + AllocGlobal>(
 ///
 /// # Errors
 /// As [`bind_controls`].
-pub(crate) fn bind_resting_controls<'a, H: Files + Net + AllocGlobal>(
+pub(crate) fn bind_resting_controls<'a, H: Files + Net + Clock + AllocGlobal>(
     rt: &'a H,
     config: &NodeConfig,
     folder: &str,

@@ -1,4 +1,4 @@
-use Rattle.std.proofs.Common.{◌≡◌, ◌<◌, ◌+◌, ◌++◌, [], ◌∷◌, ℕ, List, arith, drop, length, map}
+use Rattle.std.proofs.Common.{◌≡◌, ◌<◌, ◌+◌, ◌++◌, ℕ, List, arith, drop, length, map}
 use Rattle.std.proofs.Common.{sym, subst}
 use Rattle.std.proofs.Common.{Option}
 use Rattle.std.specs.Prelude.{slice_get, unwrap_or}

@@ -62,7 +62,7 @@ returns g c =
     c.take_event.ensures.comes in
     let clock = subst (λ (k : g.row.C.Denot). TellsMore (g.C.Clock.readings c.self.inside.clock)
     (g.C.Clock.readings k) (c.now-reading.result ∷ [])) (sym c.loop-i.invariant.clock_is)
-    c.now-reading.ensures in
+    c.now-reading.ensures.told in
     let one = turn_at before last.service
     c.self.inside.link last.link c.self.inside.clock last.clock ports c.now-reading.result
     c.self.invariant.1 (c.loop-i.invariant.config_is ∙ c.take_event.ensures.config

@@ -23,6 +23,6 @@ returns-in-Ok-None-clause-comes g c =
     c.hear-in-Ok-None.ensures.heard
 
 pub returns-in-Err-clause-comes : goal.returns-in-Err-clause-comes
-returns-in-Err-clause-comes g c = control_refused c.args.self.now
+returns-in-Err-clause-comes g c = control_refused c.args.self.now c.hear_again.new.self
     c.args.slot c.args.from (control_line_of c.args.slot c.args.bytes.now)
-    c.in-Err.fault c.in-Err.ensures.meaning c.refuse.ensures
+    c.in-Err.fault c.in-Err.ensures.meaning c.hear_again.ensures.heard c.refuse.ensures

@@ -1,0 +1,137 @@
+//! One call at a path of a wire, of which there may be none.
+
+ghost use Rattle.std.specs.Prelude.{◌≡◌, ◌<◌, ◌≤◌, length, IfOk, IfSome, OnErr, None};
+ghost use Rattle.std.specs.Option.{option_map};
+ghost use Rattle.trdp_controls.specs.ControlWires.{SaysAtControl, SaysAtOperator, SaysAtPath};
+ghost use Rattle.trdp_controls.specs.ControlWires.{TakesAtOperator, TakesAtPath, found_in, placed};
+
+use crate::place::{number_of, place_of};
+use trdp_base::Place;
+use trdp_daemon::{WireFault, fail};
+use trdp_lines::{AcceptFault, Connections, ControlPath, LostText, OperatorPath};
+
+/// What a take finds that failed: nothing, and that is counted.
+///
+/// # Errors
+/// `WireFault`, where the count of failures rose.
+pub(crate) fn nothing(failures: &mut u64) -> Result<Option<(Place, usize)>, WireFault>
+    ensures found { IfOk result (λ found. found ≡ None) }
+    ensures fault { OnErr result (failures.old < failures.new) }
+{
+    match fail(failures) {
+        Ok(()) => Ok(None),
+        Err(fault) => Err(fault),
+    }
+}
+
+/// What a take at a path answers to what the path does.
+///
+/// # Errors
+/// `WireFault`, where nothing is there and the system refuses the next connection.
+fn answer_of(
+    taken: Result<Option<(u64, usize)>, AcceptFault>,
+    failures: &mut u64,
+) -> Result<Option<(Place, usize)>, WireFault>
+    ensures found { found_in result ≡ option_map placed (found_in taken) }
+    ensures fault { OnErr result (failures.old < failures.new) }
+{
+    match taken {
+        Ok(Some((number, len))) => Ok(Some((place_of(number), len))),
+        Ok(None) => Ok(None),
+        Err(_) => nothing(failures),
+    }
+}
+
+/// Takes the next line at a path, or the end of its application; nothing ever comes where there is
+/// none. Tells too whether something was heard there.
+pub(crate) fn take_line<C: Connections>(
+    control: &mut Option<ControlPath<C>>,
+    room: &mut [u8],
+    failures: &mut u64,
+) -> (Result<Option<(Place, usize)>, WireFault>, bool)
+    ensures within { IfOk result.0 (λ found. IfSome found (λ f. f.1 ≤ length room.new)) }
+    ensures takes { TakesAtPath C.calls control.old control.new (length room.old) result.0
+        room.new }
+    ensures fault { OnErr result.0 (failures.old < failures.new) }
+{
+    let Some(path) = control else {
+        return (Ok(None), false);
+    };
+    let taken = path.take(room);
+    let heard = path.has_heard();
+    (answer_of(taken, failures), heard)
+}
+
+/// Takes the next line at the operator's path; nothing ever comes where there is none. Tells too
+/// whether something was heard there.
+pub(crate) fn take_operators_line<C: Connections>(
+    operator: &mut Option<OperatorPath<C>>,
+    room: &mut [u8],
+    failures: &mut u64,
+) -> (Result<Option<(Place, usize)>, WireFault>, bool)
+    ensures within { IfOk result.0 (λ found. IfSome found (λ f. f.1 ≤ length room.new)) }
+    ensures takes { TakesAtOperator C.calls operator.old operator.new (length room.old) result.0
+        room.new }
+    ensures fault { OnErr result.0 (failures.old < failures.new) }
+{
+    let Some(path) = operator else {
+        return (Ok(None), false);
+    };
+    let taken = path.take(room);
+    let heard = path.has_heard();
+    (answer_of(taken, failures), heard)
+}
+
+/// Says a text at a slot's path to the connection of the place, if that is the one that speaks.
+///
+/// # Errors
+/// `LostText`, where there is no room for it.
+pub(crate) fn give_text_at<C: Connections>(
+    controls: &mut Vec<Option<ControlPath<C>>>,
+    slot: usize,
+    to: Place,
+    text: &[u8],
+) -> Result<(), LostText>
+    ensures { SaysAtControl C.calls slot controls.old.items controls.new.items to text.now
+        result }
+{
+    if slot >= controls.len() {
+        return Ok(());
+    }
+    let control = &mut controls[slot];
+    give_text(control, to, text)
+}
+
+/// Says a text at a path to the connection of the place, if that is the one that speaks.
+///
+/// # Errors
+/// `LostText`, where there is no room for it.
+fn give_text<C: Connections>(
+    control: &mut Option<ControlPath<C>>,
+    to: Place,
+    text: &[u8],
+) -> Result<(), LostText>
+    ensures { SaysAtPath C.calls control.old control.new to text.now result }
+{
+    match control {
+        Some(path) => path.give(number_of(to), text),
+        None => Ok(()),
+    }
+}
+
+/// Says a text at the operator's path to the connection of the place, if it has a seat there.
+///
+/// # Errors
+/// `LostText`, where there is no room for it.
+pub(crate) fn give_line<C: Connections>(
+    operator: &mut Option<OperatorPath<C>>,
+    to: Place,
+    text: &[u8],
+) -> Result<(), LostText>
+    ensures { SaysAtOperator C.calls operator.old operator.new to text.now result }
+{
+    match operator {
+        Some(path) => path.give(number_of(to), text),
+        None => Ok(()),
+    }
+}

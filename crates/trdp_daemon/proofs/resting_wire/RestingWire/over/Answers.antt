@@ -1,0 +1,14 @@
+use Rattle.std.proofs.Common.{refl}
+use Rattle.trdp_daemon.proofs.RestingWireLemmas.{each_there}
+use Rattle.trdp_daemon.proofs.resting_wire.RestingWire.over.Goals as goal
+
+pub returns-clause-fresh : goal.returns-clause-fresh
+returns-clause-fresh g c = record {
+  clock_is = refl;
+  news = λ socket. each_there 34 socket;
+  heard = refl;
+  left = refl;
+  busy = refl;
+  failures = c.over.ensures.failures;
+  refusal = c.over.ensures.refusal;
+}

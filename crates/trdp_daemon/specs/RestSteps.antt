@@ -1,0 +1,75 @@
+-- What a rest of the resting wire comes to.
+use Rattle.std.specs.Prelude.{◌≡◌, ℕ, zero, suc, ◌+◌, ◌-◌, ◌/◌, nat_lt, List, [], ◌∷◌}
+use Rattle.std.specs.Prelude.{Bool, true, false, if◌then◌else◌, Option, Some, None}
+use Rattle.trdp_daemon.specs.declared.rest_step.RestStep.{RestStep}
+use Rattle.trdp_daemon.specs.declared.rest_step.RestStep.TheVariants.{GoOn, Look, Sleep, Wait}
+use Rattle.trdp_daemon.specs.Told.{TellsMore}
+
+-- a turn without a rest: the system is asked for news where no such turn is left before that
+abbrev pub busy_step : ℕ → RestStep
+busy_step zero = Look
+busy_step (suc left) = GoOn
+
+-- a rest of at most so many microseconds: a wait of whole milliseconds, which ends some 200
+-- microseconds early, as the system comes late; a sleep where no millisecond is left
+abbrev pub idle_step : ℕ → RestStep
+idle_step most =
+    if nat_lt (most - 200) 1000 then Sleep most else Wait ((most - 200) / 1000)
+
+-- the step of a rest of at most so many microseconds, where something was heard since the rest
+-- before or not, and so many turns without a rest are left before the system is asked for news
+unfoldable pub step_of : Bool → ℕ → ℕ → RestStep
+step_of true most left = busy_step left
+step_of false zero left = busy_step left
+step_of false (suc n) left = idle_step (suc n)
+
+-- how many turns without a rest are left then: of sixteen one asks the system for news
+abbrev pub left_after : RestStep → ℕ → ℕ
+left_after GoOn left = left - 1
+left_after Look left = 15
+left_after (Sleep micros) left = 15
+left_after (Wait millis) left = 15
+
+-- how many milliseconds the system is asked for news, if it is
+abbrev pub wait_in : RestStep → Option ℕ
+wait_in GoOn = None
+wait_in Look = Some 0
+wait_in (Sleep micros) = Some 0
+wait_in (Wait millis) = Some millis
+
+-- whether there was no rest for 50 milliseconds up to this reading: since the turn that first asked
+-- for news behind the latest rest
+unfoldable pub is_breathless : Option ℕ → ℕ → Bool
+is_breathless None reading = false
+is_breathless (Some since) reading = nat_lt (since + 49_999) reading
+
+-- the sleep where it is so, of 50 microseconds
+abbrev pub breath : Bool → List ℕ
+breath true = 50 ∷ []
+breath false = []
+
+-- since when there was no rest then
+abbrev pub busy_after : Bool → Option ℕ → ℕ → Option ℕ
+busy_after true busy reading = None
+busy_after false None reading = Some reading
+busy_after false (Some since) reading = Some since
+
+-- one reading, and a sleep where there was no rest for long
+pub record Breathes (readings readings_then sleeps sleeps_then : Option (List ℕ))
+    (busy busy_then : Option ℕ) : Type 0 where
+  pub reading : ℕ
+  pub read : TellsMore readings readings_then (reading ∷ [])
+  pub slept : TellsMore sleeps sleeps_then (breath (is_breathless busy reading))
+  pub noted : busy_then ≡ busy_after (is_breathless busy reading) busy reading
+
+-- what a step asks of the clock
+abbrev pub PausesSo : RestStep → (readings readings_then sleeps sleeps_then : Option (List ℕ))
+    → (busy busy_then : Option ℕ) → Type 0
+PausesSo GoOn readings readings_then sleeps sleeps_then busy busy_then =
+    (readings_then ≡ readings) × (sleeps_then ≡ sleeps) × (busy_then ≡ busy)
+PausesSo Look readings readings_then sleeps sleeps_then busy busy_then =
+    Breathes readings readings_then sleeps sleeps_then busy busy_then
+PausesSo (Sleep micros) readings readings_then sleeps sleeps_then busy busy_then =
+    (readings_then ≡ readings) × TellsMore sleeps sleeps_then (micros ∷ []) × (busy_then ≡ None)
+PausesSo (Wait millis) readings readings_then sleeps sleeps_then busy busy_then =
+    (readings_then ≡ readings) × (sleeps_then ≡ sleeps) × (busy_then ≡ None)

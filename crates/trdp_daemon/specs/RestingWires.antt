@@ -1,0 +1,38 @@
+-- What a wire that rests makes of a take.
+use Rattle.std.specs.Prelude.{◌≡◌, ℕ, List, Bool, true, false, ◌||◌, Option, None, Result, Ok}
+use Rattle.trdp_base.specs.declared.place.Place.{Place}
+use Rattle.trdp_daemon.specs.declared.fault.WireFault.{WireFault}
+use Rattle.trdp_daemon.specs.declared.port.Port.{Port}
+use Rattle.trdp_daemon.specs.declared.resting_wire.RestingWire.{RestingWire}
+use Rattle.trdp_daemon.specs.News.{has_news, news_after}
+use Rattle.trdp_daemon.specs.Sockets.{SocketCall, socket_of}
+use Rattle.trdp_daemon.specs.SocketWires.{TakesAtSocket}
+
+-- a take where there are news is one at the port's socket; the news are over where nothing was
+-- heard
+pub record TakesAtNews {S C : Type 0} (calls_of : S → Option (List SocketCall))
+    (old new : RestingWire S C) (port : Port) (room : List ℕ)
+    (result : Result (Option (Place × ℕ)) WireFault) : Type 0 where
+  pub heard : Bool
+  pub takes : TakesAtSocket (calls_of old.wire.sockets) (calls_of new.wire.sockets) port room
+      result old.wire.failures new.wire.failures heard
+  pub noted : new.heard ≡ old.heard || heard
+  pub news : new.news ≡ news_after heard (socket_of port) old.news
+
+-- a take where there are none asks nothing, and finds nothing
+abbrev pub TakesIfNews : {S C : Type 0} → Bool → (S → Option (List SocketCall))
+    → (old new : RestingWire S C) → Port → (room : List ℕ)
+    → Result (Option (Place × ℕ)) WireFault → Type 0
+TakesIfNews true calls_of old new port room result =
+    TakesAtNews calls_of old new port room result
+TakesIfNews false calls_of old new port room result = (result ≡ Ok None) × (new ≡ old)
+
+-- a wire before its first take, with this clock: something may be at each socket
+pub record IsFresh {S C : Type 0} (clock : C) (wire : RestingWire S C) : Type 0 where
+  pub clock_is : wire.clock ≡ clock
+  pub news : (socket : ℕ) → has_news wire.news socket ≡ true
+  pub heard : wire.heard ≡ false
+  pub left : wire.left ≡ 15
+  pub busy : wire.busy ≡ None
+  pub failures : wire.wire.failures ≡ 0
+  pub refusal : wire.wire.refusal ≡ None

@@ -1,0 +1,86 @@
+//! What a rest comes to.
+
+ghost use Rattle.std.specs.Prelude.{◌≡◌};
+ghost use Rattle.trdp_daemon.specs.RestSteps.{busy_step, idle_step, left_after, step_of, wait_in};
+
+/// How much earlier than asked a wait ends, in microseconds: the system comes late.
+const WAKE_TIME: u64 = 200;
+
+/// How many microseconds the system counts its waits by.
+const WAIT_STEP: u64 = 1_000;
+
+/// How many turns without a rest there are between two at which the system is asked for news.
+pub(crate) const TURNS_BETWEEN: u32 = 15;
+
+/// What a rest comes to.
+#[derive(Clone, Copy)]
+pub(crate) enum RestStep {
+    /// Nothing: the next turn begins.
+    GoOn,
+    /// The system is asked for news before the next turn.
+    Look,
+    /// A sleep of so many microseconds, behind which the system is asked for news.
+    Sleep(u64),
+    /// A wait of so many milliseconds, which news end.
+    Wait(u64),
+}
+
+impl RestStep {
+    /// The step of a rest of at most so many microseconds, where something was heard since the rest
+    /// before or not, and so many turns without a rest are left before the system is asked for
+    /// news.
+    #[tactic(auto, unfolding(crate::specs::RestSteps::step_of))]
+    pub(crate) fn of(heard: bool, most: u64, left: u32) -> RestStep
+        ensures { result ≡ step_of heard most left }
+    {
+        if heard || most == 0 {
+            busy_step(left)
+        } else {
+            idle_step(most)
+        }
+    }
+
+    /// How many turns without a rest are left behind this step, where so many were before.
+    pub(crate) fn left_after(self, left: u32) -> u32
+        ensures { result ≡ left_after self left }
+    {
+        match self {
+            RestStep::GoOn => left.saturating_sub(1),
+            RestStep::Look | RestStep::Sleep(_) | RestStep::Wait(_) => TURNS_BETWEEN,
+        }
+    }
+
+    /// How many milliseconds the system is asked for news, if it is.
+    pub(crate) fn wait(self) -> Option<u64>
+        ensures { result ≡ wait_in self }
+    {
+        match self {
+            RestStep::GoOn => None,
+            RestStep::Look | RestStep::Sleep(_) => Some(0),
+            RestStep::Wait(millis) => Some(millis),
+        }
+    }
+}
+
+/// The step of a turn without a rest.
+fn busy_step(left: u32) -> RestStep
+    ensures { result ≡ busy_step left }
+{
+    if left == 0 {
+        RestStep::Look
+    } else {
+        RestStep::GoOn
+    }
+}
+
+/// The step of a rest of at most so many microseconds.
+fn idle_step(most: u64) -> RestStep
+    ensures { result ≡ idle_step most }
+{
+    let early = most.saturating_sub(WAKE_TIME);
+    if early < WAIT_STEP {
+        RestStep::Sleep(most)
+    } else {
+        RestStep::Wait(early / WAIT_STEP)
+    }
+}
