@@ -21,7 +21,7 @@ LINE, PAYLOAD = 140_000, 65_388
 CONNECTIONS, PROCESSES, TURNS = 1000, 10, 20
 # How many notifications come to an application that doesn't read, and how many before it is seen that they were taken:
 # fewer than the system's buffer of a port has room for. bench/control_lines.py sends 100,000.
-NOTIFICATIONS, CREDIT = 20_000, 50
+NOTIFICATIONS, CREDIT = 100_000, 50
 # How many calls an application makes that doesn't read: more than all buffers take the answers of.
 CALLS = 60_000
 # Of a publisher, in seconds.

@@ -272,9 +272,9 @@ ENDS = [
 class Leases(Spoken):
     """A slot begins anew behind the silence of its application, and not before: at a path, and at a UDP port."""
 
-    # Seconds: of a publisher; between two remarks of an application, and for how long it makes them; for how long a
-    # daemon is stopped.
-    CYCLE, REMARK, REMARKED, STOPPED = 0.01, 0.3, 3.0, 3.0
+    # Seconds: of a publisher; between two lines of an application, so long that each of them has to count, and for how
+    # long it says them; for how long a daemon is stopped.
+    CYCLE, REMARK, REMARKED, STOPPED = 0.01, 0.6, 3.0, 3.0
     SLOTS = 2
 
     def setUp(self) -> None:
@@ -333,10 +333,11 @@ class Leases(Spoken):
             self.publishes(application, 0, number, (DEVICE, PD))
         end = time.monotonic() + self.REMARKED
         while time.monotonic() < end:
-            for line in (b"#", b""):
+            for line, answer in ((b"#", b""), (b"", b""), (b"no line", b"line fault Unknown\n")):
                 time.sleep(self.REMARK)
                 for application in applications:
                     application.say(line)
+                    self.assertEqual(application.hear() if answer else b"", answer)
         for application in applications:
             application.say(b"put %d 00" % number)
         return [it.hear() for it in applications] == [b"0 done\n"] * 2

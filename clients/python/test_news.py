@@ -20,7 +20,7 @@ from dataclasses import dataclass, field
 from test_controls import AtPaths
 from test_edge import LISTEN, pid, pull_request
 from test_ports import DEVICE, HOME, TELEGRAM, Case, control, node, notification
-from testing import CONTROL, MD, OPERATOR, PD, SEED, fork, wait_until
+from testing import CONTROL, MD, OPERATOR, PD, SEED, Daemon, fork, wait_until
 
 # For how many seconds datagrams come out of quiet, and how many of a kind a second. Then how often a few come behind which
 # nothing comes, how many these are at most and how far apart, and how soon the last one is answered.
@@ -29,6 +29,8 @@ QUIET, A_SECOND, TIMES, FEW, APART, SOON = 5.0, 200, 50, 3, 0.0001, 1.0
 CYCLE = 0.0025
 # Each daemon beside others has an address of its own.
 HOMES = [f"127.0.8.{it}" for it in range(60, 65)]
+# For how many seconds it is seen that a daemon rests.
+IDLE = 1.0
 # How many calls are made beside a flood, and how many datagrams of it are taken before, and behind.
 CALLS, FLOOD = 200, 1000
 # For how many seconds a daemon of that priority is flooded, which runs for so many microseconds at most without a rest.
@@ -133,6 +135,38 @@ class Quiet(AtPaths):
     def speaks(self, port: int, home: str, is_at_paths: bool) -> socket.socket:
         """A socket that talks to that control port of a daemon."""
         return self.connects(port).socket if is_at_paths else self.client(port, home)
+
+
+def used(daemon: Daemon) -> float:
+    """How many seconds of a processor a daemon has used."""
+    with open(f"/proc/{pid(daemon)}/stat", encoding="ascii") as file:
+        words = file.read().rpartition(")")[2].split()
+    return (int(words[11]) + int(words[12])) / os.sysconf("SC_CLK_TCK")
+
+
+class NotOpen(AtPaths):
+    """What comes to the control port of a slot that isn't open yet."""
+
+    def test_it_waits_and_has_nobody_wait_for_it(self) -> None:
+        config = node(control(0), more=f"spare_control_ports = [{CONTROL + 1}]\n")
+        for words in ((), ("--controls", self.folder)):
+            with self.subTest(words):
+                daemon = self.daemon(config, *words)
+                application, operator = (self.speaks(it, bool(words)) for it in (CONTROL + 1, OPERATOR))
+                application.send(b"get 9\n")
+                before = used(daemon)
+                time.sleep(IDLE)
+                self.assertLess(used(daemon) - before, IDLE / 4)
+                operator.send(b"addslot 0 0 0 0 0 0\n")
+                self.assertEqual(operator.recv(100), b"ok\n")
+                for _ in range(2):
+                    self.assertEqual(application.recv(100), b"1 refused NoHandle\n")
+                    application.send(b"get 9\n")
+                daemon.end()
+
+    def speaks(self, port: int, is_at_paths: bool) -> socket.socket:
+        """A socket that talks to that port of the daemon."""
+        return self.connects(port).socket if is_at_paths else self.client(port)
 
 
 def flood(place: tuple[str, int], datagram: bytes, seconds: float, tells: int | None = None) -> int:
