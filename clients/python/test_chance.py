@@ -22,7 +22,7 @@ from unittest import mock
 import trdp_dump
 import trdp_send
 import trdp_telegram
-from test_traps import DUMP, PLACE, SOURCE, Case, packet_of, run
+from test_traps import DUMP, GROUP, PLACE, SOURCE, Case, packet_of, run
 from testing import HERE, SEED, TOP
 from trdp_slot import Datasets
 
@@ -47,24 +47,26 @@ OPTIONS = {
     "trdp_send.py": ["--type", "--com-id", "--counter", "--etb", "--op-trn", "--reply-com-id", "--reply-address",
     "--session",
                      "--status", "--time-us", "--source-uri", "--dest-uri", "--data", "--value", "--toml",
-                     "--dataset", "--from",
+                     "--dataset", "--from", "--ttl",
                      "--cycle-us", "--count", "--c", "--jump"],
     "trdp_dump.py": ["--pd-port", "--md-port", "--toml", "--com-id", "--type", "--pcapng", "--time", "--beside",
     "--count",
-                     "--for-us", "--p", "--jump"],
+                     "--for-us", "--group", "--interface", "--p", "--jump"],
     "client.py": ["--stay", "--stay", "--jump"],
 }
 FITTING = {
     "--type": ["Pd", "Mn", "Mr"], "--value": ["[4, [0, 0, 0, 0], 0]", "[1, [300], 0]"], "--data": ["0d"],
     "--session": ["new"],
     "--toml": ["node.toml", "node.toml", "bad.toml", "gone.toml"], "--from": [f"{SOURCE}:0"],
-    "--pcapng": ["out.pcapng"],
+    "--pcapng": ["out.pcapng"], "--group": [GROUP, GROUP, SOURCE], "--interface": ["lo", SOURCE, "gone0"],
+    "--ttl": ["1", "255"],
 }
 # What is put in together.
 GROUPS = {
     "trdp_send.py": [["--toml", "node.toml", "--value", "[4, [0, 0, 0, 0], 0]"], ["--cycle-us", "1000", "--count", "3"],
                      ["--type", "Mr", "--session", "new"]],
-    "trdp_dump.py": [["--toml", "none.toml"]], "client.py": [["put 1 -", "#"], ["./gone", "0", "#"]],
+    "trdp_dump.py": [["--toml", "none.toml"], ["--group", GROUP, "--interface", "lo"]],
+    "client.py": [["put 1 -", "#"], ["./gone", "0", "#"]],
 }
 GOOD = {
     "trdp_send.py": [PLACE, "--com-id", "2101"], "trdp_dump.py": [DUMP, "--for-us", "1"],

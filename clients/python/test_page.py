@@ -17,9 +17,10 @@ import tempfile
 import textwrap
 import unittest
 
-from testing import PROGRAM, TOP, wait_until
+from testing import PROGRAM, TOP, has_groups, wait_until
 
-ADDRESSES = {"127.0.0.1": "127.0.8.30", "127.0.0.2": "127.0.8.31", "127.0.9.": "127.0.8.", "0x7f000002": "0x7f00081f"}
+ADDRESSES = {"127.0.0.1": "127.0.8.30", "127.0.0.2": "127.0.8.31", "127.0.0.3": "127.0.8.34", "127.0.9.": "127.0.8.",
+             "0x7f000002": "0x7f00081f", "239.192.0.1": "239.192.8.34"}
 COUNTS = re.compile(r"(?<=counter=)\d+")
 
 
@@ -179,17 +180,28 @@ class Page(unittest.TestCase):
 
     def tools(self) -> None:
         """trdp_dump beside the display's daemon, trdp_send, trdp_lua, and tshark."""
-        taken, beside = commands(self.block("$ clients/python/trdp_dump.py"))
+        taken, beside = commands(self.block(here("$ clients/python/trdp_dump.py 127.0.0.2")))
         self.prints(taken)
         if os.geteuid() == 0:
             self.prints(beside)
         for typed in commands(self.block("$ clients/python/trdp_send.py")):
             self.prints(typed)
+        if has_groups():
+            self.groups()
         table, shown = commands(self.block("$ clients/python/trdp_lua.py"))
         self.prints(table)
         self.assertIn("[2101] = 5002", (self.top / "datasets.lua").read_text())
         if shutil.which("tshark") and os.geteuid() == 0:
             self.assertIn("[4, [0, 0, 0, 0], 0]", self.type(shown[0])[-1])
+
+    def groups(self) -> None:
+        """A dump in a group, and a telegram to that."""
+        joined, (sent, seen) = commands(self.block(here("$ clients/python/trdp_dump.py 127.0.0.3")))
+        process = self.begin(joined[0])
+        assert process.stdout is not None
+        self.assertEqual([process.stdout.readline() for _ in joined[1]], [f"{it}\n" for it in joined[1]])
+        self.assertEqual(self.type(sent), [])
+        self.assertEqual(process.communicate(timeout=60)[0].splitlines(), seen)
 
     def doors(self) -> None:
         """Two doors in C see each other."""

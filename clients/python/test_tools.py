@@ -101,8 +101,8 @@ SENT = [
 class Dump:
     """trdp_dump.py, as a process that has its ports."""
 
-    def __init__(self, words: list[str], count: int) -> None:
-        line = [sys.executable, "-W", "error", str(HERE / "trdp_dump.py"), DUMP, "--count", str(count), *words]
+    def __init__(self, words: list[str], count: int, address: str = DUMP) -> None:
+        line = [sys.executable, "-W", "error", str(HERE / "trdp_dump.py"), address, "--count", str(count), *words]
         self.process = subprocess.Popen(line, stdout=subprocess.PIPE, stderr=subprocess.PIPE, text=True)
         assert self.process.stderr is not None
         self.begun = self.process.stderr.readline()

@@ -23,12 +23,13 @@ import trdp_dump
 import trdp_lua
 import trdp_send
 import trdp_telegram
+import trdp_words
 from testing import HERE, TOP
 
 sys.path.insert(0, str(TOP / "examples/control"))
 import client
 
-SOURCE, DUMP = "127.0.8.25", "127.0.8.26"
+SOURCE, DUMP, GROUP = "127.0.8.25", "127.0.8.26", "239.192.8.25"
 PLACE = f"{SOURCE}:9"
 TOML = """
 [node]
@@ -69,6 +70,7 @@ SEND_TRAPS: list[tuple[list[str], str]] = [
     ([PLACE, "--com-id", "1", "--cycle-us", "-1"], "'-1' is no whole"),
     ([PLACE, "--com-id", "1", "--count"], "expected one"),
     ([PLACE, "--com-id", "1", "--from", "127.0.0.1"], "'127.0.0.1' has no port"),
+    *[([f"{GROUP}:9", "--com-id", "1", "--ttl", it], "is no whole number of 1 to 255") for it in ("0", "256", "-1", "x")],
     ([PLACE, "--com-id", "1", "--type", "Mr", "--session", "x"], "'x' is neither new nor a UUID"),
     ([PLACE, "--com-id", "1", "--session", "new"], "--session: a telegram of type Pd has none"),
     ([PLACE, "--com-id", "1", "--type", "Mn", "--session", "new"], "--session: a telegram of type Mn has none"),
@@ -92,6 +94,12 @@ DUMP_TRAPS: list[tuple[list[str], str]] = [
     ([DUMP, "--count", "0"], "'0' is no whole number of 1"), ([DUMP, "--count", "-5"], "'-5' is no whole number of 1"),
     ([DUMP, "--for-us", "0"], "'0' is no whole number of 1"), ([DUMP, "--for-us", "1e6"], "'1e6' is no whole number"),
     ([DUMP, "--for-us", "9" * 18], "is no whole number"), ([DUMP, "more"], "unrecognized"),
+    *[([DUMP, "--group", it], "is no address") for it in ("door", "239.192.0", "239.192.0.1:17224", "")],
+    *[([DUMP, "--group", it], f"'{it}' is no group, 224.0.0.0 to 239.255.255.255")
+      for it in ("127.0.0.1", "223.255.255.255", "240.0.0.0", "255.255.255.255")],
+    *[([DUMP, "--group", GROUP, "--interface", it], "is no interface of this machine, nor an address that one has")
+      for it in ("gone0", "192.0.2.77", "0.0.0.0", "255.255.255.255", GROUP, "::1", "lo\0", "\ud800", "", "x" * 99)],
+    ([DUMP, "--interface", "lo"], "--interface wants --group"), ([DUMP, "--group"], "expected one"),
 ]
 CLIENT_TRAPS: list[tuple[list[str], str]] = [
     (["localhost", "18000", "1", "get 1"], "'localhost' is no address"), ([SOURCE, "18000", "1"], "required: line"),
@@ -110,6 +118,7 @@ CLIENT_TRAPS: list[tuple[list[str], str]] = [
 UNDONE: list[tuple[types.ModuleType, list[str], str]] = [
     (trdp_send, [PLACE, "--com-id", "1", "--from", "192.0.2.1:0"], "192.0.2.1:0: Cannot assign requested address"),
     (trdp_send, ["255.255.255.255:9", "--com-id", "1"], "255.255.255.255:9: "),
+    (trdp_send, [f"{GROUP}:9", "--com-id", "1", "--from", f"{GROUP}:0"], f"{GROUP}:0: Cannot assign requested address"),
     (trdp_send, [PLACE, "--com-id", "2101", "--toml", "gone.toml", "--value", "[1]"], "gone.toml: No such file"),
     (trdp_send, [PLACE, "--com-id", "2101", "--toml", ".", "--value", "[1]"], ".: Is a directory"),
     (trdp_send, [PLACE, "--com-id", "2101", "--toml", "bad.toml", "--value", "[1]"], "bad.toml: "),
@@ -234,12 +243,12 @@ class Unread(Case):
 
     def test_a_socket_that_has_nothing_after_all(self) -> None:
         with contextlib.ExitStack() as stack:
-            ports = trdp_dump.Ports(DUMP, (0, 0), stack)
+            ports = trdp_dump.Ports(trdp_dump.Where(DUMP, (), trdp_words.Interface(), (0, 0)), stack)
             bound = mock.Mock()
             bound.recvfrom.side_effect = [BlockingIOError(11, "again"),
             (b"abc", (SOURCE, 9)), OSError(101, "unreachable")]
             stack.enter_context(mock.patch.object(ports.selector,
-             "select", lambda _: [(mock.Mock(data=(bound, 7)), 1)]))
+             "select", lambda _: [(mock.Mock(data=(bound, (DUMP, 7))), 1)]))
             taken = [it for _ in range(3) for it in ports.take(1)]
         self.assertEqual(taken, [trdp_dump.Datagram((SOURCE, 9), (DUMP, 7), b"abc")])
         self.assertEqual(ports.unread, 2)

@@ -2,6 +2,7 @@
 from __future__ import annotations
 
 import ctypes
+import functools
 import os
 import pathlib
 import random
@@ -45,6 +46,47 @@ def open_ends() -> set[str]:
         udp, unix = ([line.split() for line in list(table)[1:]] for table in (ports, paths))
     listening = [it[6] for it in unix if int(it[3], 16) & 0x10000]
     return {f"socket:[{inode}]" for inode in [*(it[9] for it in udp), *listening]}
+
+
+def join(home: str, group: str, port: int = 0) -> socket.socket:
+    """A socket at a port of a group, which others may have too, joined at the interface of an address."""
+    joined = socket.socket(socket.AF_INET, socket.SOCK_DGRAM)
+    try:
+        joined.settimeout(10)
+        joined.setsockopt(socket.SOL_SOCKET, socket.SO_REUSEADDR, 1)
+        joined.bind((group, port))
+        joined.setsockopt(socket.IPPROTO_IP, socket.IP_ADD_MEMBERSHIP, socket.inet_aton(group) + socket.inet_aton(home))
+    except BaseException:
+        joined.close()
+        raise
+    return joined
+
+
+def sender(home: str) -> socket.socket:
+    """A socket that sends from an address, and to groups by the interface of that."""
+    out = socket.socket(socket.AF_INET, socket.SOCK_DGRAM)
+    try:
+        out.bind((home, 0))
+        out.setsockopt(socket.IPPROTO_IP, socket.IP_MULTICAST_IF, socket.inet_aton(home))
+    except BaseException:
+        out.close()
+        raise
+    return out
+
+
+@functools.cache
+def has_groups() -> bool:
+    """Whether what is sent to a group on this machine comes back, as one datagram says."""
+    try:
+        with join("127.0.0.1", "239.192.8.99") as joined, sender("127.0.0.1") as out:
+            joined.settimeout(1)
+            out.sendto(b"probe", joined.getsockname())
+            return joined.recv(100) == b"probe"
+    except OSError:
+        return False
+
+
+NO_GROUPS = "no datagram to a group comes back on this machine"
 
 
 class Daemon:

@@ -4,6 +4,7 @@
     trdp_dump.py 127.0.0.2
     trdp_dump.py 127.0.0.2 --toml node.toml --com-id 2101 --type Pd --pcapng doors.pcapng
     trdp_dump.py 127.0.0.2 --beside
+    trdp_dump.py 127.0.0.2 --group 239.192.0.1 --group 239.192.0.2 --interface lo
 
 A line is
 
@@ -22,10 +23,15 @@ The file is a node's configuration, or any other one, with its `[[dataset]]` tab
 
 for each comId. The node ignores these.
 
-The ports are bound, so nobody else may have them; a group's address can't be joined. With `--beside`, what comes to
-the ports of another program, as a node, is copied from the system, which takes root. It goes on until it is
-interrupted, or by `--count` and `--for-us`. Where the system told of datagrams that it couldn't hand over, as one whose
-UDP check sum is wrong, or of packets that hold none, the last line on the error stream says how many these were.
+Each group is joined at the interface of the address, or at the one that is named, and left at the end. What comes to it
+by another interface isn't shown. The line of a datagram to a group is as the others; in the file for Wireshark the group
+is its destination.
+
+The ports are bound, so nobody else may have them, but for those of a group, where another program shares them as well.
+With `--beside`, what comes to the ports of another program, as a node, is copied from the system, which takes root. It
+goes on until it is interrupted, or by `--count` and `--for-us`. Where the system told of datagrams that it couldn't hand
+over, as one whose UDP check sum is wrong, or of packets that hold none, the last line on the error stream says how many
+these were.
 """
 from __future__ import annotations
 
@@ -47,6 +53,8 @@ from trdp_telegram import MD_KINDS, MD_PORT, PD_KINDS, PD_PORT, NoTelegram, Pcap
 
 IP_HEADER = 20
 UDP_HEADER = 8
+# An option of the system that Python has no name for: whether a socket takes what comes to groups that others joined.
+IP_MULTICAST_ALL = 49
 # How many seconds one wait takes at most: the system takes none of many days.
 WAIT_MOST = 3600.0
 
@@ -133,6 +141,39 @@ def datagram_of(packet: bytes) -> Datagram | None:
     return Datagram((addresses[0], source), (addresses[1], dest), packet[start + UDP_HEADER:start + length])
 
 
+class Where(NamedTuple):
+    """Where telegrams come: to two ports of an address, and of groups that are joined at an interface."""
+
+    address: str
+    groups: tuple[str, ...]
+    interface: trdp_words.Interface
+    ports: tuple[int, int]
+
+    @property
+    def homes(self) -> list[str]:
+        """The address and the groups, each once."""
+        return list(dict.fromkeys([self.address, *self.groups]))
+
+    def open(self, kind: socket.SocketKind, protocol: int, stack: contextlib.ExitStack) -> socket.socket:
+        """A socket, which the stack closes, and which takes nothing of a group before it has joined it."""
+        port = stack.enter_context(socket.socket(socket.AF_INET, kind, protocol))
+        port.setblocking(False)
+        if self.groups:
+            port.setsockopt(socket.IPPROTO_IP, IP_MULTICAST_ALL, 0)
+        return port
+
+    def join(self, port: socket.socket, home: str) -> None:
+        """Joins that home until the socket is closed, where it is one of the groups. Raises OSError with the group."""
+        if home not in self.groups:
+            return
+        address, number = self.interface
+        asked = struct.pack("=4s4si", socket.inet_aton(home), socket.inet_aton(address), number)
+        try:
+            port.setsockopt(socket.IPPROTO_IP, socket.IP_ADD_MEMBERSHIP, asked)
+        except OSError as fault:
+            raise OSError(fault.errno, f"{fault.strerror}: --interface says where it is joined", home) from None
+
+
 def seconds_left(end: float | None) -> float:
     """How long to wait at once for what comes before that moment."""
     return WAIT_MOST if end is None else min(WAIT_MOST, max(0.0, end - time.monotonic()))
@@ -149,10 +190,20 @@ def bind(port: socket.socket, place: tuple[str, int]) -> None:
         raise OSError(fault.errno, why, f"{place[0]}:{place[1]}") from None
 
 
+def share(port: socket.socket, is_shared: bool) -> None:
+    """Says whether others may have the same port, where they say so, too."""
+    port.setsockopt(socket.SOL_SOCKET, socket.SO_REUSEADDR, is_shared)
+
+
 class Taker:
-    """Takes what comes to two ports of an address, and counts what the system tells of and can't be read."""
+    """Takes what comes to the ports, and counts what the system tells of and can't be read."""
 
     unread = 0
+
+    def __init__(self, where: Where, stack: contextlib.ExitStack) -> None:
+        """The sockets are closed with the stack."""
+        self.where = where
+        self.selector = stack.enter_context(selectors.DefaultSelector())
 
     def datagrams(self, end: float | None) -> Iterator[Datagram]:
         """What comes before the moment `end` of `time.monotonic`."""
@@ -165,57 +216,70 @@ class Taker:
 
 
 class Ports(Taker):
-    """Two ports of an address, bound."""
+    """Ports of an address and of groups, bound: each socket takes what is sent to its home alone."""
 
-    def __init__(self, address: str, ports: tuple[int, int], stack: contextlib.ExitStack) -> None:
-        """The sockets are closed with the stack."""
-        self.address = address
-        self.selector = stack.enter_context(selectors.DefaultSelector())
-        for port in ports:
-            bound = stack.enter_context(socket.socket(socket.AF_INET, socket.SOCK_DGRAM))
-            bind(bound, (address, port))
-            bound.setblocking(False)
-            self.selector.register(bound, selectors.EVENT_READ, (bound, port))
+    def __init__(self, where: Where, stack: contextlib.ExitStack) -> None:
+        super().__init__(where, stack)
+        home, *groups = where.homes
+        for port in where.ports:
+            own = self.bound((home, port), False, stack)
+            # The system takes 0.0.0.0 and a group for one place, unless both sockets share their port. Nobody else shall
+            # share that of the address.
+            share(own, True)
+            for group in groups:
+                self.bound((group, port), True, stack)
+            share(own, False)
+
+    def bound(self, place: tuple[str, int], is_shared: bool, stack: contextlib.ExitStack) -> socket.socket:
+        """A socket that is bound there, and read."""
+        port = self.where.open(socket.SOCK_DGRAM, 0, stack)
+        share(port, is_shared)
+        bind(port, place)
+        self.where.join(port, place[0])
+        self.selector.register(port, selectors.EVENT_READ, (port, place))
+        return port
 
     def take(self, seconds: float) -> Iterator[Datagram]:
         for key, _ in self.selector.select(seconds):
-            bound, port = key.data
+            bound, place = key.data
             try:
                 data, source = bound.recvfrom(65536)
             except OSError:
                 # As where the system finds a check sum wrong only when it hands the datagram over.
                 self.unread += 1
                 continue
-            yield Datagram(source, (self.address, port), data)
+            yield Datagram(source, place, data)
 
 
 class Beside(Taker):
     """The same of ports that another program may have: the system gives a copy of each packet, with its headers."""
 
-    def __init__(self, address: str, ports: tuple[int, int], stack: contextlib.ExitStack) -> None:
-        """The socket is closed with the stack."""
-        self.ports = ports
-        try:
-            self.raw = stack.enter_context(socket.socket(socket.AF_INET, socket.SOCK_RAW, socket.IPPROTO_UDP))
-        except PermissionError as fault:
-            raise OSError(fault.errno, f"{fault.strerror}: it takes root", "--beside") from None
-        try:
-            self.raw.bind((address, 0))
-        except OSError as fault:
-            raise OSError(fault.errno, fault.strerror, address) from None
+    def __init__(self, where: Where, stack: contextlib.ExitStack) -> None:
+        super().__init__(where, stack)
+        for home in where.homes:
+            try:
+                raw = where.open(socket.SOCK_RAW, socket.IPPROTO_UDP, stack)
+            except PermissionError as fault:
+                raise OSError(fault.errno, f"{fault.strerror}: it takes root", "--beside") from None
+            try:
+                raw.bind((home, 0))
+            except OSError as fault:
+                raise OSError(fault.errno, fault.strerror, home) from None
+            where.join(raw, home)
+            self.selector.register(raw, selectors.EVENT_READ, (raw, home))
 
     def take(self, seconds: float) -> Iterator[Datagram]:
-        self.raw.settimeout(max(0.001, seconds))
-        try:
-            datagram = datagram_of(self.raw.recv(65536))
-        except TimeoutError:
-            return
-        except OSError:
-            datagram = None
-        if datagram is None:
-            self.unread += 1
-        elif datagram.dest[1] in self.ports:
-            yield datagram
+        for key, _ in self.selector.select(seconds):
+            raw, home = key.data
+            try:
+                datagram = datagram_of(raw.recv(65536))
+            except OSError:
+                datagram = None
+            if datagram is None:
+                self.unread += 1
+            # Until it was bound it had what came to all addresses.
+            elif datagram.dest[1] in self.where.ports and home in (datagram.dest[0], trdp_words.ANY_ADDRESS):
+                yield datagram
 
 
 @functools.cache
@@ -225,6 +289,10 @@ def parser() -> trdp_words.Words:
     words = trdp_words.Words(prog="trdp_dump.py",
                              description="Prints the telegrams that come to the ports of an address.")
     words.add_argument("address", type=trdp_words.address, help="the address, as 127.0.0.2")
+    words.add_argument("--group", type=trdp_words.group, action="append", default=[],
+                       help="join this group, as 239.192.0.1, and print what comes to it, too; may be repeated")
+    words.add_argument("--interface", type=trdp_words.interface, metavar="NAME-OR-ADDRESS",
+                       help="where the groups are joined, as eth0 or 10.0.0.2 (the interface of the address)")
     words.add_argument("--pd-port", type=port, default=PD_PORT, help="port of process data (17224)")
     words.add_argument("--md-port", type=port, default=MD_PORT, help="port of message data (17225)")
     words.add_argument("--toml", help="a file with datasets, and [[telegram]] tables of comIds")
@@ -246,7 +314,15 @@ def parse(words: list[str]) -> argparse.Namespace:
     asked = parser().parse_args(words)
     if asked.pd_port == asked.md_port:
         parser().error(f"--pd-port and --md-port are both {asked.pd_port}")
+    if asked.interface and not asked.group:
+        parser().error("--interface wants --group")
     return asked
+
+
+def where_of(asked: argparse.Namespace) -> Where:
+    """Where telegrams come, by the words of the command line."""
+    own = trdp_words.Interface() if trdp_words.is_group(asked.address) else trdp_words.Interface(asked.address)
+    return Where(asked.address, tuple(asked.group), asked.interface or own, (asked.pd_port, asked.md_port))
 
 
 def print_all(asked: argparse.Namespace, taker: Taker, datasets: Datasets, file: PcapngFile | None) -> None:
@@ -270,10 +346,11 @@ def print_all(asked: argparse.Namespace, taker: Taker, datasets: Datasets, file:
 def dump(asked: argparse.Namespace, stack: contextlib.ExitStack) -> None:
     """Prints what comes, and then how much couldn't be read. What is opened is closed with the stack."""
     datasets = trdp_words.datasets_of(asked.toml) if asked.toml else Datasets({})
-    ports = asked.pd_port, asked.md_port
-    taker = Beside(asked.address, ports, stack) if asked.beside else Ports(asked.address, ports, stack)
+    where = where_of(asked)
+    taker = Beside(where, stack) if asked.beside else Ports(where, stack)
     file = PcapngFile(stack.enter_context(open(asked.pcapng, "wb"))) if asked.pcapng else None
-    print(f"trdp_dump.py: at {asked.address}, ports {asked.pd_port} and {asked.md_port}", file=sys.stderr, flush=True)
+    homes = " and ".join(where.homes)
+    print(f"trdp_dump.py: at {homes}, ports {asked.pd_port} and {asked.md_port}", file=sys.stderr, flush=True)
     try:
         print_all(asked, taker, datasets, file)
     finally:

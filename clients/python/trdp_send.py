@@ -4,6 +4,7 @@
     trdp_send.py 127.0.0.1:17224 --com-id 1101 --data 040000
     trdp_send.py 127.0.0.1:17224 --com-id 2101 --toml node.toml --value '[4, [0, 0, 0, 0], 0]' --cycle-us 100000
     trdp_send.py 127.0.0.1:17225 --type Mn --com-id 300 --source-uri door --dest-uri car --data 0d
+    trdp_send.py 239.192.0.1:17224 --from 10.0.0.2:17224 --ttl 5 --com-id 1101 --data 040000
 
 A value is written as trdp_dump.py prints one: a list with one entry for each element, a number, a pair in round
 brackets for a time, a list for an array or another dataset. Its dataset is that of the comId in the file's
@@ -11,6 +12,9 @@ brackets for a time, a list for an array or another dataset. Its dataset is that
 
 With a cycle the counter of process data rises by one with each telegram; that of a message stays. It goes on until
 it is interrupted, or by --count.
+
+To a group it leaves by the interface that has the address of --from, or else by that of the system's routes. It goes
+over 64 links at most, where --ttl names no other number.
 """
 from __future__ import annotations
 
@@ -26,6 +30,8 @@ from typing import Any
 import trdp_words
 from trdp_telegram import MD_KINDS, PD_KINDS, Telegram
 
+# Over how many links a telegram to a group goes at most, as the standard recommends.
+GROUP_TTL = 64
 NO_SESSION = uuid.UUID(int=0)
 MESSAGES = frozenset(MD_KINDS)
 # The types of telegrams whose headers have what these words say.
@@ -96,6 +102,8 @@ def parser() -> trdp_words.Words:
                        help="the dataset of --value, where the file names none for the comId")
     words.add_argument("--from", dest="source", type=trdp_words.place(0),
                        help="where it comes from, as 127.0.0.9:17224")
+    words.add_argument("--ttl", type=trdp_words.number(1, 255),
+                       help=f"over how many links it goes at most, 1 to 255 ({GROUP_TTL} to a group, else the system's)")
     words.add_argument("--cycle-us", type=trdp_words.number(1, trdp_words.U32_MOST),
                        help="send it again and again, so many microseconds apart")
     words.add_argument("--count", type=trdp_words.number(1, trdp_words.U32_MOST),
@@ -148,6 +156,20 @@ def bind(out: socket.socket, source: tuple[str, int]) -> None:
         raise OSError(fault.errno, fault.strerror, f"{source[0]}:{source[1]}") from None
 
 
+def direct(out: socket.socket, asked: argparse.Namespace) -> None:
+    """Says how far it goes, and to a group where it leaves. Raises OSError with the source that no interface has."""
+    if not trdp_words.is_group(asked.place[0]):
+        if asked.ttl:
+            out.setsockopt(socket.IPPROTO_IP, socket.IP_TTL, asked.ttl)
+        return
+    out.setsockopt(socket.IPPROTO_IP, socket.IP_MULTICAST_TTL, asked.ttl or GROUP_TTL)
+    if asked.source:
+        try:
+            out.setsockopt(socket.IPPROTO_IP, socket.IP_MULTICAST_IF, socket.inet_aton(asked.source[0]))
+        except OSError as fault:
+            raise OSError(fault.errno, fault.strerror, f"{asked.source[0]}:{asked.source[1]}") from None
+
+
 def give(out: socket.socket, data: bytes, place: tuple[str, int]) -> None:
     """Has the system send it. Raises OSError with the place."""
     try:
@@ -164,6 +186,7 @@ def send(asked: argparse.Namespace) -> None:
     with socket.socket(socket.AF_INET, socket.SOCK_DGRAM) as out:
         if asked.source:
             bind(out, asked.source)
+        direct(out, asked)
         sent = 0
         while sent != count:
             give(out, telegram.write(), asked.place)

@@ -5,13 +5,15 @@ Used by trdp_dump.py, trdp_send.py and examples/control/client.py.
 from __future__ import annotations
 
 import argparse
+import contextlib
 import ipaddress
 import math
 import os
 import re
+import socket
 import sys
 from collections.abc import Callable
-from typing import NoReturn
+from typing import NamedTuple, NoReturn
 
 from trdp_slot import Datasets
 
@@ -20,6 +22,15 @@ I32_MOST = 0x7FFFFFFF
 PORT_MOST = 0xFFFF
 WAIT_MOST_US = 10**15
 """The longest wait that a command line asks for, in microseconds: thirty years."""
+ANY_ADDRESS = "0.0.0.0"
+"""What stands for all addresses of this machine, or for none."""
+
+
+class Interface(NamedTuple):
+    """An interface of this machine, by an address that it has or by its number; by neither, that of the system's routes."""
+
+    address: str = ANY_ADDRESS
+    number: int = 0
 
 
 class Words(argparse.ArgumentParser):
@@ -57,6 +68,33 @@ def address(text: str) -> str:
         return str(ipaddress.IPv4Address(text))
     except ValueError:
         raise argparse.ArgumentTypeError(f"{shown(text)} is no address, as 127.0.0.1") from None
+
+
+def is_group(home: str) -> bool:
+    """Whether an address is that of a multicast group."""
+    return ipaddress.IPv4Address(home).is_multicast
+
+
+def group(text: str) -> str:
+    """Reads the address of a group."""
+    home = address(text)
+    if is_group(home):
+        return home
+    raise argparse.ArgumentTypeError(f"{shown(text)} is no group, 224.0.0.0 to 239.255.255.255")
+
+
+def interface(text: str) -> Interface:
+    """Reads an interface of this machine: its name, or an address that it has."""
+    # A name that can't be one, as of a zero byte, is a ValueError.
+    with contextlib.suppress(OSError, ValueError):
+        return Interface(number=socket.if_nametoindex(text))
+    with contextlib.suppress(OSError, ValueError), socket.socket(socket.AF_INET, socket.SOCK_DGRAM) as asked:
+        home = ipaddress.IPv4Address(text)
+        # The system refuses an address that no interface has, but for that of all.
+        asked.setsockopt(socket.IPPROTO_IP, socket.IP_MULTICAST_IF, home.packed)
+        if not home.is_unspecified:
+            return Interface(str(home))
+    raise argparse.ArgumentTypeError(f"{shown(text)} is no interface of this machine, nor an address that one has")
 
 
 def place(lowest_port: int) -> Callable[[str], tuple[str, int]]:
