@@ -17,7 +17,7 @@ import tempfile
 import textwrap
 import unittest
 
-from testing import PROGRAM, TOP, has_groups, wait_until
+from testing import PROGRAM, TOP, has_ends, has_groups, wait_until
 
 ADDRESSES = {"127.0.0.1": "127.0.8.30", "127.0.0.2": "127.0.8.31", "127.0.0.3": "127.0.8.34", "127.0.9.": "127.0.8.",
              "0x7f000002": "0x7f00081f", "239.192.0.1": "239.192.8.34"}
@@ -46,16 +46,6 @@ def commands(block: str) -> list[tuple[str, list[str]]]:
         elif typed:
             typed[-1][1].append(line)
     return typed
-
-
-def sockets_of(pid: int) -> int:
-    """How many sockets a process has."""
-    count = 0
-    for file in pathlib.Path(f"/proc/{pid}/fd").iterdir():
-        # One may be closed meanwhile.
-        with contextlib.suppress(FileNotFoundError):
-            count += os.readlink(file).startswith("socket:")
-    return count
 
 
 class Page(unittest.TestCase):
@@ -119,7 +109,8 @@ class Page(unittest.TestCase):
             assert process.stdout is not None
             while (said := process.stdout.readline()) and not said.startswith("dataset "):
                 pass
-            wait_until(lambda: process.poll() is not None or sockets_of(process.pid) >= 3, 30)
+            config = (self.top / part.split()[2]).read_text()
+            wait_until(lambda: process.poll() is not None or has_ends(process.pid, config), 30)
             self.assertIsNone(process.poll(), part)
 
     def test_all(self) -> None:

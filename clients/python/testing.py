@@ -48,6 +48,19 @@ def open_ends() -> set[str]:
     return {f"socket:[{inode}]" for inode in [*(it[9] for it in udp), *listening]}
 
 
+def has_ends(pid: int, config: str) -> bool:
+    """Whether a daemon of a configuration has all that it names: each port is bound, or listens at its path."""
+    held = set()
+    for number in os.listdir(f"/proc/{pid}/fd"):
+        try:
+            held.add(os.readlink(f"/proc/{pid}/fd/{number}"))
+        except FileNotFoundError:
+            pass
+    # A spare port is one at most.
+    named = 2 + sum(config.count(it) for it in ("\noperator_port", "\nspare_control_ports", "\ncontrol_port"))
+    return len(held & open_ends()) >= named
+
+
 def join(home: str, group: str, port: int = 0) -> socket.socket:
     """A socket at a port of a group, which others may have too, joined at the interface of an address."""
     joined = socket.socket(socket.AF_INET, socket.SOCK_DGRAM)
@@ -130,24 +143,10 @@ class Daemon:
             output, error = (out.fileno() if it in (FILE, None) else it for it in self.streams)
             line = ["sh", "-c", f'exec "$0" "$@" {closed}', PROGRAM, "daemon", str(self.path), *self.words]
             self.process = subprocess.Popen(line[3 * (not closed):], stdout=output, stderr=error, umask=self.umask)
-        wait_until(lambda: self.process.poll() is not None or self._has_ports(), seconds=20)
+        config = self.path.read_text()
+        wait_until(lambda: self.process.poll() is not None or has_ends(self.process.pid, config), seconds=20)
         if self.process.poll() is not None:
             raise RuntimeError(f"the daemon ended: {errors.read_text()}")
-
-    def _has_ports(self) -> bool:
-        """Whether the process has its ports: each is bound, or listens at its path."""
-        held = set()
-        for number in os.listdir(f"/proc/{self.process.pid}/fd"):
-            try:
-                held.add(os.readlink(f"/proc/{self.process.pid}/fd/{number}"))
-            except FileNotFoundError:
-                pass
-        return len(held & open_ends()) >= self.ports()
-
-    def ports(self) -> int:
-        """How many ports the configuration names, of which a spare one is at most one."""
-        text = self.path.read_text()
-        return 2 + sum(text.count(it) for it in ("\noperator_port", "\nspare_control_ports", "\ncontrol_port"))
 
     def totals(self) -> dict[str, int]:
         """Its latest line of totals, which the words `--totals SECONDS` ask for; nothing where there is none yet."""
