@@ -1,12 +1,13 @@
 //! What it costs to send on time without a node: it sleeps until the next telegram is due, looks once behind each sleep what came, answers
 //! that, and sends all that is due. It looks into no datagram. bench/idle_cost.py compares `trdpd daemon` with it.
 //!
-//!     bare_rest CYCLE PUBLISHERS LENGTH REPLY PIECES SINK PORT..
+//!     bare_rest CYCLE LENGTH REPLY PIECES SINK PORT.. < PHASES
 //!
-//! It binds the ports at 127.0.0.1, and runs until it is ended. Each of so many publishers sends LENGTH bytes every CYCLE microseconds
-//! from the first port to the port SINK, their phases spread over the cycle: of these are four bytes a counter, as in a telegram, and four
-//! behind the eighth byte the publisher's number. To each datagram that comes it replies with REPLY bytes from the same port. Where PIECES
-//! is 1 no sleep is longer than a millisecond, so that no datagram waits longer; where it is 0 each lasts until the next telegram is due.
+//! It binds the ports at 127.0.0.1, and runs until it is ended. For each number on standard input a publisher sends LENGTH bytes every
+//! CYCLE microseconds from the first port to the port SINK, so many microseconds behind the others' begin. Of these are four bytes a counter,
+//! as in a telegram, and four behind the eighth byte the publisher's number. To each datagram that comes it replies with REPLY bytes from the
+//! same port. Where PIECES is 1 no sleep is longer than a millisecond, so that no datagram waits longer; where it is 0 each lasts until the
+//! next telegram is due.
 
 use std::env;
 use std::io::{self, ErrorKind};
@@ -97,9 +98,15 @@ fn checked(answer: i32) -> io::Result<i32> {
 
 fn main() -> io::Result<()> {
     let words: Vec<u64> = env::args().skip(1).map(|word| word.parse().expect("a number")).collect();
-    let [cycle, publishers, length, reply, pieces, sink, ports @ ..] = &words[..] else {
-        panic!("bare_rest CYCLE PUBLISHERS LENGTH REPLY PIECES SINK PORT..");
+    let [cycle, length, reply, pieces, sink, ports @ ..] = &words[..] else {
+        panic!("bare_rest CYCLE LENGTH REPLY PIECES SINK PORT.. < PHASES");
     };
+    let said = io::read_to_string(io::stdin())?;
+    // When each telegram of a cycle is due, in microseconds behind its begin, and whose it is; in order.
+    let phases = said.split_whitespace().zip(0u32..).map(|(phase, number)| (phase.parse().expect("a number"), number));
+    let mut phases: Vec<(u64, u32)> = phases.collect();
+    phases.sort_unstable();
+    let publishers = phases.len() as u64;
     let sink = (Ipv4Addr::LOCALHOST, *sink as u16);
     let longest = if *pieces == 0 { Duration::MAX } else { PIECE };
     let mut ports = Ports::bind(ports, *reply)?;
@@ -107,8 +114,8 @@ fn main() -> io::Result<()> {
     let mut sent = 0;
     let start = Instant::now();
     loop {
-        // The telegrams are due in turns, one publisher's after another's, at equal distances.
-        let due = Duration::from_nanos(sent * cycle * 1000 / publishers);
+        let (phase, number) = phases[(sent % publishers) as usize];
+        let due = Duration::from_micros(sent / publishers * cycle + phase);
         let rest = due.saturating_sub(start.elapsed());
         if !rest.is_zero() {
             sleep(rest.min(longest));
@@ -116,7 +123,7 @@ fn main() -> io::Result<()> {
             continue;
         }
         telegram[..4].copy_from_slice(&((sent / publishers) as u32).to_be_bytes());
-        telegram[NUMBER_AT..NUMBER_AT + 4].copy_from_slice(&((sent % publishers) as u32).to_be_bytes());
+        telegram[NUMBER_AT..NUMBER_AT + 4].copy_from_slice(&number.to_be_bytes());
         // What is refused is lost, as in the daemon.
         drop(ports.sockets[0].send_to(&telegram, sink));
         sent += 1;

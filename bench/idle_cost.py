@@ -3,8 +3,8 @@
 
     bench/idle_cost.py [SECONDS] [BEFORE] [AFTER] [ROUNDS]        default: 10 crates/trdpd/out/trdpd, both times, 5
 
-bench/bare_rest.rs, which rustc builds, is that loop: it sleeps until the next telegram is due, at most a millisecond at a time, or in one
-piece; behind each sleep it answers what came. It, the program before a change and the one after it send the telegrams of so many
+bench/bare_rest.rs, which rustc builds, is that loop: it sleeps until the next telegram is due, at the moments at which the program after the
+change sent, at most a millisecond at a time, or in one piece; behind each sleep it answers what came. It, the program before a change and the one after it send the telegrams of so many
 publishers, whose phases are spread over the cycle, to a socket on this machine, in turns. For each the median over the rounds of
 
     processor     the share of a processor that it takes meanwhile (user and system), by the clock of its processor time
@@ -50,6 +50,10 @@ class Row(NamedTuple):
 ROWS = [Row(100, 0.02), Row(50, 0.1), Row(1, 0.01)]
 
 
+# Starts a program with the publishers of a row, which send to that port; the program before had these phases, in seconds.
+Start = Callable[[Row, int, list[float]], Started]
+
+
 class Cost(NamedTuple):
     """What was measured in a round: shares of a processor, and microseconds."""
 
@@ -74,11 +78,14 @@ def started_node(program: str, row: Row, sink: int) -> Started:
     return node
 
 
-def started_bare(program: str, row: Row, sink: int, pieces: bool) -> Started:
-    """The loop with these publishers, at as many ports as the daemon."""
+def started_bare(program: str, row: Row, sink: int, phases: list[float], pieces: bool) -> Started:
+    """The loop with publishers of these phases, at as many ports as the daemon."""
     ports = free_ports(3)
-    numbers = [round(row.cycle * 1e6), row.publishers, TELEGRAM, ANSWER, int(pieces), sink, *ports]
-    return Started([program, *map(str, numbers)], ports[2:])
+    numbers = [round(row.cycle * 1e6), TELEGRAM, ANSWER, int(pieces), sink, *ports]
+    with tempfile.TemporaryFile("w+") as file:
+        file.write(" ".join(f"{it * 1e6:.0f}" for it in phases))
+        file.seek(0)
+        return Started([program, *map(str, numbers)], ports[2:], file)
 
 
 def perf_share(process: int) -> float:
@@ -91,10 +98,10 @@ def perf_share(process: int) -> float:
     return float(counts[0]) / 1e3 / PERF_SECONDS if counts and counts[0][:1].isdigit() else float("nan")
 
 
-def cost(start: Callable[[Row, int], Started], row: Row, seconds: float) -> Cost:
-    """What a program costs that sends the telegrams of a row."""
+def cost(start: Start, row: Row, seconds: float, phases: list[float]) -> tuple[Cost, list[float]]:
+    """What a program costs that sends the telegrams of a row, where one before had these phases; and the phases that it has."""
     with stamped() as sink:
-        node = start(row, sink.getsockname()[1])
+        node = start(row, sink.getsockname()[1], phases)
         try:
             for _ in arrivals(sink, 2 * row.cycle):
                 pass
@@ -111,7 +118,8 @@ def cost(start: Callable[[Row, int], Started], row: Row, seconds: float) -> Cost
     if len(of) != row.publishers:
         sys.exit(f"idle_cost.py: telegrams of {len(of)} publishers came, not of {row.publishers}")
     late = [it for moments in of.values() for it in lateness(moments, row.cycle)]
-    return Cost(used, perf, share(late, 0.5), share(late, 0.99), share(answers, 0.5), share(answers, 0.99))
+    found = Cost(used, perf, share(late, 0.5), share(late, 0.99), share(answers, 0.5), share(answers, 0.99))
+    return found, [(share([(it - came[0][0]) % row.cycle for it in moments], 0.5)) for moments in of.values()]
 
 
 def tell(name: str, found: Cost) -> None:
@@ -128,12 +136,16 @@ def tell_goals(after: Cost, bare: Cost, beside: str) -> None:
           f"{', '.join(f'{it:.0f}' for it in later)} (at most {LATER:.0f} each): {'met' if is_met else 'NOT MET'}")
 
 
-def measure(starts: dict[str, Callable[[Row, int], Started]], row: Row, seconds: float, rounds: int) -> None:
+def measure(starts: dict[str, Start], row: Row, seconds: float, rounds: int) -> None:
     """Measures a row, the programs in turns, and tells of it."""
     found: dict[str, list[Cost]] = {name: [] for name in starts}
+    phases: list[float] = []
     for _ in range(rounds):
         for name, start in starts.items():
-            found[name].append(cost(start, row, seconds))
+            it, own = cost(start, row, seconds, phases)
+            found[name].append(it)
+            # The loop sleeps until the moments at which the program after the change sent.
+            phases = own if name == "after" else phases
     medians = {name: Cost(*(statistics.median(it) for it in zip(*costs))) for name, costs in found.items()}
     print(f"{row.publishers} publishers of {row.cycle * 1e3:.0f} ms")
     for name, it in medians.items():
@@ -148,11 +160,11 @@ def main(seconds: str = "10", before: str = f"{TOP}/crates/trdpd/out/trdpd", aft
     with tempfile.TemporaryDirectory() as folder:
         bare = os.path.join(folder, "bare_rest")
         subprocess.run(["rustc", "-O", "-o", bare, f"{TOP}/bench/bare_rest.rs"], check=True)
-        starts: dict[str, Callable[[Row, int], Started]] = {
-            "before": lambda row, sink: started_node(before, row, sink),
-            "after": lambda row, sink: started_node(after, row, sink),
-            "bare, in pieces": lambda row, sink: started_bare(bare, row, sink, True),
-            "bare, in one piece": lambda row, sink: started_bare(bare, row, sink, False),
+        starts: dict[str, Start] = {
+            "before": lambda row, sink, _: started_node(before, row, sink),
+            "after": lambda row, sink, _: started_node(after, row, sink),
+            "bare, in pieces": lambda row, sink, phases: started_bare(bare, row, sink, phases, True),
+            "bare, in one piece": lambda row, sink, phases: started_bare(bare, row, sink, phases, False),
         }
         print(f"{'':26}{'processor':>10}{'perf':>8}{'late: median':>14}{'99 %':>8}{'answer: median':>16}{'99 %':>8}   (%, microseconds)")
         for row in ROWS:

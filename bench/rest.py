@@ -22,6 +22,7 @@ import tempfile
 import time
 import zlib
 from collections.abc import Callable, Iterator, Sequence
+from typing import IO
 
 from control_lines import free_ports, notification
 
@@ -37,9 +38,9 @@ LOOKS = 0.005                                     # seconds between two looks at
 class Started:
     """A program as a process, and a client of each of its control ports."""
 
-    def __init__(self, words: Sequence[str], controls: list[int]) -> None:
+    def __init__(self, words: Sequence[str], controls: list[int], said: IO[str] | None = None) -> None:
         self.controls = controls
-        self.process = subprocess.Popen(words, stdout=subprocess.DEVNULL, stderr=subprocess.DEVNULL)
+        self.process = subprocess.Popen(words, stdin=said, stdout=subprocess.DEVNULL, stderr=subprocess.DEVNULL)
         try:
             self.clients = [self.client(it) for it in controls]
         except BaseException:
