@@ -249,10 +249,34 @@ class Ends(Spoken):
         return all(len(it) >= LOOKS and it[-1][1] >= it[0][1] + TELEGRAMS for it in seen)
 
 
+def totals(operator: Speaker) -> list[int]:
+    """What the daemon has counted so far: taken, offered, lost, unread, memory."""
+    operator.say(b"totals")
+    return [int(word) for word in operator.hear().split()[1::2]]
+
+
 def taken(operator: Speaker) -> int:
     """How many lines and datagrams the daemon has taken so far."""
-    operator.say(b"totals")
-    return int(operator.hear().split()[1])
+    return totals(operator)[0]
+
+
+class Counts(AtPaths):
+    """What an end counts for."""
+
+    def test_an_end_is_taken_and_told_to_nobody(self) -> None:
+        self.starts(control(0, QUOTAS))
+        operator, application = self.connects(OPERATOR), self.connects()
+        for line, answer in [(publish(), b"0 handle 1\n"), (b"reset", b"0 done\n")]:
+            application.say(line)
+            self.assertEqual(application.hear(), answer)
+        # Each question is taken, and then offered an answer.
+        asked = itertools.count(1)
+        before = totals(operator)
+        self.assertEqual(before[:2], [2 + next(asked), 2])
+        application.close()
+        wait_until(lambda: totals(operator)[0] == 3 + next(asked))
+        questions = next(asked)
+        self.assertEqual(totals(operator), [3 + questions, 1 + questions, 0, 0, 0])
 
 
 ENDS = [

@@ -1,5 +1,5 @@
 -- What a wire makes of its network and of its paths.
-use Rattle.std.specs.Prelude.{◌≡◌, ℕ, ◌^◌, ◌-◌, ◌&&◌, nat_lt, List, [], ◌∷◌, length}
+use Rattle.std.specs.Prelude.{◌≡◌, ℕ, ◌^◌, ◌-◌, ◌&&◌, not, nat_lt, List, [], ◌∷◌}
 use Rattle.std.specs.Prelude.{Option, Some, None, Result, Ok, Err, Bool, true, false}
 use Rattle.std.specs.Prelude.{option_map, is_err}
 use Rattle.std.specs.Prelude.{slice_index_or, slice_set}
@@ -24,11 +24,13 @@ found_in (Err fault) = None
 abbrev pub placed : ℕ × ℕ → Place × ℕ
 placed found = (place_of_number found.0, found.1)
 
--- a take at one of the network's ports is a take of the network
+-- a take at one of the network's ports is a take of the network, by which the applications at these
+-- places had ended
 pub record TakesOverNetwork (takings takings_then : Option (List Taking)) (port : Port)
-    (result : Result (Option (Place × ℕ)) WireFault) (room_then : List ℕ) : Type 0 where
+    (ended : Place → Bool) (result : Result (Option (Place × ℕ)) WireFault)
+    (room_then : List ℕ) : Type 0 where
   pub answer : Result (Option (Place × ℕ)) WireFault
-  pub told : TellsMore takings takings_then (taking_of port answer room_then ∷ [])
+  pub told : TellsMore takings takings_then (taking_of port ended answer room_then ∷ [])
   pub found : found_in result ≡ found_in answer
 
 -- a give at one of the network's ports is a give of the network
@@ -137,6 +139,21 @@ pub record GivesAtOperator {C : Type 0} (calls_of : C → Option (List Connectio
   pub says : SaysAtOperator calls_of operator operator_then to text answer
   pub fault : is_err result ≡ is_err answer && nat_lt failures (2 ^ 64 - 1)
 
+-- whether the application at a path has ended that was at this place: its connection speaks no more
+abbrev pub has_ended_at : {C : Type 0} → Option (PathState C) → Place → Bool
+has_ended_at None place = false
+has_ended_at (Some path) place = not (speaks path.speaker.number (number_of_place place))
+
+-- the same of a port; of its own ports the network knows it, and the operator's connections are no
+-- applications
+abbrev pub has_ended : {N C : Type 0} → (ended_in : N → Port → Place → Bool)
+    → ControlWire N C → Port → Place → Bool
+has_ended ended_in wire Pd place = ended_in wire.network Pd place
+has_ended ended_in wire Md place = ended_in wire.network Md place
+has_ended ended_in wire Operator place = false
+has_ended ended_in wire (Control slot) place =
+    has_ended_at (control_at wire.controls.items slot) place
+
 -- of the network nothing was taken, and nothing given to it
 pub record IsUnasked {N : Type 0} (takings_in : N → Option (List Taking))
     (gives_in : N → Option (List Give)) (network network_then : N) : Type 0 where
@@ -152,21 +169,25 @@ IfNews false old new result Takes = (result ≡ Ok None) × (new ≡ old)
 -- a take at a port: of the network, or at the operator's path or that of a slot, and nowhere else;
 -- at a path of which there are no news nothing is asked, and nothing found
 abbrev pub TakesAtPort : {N C : Type 0} → (takings_in : N → Option (List Taking))
-    → (gives_in : N → Option (List Give)) → (calls_of : C → Option (List ConnectionCall))
+    → (gives_in : N → Option (List Give)) → (ended_in : N → Port → Place → Bool)
+    → (calls_of : C → Option (List ConnectionCall))
     → (has_news : Bool) → (old new : ControlWire N C) → Port
     → (room : ℕ) → Result (Option (Place × ℕ)) WireFault → (room_then : List ℕ) → Type 0
-TakesAtPort takings_in gives_in calls_of has_news old new Pd room result room_then =
-    TakesOverNetwork (takings_in old.network) (takings_in new.network) Pd result room_then
+TakesAtPort takings_in gives_in ended_in calls_of has_news old new Pd room result room_then =
+    TakesOverNetwork (takings_in old.network) (takings_in new.network) Pd
+    (ended_in new.network Pd) result room_then
     × (new.operator ≡ old.operator) × (new.controls.items ≡ old.controls.items)
-TakesAtPort takings_in gives_in calls_of has_news old new Md room result room_then =
-    TakesOverNetwork (takings_in old.network) (takings_in new.network) Md result room_then
+TakesAtPort takings_in gives_in ended_in calls_of has_news old new Md room result room_then =
+    TakesOverNetwork (takings_in old.network) (takings_in new.network) Md
+    (ended_in new.network Md) result room_then
     × (new.operator ≡ old.operator) × (new.controls.items ≡ old.controls.items)
-TakesAtPort takings_in gives_in calls_of has_news old new Operator room result room_then =
+TakesAtPort takings_in gives_in ended_in calls_of has_news old new Operator room result room_then =
     IfNews has_news old new result
     (TakesAtOperator calls_of old.operator new.operator room result room_then
     × IsUnasked takings_in gives_in old.network new.network
     × (new.controls.items ≡ old.controls.items))
-TakesAtPort takings_in gives_in calls_of has_news old new (Control slot) room result room_then =
+TakesAtPort takings_in gives_in ended_in calls_of has_news old new (Control slot) room result
+    room_then =
     IfNews has_news old new result
     (TakesAtControl calls_of slot old.controls.items new.controls.items room result room_then
     × IsUnasked takings_in gives_in old.network new.network × (new.operator ≡ old.operator))

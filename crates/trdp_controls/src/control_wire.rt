@@ -4,9 +4,11 @@ ghost use Rattle.std.specs.Prelude.{◌≡◌, ◌<◌, ◌≤◌, length, IfOk,
 ghost use Rattle.trdp_controls.specs.ControlWires.{GivesAtControl, GivesAtOperator};
 ghost use Rattle.trdp_controls.specs.ControlWires.{GivesOverNetwork, TakesAtControl};
 ghost use Rattle.trdp_controls.specs.ControlWires.{TakesAtOperator, TakesOverNetwork};
-ghost use Rattle.trdp_controls.specs.ControlWires.{GivesAtPort, IsUnasked, TakesAtPort};
+ghost use Rattle.trdp_controls.specs.ControlWires.{GivesAtPort, IsUnasked, TakesAtPort, has_ended};
 
-use crate::path_calls::{give_line, give_text_at, nothing, take_line, take_operators_line};
+use crate::path_calls::{
+    give_line, give_text_at, has_ended_at, nothing, take_line, take_operators_line,
+};
 use trdp_base::Place;
 use trdp_daemon::{Port, Refusal, SocketFault, Wire, WireFault, fail};
 use trdp_lines::{Connections, ControlPath, OperatorPath};
@@ -76,7 +78,7 @@ impl<N: Wire, C: Connections> ControlWire<N, C> {
     ) -> Result<Option<(Place, usize)>, WireFault>
         ensures within { IfOk result (λ found. IfSome found (λ f. f.1 ≤ length room.new)) }
         ensures takes { TakesOverNetwork (N.takings self.old.network) (N.takings self.new.network)
-            port result room.new }
+            port (N.ended self.new.network port) result room.new }
         ensures fault { OnErr result (self.old.failures < self.new.failures) }
         ensures operator { self.new.operator ≡ self.old.operator }
         ensures controls { self.new.controls ≡ self.old.controls }
@@ -229,11 +231,14 @@ impl<N: Wire, C: Connections> Wire for ControlWire<N, C> {
 
     ghost news = { λ wire. N.news wire.network };
 
+    ghost ended = { has_ended N.ended };
+
     fn take(&mut self, port: Port, room: &mut [u8]) -> Result<Option<(Place, usize)>, WireFault>
         ensures within { IfOk result (λ found. IfSome found (λ f. f.1 ≤ length room.new)) }
         ensures fault { OnErr result (self.old.failures < self.new.failures) }
-        ensures takes { TakesAtPort N.takings N.gives C.calls (N.news self.old.network port)
-            self.old self.new port (length room.old) result room.new }
+        ensures takes { TakesAtPort N.takings N.gives N.ended C.calls
+            (N.news self.old.network port) self.old self.new port (length room.old) result
+            room.new }
     {
         match port {
             Port::Pd | Port::Md => self.take_telegram(port, room),
@@ -267,6 +272,16 @@ impl<N: Wire, C: Connections> Wire for ControlWire<N, C> {
 
     fn has_news(&self, port: Port) -> bool {
         self.network.has_news(port)
+    }
+
+    fn has_ended(&self, port: Port, place: Place) -> bool
+        ensures { result ≡ has_ended N.ended self.now port place }
+    {
+        match port {
+            Port::Pd | Port::Md => self.network.has_ended(port, place),
+            Port::Operator => false,
+            Port::Control(slot) => has_ended_at(&self.controls, usize::from(slot), place),
+        }
     }
 
     fn set_news(&mut self, port: Port, may_be: bool)

@@ -3,6 +3,7 @@
 ghost use Rattle.std.specs.Prelude.{◌≡◌, ◌<◌, ◌≤◌, length, IfOk, IfSome, OnErr, None};
 ghost use Rattle.std.specs.Option.{option_map};
 ghost use Rattle.trdp_controls.specs.ControlWires.{SaysAtControl, SaysAtOperator, SaysAtPath};
+ghost use Rattle.trdp_controls.specs.ControlWires.{control_at, has_ended_at};
 ghost use Rattle.trdp_controls.specs.ControlWires.{TakesAtOperator, TakesAtPath, found_in, placed};
 
 use crate::place::{number_of, place_of};
@@ -80,6 +81,21 @@ pub(crate) fn take_operators_line<C: Connections>(
     let taken = path.take(room);
     let heard = path.has_heard();
     (answer_of(taken, failures), heard)
+}
+
+/// Whether the application of a slot that was at a place has ended: its connection speaks no more.
+/// It hasn't where there is no path.
+pub(crate) fn has_ended_at<C: Connections>(
+    controls: &[Option<ControlPath<C>>],
+    slot: usize,
+    place: Place,
+) -> bool
+    ensures { result ≡ has_ended_at (control_at controls.now slot) place }
+{
+    match controls.get(slot) {
+        Some(Some(path)) => !path.speaks(number_of(place)),
+        _ => false,
+    }
 }
 
 /// Says a text at a slot's path to the connection of the place, if that is the one that speaks.

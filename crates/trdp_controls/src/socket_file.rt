@@ -128,7 +128,7 @@ pub(crate) fn watch<S: Source>(teller: &Option<Teller>, source: &mut S) -> io::R
 /// something to read, and if so asked, when it has room for what is written.
 pub(crate) fn watch_room<S: Source>(teller: &Option<Teller>, source: &mut S, room: bool) {
     if let Some(teller) = teller {
-        // Where the system refuses it, a rest ends by its time.
+        // Where the system refuses it, what waits goes out at the next news of the path.
         let _ = teller.watch_room(source, room);
     }
 }

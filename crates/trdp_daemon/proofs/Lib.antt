@@ -18,6 +18,7 @@ pub mod CountedLemmas
 pub mod GiveRowLemmas
 pub mod LossLemmas
 pub mod SilenceLemmas
+pub mod EndLemmas
 pub mod TakeRowLemmas
 pub mod MemoryWireLemmas
 pub mod RestingWireLemmas

@@ -21,10 +21,11 @@ use Rattle.trdp_daemon.specs.Effects.{record_telling, is_first_lost, later_marks
 use Rattle.trdp_daemon.specs.Effects.{event_records, ServiceState, Loss, LineLost, EventLost}
 use Rattle.trdp_daemon.specs.Effects.{TextsLost, then_effect, telling_only, event_effect}
 use Rattle.trdp_daemon.specs.Effects.{event_taken, Effect, may_take_memory, missing, still}
-use Rattle.trdp_daemon.specs.Leases.{is_silent, forgotten, quiet_effect}
+use Rattle.trdp_daemon.specs.Leases.{end_effect, ended_effect, is_silent, forgotten, quiet_effect}
 use Rattle.trdp_daemon.specs.Visits.{operator_answer, operator_taken, operator_event}
 use Rattle.trdp_daemon.specs.Visits.{operator_effect, heard_from, control_event}
-use Rattle.trdp_daemon.specs.Visits.{control_effect, datagram_effect, lives_still, taking_effect}
+use Rattle.trdp_daemon.specs.Visits.{came_effect, control_effect, datagram_effect, lives_still}
+use Rattle.trdp_daemon.specs.Visits.{taking_effect}
 use Rattle.trdp_daemon.specs.Turns.{Visit, visit_effect, visits_effect, Turn, turn_effect}
 use Rattle.trdp_daemon.specs.Turns.{begun, moment_effect, turns_effect, moment_of, unlost, unlost_visit}
 use Rattle.trdp_daemon.proofs.TurnLemmas.{effect_of}
@@ -135,13 +136,16 @@ datagram_kept s totals Operator from bytes loss none =
 datagram_kept s totals (Control slot) from bytes loss none =
     control_kept s slot from (control_line_of slot bytes) loss none
 
+end_kept : (s : ServiceState) (slot : ℕ) (loss : Loss)
+    → (end_effect s slot loss).telling.missed ≡ 0
+    → end_effect s slot loss ≡ end_effect s slot (TextsLost [])
+end_kept s slot loss none = event_kept (forgotten s slot) (CallIs slot ResetCall) loss none
+
 silence_kept : (silent : Bool) (s : ServiceState) (slot : ℕ) (loss : Loss)
-    → (if silent then event_effect (forgotten s slot) (CallIs slot ResetCall) loss
-    else still s).telling.missed ≡ 0
-    → (if silent then event_effect (forgotten s slot) (CallIs slot ResetCall) loss else still s)
-    ≡ (if silent then event_effect (forgotten s slot) (CallIs slot ResetCall) (TextsLost [])
-    else still s)
-silence_kept true s slot loss none = event_kept (forgotten s slot) (CallIs slot ResetCall) loss none
+    → (if silent then end_effect s slot loss else still s).telling.missed ≡ 0
+    → (if silent then end_effect s slot loss else still s)
+    ≡ (if silent then end_effect s slot (TextsLost []) else still s)
+silence_kept true s slot loss none = end_kept s slot loss none
 silence_kept false s slot loss none = refl
 
 quiet_kept : (s : ServiceState) (port : Port) (loss : Loss)
@@ -153,15 +157,34 @@ quiet_kept s Md loss none = refl
 quiet_kept s Operator loss none = refl
 quiet_kept s (Control slot) loss none = silence_kept (is_silent s slot) s slot loss none
 
-taking_kept : (s : ServiceState) (totals : Totals) (port : Port) (arrived : Arrived) (loss : Loss)
-    → (taking_effect s totals port arrived loss).telling.missed ≡ 0
-    → taking_effect s totals port arrived loss
-    ≡ taking_effect s totals port arrived (TextsLost [])
-unfolding taking_effect
-taking_kept s totals port Failed loss none = refl
-taking_kept s totals port Nothing loss none = quiet_kept s port loss none
-taking_kept s totals port (Came from bytes) loss none =
+ended_kept : (s : ServiceState) (port : Port) (loss : Loss)
+    → (ended_effect s port loss).telling.missed ≡ 0
+    → ended_effect s port loss ≡ ended_effect s port (TextsLost [])
+unfolding ended_effect
+ended_kept s Pd loss none = refl
+ended_kept s Md loss none = refl
+ended_kept s Operator loss none = refl
+ended_kept s (Control slot) loss none = end_kept s slot loss none
+
+came_kept : (ended : Bool) (s : ServiceState) (totals : Totals) (port : Port) (from : Place)
+    (bytes : List ℕ) (loss : Loss)
+    → (came_effect ended s totals port from bytes loss).telling.missed ≡ 0
+    → came_effect ended s totals port from bytes loss
+    ≡ came_effect ended s totals port from bytes (TextsLost [])
+came_kept true s totals port from bytes loss none = ended_kept s port loss none
+came_kept false s totals port from bytes loss none =
     datagram_kept s totals port from bytes loss none
+
+taking_kept : (s : ServiceState) (totals : Totals) (port : Port) (ended : Bool)
+    (arrived : Arrived) (loss : Loss)
+    → (taking_effect s totals port ended arrived loss).telling.missed ≡ 0
+    → taking_effect s totals port ended arrived loss
+    ≡ taking_effect s totals port ended arrived (TextsLost [])
+unfolding taking_effect
+taking_kept s totals port ended Failed loss none = refl
+taking_kept s totals port ended Nothing loss none = quiet_kept s port loss none
+taking_kept s totals port ended (Came from bytes) loss none =
+    came_kept ended s totals port from bytes loss none
 
 visits_kept : (s : ServiceState) (visits : List Visit) → (visits_effect s visits).telling.missed ≡ 0
     → visits_effect s visits ≡ visits_effect s (map unlost_visit visits)
@@ -173,7 +196,8 @@ visits_kept s (visit ∷ visits) none =
     ap (λ e. effect_of e.service (both first.telling e.telling))
     (visits_kept first.service visits rest)
     ∙ ap (λ e. then_effect e (λ after. visits_effect after (map unlost_visit visits)))
-    (taking_kept s visit.totals visit.taking.port visit.taking.arrived visit.loss here)
+    (taking_kept s visit.totals visit.taking.port visit.taking.ended visit.taking.arrived visit.loss
+    here)
 
 turn_kept : (s : ServiceState) (turn : Turn) → (turn_effect s turn).telling.missed ≡ 0
     → turn_effect s turn ≡ turn_effect s (unlost turn)

@@ -24,12 +24,13 @@ use Rattle.trdp_daemon.specs.Told.{Arrived, Failed, Nothing, Came}
 use Rattle.trdp_daemon.specs.Effects.{ServiceState, Effect, Loss, LineLost, EventLost, TextsLost}
 use Rattle.trdp_daemon.specs.Effects.{event_effect, event_taken, may_take_memory, missing}
 use Rattle.trdp_daemon.specs.Effects.{telling_only, still}
-use Rattle.trdp_daemon.specs.Leases.{is_silent, forgotten, quiet_effect}
+use Rattle.trdp_daemon.specs.Leases.{end_effect, ended_effect, is_silent, forgotten, quiet_effect}
 use Rattle.trdp_daemon.specs.Turns.{Visit, visit_effect, visits_effect, Turn, turn_effect}
 use Rattle.trdp_daemon.specs.Turns.{begun, moment_effect, moment_of}
 use Rattle.trdp_daemon.specs.Visits.{operator_event, operator_effect, operator_taken, heard_from}
 use Rattle.trdp_daemon.specs.Visits.{lives_still}
-use Rattle.trdp_daemon.specs.Visits.{control_event, control_effect, datagram_effect, taking_effect}
+use Rattle.trdp_daemon.specs.Visits.{came_effect, control_event, control_effect, datagram_effect}
+use Rattle.trdp_daemon.specs.Visits.{taking_effect}
 
 -- the slots that are there stay
 slots_kept : (setup : NodeSetup) (g : Globals) (event : EventModel) (s : ℕ)
@@ -119,10 +120,12 @@ datagram_keeps s totals Operator from bytes loss =
 datagram_keeps s totals (Control slot) from bytes loss =
     control_keeps s slot from (control_line_of slot bytes) loss
 
+end_keeps : (s : ServiceState) (slot : ℕ) (loss : Loss) → KeepsSlots s (end_effect s slot loss)
+end_keeps s slot loss = event_keeps (forgotten s slot) (CallIs slot ResetCall) loss
+
 silence_keeps : (silent : Bool) (s : ServiceState) (slot : ℕ) (loss : Loss)
-    → KeepsSlots s (if silent then event_effect (forgotten s slot) (CallIs slot ResetCall) loss
-    else still s)
-silence_keeps true s slot loss = event_keeps (forgotten s slot) (CallIs slot ResetCall) loss
+    → KeepsSlots s (if silent then end_effect s slot loss else still s)
+silence_keeps true s slot loss = end_keeps s slot loss
 silence_keeps false s slot loss = omega arith
 
 quiet_keeps : (s : ServiceState) (port : Port) (loss : Loss)
@@ -133,16 +136,32 @@ quiet_keeps s Md loss = omega arith
 quiet_keeps s Operator loss = omega arith
 quiet_keeps s (Control slot) loss = silence_keeps (is_silent s slot) s slot loss
 
-taking_keeps : (s : ServiceState) (totals : Totals) (port : Port) (arrived : Arrived) (loss : Loss)
-    → KeepsSlots s (taking_effect s totals port arrived loss)
+ended_keeps : (s : ServiceState) (port : Port) (loss : Loss)
+    → KeepsSlots s (ended_effect s port loss)
+unfolding ended_effect
+ended_keeps s Pd loss = omega arith
+ended_keeps s Md loss = omega arith
+ended_keeps s Operator loss = omega arith
+ended_keeps s (Control slot) loss = end_keeps s slot loss
+
+came_keeps : (ended : Bool) (s : ServiceState) (totals : Totals) (port : Port) (from : Place)
+    (bytes : List ℕ) (loss : Loss)
+    → KeepsSlots s (came_effect ended s totals port from bytes loss)
+came_keeps true s totals port from bytes loss = ended_keeps s port loss
+came_keeps false s totals port from bytes loss = datagram_keeps s totals port from bytes loss
+
+taking_keeps : (s : ServiceState) (totals : Totals) (port : Port) (ended : Bool)
+    (arrived : Arrived) (loss : Loss)
+    → KeepsSlots s (taking_effect s totals port ended arrived loss)
 unfolding taking_effect
-taking_keeps s totals port Failed loss = omega arith
-taking_keeps s totals port Nothing loss = quiet_keeps s port loss
-taking_keeps s totals port (Came from bytes) loss = datagram_keeps s totals port from bytes loss
+taking_keeps s totals port ended Failed loss = omega arith
+taking_keeps s totals port ended Nothing loss = quiet_keeps s port loss
+taking_keeps s totals port ended (Came from bytes) loss =
+    came_keeps ended s totals port from bytes loss
 
 pub visit_keeps : (s : ServiceState) (visit : Visit) → KeepsSlots s (visit_effect s visit)
 visit_keeps s visit =
-    taking_keeps s visit.totals visit.taking.port visit.taking.arrived visit.loss
+    taking_keeps s visit.totals visit.taking.port visit.taking.ended visit.taking.arrived visit.loss
 
 visits_keep : (s : ServiceState) (visits : List Visit) → KeepsSlots s (visits_effect s visits)
 visits_keep s [] = omega arith

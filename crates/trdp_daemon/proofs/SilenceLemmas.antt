@@ -1,10 +1,10 @@
 -- The lease runs out for a slot once before its next line.
--- For `silence_resets_once`.
+-- For `silence_resets_once`, and for EndLemmas.
 -- By induction on the takes: where a slot's latest line was forgotten, it stays so up to its next.
 use Rattle.std.proofs.Common.{◌≡◌, ℕ, zero, suc, ◌+◌, ◌≤◌, Bool, true, false}
 use Rattle.std.proofs.Common.{if◌then◌else◌, List, [], ◌∷◌, Option, Some, None, Result, Ok, Err}
 use Rattle.std.proofs.Common.{refl, sym, ◌∙◌, ap, subst, arith}
-use Rattle.std.specs.Prelude.{◌==◌, ◌&&◌, is_ok, option_map, slice_set}
+use Rattle.std.specs.Prelude.{◌==◌, ◌&&◌, is_ok, not, option_map, slice_set}
 use Rattle.std.proofs.lemmas.Bool.{eq-eqb, eqb-true}
 use Rattle.std.proofs.lemmas.List.{get_or-set_other}
 use Rattle.trdp_base.specs.declared.place.Place.{Place}
@@ -21,17 +21,19 @@ use Rattle.trdp_daemon.specs.Told.{Arrived, Failed, Nothing, Came}
 use Rattle.trdp_daemon.specs.Effects.{ServiceState, Effect, Loss, LineLost, EventLost, TextsLost}
 use Rattle.trdp_daemon.specs.Effects.{contact_of, event_effect, event_taken, may_take_memory}
 use Rattle.trdp_daemon.specs.Effects.{missing, read_again, still, telling_only}
-use Rattle.trdp_daemon.specs.Leases.{forgotten, has_run_out, is_silent, quiet_effect}
+use Rattle.trdp_daemon.specs.Leases.{end_effect, ended_effect, forgotten, has_run_out, is_silent}
+use Rattle.trdp_daemon.specs.Leases.{quiet_effect}
 use Rattle.trdp_daemon.specs.Silences.{is_line_of, BringsNoLine, BringNoLine, HaveNoLine}
 use Rattle.trdp_daemon.specs.Silences.{is_control_of, runs_out, times_out, times_out_in}
 use Rattle.trdp_daemon.specs.Turns.{Visit, visit_effect, visits_effect, Turn, turn_effect}
 use Rattle.trdp_daemon.specs.Turns.{begun, moment_effect, moment_of}
 use Rattle.trdp_daemon.specs.Visits.{operator_event, operator_effect, operator_taken, heard_from}
-use Rattle.trdp_daemon.specs.Visits.{control_event, control_effect, datagram_effect, taking_effect}
+use Rattle.trdp_daemon.specs.Visits.{came_effect, control_event, control_effect, datagram_effect}
+use Rattle.trdp_daemon.specs.Visits.{taking_effect}
 use Rattle.trdp_daemon.specs.Visits.{contact_from, lives_still}
 
 -- a slot whose latest line is forgotten has none
-none_there : (contacts : List (Option Contact)) (slot : ℕ)
+pub none_there : (contacts : List (Option Contact)) (slot : ℕ)
     → contact_of (slice_set contacts slot None) slot ≡ None
 none_there [] slot = refl
 none_there (contact ∷ contacts) zero = refl
@@ -151,6 +153,11 @@ datagram_none slot s totals Operator from bytes loss other none =
 datagram_none slot s totals (Control heard) from bytes loss other none =
     control_none slot s heard from (control_line_of heard bytes) loss other none
 
+end_none : (slot : ℕ) (s : ServiceState) (t : ℕ) (loss : Loss)
+    → contact_of s.contacts slot ≡ None → HasNone slot (end_effect s t loss)
+end_none slot s t loss none =
+    event_none slot (forgotten s t) (CallIs t ResetCall) loss (none_more s.contacts t slot none)
+
 quiet_none : (slot : ℕ) (s : ServiceState) (port : Port) (loss : Loss)
     → contact_of s.contacts slot ≡ None → HasNone slot (quiet_effect s port loss)
 unfolding quiet_effect
@@ -158,18 +165,33 @@ quiet_none slot s Pd loss none = none
 quiet_none slot s Md loss none = none
 quiet_none slot s Operator loss none = none
 quiet_none slot s (Control t) loss none = either_none (is_silent s t) slot
-    (event_effect (forgotten s t) (CallIs t ResetCall) loss) (still s)
-    (event_none slot (forgotten s t) (CallIs t ResetCall) loss (none_more s.contacts t slot none))
-    none
+    (end_effect s t loss) (still s) (end_none slot s t loss none) none
 
-taking_none : (slot : ℕ) (s : ServiceState) (totals : Totals) (port : Port) (arrived : Arrived)
-    (loss : Loss) → BringsNoLine slot port arrived → contact_of s.contacts slot ≡ None
-    → HasNone slot (taking_effect s totals port arrived loss)
-unfolding taking_effect
-taking_none slot s totals port Failed loss other none = none
-taking_none slot s totals port Nothing loss other none = quiet_none slot s port loss none
-taking_none slot s totals port (Came from bytes) loss other none =
+ended_none : (slot : ℕ) (s : ServiceState) (port : Port) (loss : Loss)
+    → contact_of s.contacts slot ≡ None → HasNone slot (ended_effect s port loss)
+unfolding ended_effect
+ended_none slot s Pd loss none = none
+ended_none slot s Md loss none = none
+ended_none slot s Operator loss none = none
+ended_none slot s (Control t) loss none = end_none slot s t loss none
+
+came_none : (slot : ℕ) (ended : Bool) (s : ServiceState) (totals : Totals) (port : Port)
+    (from : Place) (bytes : List ℕ) (loss : Loss)
+    → (not ended && is_line_of slot port bytes) ≡ false → contact_of s.contacts slot ≡ None
+    → HasNone slot (came_effect ended s totals port from bytes loss)
+came_none slot true s totals port from bytes loss other none = ended_none slot s port loss none
+came_none slot false s totals port from bytes loss other none =
     datagram_none slot s totals port from bytes loss other none
+
+taking_none : (slot : ℕ) (s : ServiceState) (totals : Totals) (port : Port)
+    (ended : Bool) (arrived : Arrived) (loss : Loss)
+    → BringsNoLine slot port ended arrived → contact_of s.contacts slot ≡ None
+    → HasNone slot (taking_effect s totals port ended arrived loss)
+unfolding taking_effect
+taking_none slot s totals port ended Failed loss other none = none
+taking_none slot s totals port ended Nothing loss other none = quiet_none slot s port loss none
+taking_none slot s totals port ended (Came from bytes) loss other none =
+    came_none slot ended s totals port from bytes loss other none
 
 no_lease : (lease : Option ℕ) (reading : ℕ) → has_run_out lease reading None ≡ false
 unfolding has_run_out
@@ -194,24 +216,23 @@ both_true true b is = (refl, is)
 both_true false b is = absurd (cc)
 
 -- where the lease runs out for a slot, its latest line is forgotten
-out_none : (slot : ℕ) (s : ServiceState) (totals : Totals) (port : Port) (arrived : Arrived)
-    (loss : Loss) → runs_out slot s port arrived ≡ true
-    → HasNone slot (taking_effect s totals port arrived loss)
+out_none : (slot : ℕ) (s : ServiceState) (totals : Totals) (port : Port) (ended : Bool)
+    (arrived : Arrived) (loss : Loss) → runs_out slot s port arrived ≡ true
+    → HasNone slot (taking_effect s totals port ended arrived loss)
 unfolding runs_out is_control_of taking_effect quiet_effect
-out_none slot s totals port Failed loss out = absurd (cc)
-out_none slot s totals Pd Nothing loss out = absurd (cc)
-out_none slot s totals Md Nothing loss out = absurd (cc)
-out_none slot s totals Operator Nothing loss out = absurd (cc)
-out_none slot s totals (Control t) Nothing loss out =
+out_none slot s totals port ended Failed loss out = absurd (cc)
+out_none slot s totals Pd ended Nothing loss out = absurd (cc)
+out_none slot s totals Md ended Nothing loss out = absurd (cc)
+out_none slot s totals Operator ended Nothing loss out = absurd (cc)
+out_none slot s totals (Control t) ended Nothing loss out =
     let both = both_true (t == slot) (is_silent s slot) out in
     let same = eqb-true t slot both.0 in
     let silent : is_silent s t ≡ true = ap (λ n. is_silent s n) same ∙ both.1 in
     let cleared = subst (λ (n : ℕ). contact_of (slice_set s.contacts n None) slot ≡ None) (sym same)
     (none_there s.contacts slot) in
-    subst (λ (b : Bool). HasNone slot (if b
-    then event_effect (forgotten s t) (CallIs t ResetCall) loss else still s)) (sym silent)
+    subst (λ (b : Bool). HasNone slot (if b then end_effect s t loss else still s)) (sym silent)
     (event_none slot (forgotten s t) (CallIs t ResetCall) loss cleared)
-out_none slot s totals port (Came from bytes) loss out = absurd (cc)
+out_none slot s totals port ended (Came from bytes) loss out = absurd (cc)
 
 -- 1 where a slot has a latest line, and else 0
 abbrev pub held : Option Contact → ℕ
@@ -230,7 +251,7 @@ held_most (Some contact) = omega arith
 
 -- a take takes as much away as the lease runs out
 visit_out : (slot : ℕ) (s : ServiceState) (visit : Visit)
-    → BringsNoLine slot visit.taking.port visit.taking.arrived
+    → BringsNoLine slot visit.taking.port visit.taking.ended visit.taking.arrived
     → (if runs_out slot s visit.taking.port visit.taking.arrived then 1 else 0)
     + held_in slot (visit_effect s visit).service ≤ held_in slot s
 visit_out slot s visit lineless = by_contact (contact_of s.contacts slot) refl
@@ -243,7 +264,8 @@ visit_out slot s visit lineless = by_contact (contact_of s.contacts slot) refl
     by_test true is = omega (
       arith,
       none_held slot after
-          (out_none slot s visit.totals visit.taking.port visit.taking.arrived visit.loss is),
+          (out_none slot s visit.totals visit.taking.port visit.taking.ended visit.taking.arrived
+          visit.loss is),
     )
     by_test false is = omega (arith, held_most (contact_of after.contacts slot))
 
@@ -254,7 +276,7 @@ visit_out slot s visit lineless = by_contact (contact_of s.contacts slot) refl
         (omega (
           arith,
           none_held slot after (taking_none slot s visit.totals visit.taking.port
-              visit.taking.arrived visit.loss lineless none),
+              visit.taking.ended visit.taking.arrived visit.loss lineless none),
         ))
     by_contact (Some contact) some =
         by_test (runs_out slot s visit.taking.port visit.taking.arrived) refl

@@ -19,8 +19,8 @@ use Rattle.trdp_daemon.specs.declared.rows.TakeAnswer.TheVariants.{Nothing as Ro
 use Rattle.trdp_daemon.specs.declared.rows.TakeAnswer.TheVariants.{Came as RowCame}
 use Rattle.trdp_daemon.specs.MemoryWires.{ArrivalModel, arrives_at, arrival_for, cut_to, takes_at}
 use Rattle.trdp_daemon.specs.Ports.{is_port}
-use Rattle.trdp_daemon.specs.Rows.{arrived_of, row_taking, IsLaidDown, AreLaidDown}
-use Rattle.trdp_daemon.specs.Told.{Arrived, Nothing, Came, Taking}
+use Rattle.trdp_daemon.specs.Rows.{arrived_of, row_taking, nowhere, IsLaidDown, AreLaidDown}
+use Rattle.trdp_daemon.specs.Told.{Arrived, Nothing, Came, Taking, taking_at}
 
 -- the first element that passes stands at the first index at which one does
 found_none : {X : Type 0} (p : X → Bool) (xs : List X) → position p xs ≡ None → find p xs ≡ None
@@ -94,7 +94,7 @@ pub takings_more : (arrivals : List ArrivalModel) (arrival : ArrivalModel) (rows
     → map (row_taking (arrivals ++ arrival ∷ [])) rows ≡ map (row_taking arrivals) rows
 takings_more arrivals arrival [] within = refl
 takings_more arrivals arrival (row ∷ rows) within =
-    ap (λ a. (let t : Taking = record { port = row.port; room = row.room; arrived = a } in t)
+    ap (λ a. taking_at row.port row.room nowhere a
     ∷ map (row_taking (arrivals ++ arrival ∷ [])) rows)
     (arrived_more arrivals arrival row.answer within.0)
     ∙ ap (λ l. row_taking arrivals row ∷ l) (takings_more arrivals arrival rows within.1)
@@ -133,11 +133,11 @@ pub takings_push : (arrivals : List ArrivalModel)
     ++ (let row : TakeRow = record { port = port; room = room; answer = answer } in row) ∷ []
     → arrived_of arrivals answer ≡ arrived
     → map (row_taking arrivals) new ≡ map (row_taking arrivals) rows
-    ++ (let t : Taking = record { port = port; room = room; arrived = arrived } in t) ∷ []
+    ++ taking_at port room nowhere arrived ∷ []
 takings_push arrivals rows new port room answer arrived is told =
     ap (map (row_taking arrivals)) is ∙ map-append (row_taking arrivals) rows _
     ∙ ap (λ a. map (row_taking arrivals) rows
-    ++ (let t : Taking = record { port = port; room = room; arrived = a } in t) ∷ []) told
+    ++ taking_at port room nowhere a ∷ []) told
 
 pub many_takings : (arrivals : List ArrivalModel) (rows : List TakeRow)
     → length (map (row_taking arrivals) rows) ≡ length rows

@@ -1,7 +1,7 @@
 -- What a datagram at a port came to.
 -- For `Service::visit`, `take_datagram`, `take_operator` and `take_control`.
 -- By cases on the port, and on whether its line was read, skipped or refused.
-use Rattle.std.proofs.Common.{◌≡◌, ℕ, true, List, [], ◌∷◌, Option, Some, None}
+use Rattle.std.proofs.Common.{◌≡◌, ℕ, Bool, true, List, [], ◌∷◌, Option, Some, None}
 use Rattle.std.proofs.Common.{Result, Ok, Err, refl, sym, ◌∙◌, ap, subst, length, map, take}
 use Rattle.std.specs.Prelude.{option_map}
 use Rattle.trdp_base.specs.declared.place.Place.{Place}
@@ -23,7 +23,7 @@ use Rattle.trdp_daemon.specs.declared.port.Port.TheVariants.{Pd, Md, Operator, C
 use Rattle.trdp_daemon.specs.declared.service.Service.{Service}
 use Rattle.trdp_daemon.specs.declared.totals.Totals.{Totals}
 use Rattle.trdp_daemon.specs.Counting.{totals_after}
-use Rattle.trdp_daemon.specs.Told.{Taking, Give, arrived_in, taking_of}
+use Rattle.trdp_daemon.specs.Told.{Taking, Give, arrived_in, stands_for_end, taking_of}
 use Rattle.trdp_daemon.specs.Effects.{ServiceState, Loss, LineLost, EventLost, TextsLost}
 use Rattle.trdp_daemon.specs.Effects.{Effect, Telling, silence, missing, event_effect, still}
 use Rattle.trdp_daemon.specs.Leases.{quiet_effect}
@@ -34,7 +34,7 @@ use Rattle.trdp_daemon.specs.Visits.{fault_telling, operator_event, operator_eff
 use Rattle.trdp_daemon.specs.Visits.{question_effect}
 use Rattle.trdp_daemon.specs.Visits.{line_lost_or, lives_still, control_effect, control_event}
 use Rattle.trdp_daemon.specs.Ports.{place_of_port}
-use Rattle.trdp_daemon.specs.Visits.{datagram_effect, taking_effect, heard_from}
+use Rattle.trdp_daemon.specs.Visits.{came_effect, datagram_effect, taking_effect, heard_from}
 use Rattle.trdp_daemon.proofs.LinkLemmas.{carries_none, carries_both}
 use Rattle.trdp_daemon.proofs.TellingLemmas.{silence_both}
 
@@ -256,14 +256,15 @@ no_gives (give ∷ gives) none = absurd (cc)
 
 -- one take, and what came of it
 visited : {W : Type 0} {takings_in : W → Option (List Taking)} {gives_in : W → Option (List Give)}
-    {a b c : Link W} (old new : Service) (port : Port) (found : Found) (room : List ℕ)
-    → length room ≡ take_room
-    → Carries takings_in gives_in a b (taking_of port found room ∷ []) silence
+    {a b c : Link W} (old new : Service) (port : Port) (has_ended : Place → Bool) (found : Found)
+    (room : List ℕ) → length room ≡ take_room
+    → Carries takings_in gives_in a b (taking_of port has_ended found room ∷ []) silence
     → ComesWith takings_in gives_in old new b c
-    (taking_effect (service_state old) b.totals port (arrived_in found room))
+    (taking_effect (service_state old) b.totals port
+    (stands_for_end has_ended (arrived_in found room)) (arrived_in found room))
     → TakesOnce takings_in gives_in old new a c port
-visited {W} {takings_in} {gives_in} {a} {b} {c} old new port found room whole taken comes =
-    let taking = taking_of port found room in
+visited {W} {takings_in} {gives_in} {a} {b} {c} old new port has_ended found room whole taken comes =
+    let taking = taking_of port has_ended found room in
     let visit : Visit = record { taking = taking; loss = comes.loss; totals = b.totals } in
     let telling = (visit_effect (service_state old) visit).telling in
     record {
@@ -281,42 +282,42 @@ visited {W} {takings_in} {gives_in} {a} {b} {c} old new port found room whole ta
 -- the wire failed
 pub visited_fault :
     {W : Type 0} {takings_in : W → Option (List Taking)} {gives_in : W → Option (List Give)}
-    {a b : Link W} (s : Service) (port : Port) (found : Found) (fault : WireFault) (room : List ℕ)
-    → found ≡ Err fault → length room ≡ take_room
-    → Carries takings_in gives_in a b (taking_of port found room ∷ []) silence
+    {a b : Link W} (s : Service) (port : Port) (has_ended : Place → Bool) (found : Found)
+    (fault : WireFault) (room : List ℕ) → found ≡ Err fault → length room ≡ take_room
+    → Carries takings_in gives_in a b (taking_of port has_ended found room ∷ []) silence
     → TakesOnce takings_in gives_in s s a b port
 unfolding taking_effect
-visited_fault {takings_in = takings_in} {gives_in} {b = b} s port found fault room failed whole
-    taken = visited s s port found room whole taken
+visited_fault {takings_in = takings_in} {gives_in} {b = b} s port has_ended found fault room failed
+    whole taken = visited s s port has_ended found room whole taken
     (rw failed (record { loss = TextsLost []; comes = nothing_comes takings_in gives_in s b }))
 
 -- nothing was there
 pub visited_nothing :
     {W : Type 0} {takings_in : W → Option (List Taking)} {gives_in : W → Option (List Give)}
-    {a b c : Link W} (old new : Service) (port : Port) (found : Found) (room : List ℕ)
-    → found ≡ Ok None → length room ≡ take_room
-    → Carries takings_in gives_in a b (taking_of port found room ∷ []) silence
+    {a b c : Link W} (old new : Service) (port : Port) (has_ended : Place → Bool) (found : Found)
+    (room : List ℕ) → found ≡ Ok None → length room ≡ take_room
+    → Carries takings_in gives_in a b (taking_of port has_ended found room ∷ []) silence
     → ComesWith takings_in gives_in old new b c (quiet_effect (service_state old) port)
     → TakesOnce takings_in gives_in old new a c port
 unfolding taking_effect
-visited_nothing old new port found room none whole taken comes =
-    visited old new port found room whole taken
+visited_nothing old new port has_ended found room none whole taken comes =
+    visited old new port has_ended found room whole taken
     (rw none (record { loss = comes.loss; comes = comes.comes }))
 
--- a datagram came
-pub visited_datagram :
+-- a datagram came, or the end of an application
+pub visited_found :
     {W : Type 0} {takings_in : W → Option (List Taking)} {gives_in : W → Option (List Give)}
-    {a b c : Link W} (old new : Service) (port : Port) (found : Found) (from : Place) (len : ℕ)
-    (room bytes : List ℕ)
+    {a b c : Link W} (old new : Service) (port : Port) (has_ended : Place → Bool) (found : Found)
+    (from : Place) (len : ℕ) (room bytes : List ℕ)
     → found ≡ Ok (Some (from, len)) → bytes ≡ take len room → length room ≡ take_room
-    → Carries takings_in gives_in a b (taking_of port found room ∷ []) silence
+    → Carries takings_in gives_in a b (taking_of port has_ended found room ∷ []) silence
     → ComesWith takings_in gives_in old new b c
-    (datagram_effect (service_state old) b.totals port from bytes)
+    (came_effect (has_ended from) (service_state old) b.totals port from bytes)
     → TakesOnce takings_in gives_in old new a c port
 unfolding taking_effect
-visited_datagram {W} {takings_in} {gives_in} {a} {b} {c} old new port found from len room bytes
+visited_found {W} {takings_in} {gives_in} {a} {b} {c} old new port has_ended found from len room bytes
     some front whole taken comes =
     let here = subst (λ (l : List ℕ). ComesWith takings_in gives_in old new b c
-    (datagram_effect (service_state old) b.totals port from l)) front comes in
-    visited old new port found room whole taken
+    (came_effect (has_ended from) (service_state old) b.totals port from l)) front comes in
+    visited old new port has_ended found room whole taken
     (rw some (record { loss = here.loss; comes = here.comes }))

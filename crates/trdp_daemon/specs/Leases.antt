@@ -24,13 +24,16 @@ is_silent service slot =
 abbrev pub forgotten : ServiceState → ℕ → ServiceState
 forgotten service slot = with_contact service slot None
 
--- a slot for which the lease has run out begins anew. Its latest line is forgotten before, so that
--- nobody is told, and the lease runs out for it no more before its next line
+-- a slot begins anew whose application has ended. Its latest line is forgotten before, so that
+-- nobody is told, and no lease runs out for it before its next line
+abbrev pub end_effect : ServiceState → ℕ → Loss → Effect
+end_effect service slot loss =
+    event_effect (forgotten service slot) (CallIs slot ResetCall) loss
+
+-- the same where the lease has run out for a slot
 abbrev pub silence_effect : ServiceState → ℕ → Loss → Effect
 silence_effect service slot loss =
-    if is_silent service slot
-    then event_effect (forgotten service slot) (CallIs slot ResetCall) loss
-    else still service
+    if is_silent service slot then end_effect service slot loss else still service
 
 -- what a take comes to that found nothing: a slot's application may have been silent for too long
 unfoldable pub quiet_effect : ServiceState → Port → Loss → Effect
@@ -38,3 +41,11 @@ quiet_effect service Pd loss = still service
 quiet_effect service Md loss = still service
 quiet_effect service Operator loss = still service
 quiet_effect service (Control slot) loss = silence_effect service slot loss
+
+-- what a take comes to that handed in the end of an application: at a control port that slot's has
+-- ended; at the others there is none
+unfoldable pub ended_effect : ServiceState → Port → Loss → Effect
+ended_effect service Pd loss = still service
+ended_effect service Md loss = still service
+ended_effect service Operator loss = still service
+ended_effect service (Control slot) loss = end_effect service slot loss

@@ -1,5 +1,6 @@
 -- What a wire in memory remembers of its takes and gives.
-use Rattle.std.specs.Prelude.{ℕ, ◌+◌, ◌<◌, List, [], ◌∷◌, take, drop, slice_get}
+use Rattle.std.specs.Prelude.{ℕ, ◌+◌, ◌<◌, List, [], ◌∷◌, take, drop, slice_get, Bool, false}
+use Rattle.trdp_base.specs.declared.place.Place.{Place}
 use Rattle.trdp_daemon.specs.declared.rows.TakeRow.{TakeRow}
 use Rattle.trdp_daemon.specs.declared.rows.TakeAnswer.{TakeAnswer}
 use Rattle.trdp_daemon.specs.declared.rows.TakeAnswer.TheVariants.{Failed as RowFailed}
@@ -7,7 +8,7 @@ use Rattle.trdp_daemon.specs.declared.rows.TakeAnswer.TheVariants.{Nothing as Ro
 use Rattle.trdp_daemon.specs.declared.rows.TakeAnswer.TheVariants.{Came as RowCame}
 use Rattle.trdp_daemon.specs.declared.rows.GiveRow.{GiveRow}
 use Rattle.trdp_daemon.specs.MemoryWires.{ArrivalModel, cut_to}
-use Rattle.trdp_daemon.specs.Told.{Arrived, Failed, Nothing, Taking, Give, offer_to}
+use Rattle.trdp_daemon.specs.Told.{Arrived, Failed, Nothing, Taking, Give, offer_to, taking_at}
 
 -- what a take answered, where these were laid down
 abbrev pub arrived_of : List ArrivalModel → TakeAnswer → Arrived
@@ -15,10 +16,14 @@ arrived_of arrivals RowFailed = Failed
 arrived_of arrivals RowNothing = Nothing
 arrived_of arrivals (RowCame index len) = cut_to len (slice_get arrivals index)
 
+-- at a wire in memory no application has ended
+abbrev pub nowhere : Place → Bool
+nowhere = λ place. false
+
 -- the taking of a row
 abbrev pub row_taking : List ArrivalModel → TakeRow → Taking
 row_taking arrivals row =
-    record { port = row.port; room = row.room; arrived = arrived_of arrivals row.answer }
+    taking_at row.port row.room nowhere (arrived_of arrivals row.answer)
 
 -- what a take answered is one of n things that were laid down, if it is one
 abbrev pub IsLaidDown : ℕ → TakeAnswer → Type 0

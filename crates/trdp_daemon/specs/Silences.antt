@@ -1,6 +1,6 @@
 -- How often the lease runs out for a slot.
 use Rattle.std.specs.Prelude.{◌≡◌, ℕ, ◌+◌, ◌==◌, ◌&&◌, if◌then◌else◌, Bool, false, is_ok}
-use Rattle.std.specs.Prelude.{List, [], ◌∷◌}
+use Rattle.std.specs.Prelude.{List, [], ◌∷◌, not}
 use Rattle.trdp_script.specs.PortLines.{control_line_of}
 use Rattle.trdp_daemon.specs.declared.port.Port.{Port}
 use Rattle.trdp_daemon.specs.declared.port.Port.TheVariants.{Pd, Md, Operator, Control}
@@ -16,17 +16,19 @@ is_line_of slot Md bytes = false
 is_line_of slot Operator bytes = false
 is_line_of slot (Control s) bytes = s == slot && is_ok (control_line_of s bytes)
 
--- no line of this slot came by a take at a port that answered this
-abbrev pub BringsNoLine : ℕ → Port → Arrived → Type 0
-BringsNoLine slot port Failed = Unit {0}
-BringsNoLine slot port Nothing = Unit {0}
-BringsNoLine slot port (Came from bytes) = is_line_of slot port bytes ≡ false
+-- no line of this slot came by a take at a port that answered this; what stands for an end is none
+abbrev pub BringsNoLine : ℕ → Port → (ended : Bool) → Arrived → Type 0
+BringsNoLine slot port ended Failed = Unit {0}
+BringsNoLine slot port ended Nothing = Unit {0}
+BringsNoLine slot port ended (Came from bytes) =
+    (not ended && is_line_of slot port bytes) ≡ false
 
 -- nor by any of these takes
 abbrev pub BringNoLine : ℕ → List Visit → Type 0
 BringNoLine slot [] = Unit {0}
 BringNoLine slot (visit ∷ visits) =
-    BringsNoLine slot visit.taking.port visit.taking.arrived × BringNoLine slot visits
+    BringsNoLine slot visit.taking.port visit.taking.ended visit.taking.arrived
+    × BringNoLine slot visits
 
 -- nor in any of these turns
 abbrev pub HaveNoLine : ℕ → List Turn → Type 0

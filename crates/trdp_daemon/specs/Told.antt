@@ -1,7 +1,7 @@
 -- What a wire tells of its takes and gives, and a clock of its readings.
 use Rattle.std.specs.Prelude.{◌≡◌, ℕ, List, ◌++◌, length, take, Option, Some, None, Result, Ok}
 use Rattle.std.specs.Prelude.{Err}
-use Rattle.std.specs.Prelude.{Bool, is_err}
+use Rattle.std.specs.Prelude.{Bool, false, is_err}
 use Rattle.trdp_base.specs.declared.place.Place.{Place}
 use Rattle.trdp_daemon.specs.declared.port.Port.{Port}
 use Rattle.trdp_daemon.specs.declared.fault.WireFault.{WireFault}
@@ -12,11 +12,13 @@ pub data Arrived : Type 0 where
   Nothing : Arrived
   Came : (from : Place) (bytes : List ℕ) → Arrived
 
--- one take at a port: how many bytes it had room for, and what it answered
+-- one take at a port: how many bytes it had room for, what it answered, and whether that stands for
+-- the end of the application at the place where it came from
 pub record Taking : Type 0 where
   pub port : Port
   pub room : ℕ
   pub arrived : Arrived
+  pub ended : Bool
 
 -- a datagram that is offered to the wire: the port that it leaves from, where it goes, its bytes
 pub record Offer : Type 0 where
@@ -38,9 +40,25 @@ abbrev pub arrived_in : {E : Type 0} → Result (Option (Place × ℕ)) E → Li
 arrived_in (Err fault) room = Failed
 arrived_in (Ok found) room = arrival_in found room
 
-abbrev pub taking_of : Port → Result (Option (Place × ℕ)) WireFault → List ℕ → Taking
-taking_of port result room =
-    record { port = port; room = length room; arrived = arrived_in result room }
+-- whether what a take answered came from a place whose application had ended by then
+abbrev pub stands_for_end : (has_ended : Place → Bool) → Arrived → Bool
+stands_for_end has_ended Failed = false
+stands_for_end has_ended Nothing = false
+stands_for_end has_ended (Came from bytes) = has_ended from
+
+-- a take where the applications at these places had ended by then
+abbrev pub taking_at : Port → ℕ → (has_ended : Place → Bool) → Arrived → Taking
+taking_at port room has_ended arrived = record {
+  port = port;
+  room = room;
+  arrived = arrived;
+  ended = stands_for_end has_ended arrived;
+}
+
+abbrev pub taking_of : Port → (has_ended : Place → Bool)
+    → Result (Option (Place × ℕ)) WireFault → List ℕ → Taking
+taking_of port has_ended result room =
+    taking_at port (length room) has_ended (arrived_in result room)
 
 abbrev pub offer_to : Port → Place → List ℕ → Offer
 offer_to port to bytes = record { port = port; to = to; bytes = bytes }

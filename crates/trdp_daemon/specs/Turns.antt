@@ -33,8 +33,8 @@ abbrev pub moment_of : NodeModel → ℕ → EventModel
 moment_of node reading = MomentIs (max node.globals.now (min reading last_moment))
 
 abbrev pub visit_effect : ServiceState → Visit → Effect
-visit_effect service visit =
-    taking_effect service visit.totals visit.taking.port visit.taking.arrived visit.loss
+visit_effect service visit = taking_effect service visit.totals visit.taking.port
+    visit.taking.ended visit.taking.arrived visit.loss
 
 -- takes one after another
 abbrev pub visits_effect : ServiceState → List Visit → Effect

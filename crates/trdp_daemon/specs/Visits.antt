@@ -1,5 +1,5 @@
 -- What a datagram at one of the ports gives.
-use Rattle.std.specs.Prelude.{◌≡◌, ℕ, List, [], ◌++◌, length, codes, Bool}
+use Rattle.std.specs.Prelude.{◌≡◌, ℕ, List, [], ◌++◌, length, codes, Bool, true, false}
 use Rattle.std.specs.Prelude.{Option, Some, None, option_map, Result, Ok, Err, if◌then◌else◌}
 use Rattle.trdp_base.specs.declared.place.Place.{Place}
 use Rattle.trdp_model.specs.declared.fault.NodeFault.{NodeFault}
@@ -18,7 +18,7 @@ use Rattle.trdp_daemon.specs.declared.contact.Contact.{Contact}
 use Rattle.trdp_daemon.specs.declared.port.Port.{Port}
 use Rattle.trdp_daemon.specs.declared.port.Port.TheVariants.{Pd, Md, Operator, Control}
 use Rattle.trdp_daemon.specs.declared.totals.Totals.{Totals}
-use Rattle.trdp_daemon.specs.Leases.{quiet_effect}
+use Rattle.trdp_daemon.specs.Leases.{ended_effect, quiet_effect}
 use Rattle.trdp_daemon.specs.Ports.{place_of_port}
 use Rattle.trdp_daemon.specs.Questions.{text_of_question}
 use Rattle.trdp_daemon.specs.Told.{Arrived, Failed, Nothing, Came}
@@ -134,9 +134,17 @@ datagram_effect service totals Operator from bytes loss =
 datagram_effect service totals (Control slot) from bytes loss =
     control_effect service slot from (control_line_of slot bytes) loss
 
--- what a take comes to, where these are the totals; one that failed comes to nothing
-unfoldable pub taking_effect : ServiceState → Totals → Port → Arrived → Loss → Effect
-taking_effect service totals port Failed loss = still service
-taking_effect service totals port Nothing loss = quiet_effect service port loss
-taking_effect service totals port (Came from bytes) loss =
+-- the same where it may stand for the end of the application at its place
+abbrev pub came_effect : (ended : Bool) → ServiceState → Totals → Port → Place → List ℕ → Loss → Effect
+came_effect true service totals port from bytes loss = ended_effect service port loss
+came_effect false service totals port from bytes loss =
     datagram_effect service totals port from bytes loss
+
+-- what a take comes to, where these are the totals, and it stands for an end or not; one that
+-- failed comes to nothing
+unfoldable pub taking_effect : ServiceState → Totals → Port → (ended : Bool) → Arrived → Loss
+    → Effect
+taking_effect service totals port ended Failed loss = still service
+taking_effect service totals port ended Nothing loss = quiet_effect service port loss
+taking_effect service totals port ended (Came from bytes) loss =
+    came_effect ended service totals port from bytes loss

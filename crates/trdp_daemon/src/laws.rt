@@ -9,10 +9,12 @@ ghost use Rattle.trdp_model.specs.NodeModels.{NodeModel};
 ghost use Rattle.trdp_model.specs.NodeModels.{MayTakeMemory};
 ghost use Rattle.trdp_script.specs.EventBytes.{carries_bytes};
 ghost use Rattle.trdp_script.specs.PortLines.{control_line_of, operator_line_of};
+ghost use Rattle.trdp_daemon.specs.declared.port.Port.{Port};
 ghost use Rattle.trdp_daemon.specs.declared.port.Port.TheVariants.{Control, Operator};
 ghost use Rattle.trdp_daemon.specs.declared.totals.Totals.{Totals};
 ghost use Rattle.trdp_daemon.specs.Effects.{EventLost, LineLost, Loss, ServiceState, TextsLost};
-ghost use Rattle.trdp_daemon.specs.Effects.{event_effect};
+ghost use Rattle.trdp_daemon.specs.Effects.{event_effect, silence};
+ghost use Rattle.trdp_daemon.specs.Leases.{ended_effect};
 ghost use Rattle.trdp_daemon.specs.Effects.{event_taken, is_reset, may_take_memory, texts_lost};
 ghost use Rattle.trdp_daemon.specs.Ports.{control_numbers, ports_of};
 ghost use Rattle.trdp_daemon.specs.Silences.{HaveNoLine, times_out_in};
@@ -86,4 +88,11 @@ pub fn silence_resets_once()
     ensures { (service : ServiceState) (slot : ℕ) (turns : List Turn)
         → HaveNoLine slot turns
         → times_out_in slot service turns ≤ 1 }
+{}
+
+/// Where the wire hands in the end of an application, nothing is told: the answer to the slot that
+/// begins anew goes to nobody, is offered to no wire, and nothing of it is lost.
+pub fn an_end_tells_nobody()
+    ensures { (service : ServiceState) (port : Port) (loss : Loss)
+        → (ended_effect service port loss).telling ≡ silence }
 {}

@@ -1,8 +1,9 @@
-//! A lease: how long the application of a slot may be silent.
+//! The end of a slot's application: the wire tells of it, or a lease has run out, which says how long
+//! it may be silent.
 
 ghost use Rattle.std.specs.Prelude.{◌≡◌};
-ghost use Rattle.trdp_daemon.specs.Leases.{has_run_out, is_silent, quiet_effect};
-ghost use Rattle.trdp_daemon.specs.Leases.{silence_effect};
+ghost use Rattle.trdp_daemon.specs.Leases.{end_effect, ended_effect, has_run_out, is_silent};
+ghost use Rattle.trdp_daemon.specs.Leases.{quiet_effect, silence_effect};
 ghost use Rattle.trdp_daemon.specs.Services.{ComesWith, IsSoundService, service_state};
 
 use crate::contact::{Contact, contact_of};
@@ -42,8 +43,7 @@ impl Service {
         has_run_out(self.lease, self.reading, contact_of(&self.contacts, slot))
     }
 
-    /// Lets a slot begin anew for which the lease has run out. Its latest line is forgotten before,
-    /// so that the lease runs out for it once, and its answer goes to nobody.
+    /// Lets a slot begin anew for which the lease has run out, once for each silence.
     fn end_silence<W: Wire>(&mut self, slot: u16, link: &mut Link<W>)
         requires sound { IsSoundService self.old }
         ensures sound { IsSoundService self.new }
@@ -52,13 +52,38 @@ impl Service {
             (silence_effect (service_state self.old) slot) }
     {
         if self.is_silent(slot) {
-            self.note(slot, None);
-            let reset = Event::Call {
-                slot,
-                call: Call::Reset,
-            };
-            let _ = self.take_event(&reset, link);
+            self.end(slot, link);
         }
+    }
+
+    /// Takes the end of an application: at a control port that slot's has ended.
+    pub(crate) fn take_end<W: Wire>(&mut self, port: Port, link: &mut Link<W>)
+        requires sound { IsSoundService self.old }
+        ensures sound { IsSoundService self.new }
+        ensures config { self.new.node.config ≡ self.old.node.config }
+        ensures comes { ComesWith W.takings W.gives self.old self.new link.old link.new
+            (ended_effect (service_state self.old) port) }
+    {
+        if let Port::Control(slot) = port {
+            self.end(slot, link);
+        }
+    }
+
+    /// Lets a slot begin anew whose application has ended. Its latest line is forgotten before, so
+    /// that its answer goes to nobody, and no lease runs out for it before its next line.
+    fn end<W: Wire>(&mut self, slot: u16, link: &mut Link<W>)
+        requires sound { IsSoundService self.old }
+        ensures sound { IsSoundService self.new }
+        ensures config { self.new.node.config ≡ self.old.node.config }
+        ensures comes { ComesWith W.takings W.gives self.old self.new link.old link.new
+            (end_effect (service_state self.old) slot) }
+    {
+        self.note(slot, None);
+        let reset = Event::Call {
+            slot,
+            call: Call::Reset,
+        };
+        let _ = self.take_event(&reset, link);
     }
 }
 

@@ -18,7 +18,9 @@
 //! follows from the takes and gives before it and from the readings (`specs/Questions`,
 //! `specs/Counted`).
 //!
-//! An application may fall silent for ever, killed or hung. A daemon with a lease
+//! A wire whose applications have connections hands in their ends ([`Wire::has_ended`]): the slot
+//! of one that has ended begins anew, and nobody is told ([`an_end_tells_nobody`]). Over another
+//! wire an application may fall silent for ever, killed or hung. A daemon with a lease
 //! ([`Daemon::with_lease`]) lets its slot begin anew once for each such silence, by the clock of
 //! the turns: any line at the slot's control port counts as a sign of life, also one with a fault.
 //!
@@ -89,7 +91,8 @@ pub use clock::Clock;
 pub use daemon::Daemon;
 pub use fault::{WireFault, fail};
 pub use laws::{
-    each_port_is_taken_from, lost_only_where_memory_is_taken, nothing_missed, silence_resets_once,
+    an_end_tells_nobody, each_port_is_taken_from, lost_only_where_memory_is_taken, nothing_missed,
+    silence_resets_once,
 };
 pub use memory_clock::MemoryClock;
 pub use memory_sockets::{MemorySockets, SocketRow};

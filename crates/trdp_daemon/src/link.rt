@@ -1,6 +1,7 @@
 //! A wire, with the counts of what came and went.
 
-ghost use Rattle.std.specs.Prelude.{◌≡◌, ◌≤◌, ℕ, List, [], ◌∷◌, length, IfOk, IfSome};
+ghost use Rattle.std.specs.Prelude.{◌≡◌, ◌≤◌, ℕ, Bool, List, [], ◌∷◌, length, IfOk, IfSome};
+ghost use Rattle.trdp_base.specs.declared.place.Place.{Place};
 ghost use Rattle.trdp_daemon.specs.declared.port.Port.{Port};
 ghost use Rattle.trdp_daemon.specs.Told.{Give, taking_of};
 ghost use Rattle.trdp_daemon.specs.Counting.{counted, no_totals, totals_after};
@@ -56,12 +57,19 @@ impl<W: Wire> Link<W> {
     ) -> Result<Option<(Place, usize)>, WireFault>
         ensures within { IfOk result (λ found. IfSome found (λ f. f.1 ≤ length room.new)) }
         ensures takes { Carries W.takings W.gives self.old self.new
-            (taking_of port result room.new ∷ []) silence }
+            (taking_of port (W.ended self.new.wire port) result room.new ∷ []) silence }
     {
         self.renew(port, anew);
         let taken = self.wire.take(port, room);
         count_take(&mut self.totals, taken);
         taken
+    }
+
+    /// Whether the application of a port that was at a place has ended.
+    pub(crate) fn has_ended(&self, port: Port, place: Place) -> bool
+        ensures { result ≡ W.ended self.now.wire port place }
+    {
+        self.wire.has_ended(port, place)
     }
 
     /// Notes that something may be at a port, if so asked.
@@ -106,8 +114,8 @@ impl<W: Wire> Link<W> {
 
 /// Counts a take that answered this.
 fn count_take(totals: &mut Totals, taken: Result<Option<(Place, usize)>, WireFault>)
-    ensures { (port : Port) (room : List ℕ)
-        → totals.new ≡ totals_after totals.old (taking_of port taken room ∷ []) [] 0 }
+    ensures { (port : Port) (ended : Place → Bool) (room : List ℕ)
+        → totals.new ≡ totals_after totals.old (taking_of port ended taken room ∷ []) [] 0 }
 {
     match taken {
         Ok(Some(_)) => totals.taken = one_more(totals.taken),

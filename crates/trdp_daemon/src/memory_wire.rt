@@ -224,6 +224,7 @@ impl Wire for MemoryWire {
     ghost use Rattle.trdp_daemon.specs.MemoryWires.{after_give, after_take, next_arrival};
     ghost use Rattle.trdp_daemon.specs.MemoryWires.{next_give_fails, room_after, told};
     ghost use Rattle.trdp_daemon.specs.MemoryWires.{after_rest, rest_of};
+    ghost use Rattle.trdp_daemon.specs.Rows.{nowhere};
     ghost use Rattle.trdp_daemon.specs.Told.{TellsMore, arrived_in, give_of, taking_of};
 
     ghost takings = { λ w. told w.tells w.takings };
@@ -234,17 +235,20 @@ impl Wire for MemoryWire {
 
     ghost news = { λ _ _. true };
 
+    ghost ended = { λ _ _. nowhere };
+
     fn take(&mut self, port: Port, room: &mut [u8]) -> Result<Option<(Place, usize)>, WireFault>
         ensures within { IfOk result (λ found. IfSome found (λ f. f.1 ≤ length room.new)) }
         ensures takes { TellsMore (told self.old.tells self.old.takings)
-            (told self.new.tells self.new.takings) (taking_of port result room.new ∷ []) }
+            (told self.new.tells self.new.takings)
+            (taking_of port nowhere result room.new ∷ []) }
         ensures gives_nothing { TellsMore (told self.old.tells self.old.gives)
             (told self.new.tells self.new.gives) [] }
         ensures fault { OnErr result (self.old.failures < self.new.failures) }
         ensures arrived { arrived_in result room.new
             ≡ next_arrival self.old port (length room.old) }
         ensures room { room.new ≡ room_after (arrived_in result room.new) room.old }
-        ensures after { self.new ≡ after_take self.old (taking_of port result room.new) }
+        ensures after { self.new ≡ after_take self.old (taking_of port nowhere result room.new) }
     {
         if self.taken.len() >= self.taken.capacity() {
             self.tells = false;
@@ -311,6 +315,10 @@ impl Wire for MemoryWire {
 
     fn has_news(&self, _port: Port) -> bool {
         true
+    }
+
+    fn has_ended(&self, _port: Port, _place: Place) -> bool {
+        false
     }
 
     fn failures(&self) -> u64 {

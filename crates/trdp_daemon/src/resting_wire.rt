@@ -251,6 +251,8 @@ impl<S: Sockets, C: Clock + Drop> Wire for RestingWire<S, C> {
 
     ghost news = { λ wire port. has_news wire.news (socket_of port) };
 
+    ghost ended = { λ _ _ _. false };
+
     fn take(&mut self, port: Port, room: &mut [u8]) -> Result<Option<(Place, usize)>, WireFault>
         ensures within { IfOk result (λ found. IfSome found (λ f. f.1 ≤ length room.new)) }
         ensures fault { OnErr result (self.old.wire.failures < self.new.wire.failures) }
@@ -308,6 +310,10 @@ impl<S: Sockets, C: Clock + Drop> Wire for RestingWire<S, C> {
         ensures { result ≡ has_news self.now.news (socket_of port) }
     {
         has_news(&self.news, socket_of(port))
+    }
+
+    fn has_ended(&self, _port: Port, _place: Place) -> bool {
+        false
     }
 
     fn set_news(&mut self, port: Port, may_be: bool)

@@ -9,17 +9,17 @@ ghost use Rattle.trdp_engine.specs.NodeStates.{uncounted};
 ghost use Rattle.trdp_model.specs.NodeModels.{node_after};
 ghost use Rattle.trdp_script.specs.PortLines.{control_line_of, operator_line_of};
 ghost use Rattle.trdp_daemon.specs.Effects.{event_effect, is_reset, missing};
-ghost use Rattle.trdp_daemon.specs.Effects.{telling_only, with_contact};
+ghost use Rattle.trdp_daemon.specs.Effects.{telling_only};
 ghost use Rattle.trdp_daemon.specs.Resting.{IsIdleTime};
 ghost use Rattle.trdp_daemon.specs.Services.{Comes, ComesTold, ComesWith, IsSoundService};
 ghost use Rattle.trdp_daemon.specs.Services.{TakesAtPorts, service_state};
 ghost use Rattle.trdp_daemon.specs.Questions.{answer_room, text_of_question};
 ghost use Rattle.trdp_daemon.specs.Turns.{begun, opened_service, take_room};
-ghost use Rattle.trdp_daemon.specs.Visits.{control_effect, heard_from, operator_effect};
-ghost use Rattle.trdp_daemon.specs.Visits.{datagram_effect, lives_still, question_effect};
+ghost use Rattle.trdp_daemon.specs.Visits.{came_effect, control_effect, datagram_effect};
+ghost use Rattle.trdp_daemon.specs.Visits.{operator_effect, question_effect};
 
 use crate::answer::{operator_text, refuse};
-use crate::contact::{Contact, contact_of, read_again, set_contact};
+use crate::contact::Contact;
 use crate::home::{Home, home_of};
 use crate::link::Link;
 use crate::lists::Lists;
@@ -134,10 +134,33 @@ impl Service {
         match link.take(port, anew, room) {
             Ok(Some((from, len))) => {
                 let (bytes, _) = room.split_at(len);
-                self.take_datagram(buffer, port, from, bytes, link);
+                self.take_found(buffer, port, from, bytes, link);
             }
             Ok(None) => self.take_nothing(port, link),
             Err(_) => {}
+        }
+    }
+
+    /// Takes what was found at a port: a datagram, or the end of its application.
+    fn take_found<W: Wire>(
+        &mut self,
+        buffer: &mut Vec<u8>,
+        port: Port,
+        from: Place,
+        bytes: &[u8],
+        link: &mut Link<W>,
+    )
+        requires sound { IsSoundService self.old }
+        ensures sound { IsSoundService self.new }
+        ensures config { self.new.node.config ≡ self.old.node.config }
+        ensures comes { ComesWith W.takings W.gives self.old self.new link.old link.new
+            (came_effect (W.ended link.old.wire port from) (service_state self.old)
+            link.old.totals port from bytes.now) }
+    {
+        if link.has_ended(port, from) {
+            self.take_end(port, link);
+        } else {
+            self.take_datagram(buffer, port, from, bytes, link);
         }
     }
 
@@ -339,43 +362,6 @@ impl Service {
             Err(_) => unreachable!(),
         }
         None
-    }
-
-    /// Notes a line of a slot, which came from there in this turn, if there is such a slot.
-    fn hear(&mut self, slot: u16, from: Place)
-        requires sound { IsSoundService self.old }
-        ensures sound { IsSoundService self.new }
-        ensures node { self.new.node ≡ self.old.node }
-        ensures heard { service_state self.new ≡ heard_from (service_state self.old) slot from }
-    {
-        let contact = Contact {
-            place: from,
-            reading: self.reading,
-        };
-        self.note(slot, Some(contact));
-    }
-
-    /// Notes that the application of a slot lives, if it had a line before, by a line with a fault
-    /// in this turn: where it is stays as it was.
-    fn hear_again(&mut self, slot: u16)
-        requires sound { IsSoundService self.old }
-        ensures sound { IsSoundService self.new }
-        ensures node { self.new.node ≡ self.old.node }
-        ensures heard { service_state self.new ≡ lives_still (service_state self.old) slot }
-    {
-        let contact = contact_of(&self.contacts, slot);
-        self.note(slot, read_again(contact, self.reading));
-    }
-
-    /// Notes the latest line of a slot, or that it had none, if there is such a slot.
-    pub(crate) fn note(&mut self, slot: u16, contact: Option<Contact>)
-        requires sound { IsSoundService self.old }
-        ensures sound { IsSoundService self.new }
-        ensures node { self.new.node ≡ self.old.node }
-        ensures noted { service_state self.new
-            ≡ with_contact (service_state self.old) slot contact }
-    {
-        set_contact(&mut self.contacts, slot, contact);
     }
 
     /// Begins a turn at a reading of the clock.

@@ -1,7 +1,7 @@
 //! The UDP ports of a node.
 
 ghost use Rattle.std.specs.Prelude.{◌≡◌, ◌<◌, ◌≤◌, ◌∷◌, [], length, None, Some};
-ghost use Rattle.std.specs.Prelude.{IfOk, IfErr, IfSome, OnErr, Bool, true};
+ghost use Rattle.std.specs.Prelude.{IfOk, IfErr, IfSome, OnErr, Bool, false, true};
 ghost use Rattle.trdp_daemon.specs.Sockets.{MadeInTurn, binds_of, network_binds_of};
 ghost use Rattle.trdp_daemon.specs.SocketWires.{GivesAtSocket, TakesAtSocket, begins_as_answer};
 ghost use Rattle.trdp_daemon.specs.SocketWires.{is_answer};
@@ -175,6 +175,8 @@ impl<S: Sockets> Wire for UdpWire<S> {
 
     ghost news = { λ _ _. true };
 
+    ghost ended = { λ _ _ _. false };
+
     fn take(&mut self, port: Port, room: &mut [u8]) -> Result<Option<(Place, usize)>, WireFault>
         ensures within { IfOk result (λ found. IfSome found (λ f. f.1 ≤ length room.new)) }
         ensures fault { OnErr result (self.old.failures < self.new.failures) }
@@ -208,6 +210,10 @@ impl<S: Sockets> Wire for UdpWire<S> {
 
     fn has_news(&self, _port: Port) -> bool {
         true
+    }
+
+    fn has_ended(&self, _port: Port, _place: Place) -> bool {
+        false
     }
 
     fn failures(&self) -> u64 {

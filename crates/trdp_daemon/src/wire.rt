@@ -12,6 +12,7 @@ use trdp_base::Place;
 /// it took and gave.
 pub trait Wire {
     ghost use Rattle.std.specs.Prelude.{ℕ, Bool, List, Option};
+    ghost use Rattle.trdp_base.specs.declared.place.Place.{Place};
     ghost use Rattle.trdp_daemon.specs.declared.port.Port.{Port};
     ghost use Rattle.trdp_daemon.specs.Told.{Give, Taking};
 
@@ -28,6 +29,10 @@ pub trait Wire {
     /// Whether something may be at a port, as far as the wire knows; true where it keeps no news.
     ghost news: { Self → Port → Bool };
 
+    /// Whether the application of a port that was at a place has ended; false where the wire can't
+    /// know.
+    ghost ended: { Self → Port → Place → Bool };
+
     /// Takes the next datagram at a port, if one is there: it is put at the front of the room, cut
     /// to it, and the answer is where it came from and how many bytes it has there.
     ///
@@ -36,7 +41,7 @@ pub trait Wire {
     fn take(&mut self, port: Port, room: &mut [u8]) -> Result<Option<(Place, usize)>, WireFault>
         ensures within { IfOk result (λ found. IfSome found (λ f. f.1 ≤ length room.new)) }
         ensures takes { TellsMore (takings self.old) (takings self.new)
-            (taking_of port result room.new ∷ []) }
+            (taking_of port (ended self.new port) result room.new ∷ []) }
         ensures gives_nothing { TellsMore (gives self.old) (gives self.new) [] }
         ensures fault { OnErr result (faults self.old < faults self.new) };
 
@@ -63,6 +68,12 @@ pub trait Wire {
     /// has told no news since.
     fn has_news(&self, port: Port) -> bool
         ensures { result ≡ news self.now port };
+
+    /// Whether the application of a port that was at a place has ended, as where its connection is
+    /// over: then what a take hands in from there stands for that end, and nobody is there who
+    /// could be told.
+    fn has_ended(&self, port: Port, place: Place) -> bool
+        ensures { result ≡ ended self.now port place };
 
     /// Notes whether something may be at a port, up to the next news of it.
     fn set_news(&mut self, _port: Port, _may_be: bool)

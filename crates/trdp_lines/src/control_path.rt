@@ -93,6 +93,14 @@ impl<C: Connections> ControlPath<C> {
         &self.connections
     }
 
+    /// Whether the connection of that number is the one that speaks. One that was handed in a line
+    /// of speaks no more from its end on, which is handed in behind its last line.
+    pub fn speaks(&self, number: u64) -> bool
+        ensures { result ≡ speaks self.now.speaker.number number }
+    {
+        self.speaker.number() == Some(number)
+    }
+
     /// Whether something was heard at a take since this was asked the last time: a connection
     /// came, or bytes of one, or its end; a line was handed in; or a connection waited.
     pub fn has_heard(&mut self) -> bool

@@ -5,7 +5,7 @@ use Rattle.trdp_daemon.specs.MemoryWires.{is_failing, next_arrival, takes_at}
 use Rattle.std.specs.List.{count_by}
 use Rattle.trdp_daemon.specs.declared.rows.TakeRow.{TakeRow}
 use Rattle.trdp_daemon.specs.Ports.{is_port}
-use Rattle.trdp_daemon.specs.Rows.{IsLaidDown, arrived_of}
+use Rattle.trdp_daemon.specs.Rows.{IsLaidDown, arrived_of, nowhere}
 use Rattle.trdp_daemon.specs.Told.{arrived_in, taking_of}
 use Rattle.trdp_daemon.proofs.MemoryWireLemmas.{arrival_beyond, arrival_within, take_beyond}
 use Rattle.trdp_daemon.proofs.MemoryWireLemmas.{take_within}
@@ -25,7 +25,7 @@ pub returns-then-len-capacity-clause-after : goal.returns-then-len-capacity-clau
 returns-then-len-capacity-clause-after c =
     let none : (the_view c.self.inside).take_room ≡ 0 =
     omega (arith, c.if-len-capacity.true, c.len.ensures, c.capacity.ensures) in
-    let taking = taking_of c.args.port c.failing_take-result.result.1 c.args.room.now in
+    let taking = taking_of c.args.port nowhere c.failing_take-result.result.1 c.args.room.now in
     take_beyond (the_view c.self.inside) taking c.failing_take-result.new.failures
     none (c.failing_take-result.ensures.failures c.args.room.now)
     ∙ ap (λ w. after_take w taking) c.self.view_is
@@ -68,7 +68,7 @@ returns-clause-after c =
     let some : 0 < w.take_room =
     omega (arith, c.if-len-capacity.false, c.len.ensures, c.capacity.ensures) in
     let taking =
-    taking_of c.args.port c.answer_take-answer.result.1 c.answer_take-answer.new.room in
+    taking_of c.args.port nowhere c.answer_take-answer.result.1 c.answer_take-answer.new.room in
     let more = takings_push c.self.inside.arrivals.items c.self.inside.taken.items
     c.push_take.new.taken.items c.args.port _ c.answer_take-answer.result.0
     (arrived_in c.answer_take-answer.result.1 c.answer_take-answer.new.room)

@@ -3,7 +3,7 @@ use Rattle.trdp_engine.specs.NodeStates.{uncounted}
 use Rattle.trdp_daemon.specs.Services.{service_state}
 use Rattle.trdp_daemon.proofs.TurnLemmas.{Asked, asked_control, asked_other, port_passed}
 use Rattle.trdp_daemon.proofs.TurnLemmas.{port_taken}
-use Rattle.trdp_daemon.proofs.VisitLemmas.{visited_datagram, visited_fault, visited_nothing}
+use Rattle.trdp_daemon.proofs.VisitLemmas.{visited_fault, visited_found, visited_nothing}
 use Rattle.trdp_daemon.proofs.service.Service.visit.Goals.{in-Control, in_default}
 use Rattle.trdp_daemon.proofs.service.Service.visit.Goals as goal
 
@@ -28,9 +28,9 @@ returns-in-Ok-Some-clause-takes g c =
           w.in_default.not-Control w.port-is w.is_there-is
     ] in
     port_taken asks c.if-not-is_there.false
-    (visited_datagram c.args.self.now _ c.match-port.port c.take.result c.in-Ok-Some.from
+    (visited_found c.args.self.now _ c.match-port.port _ c.take.result c.in-Ok-Some.from
     c.in-Ok-Some.len c.take.new.room _ (c.in-Ok-Some.is ∙ ap Ok c.in-Ok-Some.field-0-is)
-    c.split_at.ensures.front (search rules) c.take.ensures.takes c.take_datagram.ensures.comes)
+    c.split_at.ensures.front (search rules) c.take.ensures.takes c.take_found.ensures.comes)
 
 pub returns-in-Ok-None-clause-takes : goal.returns-in-Ok-None-clause-takes
 returns-in-Ok-None-clause-takes g c =
@@ -42,7 +42,7 @@ returns-in-Ok-None-clause-takes g c =
           w.in_default.not-Control w.port-is w.is_there-is
     ] in
     port_taken asks c.if-not-is_there.false
-    (visited_nothing c.args.self.now _ c.match-port.port c.take.result c.take.new.room
+    (visited_nothing c.args.self.now _ c.match-port.port _ c.take.result c.take.new.room
     (c.in-Ok-None.is ∙ ap Ok c.in-Ok-None.field-0-is) (search rules) c.take.ensures.takes
     c.take_nothing.ensures.comes)
 
@@ -56,5 +56,5 @@ returns-in-Err-clause-takes g c =
           w.in_default.not-Control w.port-is w.is_there-is
     ] in
     port_taken asks c.if-not-is_there.false
-    (visited_fault c.args.self.now c.match-port.port c.take.result c.in-Err.field-0
+    (visited_fault c.args.self.now c.match-port.port _ c.take.result c.in-Err.field-0
     c.take.new.room c.in-Err.is (search rules) c.take.ensures.takes)
