@@ -54,22 +54,27 @@ busy_after true busy reading = None
 busy_after false None reading = Some reading
 busy_after false (Some since) reading = Some since
 
--- one reading, and a sleep where there was no rest for long
-pub record Breathes (readings readings_then sleeps sleeps_then : Option (List ℕ))
-    (busy busy_then : Option ℕ) : Type 0 where
-  pub reading : ℕ
-  pub read : TellsMore readings readings_then (reading ∷ [])
-  pub slept : TellsMore sleeps sleeps_then (breath (is_breathless busy reading))
-  pub noted : busy_then ≡ busy_after (is_breathless busy reading) busy reading
+-- how much is left of a rest of at most so many microseconds that begins at this reading: all of it
+-- before the first; behind another, whose end this was, what the turn between them hasn't used
+abbrev pub rest_left : Option ℕ → (began most : ℕ) → ℕ
+rest_left None began most = most
+rest_left (Some ended) began most = most - (began - ended)
 
--- what a step asks of the clock
-abbrev pub PausesSo : RestStep → (readings readings_then sleeps sleeps_then : Option (List ℕ))
+-- a sleep where there was no rest for long up to this reading
+abbrev pub Breathes : (reading : ℕ) → (sleeps sleeps_then : Option (List ℕ))
     → (busy busy_then : Option ℕ) → Type 0
-PausesSo GoOn readings readings_then sleeps sleeps_then busy busy_then =
-    (readings_then ≡ readings) × (sleeps_then ≡ sleeps) × (busy_then ≡ busy)
-PausesSo Look readings readings_then sleeps sleeps_then busy busy_then =
-    Breathes readings readings_then sleeps sleeps_then busy busy_then
-PausesSo (Sleep micros) readings readings_then sleeps sleeps_then busy busy_then =
-    (readings_then ≡ readings) × TellsMore sleeps sleeps_then (micros ∷ []) × (busy_then ≡ None)
-PausesSo (Wait millis) readings readings_then sleeps sleeps_then busy busy_then =
-    (readings_then ≡ readings) × (sleeps_then ≡ sleeps) × (busy_then ≡ None)
+Breathes reading sleeps sleeps_then busy busy_then =
+    TellsMore sleeps sleeps_then (breath (is_breathless busy reading))
+    × (busy_then ≡ busy_after (is_breathless busy reading) busy reading)
+
+-- what a step of a rest that begins at this reading sleeps
+abbrev pub PausesSo : RestStep → (reading : ℕ) → (sleeps sleeps_then : Option (List ℕ))
+    → (busy busy_then : Option ℕ) → Type 0
+PausesSo GoOn reading sleeps sleeps_then busy busy_then =
+    (sleeps_then ≡ sleeps) × (busy_then ≡ busy)
+PausesSo Look reading sleeps sleeps_then busy busy_then =
+    Breathes reading sleeps sleeps_then busy busy_then
+PausesSo (Sleep micros) reading sleeps sleeps_then busy busy_then =
+    TellsMore sleeps sleeps_then (micros ∷ []) × (busy_then ≡ None)
+PausesSo (Wait millis) reading sleeps sleeps_then busy busy_then =
+    (sleeps_then ≡ sleeps) × (busy_then ≡ None)

@@ -1,12 +1,16 @@
--- What a wire that rests makes of a take.
-use Rattle.std.specs.Prelude.{◌≡◌, ℕ, List, Bool, true, false, ◌||◌, Option, None, Result, Ok}
+-- What a wire that rests makes of a take and of a rest.
+use Rattle.std.specs.Prelude.{◌≡◌, ℕ, List, [], ◌∷◌, Bool, true, false, ◌||◌}
+use Rattle.std.specs.Prelude.{Option, Some, None, Result, Ok}
 use Rattle.trdp_base.specs.declared.place.Place.{Place}
 use Rattle.trdp_daemon.specs.declared.fault.WireFault.{WireFault}
 use Rattle.trdp_daemon.specs.declared.port.Port.{Port}
 use Rattle.trdp_daemon.specs.declared.resting_wire.RestingWire.{RestingWire}
-use Rattle.trdp_daemon.specs.News.{has_news, news_after}
+use Rattle.trdp_daemon.specs.News.{WaitsIf, has_news, news_after}
+use Rattle.trdp_daemon.specs.declared.rest_step.RestStep.{RestStep}
+use Rattle.trdp_daemon.specs.RestSteps.{PausesSo, left_after, rest_left, step_of, wait_in}
 use Rattle.trdp_daemon.specs.Sockets.{SocketCall, socket_of}
 use Rattle.trdp_daemon.specs.SocketWires.{TakesAtSocket}
+use Rattle.trdp_daemon.specs.Told.{TellsMore}
 
 -- a take where there are news is one at the port's socket; the news are over where nothing was
 -- heard
@@ -27,6 +31,23 @@ TakesIfNews true calls_of old new port room result =
     TakesAtNews calls_of old new port room result
 TakesIfNews false calls_of old new port room result = (result ≡ Ok None) × (new ≡ old)
 
+-- a rest of at most so many microseconds: its step is that of what is left of it, and the clock is
+-- read where it begins and where it ends
+pub record RestsSo {S C : Type 0} (calls_of : S → Option (List SocketCall))
+    (readings_of sleeps_of : C → Option (List ℕ)) (old new : RestingWire S C) (most : ℕ)
+    : Type 0 where
+  pub began : ℕ
+  pub ended : ℕ
+  pub step : RestStep
+  pub step_is : step ≡ step_of old.heard (rest_left old.rested began most) old.left
+  pub read : TellsMore (readings_of old.clock) (readings_of new.clock) (began ∷ ended ∷ [])
+  pub pauses : PausesSo step began (sleeps_of old.clock) (sleeps_of new.clock) old.busy new.busy
+  pub waits : WaitsIf (wait_in step) (calls_of old.wire.sockets) (calls_of new.wire.sockets)
+      old.news new.news
+  pub turns : new.left ≡ left_after step old.left
+  pub noted : new.rested ≡ Some ended
+  pub forgotten : new.heard ≡ false
+
 -- a wire before its first take, with this clock: something may be at each socket
 pub record IsFresh {S C : Type 0} (clock : C) (wire : RestingWire S C) : Type 0 where
   pub clock_is : wire.clock ≡ clock
@@ -34,5 +55,6 @@ pub record IsFresh {S C : Type 0} (clock : C) (wire : RestingWire S C) : Type 0 
   pub heard : wire.heard ≡ false
   pub left : wire.left ≡ 15
   pub busy : wire.busy ≡ None
+  pub rested : wire.rested ≡ None
   pub failures : wire.wire.failures ≡ 0
   pub refusal : wire.wire.refusal ≡ None

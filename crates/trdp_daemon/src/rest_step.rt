@@ -1,7 +1,8 @@
 //! What a rest comes to.
 
 ghost use Rattle.std.specs.Prelude.{◌≡◌};
-ghost use Rattle.trdp_daemon.specs.RestSteps.{busy_step, idle_step, left_after, step_of, wait_in};
+ghost use Rattle.trdp_daemon.specs.RestSteps.{busy_step, idle_step, left_after, rest_left, step_of};
+ghost use Rattle.trdp_daemon.specs.RestSteps.{wait_in};
 
 /// How much earlier than asked a wait ends, in microseconds: the system comes late.
 const WAKE_TIME: u64 = 200;
@@ -59,6 +60,17 @@ impl RestStep {
             RestStep::Look | RestStep::Sleep(_) => Some(0),
             RestStep::Wait(millis) => Some(millis),
         }
+    }
+}
+
+/// How much is left of a rest of at most so many microseconds that begins at this reading of the
+/// clock, where the one before ended at that: the turn between them has used the rest of it.
+pub(crate) fn rest_left(ended: Option<u64>, began: u64, most: u64) -> u64
+    ensures { result ≡ rest_left ended began most }
+{
+    match ended {
+        Some(ended) => most.saturating_sub(began.saturating_sub(ended)),
+        None => most,
     }
 }
 

@@ -2,10 +2,9 @@
 
 ghost use Rattle.std.specs.Prelude.{◌≡◌, ◌<◌, ◌≤◌, ◌++◌, length, map, None, Some, IfOk, IfErr};
 ghost use Rattle.std.specs.Prelude.{IfSome, OnErr, false, true, slice_set};
-ghost use Rattle.trdp_daemon.specs.News.{WaitsIf, has_news};
-ghost use Rattle.trdp_daemon.specs.RestSteps.{PausesSo, left_after, step_of, wait_in};
-ghost use Rattle.trdp_daemon.specs.RestSteps.{Breathes, is_breathless};
-ghost use Rattle.trdp_daemon.specs.RestingWires.{TakesIfNews};
+ghost use Rattle.trdp_daemon.specs.News.{has_news};
+ghost use Rattle.trdp_daemon.specs.RestSteps.{is_breathless};
+ghost use Rattle.trdp_daemon.specs.RestingWires.{RestsSo, TakesIfNews};
 ghost use Rattle.trdp_daemon.specs.Sockets.{MadeInTurn, binds_of, watches_of};
 ghost use Rattle.trdp_daemon.specs.Sockets.{network_binds_of, network_watches, socket_of};
 ghost use Rattle.trdp_daemon.specs.SocketWires.{GivesAtSocket};
@@ -17,7 +16,7 @@ use crate::news::{has_news, set_news};
 use crate::opening::{bind_and_watch_network, bind_and_watch_ports};
 use crate::port::Port;
 use crate::refusal::Refusal;
-use crate::rest_step::{RestStep, TURNS_BETWEEN};
+use crate::rest_step::{RestStep, TURNS_BETWEEN, rest_left};
 use crate::run_clock::RunClock;
 use crate::seats::socket_of;
 use crate::sockets::Sockets;
@@ -63,6 +62,8 @@ pub struct RestingWire<S, C> {
     /// The reading of the clock when news were asked for the first time without a rest; None where
     /// none were since the latest rest.
     pub(crate) busy: Option<u64>,
+    /// The reading of the clock when the latest rest ended; None before the first.
+    pub(crate) rested: Option<u64>,
 }
 
 impl<'a, R: Net + time::Clock> RestingWire<SystemSockets<'a, R>, RunClock<'a, R>> {
@@ -185,6 +186,7 @@ impl<S: Sockets, C: Clock + Drop> RestingWire<S, C> {
             heard: false,
             left: TURNS_BETWEEN,
             busy: None,
+            rested: None,
         }
     }
 
@@ -202,10 +204,11 @@ impl<S: Sockets, C: Clock + Drop> RestingWire<S, C> {
         &self.clock
     }
 
-    /// Makes the pause of a step.
-    fn pause(&mut self, step: RestStep)
-        ensures pauses { PausesSo step (C.readings self.old.clock) (C.readings self.new.clock)
+    /// Makes the pause of a step of a rest that begins at this reading of the clock.
+    fn pause(&mut self, step: RestStep, reading: u64)
+        ensures pauses { PausesSo step reading
             (C.sleeps self.old.clock) (C.sleeps self.new.clock) self.old.busy self.new.busy }
+        ensures unread { C.readings self.new.clock ≡ C.readings self.old.clock }
         ensures wire { self.new.wire ≡ self.old.wire }
         ensures news { self.new.news ≡ self.old.news }
         ensures heard { self.new.heard ≡ self.old.heard }
@@ -213,7 +216,7 @@ impl<S: Sockets, C: Clock + Drop> RestingWire<S, C> {
     {
         match step {
             RestStep::GoOn => {}
-            RestStep::Look => self.breathe(),
+            RestStep::Look => self.breathe(reading),
             RestStep::Sleep(micros) => {
                 self.clock.sleep(micros);
                 self.busy = None;
@@ -222,17 +225,17 @@ impl<S: Sockets, C: Clock + Drop> RestingWire<S, C> {
         }
     }
 
-    /// Sleeps for a moment where there was no rest for long, so that a flood neither has the system
-    /// end the daemon nor leaves nothing of its processor to others.
-    fn breathe(&mut self)
-        ensures breathes { Breathes (C.readings self.old.clock) (C.readings self.new.clock)
+    /// Sleeps for a moment where there was no rest for long up to this reading of the clock, so that
+    /// a flood neither has the system end the daemon nor leaves nothing of its processor to others.
+    fn breathe(&mut self, reading: u64)
+        ensures breathes { Breathes reading
             (C.sleeps self.old.clock) (C.sleeps self.new.clock) self.old.busy self.new.busy }
+        ensures unread { C.readings self.new.clock ≡ C.readings self.old.clock }
         ensures wire { self.new.wire ≡ self.old.wire }
         ensures news { self.new.news ≡ self.old.news }
         ensures heard { self.new.heard ≡ self.old.heard }
         ensures left { self.new.left ≡ self.old.left }
     {
-        let reading = self.clock.now();
         if is_breathless(self.busy, reading) {
             self.clock.sleep(BREATH);
             self.busy = None;
@@ -286,24 +289,20 @@ impl<S: Sockets, C: Clock + Drop> Wire for RestingWire<S, C> {
 
     fn rest(&mut self, most: u64)
         ensures fault { self.new.wire.failures ≡ self.old.wire.failures }
-        ensures waits { WaitsIf (wait_in (step_of self.old.heard most self.old.left))
-            (S.calls self.old.wire.sockets) (S.calls self.new.wire.sockets)
-            self.old.news self.new.news }
-        ensures pauses { PausesSo (step_of self.old.heard most self.old.left)
-            (C.readings self.old.clock) (C.readings self.new.clock)
-            (C.sleeps self.old.clock) (C.sleeps self.new.clock) self.old.busy self.new.busy }
-        ensures left { self.new.left
-            ≡ left_after (step_of self.old.heard most self.old.left) self.old.left }
-        ensures forgotten { self.new.heard ≡ false }
+        ensures rests { RestsSo S.calls C.readings C.sleeps self.old self.new most }
         ensures refusal { self.new.wire.refusal ≡ self.old.wire.refusal }
     {
-        let step = RestStep::of(self.heard, most, self.left);
+        // A rest is asked for from the reading of its turn on, which was taken where the rest before
+        // ended: the turn has used some of it.
+        let began = self.clock.now();
+        let step = RestStep::of(self.heard, rest_left(self.rested, began, most), self.left);
         self.heard = false;
         self.left = step.left_after(self.left);
-        self.pause(step);
+        self.pause(step, began);
         if let Some(millis) = step.wait() {
             self.wire.sockets.wait(millis, &mut self.news);
         }
+        self.rested = Some(self.clock.now());
     }
 
     fn has_news(&self, port: Port) -> bool

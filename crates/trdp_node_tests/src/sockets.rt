@@ -202,19 +202,30 @@ fn plain(alloc: Global) -> Option<UdpWire<MemorySockets>> {
 /// A wire that rests.
 type Resting = RestingWire<MemorySockets, MemoryClock>;
 
-/// The readings of its clock: 50 milliseconds are between them.
-const READINGS: [u64; 2] = [7, 50_007];
+/// The readings of its clock where each rest begins and where it ends: a turn of 400 microseconds
+/// comes before the third rest, and none has taken time else.
+const READINGS: [u64; 5] = [7, 7, 7, 7, 407];
 
-/// A wire that rests over these sockets; None for want of memory.
-fn over(alloc: Global, sockets: MemorySockets) -> Option<Resting> {
+/// How many readings 31 rests make, and the beginning of one more.
+const BUSY: usize = 63;
+
+/// A wire that rests over these sockets, with a clock of these readings; None for want of memory.
+fn over(alloc: Global, sockets: MemorySockets, readings: &[u64]) -> Option<Resting> {
     let config = config(alloc)?;
-    let clock = MemoryClock::new(alloc, &READINGS).ok()?;
+    let clock = MemoryClock::new(alloc, readings).ok()?;
     RestingWire::open(alloc, sockets, clock, &config).ok()
 }
 
 /// A wire that rests over the sockets of the node; None for want of memory.
 fn resting(alloc: Global) -> Option<Resting> {
-    over(alloc, sockets(alloc)?)
+    over(alloc, sockets(alloc)?, &READINGS)
+}
+
+/// The same with a clock that reads 50 milliseconds more from the 32nd rest on.
+fn busy(alloc: Global) -> Option<Resting> {
+    let mut readings = [7; BUSY];
+    readings[BUSY - 1] = 50_007;
+    over(alloc, sockets(alloc)?, &readings)
 }
 
 /// Whether a row says that a wait of so many milliseconds told of these sockets.
@@ -235,10 +246,11 @@ fn works(rt: &(impl Abort + AllocGlobal), wire: &mut UdpWire<MemorySockets>) {
     assert_used(rt, rows, 5);
 }
 
-/// A wire that rests watches its sockets too, and waits or sleeps where nothing was heard.
+/// A wire that rests watches its sockets too, and waits or sleeps where nothing was heard: for what
+/// is left of the rest behind the turn before it.
 fn works_and_rests(rt: &(impl Abort + AllocGlobal), wire: &mut Resting) {
     uses(rt, wire);
-    for most in [10_000, 10_000, 1_199, 1_200] {
+    for most in [10_000, 10_000, 1_599, 1_200] {
         wire.rest(most);
     }
     let rows = wire.sockets().rows();
@@ -294,7 +306,7 @@ fn a_wire_that_rests_waits_at_its_sockets(rt: HostRuntime) {
 
 #[test]
 fn a_wire_that_rests_asks_where_news_are(rt: HostRuntime) {
-    match resting(rt.alloc()) {
+    match busy(rt.alloc()) {
         Some(mut wire) => asks_where_news_are(&rt, &mut wire),
         None => assert!(rt; false, "no memory"),
     }
@@ -314,7 +326,7 @@ fn keeps_refusals<W: Wire>(rt: &(impl Abort + AllocGlobal), wire: &mut W) {
 fn cut_off(alloc: Global) -> Option<Resting> {
     let mut sockets = MemorySockets::new(alloc);
     sockets.cut_off(FAR.ip);
-    over(alloc, sockets)
+    over(alloc, sockets, &READINGS)
 }
 
 #[test]

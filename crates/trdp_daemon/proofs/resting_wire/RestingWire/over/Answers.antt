@@ -9,6 +9,7 @@ returns-clause-fresh g c = record {
   heard = refl;
   left = refl;
   busy = refl;
+  rested = refl;
   failures = c.over.ensures.failures;
   refusal = c.over.ensures.refusal;
 }
