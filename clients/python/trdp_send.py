@@ -20,7 +20,9 @@ from __future__ import annotations
 
 import argparse
 import ast
+import errno
 import functools
+import os
 import socket
 import sys
 import time
@@ -149,25 +151,24 @@ def telegram_of(asked: argparse.Namespace) -> Telegram:
 
 
 def bind(out: socket.socket, source: tuple[str, int]) -> None:
-    """Has it come from there. Raises OSError with the place."""
+    """Has it come from there. Raises OSError with the place, as for that of a group, which is no link's own."""
     try:
+        if trdp_words.is_group(source[0]):
+            raise OSError(errno.EADDRNOTAVAIL, os.strerror(errno.EADDRNOTAVAIL))
         out.bind(source)
     except OSError as fault:
         raise OSError(fault.errno, fault.strerror, f"{source[0]}:{source[1]}") from None
 
 
 def direct(out: socket.socket, asked: argparse.Namespace) -> None:
-    """Says how far it goes, and to a group where it leaves. Raises OSError with the source that no interface has."""
+    """Says how far it goes, to a group or to a place."""
     if not trdp_words.is_group(asked.place[0]):
         if asked.ttl:
             out.setsockopt(socket.IPPROTO_IP, socket.IP_TTL, asked.ttl)
         return
+    # By which link it leaves, the system takes from the address that it is sent from. Where that link has joined the group by
+    # an address of its own (autojoin), a link that is named by its address would be the loopback.
     out.setsockopt(socket.IPPROTO_IP, socket.IP_MULTICAST_TTL, asked.ttl or GROUP_TTL)
-    if asked.source:
-        try:
-            out.setsockopt(socket.IPPROTO_IP, socket.IP_MULTICAST_IF, socket.inet_aton(asked.source[0]))
-        except OSError as fault:
-            raise OSError(fault.errno, fault.strerror, f"{asked.source[0]}:{asked.source[1]}") from None
 
 
 def give(out: socket.socket, data: bytes, place: tuple[str, int]) -> None:
