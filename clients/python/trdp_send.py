@@ -166,8 +166,8 @@ def direct(out: socket.socket, asked: argparse.Namespace) -> None:
         if asked.ttl:
             out.setsockopt(socket.IPPROTO_IP, socket.IP_TTL, asked.ttl)
         return
-    # By which link it leaves, the system takes from the address that it is sent from. Where that link has joined the group by
-    # an address of its own (autojoin), a link that is named by its address would be the loopback.
+    # By which link it leaves, the system takes from the address that it is sent from. Where that link has joined the
+    # group by an address of its own (autojoin), a link that is named by its address would be the loopback.
     out.setsockopt(socket.IPPROTO_IP, socket.IP_MULTICAST_TTL, asked.ttl or GROUP_TTL)
 
 
