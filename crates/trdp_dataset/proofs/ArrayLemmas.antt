@@ -1,5 +1,5 @@
 -- The members of arrays.
--- For `items`, `is_tables`, `is_numbers` and `members_at`.
+-- For `items`, `is_tables`, `is_numbers`, `are_addresses` and `members_at`.
 -- By: an array's items, as they are seen, are the members of its data.
 use Rattle.std.proofs.Common.{◌≡◌, Bool, true, List, [], ◌∷◌, map, Option}
 use Rattle.std.proofs.Common.{Some, refl, sym, ap, ◌∙◌, is_some}

@@ -1,5 +1,5 @@
 -- What a file without a fault has at its positions.
--- For `load`, and for `SlotNumberLemmas` and `SoundLemmas`.
+-- For `load`, and for `SlotNumberLemmas`, `GroupLemmas` and `SoundLemmas`.
 -- By: where a list of positions is without a fault, each part of it is.
 use Rattle.std.proofs.Common.{◌≡◌, ◌==◌, ◌&&◌, ◌≤◌, ℕ, suc, Bool, true, false, nat_le}
 use Rattle.std.proofs.Common.{nat_lt, List, [], ◌∷◌, ◌++◌, length, Option, Some, None}
@@ -19,7 +19,7 @@ use Rattle.trdp_dataset.specs.declared.fault.ConfigFault.TheVariants.{Real, TooM
 use Rattle.trdp_dataset.specs.declared.key.Key.{Key}
 use Rattle.trdp_dataset.specs.declared.key.Key.TheVariants.{Node, Address, PdPort, MdPort}
 use Rattle.trdp_dataset.specs.declared.key.Key.TheVariants.{OperatorPort, SpareControlPorts, Slot}
-use Rattle.trdp_dataset.specs.declared.key.Key.TheVariants.{ControlAddress}
+use Rattle.trdp_dataset.specs.declared.key.Key.TheVariants.{ControlAddress, Groups, Ttl}
 use Rattle.trdp_dataset.specs.declared.key.Key.TheVariants.{Dataset, DatasetId, Elements}
 use Rattle.trdp_dataset.specs.declared.key.Key.TheVariants.{ElementType, ElementSize}
 use Rattle.trdp_dataset.specs.Keys.{wanted_by, is_required, dataset_keys, element_keys}
@@ -58,7 +58,7 @@ none_there None e = refl
 none_there (Some x) e = cc
 
 -- the first of good positions
-good_first : (p : PositionModel) (rest : List PositionModel)
+pub good_first : (p : PositionModel) (rest : List PositionModel)
     → AreGood (p ∷ rest) → fault_at p ≡ None
 good_first p rest g = none_there (fault_at p) (and_parts _ _ g).0
 
@@ -104,14 +104,16 @@ pub kept : {A B : Type 0} → (f : A → Option B) (xs : List A) → length (fil
 kept f [] = omega arith
 kept f (x ∷ xs) = let a = kept_by f (f x) (filter_map f xs) in let b = kept f xs in omega arith
 
-uncounted : (key : Key) (b c : Bool)
+-- an array whose number of members is no fault
+pub uncounted : (key : Key) (b c : Bool)
     → (if b then Some (Missing key) else if c then Some TooMany else None) ≡ None
     → (b ≡ false) × (c ≡ false)
 uncounted key true c e = cc
 uncounted key false true e = cc
 uncounted key false false e = (refl, refl)
 
-tables_by : (key : Key) (b : Bool) (fault : Option ConfigFault)
+-- an array whose members are no fault
+pub tables_by : (key : Key) (b : Bool) (fault : Option ConfigFault)
     → (if b then fault else Some (WrongType key)) ≡ None → (b ≡ true) × (fault ≡ None)
 tables_by key true fault e = (refl, e)
 tables_by key false fault e = cc
@@ -329,9 +331,9 @@ spare_by None g = omega arith
 spare_by (Some node) g =
     let front = positions_at (Address ∷ PdPort ∷ MdPort ∷ OperatorPort ∷ []) node in
     let own = position_at node SpareControlPorts in
-    let last = position_at node ControlAddress in
+    let rest = positions_at (ControlAddress ∷ Groups ∷ Ttl ∷ []) node in
     spare_few (value_at SpareControlPorts node)
-    (good_first own (last ∷ []) (good_back front (own ∷ last ∷ []) g))
+    (good_first own rest (good_back front (own ∷ rest) g))
 
 -- there are at most 15 spare control ports
 pub few_spare : (top : Members) → AreGood (node_positions top)

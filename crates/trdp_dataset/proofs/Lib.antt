@@ -4,6 +4,8 @@ pub mod AddressLemmas
 pub mod ArrayLemmas
 pub mod SlotNumberLemmas
 pub mod FilledLemmas
+pub mod GroupLemmas
+pub mod AgainLemmas
 pub mod MeaningLemmas
 pub mod LoadLemmas
 pub mod SoundLemmas

@@ -17,10 +17,12 @@ use Rattle.trdp_dataset.specs.declared.key.Wanted.TheVariants as wanted
 use Rattle.trdp_dataset.specs.Keys.{wanted_by, is_required}
 use Rattle.trdp_dataset.specs.Values.{items_in, natural_in, natural_within}
 use Rattle.trdp_dataset.specs.Values.{address_in, identifier_in, kind_in, is_real}
-use Rattle.trdp_dataset.specs.Values.{is_integer, is_table, is_tables, is_numbers, is_type}
+use Rattle.trdp_dataset.specs.Values.{is_integer, is_table, is_tables, is_numbers, are_addresses}
+use Rattle.trdp_dataset.specs.Values.{addresses_among, has_again}
+use Rattle.trdp_dataset.specs.Values.{is_type}
 use Rattle.trdp_dataset.specs.Datasets.{DatasetModel}
 use Rattle.trdp_dataset.specs.Positions.{PositionModel}
-use Rattle.trdp_dataset.specs.Faults.{wrong_unless, count_fault, quota_fault, bad_unless}
+use Rattle.trdp_dataset.specs.Faults.{again_fault, wrong_unless, count_fault, quota_fault, bad_unless}
 use Rattle.trdp_dataset.specs.Faults.{value_fault, found_fault, fault_at, rank}
 use Rattle.trdp_dataset.specs.Faults.{least_of_two, least_fault, first_fault, twice_id_in}
 use Rattle.trdp_dataset.specs.Faults.{no_dataset_in, no_count_in, too_deep_in, too_big_in}
@@ -76,6 +78,12 @@ chosen_single : (b : Bool) (one other : Option ConfigFault) → IfSome one IsOfP
 chosen_single true one other h k = h
 chosen_single false one other h k = k
 
+again_single : (key : Key) (again : Bool) (other : Option ConfigFault)
+    → IfSome other IsOfPosition → IfSome (again_fault key again other) IsOfPosition
+again_single key again (Some fault) h = h
+again_single key true None h = tt
+again_single key false None h = tt
+
 quota_single : (key : Key) (most : ℕ) (o : Option ℕ) → IfSome (quota_fault key most o) IsOfPosition
 quota_single key most None = tt
 quota_single key most (Some n) = chosen_single (nat_lt most n) (Some TooMany) None tt tt
@@ -90,6 +98,12 @@ value_single key (wanted.Numbers most least greatest) d =
     chosen_single (is_numbers least greatest d) (count_fault key most (length (items_in d)))
     (Some (WrongType key)) (count_single key
     (is_required key && (length (items_in d) == 0)) (nat_lt most (length (items_in d)))) tt
+value_single key (wanted.Addresses most least greatest) d =
+    let again = has_again (addresses_among least greatest (items_in d)) in
+    let count = count_fault key most (length (items_in d)) in
+    chosen_single (are_addresses least greatest d) (again_fault key again count)
+    (Some (WrongType key)) (again_single key again count (count_single key
+    (is_required key && (length (items_in d) == 0)) (nat_lt most (length (items_in d))))) tt
 value_single key wanted.Address d = wrong_single key (is_some (address_in d))
 value_single key (wanted.Number least most) d =
     wrong_single key (is_some (natural_within least most d))

@@ -1,4 +1,4 @@
--- The slots of a file without a fault, and its spare control ports.
+-- The slots of a file without a fault, its spare control ports and its groups.
 -- For `NodeConfig::from_toml`.
 -- By: no position of such a file has a fault, so arrays are as long as told (`FilledLemmas`).
 use Rattle.std.proofs.Common.{◌≡◌, ◌≤◌, List, ◌++◌, length, map, None}
@@ -7,9 +7,11 @@ use Rattle.trdp_dataset.specs.Datasets.{DatasetModel}
 use Rattle.trdp_dataset.specs.Positions.{PositionModel, node_positions, slot_positions}
 use Rattle.trdp_dataset.specs.Positions.{dataset_positions, all_positions}
 use Rattle.trdp_dataset.specs.Faults.{fault_at, least_fault, dataset_fault, fault_in}
-use Rattle.trdp_dataset.specs.Configs.{slots_in, spare_control_ports_in}
+use Rattle.trdp_dataset.specs.Configs.{slots_in, spare_control_ports_in, groups_in}
+use Rattle.trdp_dataset.specs.Groups.{AreGroups}
 use Rattle.trdp_dataset.proofs.LeastLemmas.{neither, none_least}
 use Rattle.trdp_dataset.proofs.FilledLemmas.{AreGood, good_front, good_back, some_slots, few_spare}
+use Rattle.trdp_dataset.proofs.GroupLemmas.{sound_groups}
 
 -- no position of a file without a fault has one
 pub clean : (positions : List PositionModel) (ds : List DatasetModel)
@@ -33,3 +35,12 @@ unfolding all_positions
 spare_counted top ds e =
     few_spare top (good_front (node_positions top) (slot_positions top) (good_front (node_positions
     top ++ slot_positions top) (dataset_positions top) (clean (all_positions top) ds e)))
+
+-- the groups are at most 32 addresses of groups, none of them there twice
+pub groups_sound : (top : Members) (ds : List DatasetModel)
+    → fault_in (all_positions top) ds ≡ None → AreGroups (groups_in top)
+unfolding all_positions
+groups_sound top ds e =
+    sound_groups top (good_front (node_positions top) (slot_positions top) (good_front
+    (node_positions top ++ slot_positions top) (dataset_positions top)
+    (clean (all_positions top) ds e)))

@@ -1,5 +1,5 @@
 -- Datasets with one identifier.
--- For `datasets_in`, and for `SoundLemmas`.
+-- For `datasets_in`, and for `GroupLemmas` and `SoundLemmas`.
 -- By: each turn adds a dataset whose identifier is new, or stops at one that was there.
 use Rattle.std.proofs.Common.{◌≡◌, ◌==◌, ◌||◌, ℕ, Bool, true, false, cond, List, [], ◌∷◌}
 use Rattle.std.proofs.Common.{◌++◌, Option, Some, None, option_map, if◌then◌else◌, refl}
@@ -84,7 +84,8 @@ twice_found (x ∷ xs) d rest known =
 or_false : (a b : Bool) → a ≡ false → b ≡ false → (a || b) ≡ false
 or_false a b e f = rw (e, f) refl
 
-false_left : (a b : Bool) → (a || b) ≡ false → a ≡ false
+-- of two tests of which neither passes, the first
+pub false_left : (a b : Bool) → (a || b) ≡ false → a ≡ false
 false_left true b e = cc
 false_left false b e = refl
 

@@ -15,14 +15,14 @@ use Rattle.trdp_dataset.specs.declared.element.ElementKind.{ElementKind}
 use Rattle.trdp_dataset.specs.declared.key.Key.{Key}
 use Rattle.trdp_dataset.specs.declared.key.Key.TheVariants.{Address, PdPort, MdPort, OperatorPort}
 use Rattle.trdp_dataset.specs.declared.key.Key.TheVariants.{SpareControlPorts, ControlAddress}
-use Rattle.trdp_dataset.specs.declared.key.Key.TheVariants.{Slot, ControlPort}
+use Rattle.trdp_dataset.specs.declared.key.Key.TheVariants.{Groups, Ttl, Slot, ControlPort}
 use Rattle.trdp_dataset.specs.declared.key.Key.TheVariants.{Dataset, DatasetId}
 use Rattle.trdp_dataset.specs.declared.key.Key.TheVariants.{Elements, ElementType, ElementSize}
 use Rattle.trdp_dataset.specs.declared.fault.ConfigFault.{ConfigFault}
 use Rattle.trdp_dataset.specs.declared.fault.ConfigFault.TheVariants.{Toml, OutOfMemory}
 use Rattle.trdp_dataset.specs.Keys.{wanted_by, default_of, quota_keys}
 use Rattle.trdp_dataset.specs.Values.{items_in, number_in, member_in, address_in}
-use Rattle.trdp_dataset.specs.Values.{identifier_in, kind_in}
+use Rattle.trdp_dataset.specs.Values.{member_address_in, identifier_in, kind_in}
 use Rattle.trdp_dataset.specs.Datasets.{DatasetModel}
 use Rattle.trdp_dataset.specs.Positions.{value_at, tables_at, node_in}
 use Rattle.trdp_dataset.specs.Positions.{dataset_positions, all_positions}
@@ -39,6 +39,12 @@ number_of key found =
 unfoldable pub numbers_of : Key → Option Data → List ℕ
 numbers_of key None = []
 numbers_of key (Some d) = filter_map (member_in (wanted_by key)) (items_in d)
+
+-- the addresses of a key whose array was looked for, in their order: its members that are in the
+-- key's range; there are none where there is no array
+unfoldable pub addresses_of : Key → Option Data → List ℕ
+addresses_of key None = []
+addresses_of key (Some d) = filter_map (member_address_in (wanted_by key)) (items_in d)
 
 -- the number at a key of a table
 abbrev pub natural_at : Key → Members → ℕ
@@ -84,7 +90,8 @@ unfoldable pub slots_in : Members → List SlotModel
 slots_in top = map slot_config (tables_at Slot top)
 
 -- the configuration of a node; the spare control ports are those of the slots that are added while
--- the node runs, in their order, and the control address is where all control ports are
+-- the node runs, in their order, the control address is where all control ports are, the groups are
+-- addresses in the order of the file, and `ttl` is how many hops a telegram may take
 pub record ConfigModel : Type 0 where
   pub registry : List DatasetModel
   pub address : ℕ
@@ -93,6 +100,8 @@ pub record ConfigModel : Type 0 where
   pub operator_port : ℕ
   pub spare_control_ports : List ℕ
   pub control_address : ℕ
+  pub groups : List ℕ
+  pub ttl : ℕ
   pub slots : List SlotModel
 
 -- what the table of the node has at a key
@@ -108,6 +117,10 @@ address_at key absent top =
 unfoldable pub spare_control_ports_in : Members → List ℕ
 spare_control_ports_in top = numbers_of SpareControlPorts (node_value SpareControlPorts top)
 
+-- the groups of a file
+unfoldable pub groups_in : Members → List ℕ
+groups_in top = addresses_of Groups (node_value Groups top)
+
 -- the configuration that a file without a fault means
 unfoldable pub config_in : Members → ConfigModel
 config_in top = record {
@@ -118,6 +131,8 @@ config_in top = record {
   operator_port = number_of OperatorPort (node_value OperatorPort top);
   spare_control_ports = spare_control_ports_in top;
   control_address = address_at ControlAddress (address_at Address 0 top) top;
+  groups = groups_in top;
+  ttl = number_of Ttl (node_value Ttl top);
   slots = slots_in top;
 }
 

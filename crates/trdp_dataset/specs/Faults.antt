@@ -21,7 +21,9 @@ use Rattle.trdp_dataset.specs.ZeroSizes.{zero_size}
 use Rattle.trdp_dataset.specs.Keys.{wanted_by, is_required}
 use Rattle.trdp_dataset.specs.Values.{items_in, natural_in, natural_within}
 use Rattle.trdp_dataset.specs.Values.{address_in, identifier_in, kind_in, is_real}
-use Rattle.trdp_dataset.specs.Values.{is_integer, is_table, is_tables, is_numbers, is_type}
+use Rattle.trdp_dataset.specs.Values.{is_integer, is_table, is_tables, is_numbers, are_addresses}
+use Rattle.trdp_dataset.specs.Values.{addresses_among, has_again}
+use Rattle.trdp_dataset.specs.Values.{is_type}
 use Rattle.trdp_dataset.specs.Positions.{PositionModel}
 
 -- a value has to be of its key's kind
@@ -45,6 +47,20 @@ tables_fault key most d =
 abbrev pub numbers_fault : Key → ℕ → ℕ → ℕ → Data → Option ConfigFault
 numbers_fault key most least greatest d =
     if is_numbers least greatest d then count_fault key most (length (items_in d))
+    else Some (WrongType key)
+
+-- that something stands twice in an array is a fault where the array has no other
+abbrev pub again_fault : Key → (again : Bool) → Option ConfigFault → Option ConfigFault
+again_fault key again (Some fault) = Some fault
+again_fault key true None = Some (WrongType key)
+again_fault key false None = None
+
+-- an array of addresses in a range, of which the key allows at most so many, none of them twice
+abbrev pub addresses_fault : Key → ℕ → ℕ → ℕ → Data → Option ConfigFault
+addresses_fault key most least greatest d =
+    if are_addresses least greatest d
+    then again_fault key (has_again (addresses_among least greatest (items_in d)))
+    (count_fault key most (length (items_in d)))
     else Some (WrongType key)
 
 -- a quota, of which the key allows at most so many
@@ -75,6 +91,8 @@ value_fault key wanted.Address d = wrong_unless key (is_some (address_in d))
 value_fault key (wanted.Number least most) d =
     wrong_unless key (is_some (natural_within least most d))
 value_fault key (wanted.Numbers most least greatest) d = numbers_fault key most least greatest d
+value_fault key (wanted.Addresses most least greatest) d =
+    addresses_fault key most least greatest d
 value_fault key (wanted.Quota most) d = quota_fault key most (natural_in d)
 value_fault key (wanted.Identifier least most) d = identifier_fault key d
 value_fault key wanted.Kind d = kind_fault key d

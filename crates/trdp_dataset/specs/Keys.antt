@@ -3,7 +3,8 @@ use Rattle.std.specs.Prelude.{ℕ, Bool, true, false, List, [], ◌∷◌, codes
 use Rattle.trdp_dataset.specs.declared.key.Key.{Key}
 use Rattle.trdp_dataset.specs.declared.key.Key.TheVariants.{Node, Address, PdPort, MdPort}
 use Rattle.trdp_dataset.specs.declared.key.Key.TheVariants.{OperatorPort, SpareControlPorts}
-use Rattle.trdp_dataset.specs.declared.key.Key.TheVariants.{ControlAddress, Slot, Publishers}
+use Rattle.trdp_dataset.specs.declared.key.Key.TheVariants.{ControlAddress, Groups, Ttl}
+use Rattle.trdp_dataset.specs.declared.key.Key.TheVariants.{Slot, Publishers}
 use Rattle.trdp_dataset.specs.declared.key.Key.TheVariants.{Subscriptions, Requesters}
 use Rattle.trdp_dataset.specs.declared.key.Key.TheVariants.{Listeners, Callers, Repliers}
 use Rattle.trdp_dataset.specs.declared.key.Key.TheVariants.{ControlPort, Dataset, DatasetId}
@@ -34,6 +35,8 @@ key_row OperatorPort = row (codes "operator_port") (wanted.Number 0 65535) (abse
 key_row SpareControlPorts =
     row (codes "spare_control_ports") (wanted.Numbers 15 0 65535) absent.Empty
 key_row ControlAddress = row (codes "control_address") wanted.Address absent.Own
+key_row Groups = row (codes "groups") (wanted.Addresses 32 3758096384 4026531839) absent.Empty
+key_row Ttl = row (codes "ttl") (wanted.Number 1 255) (absent.Default 64)
 key_row Slot = row (codes "slot") (wanted.Tables 16) absent.Missing
 key_row Publishers = row (codes "publishers") (wanted.Quota 256) (absent.Default 0)
 key_row Subscriptions = row (codes "subscriptions") (wanted.Quota 256) (absent.Default 0)
@@ -79,7 +82,8 @@ default_of key = default_number (key_row key).absent
 -- the keys of each table, in order
 abbrev pub node_keys : List Key
 node_keys =
-    Address ∷ PdPort ∷ MdPort ∷ OperatorPort ∷ SpareControlPorts ∷ ControlAddress ∷ []
+    Address ∷ PdPort ∷ MdPort ∷ OperatorPort ∷ SpareControlPorts ∷ ControlAddress
+    ∷ Groups ∷ Ttl ∷ []
 
 abbrev pub quota_keys : List Key
 quota_keys = Publishers ∷ Subscriptions ∷ Requesters ∷ Listeners ∷ Callers ∷ Repliers ∷ []

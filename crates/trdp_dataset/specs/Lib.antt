@@ -15,3 +15,4 @@ pub mod Faults
 pub mod Configs
 pub mod Adding
 pub mod StoredSlots
+pub mod Groups

@@ -1,7 +1,8 @@
 -- What the values of a configuration file mean.
-use Rattle.std.specs.Prelude.{◌≤◌, ◌||◌, bytes_eq, ℕ, zero, suc, ◌^◌, pos, Bool, false, List, []}
+use Rattle.std.specs.Prelude.{◌≤◌, ◌==◌, ◌||◌, bytes_eq, ℕ, zero, suc, ◌^◌, pos}
+use Rattle.std.specs.Prelude.{Bool, false, List, []}
 use Rattle.std.specs.Prelude.{◌∷◌, Option, Some, None, option_and_then, is_some, if◌then◌else◌}
-use Rattle.std.specs.List.{list_all}
+use Rattle.std.specs.List.{filter_map, list_all, list_any}
 use Rattle.trdp_base.specs.AddressText.{text_of_ip}
 use Rattle.toml.specs.Data.{Data, string, integer, array, Items}
 use Rattle.toml.specs.Data.{no_items, item, as_str, as_integer, as_table}
@@ -59,6 +60,15 @@ abbrev pub member_in : Wanted → Data → Option ℕ
 member_in (wanted.Numbers most least greatest) d = natural_within least greatest d
 member_in _ d = None
 
+-- the address that a value gives, if it is in the range
+abbrev pub address_within : ℕ → ℕ → Data → Option ℕ
+address_within least greatest d = option_and_then (in_range least greatest) (address_in d)
+
+-- the address that a member of an array gives, if an array of addresses in this range is wanted
+abbrev pub member_address_in : Wanted → Data → Option ℕ
+member_address_in (wanted.Addresses most least greatest) d = address_within least greatest d
+member_address_in _ d = None
+
 -- a number is in the range that is wanted
 abbrev pub IsAllowed : Wanted → ℕ → Type 0
 IsAllowed (wanted.Number least most) n = (least ≤ n) × (n ≤ most)
@@ -103,6 +113,36 @@ is_number least greatest d = is_some (natural_within least greatest d)
 -- an array each of whose members is a whole number in the range
 abbrev pub is_numbers : ℕ → ℕ → Data → Bool
 is_numbers least greatest d = is_array_of (is_number least greatest) d
+
+-- an address in the range
+abbrev pub is_address : ℕ → ℕ → Data → Bool
+is_address least greatest d = is_some (address_within least greatest d)
+
+-- the address that is given is this one
+abbrev pub is_given : ℕ → Option ℕ → Bool
+is_given n None = false
+is_given n (Some m) = n == m
+
+-- a value gives this address, of those in the range
+abbrev pub gives : ℕ → ℕ → ℕ → Data → Bool
+gives least greatest n d = is_given n (address_within least greatest d)
+
+-- a number is one of these
+abbrev pub is_among : List ℕ → ℕ → Bool
+is_among ns n = list_any (λ m. n == m) ns
+
+-- a number stands among these twice
+abbrev pub has_again : List ℕ → Bool
+has_again [] = false
+has_again (n ∷ ns) = is_among ns n || has_again ns
+
+-- the addresses in the range that values give
+abbrev pub addresses_among : ℕ → ℕ → List Data → List ℕ
+addresses_among least greatest ds = filter_map (address_within least greatest) ds
+
+-- an array each of whose members is an address in the range
+abbrev pub are_addresses : ℕ → ℕ → Data → Bool
+are_addresses least greatest d = is_array_of (is_address least greatest) d
 
 -- a name or a whole number
 abbrev pub is_type : Data → Bool

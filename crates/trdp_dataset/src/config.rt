@@ -8,16 +8,17 @@ ghost use Rattle.trdp_dataset.specs.Values.{IsAllowed};
 ghost use Rattle.trdp_dataset.specs.Positions.{value_at};
 ghost use Rattle.trdp_dataset.specs.Seen.{tables_seen};
 ghost use Rattle.trdp_dataset.specs.Configs.{number_of, node_value, address_at, config_in};
-ghost use Rattle.trdp_dataset.specs.Configs.{datasets_in, spare_control_ports_in};
+ghost use Rattle.trdp_dataset.specs.Configs.{datasets_in, spare_control_ports_in, groups_in};
 ghost use Rattle.trdp_dataset.specs.Configs.{quotas_in, slot_config, slots_in};
 ghost use Rattle.trdp_dataset.specs.StoredSlots.{slot_model, slot_models};
+ghost use Rattle.trdp_dataset.specs.Groups.{AreGroups};
 
 use crate::fault::ConfigFault;
 use crate::key::Key;
 use crate::load::load;
 use crate::parse::parse;
 use crate::position::{all_positions, members_at, node_in, value_at};
-use crate::read::{number_at, number_of, numbers_of};
+use crate::read::{addresses_of, number_at, number_of, numbers_of};
 use crate::registry::Registry;
 use crate::value::address;
 use std::alloc::{AllocError, Global};
@@ -34,8 +35,8 @@ struct Slot {
     control_port: u16,
 }
 
-/// The configuration of a node: its datasets, its address and ports, and the quotas and control
-/// port of each slot.
+/// The configuration of a node: its datasets, its address and ports, its groups, and the quotas and
+/// control port of each slot.
 #[derive(Drop)]
 pub struct NodeConfig {
     /// The datasets.
@@ -53,6 +54,11 @@ pub struct NodeConfig {
     spare_control_ports: Vec<u16>,
     /// The IPv4 address of the control ports and the operator's port, in host order.
     control_address: Ip,
+    /// The addresses of the groups, in the order of the file, at most 32, each in host order and of
+    /// 224.0.0.0 to 239.255.255.255, none there twice.
+    groups: Vec<u32>,
+    /// How many hops a telegram that the node sends may take, 1 to 255.
+    ttl: u8,
     /// The application slots in the order of the file, 1 to 16.
     slots: Vec<Slot>,
 }
@@ -61,6 +67,7 @@ impl Model for NodeConfig {
     ghost use Rattle.std.specs.Prelude.{◌≡◌, ◌≤◌, ◌<◌, length};
     ghost use Rattle.trdp_dataset.specs.Configs.{ConfigModel};
     ghost use Rattle.trdp_dataset.specs.StoredSlots.{slot_models};
+    ghost use Rattle.trdp_dataset.specs.Groups.{AreGroups};
 
     ghost Value = { ConfigModel };
 
@@ -72,11 +79,14 @@ impl Model for NodeConfig {
       operator_port = c.operator_port;
       spare_control_ports = c.spare_control_ports.items;
       control_address = c.control_address.0;
+      groups = c.groups.items;
+      ttl = c.ttl;
       slots = slot_models c.slots.items;
     } };
 
     ghost invariant = { λ c. (1 ≤ c.pd_port) × (1 ≤ c.md_port) × (1 ≤ length c.slots.items)
-        × (length c.slots.items ≤ 16) × (length c.spare_control_ports.items ≤ 15) };
+        × (length c.slots.items ≤ 16) × (length c.spare_control_ports.items ≤ 15)
+        × AreGroups c.groups.items × (1 ≤ c.ttl) };
 }
 
 /// The quotas of a slot.
@@ -149,6 +159,15 @@ fn spare_control_ports_in(alloc: Global, top: &Table) -> Result<Vec<u16>, AllocE
     numbers_of(alloc, Key::SpareControlPorts, found)
 }
 
+/// The groups of a file, in host order.
+#[tactic(auto, unfolding(crate::specs::Configs::groups_in))]
+fn groups_in(alloc: Global, top: &Table) -> Result<Vec<u32>, AllocError>
+    ensures value { IfOk result (λ groups. groups.items ≡ groups_in (table_view top.now)) }
+{
+    let found = node_value(top, Key::Groups);
+    addresses_of(alloc, Key::Groups, found)
+}
+
 /// The address that the table of the node has at a key; `absent` where it has none.
 fn address_at(top: &Table, key: Key, absent: Ip) -> Ip
     ensures value { result.0 ≡ address_at key absent.0 (table_view top.now) }
@@ -168,11 +187,14 @@ fn config_in(
     top: &Table,
     registry: Registry,
     spare_control_ports: Vec<u16>,
+    groups: Vec<u32>,
     slots: Vec<Slot>,
 ) -> NodeConfig
     requires registry { registry ≡ datasets_in (table_view top.now) }
     requires spare { spare_control_ports.items ≡ spare_control_ports_in (table_view top.now) }
     requires few_spare { length (spare_control_ports_in (table_view top.now)) ≤ 15 }
+    requires groups { groups.items ≡ groups_in (table_view top.now) }
+    requires sound_groups { AreGroups (groups_in (table_view top.now)) }
     requires slots { slot_models slots.items ≡ slots_in (table_view top.now) }
     requires some { 1 ≤ length (slots_in (table_view top.now)) }
     requires few { length (slots_in (table_view top.now)) ≤ 16 }
@@ -187,13 +209,16 @@ fn config_in(
         operator_port: node_number(top, Key::OperatorPort),
         spare_control_ports,
         control_address: address_at(top, Key::ControlAddress, address),
+        groups,
+        ttl: node_number(top, Key::Ttl) as u8,
         slots,
     }
 }
 
 impl NodeConfig {
-    ghost use Rattle.std.specs.Prelude.{◌≡◌, ◌≤◌, length, option_map, slice_get};
+    ghost use Rattle.std.specs.Prelude.{◌≡◌, ◌≤◌, length, option_map, slice_get, All};
     ghost use Rattle.trdp_dataset.specs.Configs.{ReadsToml, config_of};
+    ghost use Rattle.trdp_dataset.specs.Groups.{IsGroup, AreApart};
 
     /// The configuration of a file in TOML.
     ///
@@ -207,8 +232,9 @@ impl NodeConfig {
         let positions = all_positions(alloc, &top)?;
         let registry = load(alloc, &top, &positions)?;
         let spare_control_ports = spare_control_ports_in(alloc, &top)?;
+        let groups = groups_in(alloc, &top)?;
         let slots = slots_in(alloc, &top)?;
-        Ok(config_in(&top, registry, spare_control_ports, slots))
+        Ok(config_in(&top, registry, spare_control_ports, groups, slots))
     }
 
     /// The datasets.
@@ -270,6 +296,25 @@ impl NodeConfig {
         ensures value { result.0 ≡ self.now.control_address }
     {
         self.control_address
+    }
+
+    /// The addresses of the multicast groups that the node joins, in the order of the file and each
+    /// in host order: at most 32, each of 224.0.0.0 to 239.255.255.255, none there twice.
+    pub fn groups(&self) -> &[u32]
+        ensures value { result.now ≡ self.now.groups }
+        ensures most { length result.now ≤ 32 }
+        ensures range { All IsGroup result.now }
+        ensures apart { AreApart result.now }
+    {
+        &self.groups
+    }
+
+    /// The time to live of the telegrams that the node sends: how many hops one may take, 1 to 255.
+    pub fn ttl(&self) -> u8
+        ensures value { result ≡ self.now.ttl }
+        ensures least { 1 ≤ result }
+    {
+        self.ttl
     }
 
     /// How many application slots there are, 1 to 16.

@@ -18,7 +18,8 @@ pub enum ConfigFault {
     /// A required key isn't there, or the array under it is empty.
     #[error("the key {0} is missing, or its array is empty")]
     Missing(Key),
-    /// The value of a key isn't of the kind that the key wants, or is out of range.
+    /// The value of a key isn't of the kind that the key wants, or is out of range; an array of
+    /// addresses also where one stands there twice.
     #[error("the value of the key {0} is of the wrong kind or out of range")]
     WrongType(Key),
     /// An element is a real number, which this profile leaves out.
@@ -42,10 +43,10 @@ pub enum ConfigFault {
     /// The zero value of a dataset is longer than 65,388 bytes.
     #[error("the zero value of a dataset is longer than 65388 bytes")]
     TooBig,
-    /// There are more than 16 slots, 15 spare control ports, 256 datasets or 256 elements of a
-    /// dataset, or a quota is above 256.
-    #[error("there are more than 16 slots, 15 spare control ports, 256 datasets or 256 elements, \
-         or a quota above 256")]
+    /// There are more than 16 slots, 15 spare control ports, 32 groups, 256 datasets or 256
+    /// elements of a dataset, or a quota is above 256.
+    #[error("there are more than 16 slots, 15 spare control ports, 32 groups, 256 datasets or 256 \
+         elements, or a quota above 256")]
     TooMany,
     /// Memory ran out.
     #[error("memory ran out")]

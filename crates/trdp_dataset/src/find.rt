@@ -6,7 +6,7 @@ use crate::key::{Key, Wanted};
 use crate::misfit::push_misfits;
 use crate::place::{DatasetName, Place, node_in};
 use crate::position::{DATASET_KEYS, ELEMENT_KEYS, NODE_KEYS, SLOT_KEYS, members_at, value_at};
-use crate::value::items;
+use crate::value::{address_within, any_gives, items};
 use std::alloc::{AllocError, Global};
 use toml::{Table, Value};
 
@@ -56,7 +56,8 @@ fn push_key<'a>(
 ) -> Result<(), AllocError> {
     let cause = match (value, key.wanted()) {
         (None, _) => Cause::Absent(key),
-        (Some(value), Wanted::Numbers(most, ..)) if value.is_array() => {
+        (Some(value), Wanted::Numbers(most, ..) | Wanted::Addresses(most, ..))
+            if value.is_array() => {
             return push_members(found, place, key, most, items(value));
         }
         (Some(value), Wanted::Tables(most)) if fault == ConfigFault::TooMany => {
@@ -72,7 +73,7 @@ fn push_key<'a>(
     Ok(())
 }
 
-/// Adds the faults of an array of numbers, of which at most so many are wanted.
+/// Adds the faults of an array of numbers or of addresses, of which at most so many are wanted.
 ///
 /// # Errors
 /// Want of memory.
@@ -83,8 +84,15 @@ fn push_members<'a>(
     most: u16,
     members: &'a [Value],
 ) -> Result<(), AllocError> {
+    // Where there are too many, none is looked for among those before it.
+    let are_few = members.len() <= usize::from(most);
     for (index, member) in members.iter().enumerate() {
-        if key.wanted().member(member).is_none() {
+        let before = if are_few {
+            &members[..index]
+        } else {
+            &members[..0]
+        };
+        if !is_wanted(key, before, member) {
             found.push(Finding {
                 fault: ConfigFault::WrongType(key),
                 place,
@@ -100,6 +108,18 @@ fn push_members<'a>(
         })?;
     }
     Ok(())
+}
+
+/// Whether a member of an array is what the key wants. An address is it only once: where it stands
+/// among the members before, it isn't.
+fn is_wanted(key: Key, before: &[Value], member: &Value) -> bool {
+    match key.wanted() {
+        Wanted::Addresses(_, least, most) => match address_within(member, least, most) {
+            Some(address) => !any_gives(before, least, most, address),
+            None => false,
+        },
+        wanted => wanted.member(member).is_some(),
+    }
 }
 
 /// Adds the faults at the keys of the node.

@@ -23,6 +23,10 @@ pub enum Key {
     SpareControlPorts,
     /// `control_address` of the node, at which the control ports and the operator's are bound.
     ControlAddress,
+    /// `groups` of the node, the addresses of the multicast groups that it joins.
+    Groups,
+    /// `ttl` of the node, how many hops its telegrams may take.
+    Ttl,
     /// `slot`, the tables of the application slots.
     Slot,
     /// `publishers` of a slot.
@@ -65,6 +69,10 @@ pub enum Wanted {
     /// An array of whole numbers from the second to the third, ends included; more of them than
     /// the first are [`ConfigFault::TooMany`](crate::ConfigFault).
     Numbers(u16, u16, u16),
+    /// An array of the texts of IPv4 addresses from the second to the third, in host order, ends
+    /// included, none of them there twice; more of them than the first are
+    /// [`ConfigFault::TooMany`](crate::ConfigFault).
+    Addresses(u16, u32, u32),
     /// A whole number from 0 on; one above so many is
     /// [`ConfigFault::TooMany`](crate::ConfigFault).
     Quota(u16),
@@ -98,6 +106,12 @@ pub(crate) struct KeyRow {
     /// What it means that it isn't there.
     pub(crate) absent: Absent,
 }
+
+/// The least address of a group, 224.0.0.0, in host order.
+const GROUP_MIN: u32 = 0xe000_0000;
+
+/// The greatest address of a group, 239.255.255.255, in host order.
+const GROUP_MAX: u32 = 0xefff_ffff;
 
 /// A row of the table of keys.
 fn row(text: &'static str, wanted: Wanted, absent: Absent) -> KeyRow
@@ -136,6 +150,12 @@ impl Key {
                 Absent::Empty,
             ),
             Key::ControlAddress => row("control_address", Wanted::Address, Absent::Own),
+            Key::Groups => row(
+                "groups",
+                Wanted::Addresses(32, GROUP_MIN, GROUP_MAX),
+                Absent::Empty,
+            ),
+            Key::Ttl => row("ttl", Wanted::Number(1, 255), Absent::Default(64)),
             Key::Slot => row("slot", Wanted::Tables(16), Absent::Missing),
             Key::Publishers => row("publishers", Wanted::Quota(256), Absent::Default(0)),
             Key::Subscriptions => row("subscriptions", Wanted::Quota(256), Absent::Default(0)),

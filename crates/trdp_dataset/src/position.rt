@@ -15,13 +15,15 @@ use std::alloc::{AllocError, Global};
 use toml::{Table, Value};
 
 /// The keys of the table of the node, in the order in which faults are looked for.
-pub(crate) const NODE_KEYS: [Key; 6] = [
+pub(crate) const NODE_KEYS: [Key; 8] = [
     Key::Address,
     Key::PdPort,
     Key::MdPort,
     Key::OperatorPort,
     Key::SpareControlPorts,
     Key::ControlAddress,
+    Key::Groups,
+    Key::Ttl,
 ];
 
 /// The keys of the table of a slot, in that order.

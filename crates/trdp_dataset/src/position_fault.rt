@@ -6,14 +6,18 @@ ghost use Rattle.trdp_dataset.specs.Keys.{wanted_by};
 ghost use Rattle.trdp_dataset.specs.Values.{natural_in};
 ghost use Rattle.trdp_dataset.specs.Seen.{position_seen, positions_seen};
 ghost use Rattle.trdp_dataset.specs.Faults.{wrong_unless, count_fault, tables_fault, numbers_fault};
-ghost use Rattle.trdp_dataset.specs.Faults.{quota_fault, bad_unless, identifier_fault};
+ghost use Rattle.trdp_dataset.specs.Faults.{addresses_fault, again_fault, quota_fault, bad_unless};
+ghost use Rattle.trdp_dataset.specs.Faults.{identifier_fault};
 ghost use Rattle.trdp_dataset.specs.Faults.{kind_fault, value_fault, found_fault, fault_at};
 ghost use Rattle.trdp_dataset.specs.Faults.{least_fault};
 
 use crate::fault::{ConfigFault, least_of_two};
 use crate::key::{Key, Wanted};
 use crate::position::Position;
-use crate::value::{address, identifier, is_numbers, is_real, is_tables, items, kind, natural};
+use crate::value::{
+    address, are_addresses, has_again, identifier, is_numbers, is_real, is_tables, items, kind,
+    natural,
+};
 use toml::Value;
 
 /// The value of a key has to be of the key's kind.
@@ -65,6 +69,39 @@ fn numbers_fault(
         count_fault(key, most, items(value).len())
     } else {
         Some(ConfigFault::WrongType(key))
+    }
+}
+
+/// The fault of an array without another, in which something stands twice or not.
+fn again_fault(key: Key, again: bool) -> Option<ConfigFault>
+    ensures value { result ≡ again_fault key again None }
+{
+    if again {
+        Some(ConfigFault::WrongType(key))
+    } else {
+        None
+    }
+}
+
+/// The fault of what stands where an array of at most so many addresses in a range is wanted, none
+/// of them twice.
+fn addresses_fault(
+    key: Key,
+    most: u16,
+    least: u32,
+    greatest: u32,
+    value: &Value,
+) -> Option<ConfigFault>
+    ensures value { result ≡ addresses_fault key most least greatest (view value.now) }
+{
+    if !are_addresses(value, least, greatest) {
+        return Some(ConfigFault::WrongType(key));
+    }
+    let members = items(value);
+    match count_fault(key, most, members.len()) {
+        Some(fault) => Some(fault),
+        // There are no more than may be: so many are compared with each other in no time.
+        None => again_fault(key, has_again(members, least, greatest)),
     }
 }
 
@@ -126,6 +163,9 @@ fn value_fault(key: Key, value: &Value) -> Option<ConfigFault>
         Wanted::Number(..) => wrong_unless(key, wanted.number(value).is_some()),
         Wanted::Numbers(most, least, greatest) => {
             numbers_fault(key, most, least, greatest, value)
+        }
+        Wanted::Addresses(most, least, greatest) => {
+            addresses_fault(key, most, least, greatest, value)
         }
         Wanted::Quota(most) => quota_fault(key, most, value),
         Wanted::Identifier(..) => identifier_fault(key, value),

@@ -1,4 +1,4 @@
-//! Numbers and datasets as a file has them.
+//! Numbers, addresses and datasets as a file has them.
 
 ghost use Rattle.std.specs.Prelude.{◌≡◌, ◌≤◌, ◌++◌, false, map, option_map};
 ghost use Rattle.std.specs.Prelude.{option_and_then, None, IfOk, OnOk, IfErr};
@@ -6,12 +6,14 @@ ghost use Rattle.std.specs.List.{filter_map};
 ghost use Rattle.toml.specs.Data.{as_table};
 ghost use Rattle.toml.specs.View.{view, table_view};
 ghost use Rattle.trdp_dataset.specs.Keys.{wanted_by, default_of};
-ghost use Rattle.trdp_dataset.specs.Values.{IsAllowed, member_in, identifier_in};
+ghost use Rattle.trdp_dataset.specs.Values.{IsAllowed, member_in, member_address_in};
+ghost use Rattle.trdp_dataset.specs.Values.{identifier_in};
 ghost use Rattle.trdp_dataset.specs.Positions.{value_at, tables_at};
 ghost use Rattle.trdp_dataset.specs.Seen.{tables_seen};
 ghost use Rattle.trdp_dataset.specs.Faults.{has_twice, IsFaultOf, twice_id_in};
 ghost use Rattle.trdp_dataset.specs.Adding.{AddsDataset, twice_fault};
-ghost use Rattle.trdp_dataset.specs.Configs.{number_of, numbers_of, natural_at, element_in};
+ghost use Rattle.trdp_dataset.specs.Configs.{number_of, numbers_of, addresses_of, natural_at};
+ghost use Rattle.trdp_dataset.specs.Configs.{element_in};
 ghost use Rattle.trdp_dataset.specs.Configs.{elements_in, dataset_in, datasets_in};
 
 use crate::datasets::Datasets;
@@ -66,6 +68,37 @@ pub(crate) fn numbers_of(
 {
     match found {
         Some(value) => numbers_among(alloc, key, items(value)),
+        None => Ok(Vec::new(alloc)),
+    }
+}
+
+/// The addresses of an array at a key, in host order: its members that are in the key's range.
+fn addresses_among(alloc: Global, key: Key, members: &[Value]) -> Result<Vec<u32>, AllocError>
+    ensures value { IfOk result (λ addresses.
+        addresses.items ≡ filter_map (member_address_in (wanted_by key)) (map view members.now)) }
+{
+    let mut addresses = Vec::new(alloc);
+    for member in members {
+        if let Some(address) = key.wanted().member_address(member) {
+            addresses.push(address)?;
+        }
+    }
+    Ok(addresses)
+}
+
+/// The addresses of a key whose array was looked for, in host order: its members that are in the
+/// key's range; there are none where there is no array.
+#[tactic(auto, unfolding(crate::specs::Configs::addresses_of))]
+pub(crate) fn addresses_of(
+    alloc: Global,
+    key: Key,
+    found: Option<&Value>,
+) -> Result<Vec<u32>, AllocError>
+    ensures value { IfOk result (λ addresses.
+        addresses.items ≡ addresses_of key (option_map (λ v. view v.now) found.entry)) }
+{
+    match found {
+        Some(value) => addresses_among(alloc, key, items(value)),
         None => Ok(Vec::new(alloc)),
     }
 }

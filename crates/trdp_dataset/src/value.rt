@@ -1,14 +1,16 @@
 //! What the values of a configuration file mean.
 
 ghost use Rattle.std.specs.Prelude.{◌≡◌, ◌≤◌, IfSome, option_map, is_some, map, Some};
-ghost use Rattle.std.specs.List.{list_all};
+ghost use Rattle.std.specs.List.{list_all, list_any};
 ghost use Rattle.toml.specs.View.{view};
 ghost use Rattle.trdp_dataset.specs.Types.{in_range, identifier_of, type_named};
 ghost use Rattle.trdp_dataset.specs.Types.{type_numbered, is_real_name, is_real_number};
 ghost use Rattle.trdp_dataset.specs.Values.{items_in, address_of, address_in, natural_in};
 ghost use Rattle.trdp_dataset.specs.Values.{natural_within, number_in, member_in, IsAllowed};
 ghost use Rattle.trdp_dataset.specs.Values.{identifier_in, kind_in, is_real, is_table, is_tables};
-ghost use Rattle.trdp_dataset.specs.Values.{is_number, is_numbers};
+ghost use Rattle.trdp_dataset.specs.Values.{is_number, is_numbers, address_within, is_address};
+ghost use Rattle.trdp_dataset.specs.Values.{member_address_in, gives, has_again};
+ghost use Rattle.trdp_dataset.specs.Values.{addresses_among, are_addresses};
 
 use crate::element::ElementKind;
 use crate::key::{Key, Wanted};
@@ -84,6 +86,17 @@ impl Wanted {
             _ => None,
         }
     }
+
+    /// The address that a member of an array gives, in host order, if an array of addresses is
+    /// wanted and this one is in range.
+    pub(crate) fn member_address(self, member: &Value) -> Option<u32>
+        ensures value { result ≡ member_address_in self (view member.now) }
+    {
+        match self {
+            Wanted::Addresses(_, least, greatest) => address_within(member, least, greatest),
+            _ => None,
+        }
+    }
 }
 
 /// The identifier of a dataset that a number is, if it is in the range that the table of keys
@@ -124,6 +137,16 @@ pub(crate) fn address(value: &Value) -> Option<Ip>
 {
     match value.as_str() {
         Some(text) => address_of(text),
+        None => None,
+    }
+}
+
+/// The address that a value gives, in host order, if it is in the range, ends included.
+pub(crate) fn address_within(value: &Value, least: u32, greatest: u32) -> Option<u32>
+    ensures value { result ≡ address_within least greatest (view value.now) }
+{
+    match address(value) {
+        Some(address) => in_range(u64::from(address.0), least, greatest),
         None => None,
     }
 }
@@ -231,4 +254,55 @@ pub(crate) fn is_numbers(value: &Value, least: u16, greatest: u16) -> bool
     ensures value { result ≡ is_numbers least greatest (view value.now) }
 {
     value.is_array() && all_numbers(items(value), least, greatest)
+}
+
+/// Whether each value is an address in the range, ends included.
+fn all_addresses(items: &[Value], least: u32, greatest: u32) -> bool
+    ensures value { result ≡ list_all (λ item. is_address least greatest (view item)) items.now }
+{
+    items
+        .iter()
+        .all(|item| address_within(item, least, greatest).is_some())
+}
+
+/// Whether a value gives that address, of those in the range, ends included.
+fn gives(value: &Value, least: u32, greatest: u32, wanted: u32) -> bool
+    ensures value { result ≡ gives least greatest wanted (view value.now) }
+{
+    match address_within(value, least, greatest) {
+        Some(address) => wanted == address,
+        None => false,
+    }
+}
+
+/// Whether a value is an array of addresses in the range, ends included.
+pub(crate) fn are_addresses(value: &Value, least: u32, greatest: u32) -> bool
+    ensures value { result ≡ are_addresses least greatest (view value.now) }
+{
+    value.is_array() && all_addresses(items(value), least, greatest)
+}
+
+/// Whether one of the values gives that address, of those in the range, ends included.
+pub(crate) fn any_gives(items: &[Value], least: u32, greatest: u32, wanted: u32) -> bool
+    ensures value { result
+        ≡ list_any (λ item. gives least greatest wanted (view item)) items.now }
+{
+    items
+        .iter()
+        .any(|item| gives(item, least, greatest, wanted))
+}
+
+/// Whether two of the values give one address, of those in the range, ends included.
+pub(crate) fn has_again(items: &[Value], least: u32, greatest: u32) -> bool
+    ensures value { result ≡ has_again (addresses_among least greatest (map view items.now)) }
+{
+    for index in 0..items.len() {
+        if let Some(address) = address_within(&items[index], least, greatest) {
+            let (_, behind) = items.split_at(index + 1);
+            if any_gives(behind, least, greatest, address) {
+                return true;
+            }
+        }
+    }
+    false
 }

@@ -4,6 +4,7 @@ use crate::key::{Key, Wanted};
 use crate::value::{is_real, items};
 use std::alloc::AllocError;
 use std::fmt::Write;
+use std::net::Ipv4Addr;
 use toml::Value;
 
 /// The names of the types.
@@ -42,19 +43,31 @@ pub(crate) fn push_wish(text: &mut String, key: Key, value: &Value) -> Result<()
         Wanted::Numbers(_, least, most) => {
             write!(text, "an array of numbers of {least} to {most}")
         }
+        Wanted::Addresses(_, least, most) => write!(
+            text,
+            "an array of IPv4 addresses of {} to {}, each once",
+            Ipv4Addr::from_bits(least),
+            Ipv4Addr::from_bits(most)
+        ),
         Wanted::Quota(most) => write!(text, "a number of 0 to {most}"),
         Wanted::Identifier(least, most) => write!(text, "a number of {least} to {most}"),
         Wanted::Kind => push_kind_wish(text, value),
     }
 }
 
-/// Adds what a key that wants an array of numbers wants in place of a member.
+/// Adds what a key that wants an array of numbers or of addresses wants in place of a member.
 ///
 /// # Errors
 /// Want of memory.
 pub(crate) fn push_member_wish(text: &mut String, key: Key) -> Result<(), AllocError> {
     match key.wanted() {
         Wanted::Numbers(_, least, most) => write!(text, "a number of {least} to {most}"),
+        Wanted::Addresses(_, least, most) => write!(
+            text,
+            "an IPv4 address of {} to {}, each once",
+            Ipv4Addr::from_bits(least),
+            Ipv4Addr::from_bits(most)
+        ),
         _ => Ok(()),
     }
 }

@@ -15,8 +15,8 @@ use Rattle.trdp_md.specs.declared.terms.NotifyTerms.{NotifyTerms}
 use Rattle.trdp_md.specs.declared.terms.CallerTerms.{CallerTerms}
 use Rattle.trdp_model.specs.Records.{MessageModel, ReplyModel}
 
--- a node of that address: the usual ports, no datasets, and one slot, number 0, which may have one
--- object of each kind
+-- a node of that address: the usual ports and time to live, no datasets, no groups, and one slot,
+-- number 0, which may have one object of each kind
 abbrev pub node_at : ℕ → ConfigModel
 node_at address = record {
   registry = [];
@@ -26,6 +26,8 @@ node_at address = record {
   operator_port = 0;
   spare_control_ports = [];
   control_address = address;
+  groups = [];
+  ttl = 64;
   slots = record { quotas = replicate 6 1; control_port = 0 } ∷ [];
 }
 

@@ -164,8 +164,8 @@ static SENTENCES: [(ConfigFault, &str); 5] = [
     ),
     (
         ConfigFault::TooMany,
-        "there are more than 16 slots, 15 spare control ports, 256 datasets or 256 elements, \
-         or a quota above 256",
+        "there are more than 16 slots, 15 spare control ports, 32 groups, 256 datasets or 256 \
+         elements, or a quota above 256",
     ),
     (ConfigFault::OutOfMemory, "memory ran out"),
 ];

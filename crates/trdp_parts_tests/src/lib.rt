@@ -13,6 +13,8 @@ mod fcs;
 #[cfg(test)]
 mod filter;
 #[cfg(test)]
+mod groups;
+#[cfg(test)]
 mod head;
 #[cfg(test)]
 mod index;

@@ -8,7 +8,7 @@ use Rattle.trdp_dataset.specs.Faults.{IsFaultOf, RefusedAs, fault_in}
 use Rattle.trdp_dataset.specs.Configs.{datasets_in, config_in, config_fault_of, config_of}
 use Rattle.trdp_dataset.proofs.FaultLemmas.{err_answers, err_alone}
 use Rattle.std.proofs.Common.{List, None}
-use Rattle.trdp_dataset.proofs.SlotNumberLemmas.{slots_counted, spare_counted}
+use Rattle.trdp_dataset.proofs.SlotNumberLemmas.{slots_counted, spare_counted, groups_sound}
 use Rattle.trdp_dataset.proofs.MeaningLemmas.{reads}
 use Rattle.trdp_dataset.proofs.config.NodeConfig.from_toml.Goals as goal
 
@@ -81,3 +81,12 @@ config_in-requires-clause-few_spare c =
     let none = subst (λ (positions : List PositionModel).
     fault_in positions (datasets_in top) ≡ None) same c.in_ok-registry.ensures.answers in
     spare_counted top (datasets_in top) none
+
+pub config_in-requires-clause-sound_groups : goal.config_in-requires-clause-sound_groups
+unfolding all_positions
+config_in-requires-clause-sound_groups c =
+    let top = table_view c.in_ok-top.top in
+    let same = ap positions_seen c.deref.ensures.value ∙ c.in_ok-positions.ensures in
+    let none = subst (λ (positions : List PositionModel).
+    fault_in positions (datasets_in top) ≡ None) same c.in_ok-registry.ensures.answers in
+    groups_sound top (datasets_in top) none
